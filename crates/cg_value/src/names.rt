@@ -111,6 +111,10 @@ impl Names {
     pub fn find(&self, text: &str) -> Option<u32>
         ensures { result ≡ position (bytes_eq text.now) self.now }
     {
+        let guess = self.guesses[guess_place(text)];
+        if self.is_number_of(guess, text) {
+            return Some(guess);
+        }
         match self.texts.get_index_of(text) {
             Some(number) => Some(number as u32),
             None => None,
@@ -182,8 +186,11 @@ mod tests {
             assert!(rt; names.len() < 100);
             assert_eq!(rt; guess_place(text), guess_place("axb"), "at {text:?}");
             assert_eq!(rt; names.intern(text)?, number, "at {text:?}");
+            assert_eq!(rt; names.find(text), Some(number), "at {text:?}");
         }
         assert_eq!(rt; names.len(), 3);
+        assert_eq!(rt; names.find("azb"), Some(2));
+        assert_eq!(rt; names.find("acb"), None);
         Ok(())
     }
 }
