@@ -11,7 +11,7 @@ use std::marker::Model;
 /// How many guesses there are.
 const GUESSES: usize = 64;
 
-/// Which guess is that of a text. Texts may share one, and then it is the number of the last that was read.
+/// Which guess is that of a text. Texts may share one, and then it is the number of the last that was interned.
 ///
 /// Most names end otherwise than the others, as those that are numbered do, so that all bits of the last byte count.
 #[inline(always)]
