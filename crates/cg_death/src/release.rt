@@ -1,7 +1,7 @@
 //! References that are given up one after the other.
 ghost use Rattle.std.specs.Prelude.{◌≡◌, ◌<◌, ◌++◌, ◌∷◌, [], ℕ, option_to_list, if◌then◌else◌, ◌==◌, IfNone, drop};
 ghost use Rattle.cg_value.specs.declared.Val.TheVariants as val_of;
-ghost use Rattle.cg_graph.specs.Value.{entry_references, reference_in};
+ghost use Rattle.cg_graph.specs.Value.{entry_references};
 ghost use Rattle.cg_graph.specs.Store.{outside_of, count_of};
 ghost use Rattle.cg_graph.specs.Changes.{unheld};
 ghost use Rattle.cg_death.specs.declared.answer.DeathStep.TheVariants as answer_of;
@@ -11,9 +11,10 @@ ghost use Rattle.cg_death.specs.Steady.{TakesFewHolds, KeepsNames, DiesUnheld};
 ghost use Rattle.cg_death.specs.Turns.{LeavesTheRest};
 
 use crate::answer::DeathStep;
+use cg_graph::reference_in;
 use cg_heap::Heap;
 use cg_kind::Kind;
-use cg_value::{Entry, Val};
+use cg_value::Entry;
 
 /// References that are to be given up, at most two. Each is an outside hold of its object.
 #[derive(Drop)]
@@ -29,8 +30,8 @@ impl Release {
         ensures { references_left result ≡ entry_references entry }
     {
         Release {
-            first: reference(entry.val),
-            second: reference(entry.key),
+            first: reference_in(entry.val),
+            second: reference_in(entry.key),
         }
     }
 
@@ -86,17 +87,6 @@ impl Release {
                 object
             }
         }
-    }
-}
-
-/// The reference in a value, if there is one.
-#[inline(always)]
-pub(crate) fn reference(val: Val) -> Option<u64>
-    ensures { result ≡ reference_in val }
-{
-    match val {
-        Val::Ref(object) => Some(object),
-        _ => None,
     }
 }
 

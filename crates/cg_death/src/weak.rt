@@ -18,7 +18,8 @@ ghost use Rattle.cg_death.specs.Turns.{TakesTurn};
 
 use crate::finalizers::finalizers_of;
 use crate::phase::{Phase, Turn};
-use crate::release::{Release, give_up, reference};
+use crate::release::{Release, give_up};
+use cg_graph::reference_in;
 use cg_heap::Heap;
 use cg_kind::Kind;
 use cg_machine::{Event, FrameSort, FrameSpec};
@@ -89,7 +90,7 @@ pub fn callback_of<B: Kind>(heap: &Heap<B>, weak: u64) -> Option<u64>
     if heap.len(weak) == 0 {
         return None;
     }
-    reference(heap.entry_at(weak, 0).val)
+    reference_in(heap.entry_at(weak, 0).val)
 }
 
 /// The newest weak reference that waits has its callback taken out and called; both are held.
@@ -148,7 +149,7 @@ fn take_callback<B: Kind>(weak: u64, heap: &mut Heap<B>) -> u64
     ensures rest { heap.new ≡ held (result ∷ []) (rewritten weak [] heap.old) }
 {
     let entry = heap.detach(weak).unwrap();
-    reference(entry.val).unwrap()
+    reference_in(entry.val).unwrap()
 }
 
 /// The frame of a callback has ended: the callback is given up, and then the weak reference.

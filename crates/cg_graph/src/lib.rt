@@ -2,17 +2,19 @@
 //!
 //! Nearly all of this crate is `specs/`. The machine rests on `Holdings` and `Reach`, which count references and
 //! follow them; the heap and the crates below it rest on `Maps`, `Places`, `Rows` and `Store`, which say what a heap
-//! stands for, so that heap and machine speak with the same words. `reach_plain` finds by a plain search what `Reach`
-//! says; tests compare with it.
+//! stands for, so that heap and machine speak with the same words. `reference_in` answers the reference in a value.
+//! `reach_plain` finds by a plain search what `Reach` says; tests compare with it.
 #![tactic(auto)]
 
 mod limits;
 mod reach;
 #[cfg(test)]
 mod tests;
+mod value;
 
 pub use limits::{MOST_ENTRIES, MOST_OBJECTS};
 pub use reach::reach_plain;
+pub use value::reference_in;
 
 /// A reference from one object to another, both by serial.
 #[derive(Clone, Copy, Debug, PartialEq, Eq, Drop)]

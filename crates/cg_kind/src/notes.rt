@@ -1,14 +1,15 @@
 //! References that are written down for whoever goes over entries.
 ghost use Rattle.std.specs.Prelude.{◌≡◌, ◌+◌, ◌<◌, ◌≤◌, ◌++◌, length, option_to_list, take};
-ghost use Rattle.cg_graph.specs.Value.{entry_references, reference_in};
+ghost use Rattle.cg_graph.specs.Value.{entry_references};
 
-use cg_value::{Entry, Val};
+use cg_graph::reference_in;
+use cg_value::Entry;
 
 /// So many entries are gone over by one call, if there are as many.
 pub const AT_ONCE: usize = 32;
 
 /// Room for the references of so many entries: each has at most two, one in its value and one in its key.
-pub const ROOM: usize = 64;
+pub const ROOM: usize = 2 * AT_ONCE;
 
 /// How far entries were gone over, and how many references they have.
 #[derive(Clone, Copy, Debug)]
@@ -31,17 +32,6 @@ pub fn note_reference(found: &mut [u64], count: usize, reference: Option<u64>) -
         count + 1
     } else {
         count
-    }
-}
-
-/// The serial in a value, if it is a reference.
-#[inline(always)]
-fn reference_in(val: Val) -> Option<u64>
-    ensures { result ≡ reference_in val }
-{
-    match val {
-        Val::Ref(serial) => Some(serial),
-        _ => None,
     }
 }
 

@@ -5,14 +5,14 @@ use Rattle.std.specs.Result.{OnOk, OnErr}
 use Rattle.std.proofs.lemmas.Bool.{eq-eqb, ne_eqb}
 use Rattle.std.specs.FinMap as fin
 use Rattle.cg_value.specs.declared.Val.{Val}
-use Rattle.cg_value.specs.declared.Val.TheVariants.{Ref}
+use Rattle.cg_value.specs.declared.Val.TheVariants.{None as Nothing, Int, Str, Ref}
 use Rattle.cg_value.specs.declared.Entry.{Entry}
 use Rattle.cg_value.specs.declared.Place.TheVariants.{Gen, Untracked}
 use Rattle.cg_value.specs.declared.KindCode.{KindCode}
 use Rattle.cg_value.specs.declared.KindCode.TheVariants.{Weak}
 use Rattle.cg_kind.specs.Calls.{after_put}
 use Rattle.cg_graph.specs.Holdings.{occurrences}
-use Rattle.cg_graph.specs.Value.{entry_references, references_of_value, without_last}
+use Rattle.cg_graph.specs.Value.{entry_references, reference_in, references_of_value, without_last}
 use Rattle.cg_graph.specs.Rows.{weak_references_in, waiting_in}
 use Rattle.cg_graph.specs.Store.{Store, Node, IsLive, entries_of, outside_of, inner}
 use Rattle.cg_graph.specs.Changes.{held, unheld, rewritten, made, moved, gone, opening_store}
@@ -130,14 +130,23 @@ module _ (old new : Store) (o : ℕ) (e : Entry) (is : new ≡ held (entry_refer
   lives_detached live = subst (λ (s : Store). IsLive s o) (sym is) (lives_on rest (held (entry_references e) rest) (kinds-held (entry_references e) rest) o (lives_on old rest (kinds-rewritten o (without_last (entries_of old o)) old) o live))
 
   -- the object of an entry taken off is held
-  pub knows_detached : (mine found : Option ℕ) (count : ℕ) → ((s : ℕ) → 0 < inner old s → IsLive old s) → entries_of old o ≡ without_last (entries_of old o) ++ e ∷ [] → IfSome found (λ s. e.val ≡ Ref s) → Knows old mine count → Knows new found (count + 2)
+  pub knows_detached : (mine found : Option ℕ) (count : ℕ) → ((s : ℕ) → 0 < inner old s → IsLive old s) → entries_of old o ≡ without_last (entries_of old o) ++ e ∷ [] → found ≡ reference_in e.val → Knows old mine count → Knows new found (count + 2)
   knows_detached mine found count sound last at knows = subst (λ (s : Store). Knows s found (count + 2)) (sym is) (
-    known found at,
+    subst held_still (sym at) (known (reference_in e.val) (refers e.val)),
     omega (arith, knows.1, total-held (entry_references e) rest, total-rewritten o (without_last (entries_of old o)) old, entry-le e),
     omega (arith, knows.2),
   )
     where
-      known : (x : Option ℕ) → IfSome x (λ s. e.val ≡ Ref s) → IfSome x (λ s. 0 < outside_of (held (entry_references e) rest) s)
+      refers : (v : Val) → IfSome (reference_in v) (λ s. v ≡ Ref s)
+      refers Nothing = tt
+      refers (Int n) = tt
+      refers (Str n) = tt
+      refers (Ref s) = refl
+
+      held_still : Option ℕ → Type 0
+      held_still x = IfSome x (λ s. 0 < outside_of (held (entry_references e) rest) s)
+
+      known : (x : Option ℕ) → IfSome x (λ s. e.val ≡ Ref s) → held_still x
       known None h = tt
       known (Some s) h =
           let value : occurrences s (references_of_value (Some e.val)) ≡ 1 = ap (λ v. occurrences s (references_of_value (Some v))) h ∙ here s in

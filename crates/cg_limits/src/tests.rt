@@ -6,8 +6,9 @@ ghost use Rattle.cg_heap.specs.Boxes.{six_kinds};
 ghost use Rattle.cg_heap.specs.Keeps.{HasClass};
 ghost use Rattle.cg_heap.specs.Weak.{HasReferent, IsInNoRow};
 
-use crate::told::{is_weak, object_in, other};
+use crate::told::{is_weak, other};
 use cg_any_kind::six;
+use cg_graph::reference_in;
 use cg_heap::{Heap, HeapFault};
 use cg_kind::Kind;
 use cg_value::{Entry, KindCode, Place, Val};
@@ -154,7 +155,7 @@ impl<B: Kind> Holder<B> {
         self.heap.sound();
         let entry = self.heap.detach(object)?;
         self.count += 2;
-        self.held = object_in(entry.val);
+        self.held = reference_in(entry.val);
         Some(entry)
     }
 

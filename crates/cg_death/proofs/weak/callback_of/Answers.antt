@@ -8,4 +8,4 @@ pub returns-then-len-eq0 : goal.returns-then-len-eq0
 returns-then-len-eq0 g c = no_entry (entries_of c.args.heap.now c.args.weak) (sym c.len.ensures ∙ c.if-len-eq0.true) ∙ sym (callback-at c.args.heap.now c.args.weak)
 
 pub returns : goal.returns
-returns g c = c.reference.ensures ∙ sym (first_entry (entries_of c.args.heap.now c.args.weak) c.entry_at.result c.entry_at.ensures) ∙ sym (callback-at c.args.heap.now c.args.weak)
+returns g c = c.reference_in.ensures ∙ sym (first_entry (entries_of c.args.heap.now c.args.weak) c.entry_at.result c.entry_at.ensures) ∙ sym (callback-at c.args.heap.now c.args.weak)
