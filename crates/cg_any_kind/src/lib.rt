@@ -100,6 +100,10 @@ impl Kind for AnyKind {
         pass_on!(self, kind => kind.append_reserved(at, val))
     }
 
+    fn append(&mut self, at: usize, val: Val) -> Result<(), AllocError> {
+        pass_on!(self, kind => kind.append(at, val))
+    }
+
     fn free(&mut self, at: usize) {
         pass_on!(self, kind => kind.free(at))
     }

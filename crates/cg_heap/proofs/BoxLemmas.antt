@@ -80,25 +80,6 @@ module _ {K : Type 0} (kind : K → KindCode) (bodies : K → Bodies) (items : L
         box_written (λ _ b. with_body b at' (entries_at b at') (spare_at (bodies l) at')) is
         ∙ ap (λ b. boxes_with_body old code at' (entries_in_box old code at') (spare_at b at')) (sym box_after)
 
--- the second write at a place hides the first
-insert_twice : (m : Bodies) (k : ℕ) (v w : Body) → fin.insert (fin.insert m k v) k w ≡ fin.insert m k w
-insert_twice m k v w =
-    same_map _ _
-    (λ q. elim (cases_eq q k) [
-      | inl same ↦ get-insert_same (fin.insert m k v) k q w same ∙ sym (get-insert_same m k q w same)
-      | inr differs ↦ get-insert_other (fin.insert m k v) k q w differs ∙ get-insert_other m k q v differs ∙ sym (get-insert_other m k q w differs)
-    ])
-
--- an item appended where room was made before
-pub appended : (old mid new : Bodies) (at n k : ℕ) (x : Val) → mid ≡ with_body old at (entries_at old at) n → new ≡ with_body mid at (entries_at mid at ++ item x ∷ []) k → new ≡ with_body old at (entries_at old at ++ item x ∷ []) (spare_at new at)
-appended old mid new at n k x e f =
-    let both : new ≡ with_body old at (entries_at old at ++ item x ∷ []) k =
-    f ∙ (λ i. with_body (e i) at (entries_at (e i) at ++ item x ∷ []) k)
-    ∙ ap (λ es. with_body (with_body old at (entries_at old at) n) at (es ++ item x ∷ []) k) (entries_at-with_body old at (entries_at old at) n)
-    ∙ insert_twice old at (body_of (entries_at old at) n) (body_of (entries_at old at ++ item x ∷ []) k) in
-    let spare : spare_at new at ≡ k = ap (λ m. spare_at m at) both ∙ spare_at-with_body old at (entries_at old at ++ item x ∷ []) k in
-    both ∙ ap (with_body old at (entries_at old at ++ item x ∷ [])) (sym spare)
-
 -- a clause that says less
 pub on_some_weaker : {X P Q : Type 0} (r : Option X) → (P → Q) → OnSome r P → OnSome r Q
 on_some_weaker None f h = tt

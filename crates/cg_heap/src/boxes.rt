@@ -50,25 +50,6 @@ fn index_of(code: KindCode) -> usize
     code as usize
 }
 
-/// Appends an item to the list at a place of the first box.
-#[inline(always)]
-fn append_to<B: Kind>(lists: &mut B, at: usize, val: Val) -> Result<(), AllocError>
-    requires held { Holds (B.bodies lists.old) at }
-    requires list { B.kind lists.old ≡ code.List }
-    ensures ok { OnOk result (B.bodies lists.new ≡ with_body (B.bodies lists.old) at
-        (entries_at (B.bodies lists.old) at ++ item val ∷ []) (spare_at (B.bodies lists.new) at)) }
-    ensures err { OnErr result (B.bodies lists.new ≡ B.bodies lists.old) }
-    ensures same_kind { B.kind lists.new ≡ B.kind lists.old }
-{
-    match lists.reserve(at, 1) {
-        Ok(()) => {
-            lists.append_reserved(at, val);
-            Ok(())
-        }
-        Err(refused) => Err(refused),
-    }
-}
-
 impl<B: Kind> Boxes<B> {
     /// The six kinds, in the order of `KindCode`.
     pub fn new(kinds: Vec<B>) -> Self
@@ -233,7 +214,7 @@ impl<B: Kind> Boxes<B> {
         ensures err { OnErr result (self.new ≡ self.old) }
     {
         let lists = &mut self.kinds[0];
-        let appended = append_to(lists, list, val);
+        let appended = lists.append(list, val);
         appended
     }
 

@@ -181,6 +181,20 @@ pub trait Kind: Drop {
         ensures others { kind self.old ≢ code.List → bodies self.new ≡ bodies self.old }
         ensures same_kind { kind self.new ≡ kind self.old };
 
+    /// Appends an item to a list, or is refused for want of memory. A kind may look for the list once.
+    fn append(&mut self, at: usize, val: Val) -> Result<(), AllocError>
+        requires held { Holds (bodies self.old) at }
+        requires list { kind self.old ≡ code.List }
+        ensures ok { OnOk result (bodies self.new ≡ with_body (bodies self.old) at
+            (entries_at (bodies self.old) at ++ item val ∷ []) (spare_at (bodies self.new) at)) }
+        ensures err { OnErr result (bodies self.new ≡ bodies self.old) }
+        ensures same_kind { kind self.new ≡ kind self.old }
+    {
+        self.reserve(at, 1)?;
+        self.append_reserved(at, val);
+        Ok(())
+    }
+
     /// Gives the place of an empty object back.
     fn free(&mut self, at: usize)
         requires held { Holds (bodies self.old) at }
@@ -263,6 +277,11 @@ impl Kind for Box<dyn Kind> {
     #[inline(always)]
     fn append_reserved(&mut self, at: usize, val: Val) {
         (**self).append_reserved(at, val)
+    }
+
+    #[inline(always)]
+    fn append(&mut self, at: usize, val: Val) -> Result<(), AllocError> {
+        (**self).append(at, val)
     }
 
     #[inline(always)]

@@ -161,11 +161,14 @@ module _ {T : Type 0} (f : T → Body) where
         ]
         ∙ sym (get-bodies_of s q))
 
-    -- the other body has the same entries, and its own spare
+    -- the other body has entries made from these, or the same, and its own spare
+    pub with_entries : (change : List Entry → List Entry) (w : T) → f w ≡ body_of (change (f v).entries) (f w).spare → bodies_of f (with_value s k w) ≡ with_body (bodies_of f s) k (change (entries_at (bodies_of f s) k)) (spare_at (bodies_of f (with_value s k w)) k)
+    with_entries change w same =
+        made s (with_value s k w) k w (change (entries_at (bodies_of f s) k)) (updates w)
+        (ap (λ b. b.entries) same ∙ ap (λ b. change b.entries) (sym at_place))
+
     pub with_spare : (w : T) → f w ≡ body_of (f v).entries (f w).spare → bodies_of f (with_value s k w) ≡ with_body (bodies_of f s) k (entries_at (bodies_of f s) k) (spare_at (bodies_of f (with_value s k w)) k)
-    with_spare w same =
-        made s (with_value s k w) k w (entries_at (bodies_of f s) k) (updates w)
-        (ap (λ b. b.entries) same ∙ ap (λ b. b.entries) (sym at_place))
+    with_spare = with_entries (λ es. es)
 
     -- what is true of both values' bodies is true of the place before and after
     pub of_places : (P : Body → Body → Type 0) (w : T) → P (f v) (f w) → P (body_at (bodies_of f s) k) (body_at (bodies_of f (with_value s k w)) k)

@@ -92,6 +92,10 @@ impl<C: Contents> Kind for BodySlab<C> {
         self.slab[at].append_reserved(val);
     }
 
+    fn append(&mut self, at: usize, val: Val) -> Result<(), AllocError> {
+        self.slab[at].append(val)
+    }
+
     fn free(&mut self, at: usize) {
         let _ = self.slab.remove(at);
     }

@@ -116,4 +116,15 @@ pub trait Contents: Drop {
         ensures appends { kind ≡ code.List → body self.new ≡
             body_of ((body self.old).entries ++ item val ∷ []) ((body self.old).spare - 1) }
         ensures others { kind ≢ code.List → body self.new ≡ body self.old };
+
+    #[inline(always)]
+    fn append(&mut self, val: Val) -> Result<(), AllocError>
+        requires { kind ≡ code.List }
+        ensures ok { OnOk result (body self.new ≡ body_of ((body self.old).entries ++ item val ∷ []) (body self.new).spare) }
+        ensures err { OnErr result (body self.new ≡ body self.old) }
+    {
+        self.reserve(1)?;
+        self.append_reserved(val);
+        Ok(())
+    }
 }
