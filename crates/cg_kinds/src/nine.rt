@@ -6,7 +6,7 @@ ghost use Rattle.cg_value.specs.contracts.ValEq.TheImpl.Laws as val_eq_laws;
 ghost use Rattle.cg_graph.specs.Value.{reference_in};
 ghost use Rattle.cg_kinds.specs.Numbers.{hashed, equal_hashed};
 
-use crate::values::{val_of, words_of};
+use crate::values::{reference_of, val_of, words_of};
 use cg_value::Val;
 use std::hash::{Hash, Hasher};
 use std::marker::Model;
@@ -55,16 +55,12 @@ impl Nine {
         val_of(self.sort, u64::from_le_bytes(self.number))
     }
 
-    /// The serial that it refers to, if it is a reference. The value itself is not unpacked for it.
+    /// The serial that it refers to, if it is a reference.
     #[inline(always)]
     pub fn reference(&self) -> Option<u64>
         ensures { result ≡ reference_in self.now }
     {
-        if self.sort == 3 {
-            Some(u64::from_le_bytes(self.number))
-        } else {
-            None
-        }
+        reference_of(self.sort as u64, u64::from_le_bytes(self.number))
     }
 }
 

@@ -6,6 +6,7 @@ ghost use Rattle.cg_kind.specs.Calls.{AreItems};
 ghost use Rattle.cg_kinds.specs.Values.{value_in, AreWords};
 
 use crate::kept::KeepsEntry;
+use crate::values::reference_of;
 use cg_kind::note_reference;
 use cg_value::{Entry, Val};
 use std::alloc::{AllocError, Global};
@@ -70,11 +71,7 @@ impl Packed {
     fn reference(&self) -> Option<u64>
         ensures { result ≡ reference_in self.now }
     {
-        if self.sort > 2 {
-            Some(self.number)
-        } else {
-            None
-        }
+        reference_of(self.sort, self.number)
     }
 }
 

@@ -1,12 +1,11 @@
 //! Values in two columns, as lists keep many of them.
 ghost use Rattle.std.specs.Prelude.{◌≡◌, ◌+◌, ◌-◌, ◌<◌, ◌≤◌, ◌^◌, ◌++◌, ◌∷◌, [], length, map, Some, IfOk, OnOk, OnErr, OnSome, IfNone, IsNone, option_to_list, remove, slice_get, slice_set, take, drop, vec_len, vec_capacity};
 ghost use Rattle.std.specs.List.{AllZip};
-ghost use Rattle.cg_graph.specs.Value.{item, references};
+ghost use Rattle.cg_graph.specs.Value.{item, references, reference_in};
 ghost use Rattle.cg_kind.specs.Calls.{AreItems, next_entries};
 ghost use Rattle.cg_kinds.specs.Values.{value_in, values_in, sort_of, number_bits, text_bits, serial_bits, AreWords, AreOnlyWords, AreColumns};
 
-use crate::items::item_of;
-use cg_kind::{AT_ONCE, Noted, ROOM, note_entry};
+use cg_kind::{AT_ONCE, Noted, ROOM, note_reference};
 use cg_value::{Entry, Val};
 use std::alloc::{AllocError, Global};
 use std::marker::Model;
@@ -110,6 +109,14 @@ pub(crate) fn val_of(sort: u8, number: u64) -> Val
     }
 }
 
+/// The serial that the value of a sort with a number refers to, if it is a reference. The value itself is not unpacked for it.
+#[inline(always)]
+pub(crate) fn reference_of(sort: u64, number: u64) -> Option<u64>
+    ensures { result ≡ reference_in (value_in sort number) }
+{
+    if sort > 2 { Some(number) } else { None }
+}
+
 /// Writes down the references of the values from one place of both columns to another, which are at most `AT_ONCE`. It answers
 /// how many there are.
 #[inline(always)]
@@ -126,7 +133,7 @@ fn note_between(sorts: &[u8], numbers: &[u64], from: usize, next: usize, found: 
 {
     let mut count = 0;
     'places: for at in from..next {
-        count = note_entry(found, count, item_of(val_of(sorts[at], numbers[at])));
+        count = note_reference(found, count, reference_of(sorts[at] as u64, numbers[at]));
     }
     count
 }
