@@ -193,20 +193,20 @@ module _ (sorts numbers sorts' numbers' : List ℕ) (first room a b a' b' : ℕ)
     room_for_numbers = omega (arith, ap length is_numbers, columns.room_for_numbers, as_numbers);
   }
 
-  module _ (is_sorts : sorts' ≡ drop first sorts) (is_numbers : numbers' ≡ drop first numbers) where
+  module _ (first' : ℕ) (closed : first' ≡ 0) (is_sorts : sorts' ≡ drop first sorts) (is_numbers : numbers' ≡ drop first numbers) where
     begins : first ≤ length numbers
     begins = omega (arith, columns.within, length-sorts sorts numbers columns.words, length-numbers sorts numbers columns.words)
 
-    pub columns-close : AreColumns sorts' numbers' 0 room a' b'
+    pub columns-close : AreColumns sorts' numbers' first' room a' b'
     columns-close = record {
       words = subst (λ xs. AllZip AreWords xs numbers') (sym is_sorts) (subst (AllZip AreWords (drop first sorts)) (sym is_numbers) (words-drop first sorts numbers columns.words));
-      within = omega arith;
-      room_for_sorts = omega (arith, ap length is_sorts, length-drop first sorts, columns.within, columns.room_for_sorts, as_sorts);
-      room_for_numbers = omega (arith, ap length is_numbers, length-drop first numbers, begins, columns.room_for_numbers, as_numbers);
+      within = omega (arith, closed);
+      room_for_sorts = omega (arith, ap length is_sorts, length-drop first sorts, columns.within, columns.room_for_sorts, as_sorts, closed);
+      room_for_numbers = omega (arith, ap length is_numbers, length-drop first numbers, begins, columns.room_for_numbers, as_numbers, closed);
     }
 
-    pub values-close : values_in sorts' numbers' ≡ drop first (values_in sorts numbers)
-    values-close = (λ j. values_in (is_sorts j) (is_numbers j)) ∙ values-drop first sorts numbers columns.words
+    pub values-close : drop first' (values_in sorts' numbers') ≡ drop first (values_in sorts numbers)
+    values-close = (λ j. drop (closed j) (values_in (is_sorts j) (is_numbers j))) ∙ values-drop first sorts numbers columns.words
 
   module _ (s n : ℕ) (some : first < length sorts) (is_sorts : sorts ≡ sorts' ++ s ∷ []) (is_numbers : numbers ≡ numbers' ++ n ∷ []) where
     popped : AllZip AreWords sorts' numbers' × AreWords s n

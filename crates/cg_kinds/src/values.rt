@@ -149,18 +149,20 @@ fn lose_front<T: Copy + Drop>(column: &mut Vec<T>, n: usize)
     column.truncate(len - n);
 }
 
-/// Closes the gap in front of the values.
+/// Closes the gap in front of the values. The first of them is at place 0 then.
 #[inline(never)]
-fn close_gap(sorts: &mut Vec<u8>, numbers: &mut Vec<u64>, first: usize)
-    requires in_sorts { first ≤ vec_len sorts.old }
-    requires in_numbers { first ≤ vec_len numbers.old }
-    ensures sorts { sorts.new.items ≡ drop first sorts.old.items }
-    ensures numbers { numbers.new.items ≡ drop first numbers.old.items }
+fn close_gap(sorts: &mut Vec<u8>, numbers: &mut Vec<u64>, first: &mut usize)
+    requires in_sorts { first.old ≤ vec_len sorts.old }
+    requires in_numbers { first.old ≤ vec_len numbers.old }
+    ensures sorts { sorts.new.items ≡ drop first.old sorts.old.items }
+    ensures numbers { numbers.new.items ≡ drop first.old numbers.old.items }
+    ensures first { first.new ≡ 0 }
     ensures sorts_capacity { vec_capacity sorts.new ≡ vec_capacity sorts.old }
     ensures numbers_capacity { vec_capacity numbers.new ≡ vec_capacity numbers.old }
 {
-    lose_front(sorts, first);
-    lose_front(numbers, first);
+    lose_front(sorts, *first);
+    lose_front(numbers, *first);
+    *first = 0;
 }
 
 /// A place behind both columns, where one value more has room: the gap is closed once a column is full. Where the room is more
@@ -180,8 +182,7 @@ fn have_place(sorts: &mut Vec<u8>, numbers: &mut Vec<u64>, first: &mut usize, ro
     if sorts.len() < sorts.capacity() && numbers.len() < numbers.capacity() {
         return;
     }
-    close_gap(sorts, numbers, *first);
-    *first = 0;
+    close_gap(sorts, numbers, first);
 }
 
 /// Beside so many values and their room, so many places more are kept free, which no room counts.
@@ -317,8 +318,7 @@ impl Values {
     fn close(&mut self)
         ensures { self.new ≡ self.old }
     {
-        close_gap(&mut self.sorts, &mut self.numbers, self.first);
-        self.first = 0;
+        close_gap(&mut self.sorts, &mut self.numbers, &mut self.first);
     }
 
     /// Takes the last value, if there is one.
