@@ -138,7 +138,8 @@ fn note_between(sorts: &[u8], numbers: &[u64], from: usize, next: usize, found: 
     count
 }
 
-/// Without so many places at the front. Those behind move down as one run.
+/// Without so many places at the front. Those behind move down as one run; `drain` would first turn those in front to the
+/// back.
 fn lose_front<T: Copy + Drop>(column: &mut Vec<T>, n: usize)
     requires { n ≤ vec_len column.old }
     ensures items { column.new.items ≡ drop n column.old.items }
