@@ -6,7 +6,7 @@ use Rattle.cg_script.specs.declared.form.Form.{Form}
 use Rattle.cg_script.specs.declared.form.Form.TheVariants as forms
 use Rattle.cg_script.specs.declared.part.Said.{Said}
 use Rattle.cg_script.specs.declared.draft.Draft.{Draft}
-use Rattle.cg_script.specs.Meanings.{Meaning, passed, says, bad, meaning}
+use Rattle.cg_script.specs.Meanings.{Meaning, passed, says, bad, code_of, meaning}
 use Rattle.cg_script.specs.Pieces.{lines_of, word_at}
 use Rattle.cg_script.specs.Parts.{parts_of}
 use Rattle.cg_script.proofs.Places.{length-with_text}
@@ -31,10 +31,14 @@ module _ (draft : Draft) (number : ℕ) (line : List ℕ) where
   unfolding by_meaning
   line_bad code e lines = first (bad code) e lines
 
-  pub line_faulty : (form : Form) (words : List (List ℕ)) (code : ℕ) → says form words ≡ meaning number line → Some code ≡ fault_in (known_of draft) form words → (lines : List (List ℕ))
-      → reading_after draft number (line ∷ lines) ≡ faulty number code
+  wrong : (m : Meaning) (code : ℕ) → Some code ≡ code_of m → (lines : List (List ℕ)) → by_meaning draft number m lines ≡ faulty number code
   unfolding by_meaning
-  line_faulty form words code e f lines = first (says form words) e lines ∙ ap (λ c. by_meaning draft number (says_or_bad c form words) lines) (sym f)
+  wrong passed code e lines = absurd (cc)
+  wrong (says form words) code e lines = absurd (cc)
+  wrong (bad other) code e lines = let s : other ≡ code = cc in ap (faulty number) s
+
+  pub line_wrong : (m : Meaning) (code : ℕ) → m ≡ meaning number line → Some code ≡ code_of (checked (known_of draft) m) → (lines : List (List ℕ)) → reading_after draft number (line ∷ lines) ≡ faulty number code
+  line_wrong m code e f lines = first m e lines ∙ wrong (checked (known_of draft) m) code f lines
 
   said_all : (new : Draft) (s : Said) → ((later : List Said) → grouped new.items.items new.begun later ≡ grouped draft.items.items draft.begun (s ∷ later)) → (all : Lines)
       → script_after new all ≡ script_after draft (also_said s all)

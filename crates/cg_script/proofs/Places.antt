@@ -13,7 +13,6 @@ use Rattle.cg_script.specs.Forms.{row, sort_at}
 use Rattle.cg_script.specs.Meanings.{fits, all_fit}
 use Rattle.cg_script.specs.Parts.{with_text_if, text_in, part_of, parts_from, texts_from}
 use Rattle.cg_script.specs.Commands.{value_or}
-use Rattle.cg_script.proofs.Ascii.{both}
 
 Word : Type 0
 Word = Bor (List ℕ)
@@ -51,12 +50,6 @@ module _ (form : Form) (ws : List (Bor (List ℕ))) (i : ℕ) (d : Bor (List ℕ
 
   pub fit_not : (b whole : Bool) → b ≡ fits s (get_or ws i d).now → b ≡ false → all_fit form i (texts_of (drop i ws)) ≡ whole → false ≡ whole
   fit_not b whole eb e inv = sym (fit_at ∙ and_false _ _ (sym eb ∙ e)) ∙ inv
-
-  pub fit_here : all_fit form i (texts_of (drop i ws)) ≡ true → fits s (get_or ws i d).now ≡ true
-  fit_here e = (both _ _ (sym fit_at ∙ e)).0
-
-  pub fit_behind : all_fit form i (texts_of (drop i ws)) ≡ true → all_fit form (i + 1) (texts_of (drop (i + 1) ws)) ≡ true
-  fit_behind e = (both (fits s (get_or ws i d).now) _ (sym fit_at ∙ e)).1
 
   module _ (procs classes texts texts2 : List (List ℕ)) (et : texts2 ≡ with_text_if texts (text_in s (get_or ws i d).now)) where
     pub parts_more : (part : Part) (done whole : List Part) → part ≡ part_of procs classes texts s (get_or ws i d).now → done ++ parts_from procs classes texts form i (texts_of (drop i ws)) ≡ whole

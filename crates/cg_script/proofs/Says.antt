@@ -40,7 +40,7 @@ fitting_as form other words others e f =
     let same_words : others ≡ words = cc in
     subst (λ ws. Fitting form ws) same_words (subst (λ k. Fitting k others) same_form f)
 
-formed_fits : (other : Form) (others : List (List ℕ)) (form : Form) (words : List (List ℕ)) → says form words ≡ formed other others → Fitting form words
+pub formed_fits : (other : Form) (others : List (List ℕ)) (form : Form) (words : List (List ℕ)) → says form words ≡ formed other others → Fitting form words
 formed_fits other others form words e =
     let b = not_bad (nat_lt (length others) (row other).fewest || nat_lt (row other).most (length others)) 3 _ form words e in
     let d = not_bad (not (all_fit other 0 others) || repeats_finalizer other others) 4 _ form words b.1 in

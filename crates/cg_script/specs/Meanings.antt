@@ -20,6 +20,12 @@ pub data Meaning : Type 0 where
   says : Form → List (List ℕ) → Meaning
   bad : ℕ → Meaning
 
+-- the code of a bad line
+abbrev pub code_of : Meaning → Option ℕ
+code_of passed = None
+code_of (says form words) = None
+code_of (bad code) = Some code
+
 -- a word has the form that its place asks for
 abbrev pub fits : Sort → List ℕ → Bool
 fits Key word = true

@@ -10,15 +10,15 @@ use Rattle.cg_script.specs.declared.line.Line.TheVariants as lines
 use Rattle.cg_script.specs.declared.draft.Begun.{Begun}
 use Rattle.cg_script.specs.declared.draft.Draft.{Draft}
 use Rattle.cg_script.specs.declared.limits.TheConstants.{MOST_LINES, MOST_WORDS}
-use Rattle.cg_script.specs.Meanings.{Meaning, passed, says, bad}
+use Rattle.cg_script.specs.Meanings.{Meaning, passed, bad, formed}
 use Rattle.cg_script.specs.Parts.{Known, parts_of}
 use Rattle.cg_script.specs.Commands.{said}
 use Rattle.cg_script.specs.Reading.{Lines, good, spoilt, lines_from, known_after, items_of, body_of, Reading, spells, faulty}
 
--- what a line of these words means
+-- what a line of these words means by them alone
 abbrev pub meaning_of : Line → List (List ℕ) → Meaning
 meaning_of lines.Passed words = passed
-meaning_of (lines.Says form) words = says form words
+meaning_of (lines.Of form) words = formed form words
 meaning_of (lines.Bad code) words = bad code
 
 -- what a draft knows

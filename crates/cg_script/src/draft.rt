@@ -3,8 +3,8 @@ ghost use Rattle.std.specs.Prelude.{◌≡◌, ◌+◌, ◌-◌, ◌^◌, ◌<�
 ghost use Rattle.cg_script.specs.declared.part.Said.{Said as AnySaid};
 ghost use Rattle.cg_script.specs.declared.part.Said.TheVariants.{Does, Ends};
 ghost use Rattle.cg_script.specs.Forms.{row};
-ghost use Rattle.cg_script.specs.Meanings.{all_fit};
-ghost use Rattle.cg_script.specs.Reading.{nothing_known, is_misplaced, is_repeated, fault_in, procs_after, classes_after, budget_after, shutdown_after, inside_after};
+ghost use Rattle.cg_script.specs.Meanings.{all_fit, formed, code_of};
+ghost use Rattle.cg_script.specs.Reading.{nothing_known, is_misplaced, is_repeated, checked, procs_after, classes_after, budget_after, shutdown_after, inside_after};
 ghost use Rattle.cg_script.specs.Views.{known_of, grouped, is_placed, inside_behind, Takes};
 
 use crate::command::Command;
@@ -198,7 +198,7 @@ const DEFINED_TWICE: u8 = 8;
 /// A procedure or class that no earlier line defines.
 const NOT_DEFINED: u8 = 6;
 
-/// Takes words of a form, or answers the code of what is wrong with them. Their parts go into a list that is empty before.
+/// Takes words as a line of a form, or answers the code of what is wrong with them. Their parts go into a list that is empty before.
 pub(crate) fn take_words(
     draft: &mut Draft,
     form: Form,
@@ -206,31 +206,31 @@ pub(crate) fn take_words(
     parts: &mut Parts,
 ) -> Result<Option<u8>, AllocError>
     requires empty { parts.old.items ≡ [] }
-    requires fit { all_fit form 0 (map (λ w. w.now) words.now) ≡ true }
-    requires enough { (row form).fewest ≤ length words.now }
-    requires few { length words.now ≤ MOST_WORDS }
     requires names { length draft.old.names + MOST_WORDS < 2 ^ 32 - 1 }
     requires procs { length draft.old.procs < 2 ^ 32 - 1 }
     requires classes { length draft.old.classes < 2 ^ 32 - 1 }
-    ensures fault { IfOk result (λ code. code ≡ fault_in (known_of draft.old) form (map (λ w. w.now) words.now)) }
+    ensures fault { IfOk result (λ code. code ≡ code_of (checked (known_of draft.old) (formed form (map (λ w. w.now) words.now)))) }
     ensures takes { result ≡ Ok None → Takes draft.old form (map (λ w. w.now) words.now) draft.new }
     ensures few_names { result ≡ Ok None → length draft.new.names ≤ length draft.old.names + MOST_WORDS }
     ensures few_items { result ≡ Ok None → length draft.new.items.items ≤ length draft.old.items.items + 1 }
 {
-    if stands_wrong(draft, form) {
-        return Ok(Some(WRONG_PLACE));
-    }
-    if defines_again(draft, form, words) {
-        return Ok(Some(DEFINED_TWICE));
-    }
-    read_parts(
+    // The texts of a line that is bad need not be forgotten: no line behind it is read.
+    if let Some(code) = read_parts(
         parts,
         form,
         words,
         &mut draft.names,
         &draft.procs,
         &draft.classes,
-    )?;
+    )? {
+        return Ok(Some(code));
+    }
+    if stands_wrong(draft, form) {
+        return Ok(Some(WRONG_PLACE));
+    }
+    if defines_again(draft, form, words) {
+        return Ok(Some(DEFINED_TWICE));
+    }
     if names_unknown(parts.as_slice()) {
         return Ok(Some(NOT_DEFINED));
     }

@@ -8,20 +8,16 @@ ghost use Rattle.cg_script.specs.Forms.{row};
 ghost use Rattle.cg_script.specs.Meanings.{fits, all_fit, repeats_finalizer, formed, binding_form, worded, is_passed, meaning};
 ghost use Rattle.cg_script.specs.Views.{meaning_of};
 
-use crate::form::{Form, Sort, binding_named, opener_named, row_for, sort_in};
-use crate::limits::{MOST_BUDGET, MOST_COUNT, MOST_FOUND, MOST_LINE_BYTES, MOST_LINES, MOST_WORDS};
-use crate::word::{
-    flag, is_count_word, is_identifier_word, is_number_word, is_profile_word, is_value,
-    is_variable, names_finalizer_word, names_legacy_word,
-};
+use crate::form::{Form, binding_named, opener_named};
+use crate::limits::{MOST_FOUND, MOST_LINE_BYTES, MOST_LINES, MOST_WORDS};
 
 /// What a line means, beside its words.
 #[derive(Clone, Copy)]
 pub(crate) enum Line {
     /// Nothing: it is passed over.
     Passed,
-    /// Its words are of this form.
-    Says(Form),
+    /// Its words are to be read as this form; whether they fit it is not looked at yet.
+    Of(Form),
     /// Nothing that is read: the code of what is wrong with it.
     Bad(u8),
 }
@@ -31,41 +27,9 @@ const NOT_PRINTABLE: u8 = 1;
 
 const UNKNOWN_FORM: u8 = 2;
 
-const WORD_COUNT: u8 = 3;
-
-const WORD_FORM: u8 = 4;
+pub(crate) const WORD_COUNT: u8 = 3;
 
 const TOO_LONG: u8 = 5;
-
-/// Whether a word has the form that its place asks for.
-fn fits_place(sort: Sort, word: &[u8]) -> bool
-    ensures { result ≡ fits sort word.now }
-{
-    match sort {
-        Sort::Key => true,
-        Sort::Variable => is_variable(word),
-        Sort::Name | Sort::Class | Sort::Proc => is_identifier_word(word),
-        Sort::Finalizer => names_finalizer_word(word) || names_legacy_word(word),
-        Sort::Value => is_value(word),
-        Sort::Number => is_number_word(word),
-        Sort::Profile => is_profile_word(word),
-        Sort::Budget => is_count_word(word, MOST_BUDGET),
-        Sort::Count => is_count_word(word, MOST_COUNT),
-        Sort::Flag => flag(word).is_some(),
-    }
-}
-
-/// Whether all words have the forms that their places ask for, by the sorts of the first places.
-fn all_words_fit(places: &[Sort], words: &[&[u8]]) -> bool
-    ensures { (form : AnyForm) → places.now ≡ (row form).places → result ≡ all_fit form 0 (map (λ w. w.now) words.now) }
-{
-    'places: for place in 0..words.len() {
-        if !fits_place(sort_in(places, place), words[place]) {
-            return false;
-        }
-    }
-    true
-}
 
 /// Whether the word at this place is this text.
 fn has_word(words: &[&[u8]], place: usize, text: &[u8]) -> bool
@@ -73,32 +37,6 @@ fn has_word(words: &[&[u8]], place: usize, text: &[u8]) -> bool
     ensures { result ≡ word_is (map (λ w. w.now) words.now) place text.now }
 {
     words[place] == text
-}
-
-/// Whether a class has two finalizers, or two legacy finalizers.
-fn has_two_alike(form: Form, words: &[&[u8]]) -> bool
-    ensures { result ≡ repeats_finalizer form (map (λ w. w.now) words.now) }
-{
-    match form {
-        Form::Class => words.len() == 4
-            && ((names_finalizer_word(words[2]) && names_finalizer_word(words[3]))
-                || (names_legacy_word(words[2]) && names_legacy_word(words[3]))),
-        _ => false,
-    }
-}
-
-/// The words of a line of this form.
-fn formed_line(form: Form, words: &[&[u8]]) -> Line
-    ensures { meaning_of result (map (λ w. w.now) words.now) ≡ formed form (map (λ w. w.now) words.now) }
-{
-    let row = row_for(form);
-    if words.len() < row.fewest || row.most < words.len() {
-        return Line::Bad(WORD_COUNT);
-    }
-    if !all_words_fit(row.places, words) || has_two_alike(form, words) {
-        return Line::Bad(WORD_FORM);
-    }
-    Line::Says(form)
 }
 
 /// The form of a line `x = ..` with a third word.
@@ -124,10 +62,10 @@ fn line_of_words(words: &[&[u8]]) -> Line
         if words.len() == 2 {
             return Line::Bad(WORD_COUNT);
         }
-        return formed_line(form_of_binding(words), words);
+        return Line::Of(form_of_binding(words));
     }
     match opener_named(words[0]) {
-        Some(form) => formed_line(form, words),
+        Some(form) => Line::Of(form),
         None => Line::Bad(UNKNOWN_FORM),
     }
 }

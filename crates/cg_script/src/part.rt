@@ -1,18 +1,23 @@
 //! What the words of a line stand for, and what a line says.
-ghost use Rattle.std.specs.Prelude.{◌≡◌, ◌+◌, ◌-◌, ◌^◌, ◌<◌, ◌≤◌, true, [], length, map, codes, IfOk, OnOk};
-ghost use Rattle.cg_value.specs.Texts.{with_text};
+ghost use Rattle.std.specs.Prelude.{◌≡◌, ◌+◌, ◌-◌, ◌^◌, ◌<◌, ◌≤◌, true, [], length, map, codes, if◌then◌else◌, slice_index, is_some, unwrap_or, Ok, Some, None, IfOk, OnOk};
+ghost use Rattle.std.specs.List.{list_all};
+ghost use Rattle.cg_value.specs.Texts.{with_text, text_number};
+ghost use Rattle.cg_script.specs.declared.command.Operand.TheVariants.{Str, Name as NameOf, Int};
+ghost use Rattle.cg_script.specs.declared.part.Part.TheVariants.{Text, Value as ValueOf, Number as NumberOf, Count as CountOf};
 ghost use Rattle.cg_script.specs.Tables.{named as named_in};
-ghost use Rattle.cg_script.specs.Words.{is_value, is_identifier, atoms, after_prefix};
-ghost use Rattle.cg_script.specs.Meanings.{fits, all_fit};
+ghost use Rattle.cg_script.specs.Words.{begins_name, is_value, is_variable, is_identifier, is_printable, is_quoted, string_text, is_number, number_of, are_digits, decimal_value, atoms, after_prefix, flags};
+ghost use Rattle.cg_script.specs.Meanings.{fits, repeats_finalizer, formed, code_of};
 ghost use Rattle.cg_script.specs.Parts.{Known, text_in, with_text_if, value_text, operand_or, numbered, finalizer, legacy, defined_number, finalizer_of, part_of, parts_from, texts_from, has_unknown, is_unknown};
 
 use crate::command::{Command, Operand};
 use crate::form::{Form, Sort, row_for, sort_in};
 use crate::item::Item;
-use crate::limits::MOST_WORDS;
+use crate::limits::{MOST_BUDGET, MOST_COUNT, MOST_WORDS};
+use crate::line::WORD_COUNT;
 use crate::word::{
-    after_del, after_legacy, atom, begins_as_name, count_of_word, flag, is_quoted_word,
-    number_of_word, text_of, text_of_identifier,
+    after_del, after_legacy, atom, begins_as_name, count_of_word, flag, is_count_word,
+    is_free_name, is_identifier_word, is_printable_text, is_profile_word, is_quoted_word,
+    is_variable, names_finalizer_word, names_legacy_word, number_in, text_of, text_of_identifier,
 };
 use cg_value::Names;
 use std::alloc::AllocError;
@@ -55,33 +60,70 @@ pub enum Said {
 /// The parts of a line.
 pub(crate) type Parts = Vec<Part>;
 
-/// What a value stands for; its text goes to the names.
-fn read_value(word: &[u8], names: &mut Names) -> Result<Operand, AllocError>
-    requires fits { is_value word.now ≡ true }
+/// What a string stands for, unless it is not printable.
+fn read_string(word: &[u8], names: &mut Names) -> Result<Option<Operand>, AllocError>
+    requires quoted { is_quoted word.now ≡ true }
     requires room { length names.old < 2 ^ 32 - 1 }
-    ensures operand { IfOk result (λ operand. operand ≡ operand_or (named_in atoms word.now) names.old word.now) }
-    ensures texts { OnOk result (names.new ≡ with_text_if names.old (value_text (named_in atoms word.now) word.now)) }
+    ensures operand { IfOk result (λ operand. operand ≡ (if list_all is_printable word.now then Some (Str (text_number names.old (string_text word.now))) else None)) }
+    ensures texts { OnOk result (list_all is_printable word.now ≡ true → names.new ≡ with_text names.old (string_text word.now)) }
 {
-    if let Some(operand) = atom(word) {
-        return Ok(operand);
+    if !is_printable_text(word) {
+        return Ok(None);
     }
-    if is_quoted_word(word) {
-        return Ok(Operand::Str(names.intern(text_of(&word[1..]))?));
-    }
-    if begins_as_name(word) {
-        return Ok(Operand::Name(names.intern(text_of_identifier(word))?));
-    }
-    Ok(Operand::Int(number_of_word(word)))
+    Ok(Some(Operand::Str(names.intern(text_of(&word[1..]))?)))
 }
 
-/// The number of a procedure or class.
-fn read_defined(names: &Names, word: &[u8]) -> Part
-    requires { is_identifier word.now ≡ true }
-    ensures { result ≡ numbered (defined_number names.now word.now) }
+/// What a word that is no value of its own and begins as a name stands for where it is a variable.
+fn read_name(word: &[u8], names: &mut Names) -> Result<Option<Operand>, AllocError>
+    requires other { named_in atoms word.now ≡ None }
+    requires begins { begins_name (slice_index word.now 0) ≡ true }
+    requires room { length names.old < 2 ^ 32 - 1 }
+    ensures operand { IfOk result (λ operand. operand ≡ (if is_variable word.now then Some (NameOf (text_number names.old word.now)) else None)) }
+    ensures texts { OnOk result (is_variable word.now ≡ true → names.new ≡ with_text names.old word.now) }
 {
+    if !is_free_name(word) {
+        return Ok(None);
+    }
+    Ok(Some(Operand::Name(names.intern(text_of_identifier(word))?)))
+}
+
+fn read_whole(word: &[u8]) -> Option<Operand>
+    ensures { result ≡ (if is_number word.now then Some (Int (number_of word.now)) else None) }
+{
+    match number_in(word) {
+        Some(number) => Some(Operand::Int(number)),
+        None => None,
+    }
+}
+
+/// What a word stands for where it is a value; its text goes to the names.
+fn read_value(word: &[u8], names: &mut Names) -> Result<Option<Operand>, AllocError>
+    requires room { length names.old < 2 ^ 32 - 1 }
+    ensures operand { IfOk result (λ operand. operand ≡ (if is_value word.now then Some (operand_or (named_in atoms word.now) names.old word.now) else None)) }
+    ensures texts { OnOk result (is_value word.now ≡ true → names.new ≡ with_text_if names.old (value_text (named_in atoms word.now) word.now)) }
+{
+    if let Some(operand) = atom(word) {
+        return Ok(Some(operand));
+    }
+    if is_quoted_word(word) {
+        return read_string(word, names);
+    }
+    if begins_as_name(word) {
+        return read_name(word, names);
+    }
+    Ok(read_whole(word))
+}
+
+/// The number of a procedure or class, where the word may name one.
+fn read_defined(names: &Names, word: &[u8]) -> Option<Part>
+    ensures { result ≡ (if is_identifier word.now then Some (numbered (defined_number names.now word.now)) else None) }
+{
+    if !is_identifier_word(word) {
+        return None;
+    }
     match names.find(text_of_identifier(word)) {
-        Some(number) => Part::Count(number),
-        None => Part::Unknown,
+        Some(number) => Some(Part::Count(number)),
+        None => Some(Part::Unknown),
     }
 }
 
@@ -106,7 +148,7 @@ fn read_del(procs: &Names, name: &[u8]) -> Part
 }
 
 /// What `del=P` or `legacy=P` stands for.
-fn read_finalizer(procs: &Names, word: &[u8]) -> Part
+fn finalizer_in(procs: &Names, word: &[u8]) -> Part
     requires { fits Sort.Finalizer word.now ≡ true }
     ensures { result ≡ finalizer_of procs.now (after_prefix (codes "del=") word.now) word.now }
 {
@@ -119,33 +161,115 @@ fn read_finalizer(procs: &Names, word: &[u8]) -> Part
     }
 }
 
-/// What a word at such a place stands for; its text goes to the names.
+/// What a word stands for where it is `del=P` or `legacy=P`.
+fn read_finalizer(procs: &Names, word: &[u8]) -> Option<Part>
+    ensures { result ≡ (if fits Sort.Finalizer word.now then Some (finalizer_of procs.now (after_prefix (codes "del=") word.now) word.now) else None) }
+{
+    if !names_finalizer_word(word) && !names_legacy_word(word) {
+        return None;
+    }
+    Some(finalizer_in(procs, word))
+}
+
+/// What a word stands for where it may name a variable, an attribute, a procedure or a class; its text goes to the names.
+fn read_text(fits: bool, word: &[u8], names: &mut Names) -> Result<Option<Part>, AllocError>
+    requires name { fits ≡ true → is_identifier word.now ≡ true }
+    requires room { length names.old < 2 ^ 32 - 1 }
+    ensures part { IfOk result (λ part. part ≡ (if fits then Some (Text (text_number names.old word.now)) else None)) }
+    ensures texts { OnOk result (fits ≡ true → names.new ≡ with_text names.old word.now) }
+{
+    if !fits {
+        return Ok(None);
+    }
+    Ok(Some(Part::Text(names.intern(text_of_identifier(word))?)))
+}
+
+/// The count that a word writes, where it is one.
+fn read_count(fits: bool, word: &[u8]) -> Option<Part>
+    requires digits { fits ≡ true → are_digits 10 word.now ≡ true }
+    requires few { fits ≡ true → decimal_value word.now ≤ MOST_COUNT }
+    ensures { result ≡ (if fits then Some (CountOf (decimal_value word.now)) else None) }
+{
+    if !fits {
+        return None;
+    }
+    Some(Part::Count(count_of_word(word)))
+}
+
+/// What a word stands for where it is a value.
+fn read_value_part(word: &[u8], names: &mut Names) -> Result<Option<Part>, AllocError>
+    requires room { length names.old < 2 ^ 32 - 1 }
+    ensures part { IfOk result (λ part. part ≡ (if is_value word.now then Some (ValueOf (operand_or (named_in atoms word.now) names.old word.now)) else None)) }
+    ensures texts { OnOk result (is_value word.now ≡ true → names.new ≡ with_text_if names.old (value_text (named_in atoms word.now) word.now)) }
+{
+    match read_value(word, names)? {
+        Some(operand) => Ok(Some(Part::Value(operand))),
+        None => Ok(None),
+    }
+}
+
+fn read_number(word: &[u8]) -> Option<Part>
+    ensures { result ≡ (if is_number word.now then Some (NumberOf (number_of word.now)) else None) }
+{
+    match number_in(word) {
+        Some(number) => Some(Part::Number(number)),
+        None => None,
+    }
+}
+
+fn read_flag(word: &[u8]) -> Option<Part>
+    ensures { result ≡ (if is_some (named_in flags word.now) then Some (CountOf (unwrap_or (named_in flags word.now) 0)) else None) }
+{
+    match flag(word) {
+        Some(bits) => Some(Part::Count(bits)),
+        None => None,
+    }
+}
+
+/// What a word at such a place stands for, where it has the form that the place asks for; its text goes to the names.
 fn read_part(
     sort: Sort,
     word: &[u8],
     names: &mut Names,
     procs: &Names,
     classes: &Names,
-) -> Result<Part, AllocError>
-    requires fits { fits sort word.now ≡ true }
+) -> Result<Option<Part>, AllocError>
     requires room { length names.old < 2 ^ 32 - 1 }
-    ensures part { IfOk result (λ part. part ≡ part_of procs.now classes.now names.old sort word.now) }
-    ensures texts { OnOk result (names.new ≡ with_text_if names.old (text_in sort word.now)) }
+    ensures part { IfOk result (λ part. part ≡ (if fits sort word.now then Some (part_of procs.now classes.now names.old sort word.now) else None)) }
+    ensures texts { OnOk result (fits sort word.now ≡ true → names.new ≡ with_text_if names.old (text_in sort word.now)) }
 {
     match sort {
-        Sort::Key => Ok(Part::Bare),
-        Sort::Variable | Sort::Name => Ok(Part::Text(names.intern(text_of_identifier(word))?)),
+        Sort::Key => Ok(Some(Part::Bare)),
+        Sort::Variable => read_text(is_variable(word), word, names),
+        Sort::Name => read_text(is_identifier_word(word), word, names),
         Sort::Class => Ok(read_defined(classes, word)),
         Sort::Proc => Ok(read_defined(procs, word)),
         Sort::Finalizer => Ok(read_finalizer(procs, word)),
-        Sort::Value => Ok(Part::Value(read_value(word, names)?)),
-        Sort::Number => Ok(Part::Number(number_of_word(word))),
-        Sort::Profile | Sort::Budget | Sort::Count => Ok(Part::Count(count_of_word(word))),
-        Sort::Flag => Ok(Part::Count(flag(word).unwrap_or(0))),
+        Sort::Value => read_value_part(word, names),
+        Sort::Number => Ok(read_number(word)),
+        Sort::Profile => Ok(read_count(is_profile_word(word), word)),
+        Sort::Budget => Ok(read_count(is_count_word(word, MOST_BUDGET), word)),
+        Sort::Count => Ok(read_count(is_count_word(word, MOST_COUNT), word)),
+        Sort::Flag => Ok(read_flag(word)),
     }
 }
 
-/// Reads the parts of a line, into a list that is empty before.
+/// Whether a class has two finalizers, or two legacy finalizers.
+fn has_two_alike(form: Form, words: &[&[u8]]) -> bool
+    ensures { result ≡ repeats_finalizer form (map (λ w. w.now) words.now) }
+{
+    match form {
+        Form::Class => words.len() == 4
+            && ((names_finalizer_word(words[2]) && names_finalizer_word(words[3]))
+                || (names_legacy_word(words[2]) && names_legacy_word(words[3]))),
+        _ => false,
+    }
+}
+
+/// A word that has not the form that its place asks for.
+const WORD_FORM: u8 = 4;
+
+/// Reads the parts of a line of this form into a list that is empty before, or answers the code of what is wrong with its words by themselves.
 pub(crate) fn read_parts(
     parts: &mut Parts,
     form: Form,
@@ -153,27 +277,34 @@ pub(crate) fn read_parts(
     names: &mut Names,
     procs: &Names,
     classes: &Names,
-) -> Result<(), AllocError>
+) -> Result<Option<u8>, AllocError>
     requires empty { parts.old.items ≡ [] }
-    requires fit { all_fit form 0 (map (λ w. w.now) words.now) ≡ true }
-    requires few { length words.now ≤ MOST_WORDS }
     requires room { length names.old + MOST_WORDS < 2 ^ 32 - 1 }
-    ensures parts { OnOk result (parts.new.items ≡ parts_from procs.now classes.now names.old form 0 (map (λ w. w.now) words.now)) }
-    ensures texts { OnOk result (names.new ≡ texts_from names.old form 0 (map (λ w. w.now) words.now)) }
-    ensures few_texts { OnOk result (length names.new ≤ length names.old + length words.now) }
+    ensures fault { IfOk result (λ code. code ≡ code_of (formed form (map (λ w. w.now) words.now))) }
+    ensures parts { result ≡ Ok None → parts.new.items ≡ parts_from procs.now classes.now names.old form 0 (map (λ w. w.now) words.now) }
+    ensures texts { result ≡ Ok None → names.new ≡ texts_from names.old form 0 (map (λ w. w.now) words.now) }
+    ensures few_texts { result ≡ Ok None → length names.new ≤ length names.old + MOST_WORDS }
 {
     let row = row_for(form);
+    if words.len() < row.fewest || row.most < words.len() {
+        return Ok(Some(WORD_COUNT));
+    }
     'places: for place in 0..words.len() {
-        let part = read_part(
+        match read_part(
             sort_in(row.places, place),
             words[place],
             names,
             procs,
             classes,
-        )?;
-        parts.push(part)?;
+        )? {
+            Some(part) => parts.push(part)?,
+            None => return Ok(Some(WORD_FORM)),
+        }
     }
-    Ok(())
+    if has_two_alike(form, words) {
+        return Ok(Some(WORD_FORM));
+    }
+    Ok(None)
 }
 
 /// Whether a procedure or class is named that no earlier line defines.

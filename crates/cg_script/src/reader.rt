@@ -44,7 +44,7 @@ fn take_line(
     match read_line(number, line, printable, words) {
         Line::Passed => Ok(()),
         Line::Bad(code) => Err(ScriptFault::Bad { line: number, code }),
-        Line::Says(form) => match take_words(draft, form, words, parts) {
+        Line::Of(form) => match take_words(draft, form, words, parts) {
             Ok(None) => Ok(()),
             Ok(Some(code)) => Err(ScriptFault::Bad { line: number, code }),
             Err(_) => Err(ScriptFault::OutOfMemory),

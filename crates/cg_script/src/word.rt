@@ -1,5 +1,5 @@
 //! The forms of words.
-ghost use Rattle.std.specs.Prelude.{◌≡◌, ◌≤◌, ◌||◌, true, map, length, slice_index, drop, codes, take, option_map, pos, neg_ℤ};
+ghost use Rattle.std.specs.Prelude.{◌≡◌, ◌≤◌, ◌&&◌, ◌||◌, nat_le, true, map, length, slice_index, if◌then◌else◌, Some, None, drop, codes, take, option_map, pos, neg_ℤ};
 ghost use Rattle.std.specs.List.{list_all};
 ghost use Rattle.cg_script.specs.Tables.{named as named_in};
 ghost use Rattle.cg_script.specs.Alike.{rows_like};
@@ -71,6 +71,15 @@ pub fn is_variable(word: &[u8]) -> bool
     ensures { result ≡ is_variable word.now }
 {
     is_identifier_word(word) && !is_reserved_word(word)
+}
+
+/// Whether a word that is no value of its own and begins as a name may name a variable.
+pub(crate) fn is_free_name(word: &[u8]) -> bool
+    requires other { named_in atoms word.now ≡ None }
+    requires begins { begins_name (slice_index word.now 0) ≡ true }
+    ensures { result ≡ is_variable word.now }
+{
+    word.len() <= MOST_NAME_BYTES && has_name_bytes(word) && !is_reserved_for_form(word)
 }
 
 pub(crate) fn is_printable_text(bytes: &[u8]) -> bool
@@ -157,27 +166,38 @@ fn has_minus_sign(word: &[u8]) -> bool
     word.first() == Some(&b'-')
 }
 
-pub(crate) fn is_number_word(word: &[u8]) -> bool
-    ensures { result ≡ is_number word.now }
+/// The number that 1 to 19 digits write, unless it is greater than this.
+fn digits_up_to(word: &[u8], most: u64) -> Option<u64>
+    ensures { result ≡ (if are_digits 19 word.now && nat_le (decimal_value word.now) most then Some (decimal_value word.now) else None) }
+{
+    if !are_digits_word(word, MOST_DIGITS) {
+        return None;
+    }
+    let number = decimal(word);
+    if number <= most { Some(number) } else { None }
+}
+
+/// The number that a word writes, if it is one.
+pub(crate) fn number_in(word: &[u8]) -> Option<i64>
+    ensures { result ≡ (if is_number word.now then Some (number_of word.now) else None) }
 {
     if has_minus_sign(word) {
-        let digits = &word[1..];
-        are_digits_word(digits, MOST_DIGITS) && decimal(digits) <= 9_223_372_036_854_775_808
+        match digits_up_to(&word[1..], 9_223_372_036_854_775_808) {
+            Some(number) => Some(negative(number)),
+            None => None,
+        }
     } else {
-        are_digits_word(word, MOST_DIGITS) && decimal(word) <= 9_223_372_036_854_775_807
+        match digits_up_to(word, 9_223_372_036_854_775_807) {
+            Some(number) => Some(number as i64),
+            None => None,
+        }
     }
 }
 
-/// The number that a word writes.
-pub(crate) fn number_of_word(word: &[u8]) -> i64
-    requires { is_number word.now ≡ true }
-    ensures { result ≡ number_of word.now }
+fn is_number_word(word: &[u8]) -> bool
+    ensures { result ≡ is_number word.now }
 {
-    if has_minus_sign(word) {
-        negative(decimal(&word[1..]))
-    } else {
-        decimal(word) as i64
-    }
+    number_in(word).is_some()
 }
 
 /// A number with the sign changed.
@@ -268,7 +288,7 @@ pub fn is_value(word: &[u8]) -> bool
         return is_printable_text(word);
     }
     if begins_as_name(word) {
-        return is_identifier_word(word) && !is_reserved_for_form(word);
+        return is_free_name(word);
     }
     is_number_word(word)
 }

@@ -1,18 +1,10 @@
-use Rattle.std.proofs.Common.{◌≡◌, Bor, ℕ, List, length, map, arith, sym, ap, ◌∙◌, Ok}
+use Rattle.std.proofs.Common.{Bor, ℕ, List, length, map, arith, sym, ap, ◌∙◌, Ok}
 use Rattle.cg_script.specs.Parts.{Known}
-use Rattle.std.proofs.lemmas.List.{length-map}
-use Rattle.cg_script.proofs.Says.{says_fits, says_of_line}
-use Rattle.cg_script.proofs.Lines.{line_passed, line_bad, line_faulty, line_taken, passed_before_last, says_before_last, one_proc_more, one_class_more}
+use Rattle.cg_script.specs.Meanings.{formed}
+use Rattle.cg_script.specs.Views.{known_of}
+use Rattle.cg_script.proofs.ReadWords.{taken_says}
+use Rattle.cg_script.proofs.Lines.{line_passed, line_bad, line_wrong, line_taken, passed_before_last, says_before_last, one_proc_more, one_class_more}
 use Rattle.cg_script.proofs.reader.take_line.Goals as goal
-
-pub take_words-requires-clause-fit : goal.take_words-requires-clause-fit
-take_words-requires-clause-fit c = (says_fits c.args.number c.args.line.now c.in-Says.form _ c.in-Says.ensures).fit
-
-pub take_words-requires-clause-enough : goal.take_words-requires-clause-enough
-take_words-requires-clause-enough c =
-    let f = says_fits c.args.number c.args.line.now c.in-Says.form _ c.in-Says.ensures in
-    let e : length (map (λ w. w.now) c.args.words.now) ≡ length c.args.words.now = length-map c.args.words.now (λ w. w.now) in
-    rw e at f.enough
 
 pub returns-in-Passed-clause-ok : goal.returns-in-Passed-clause-ok
 returns-in-Passed-clause-ok c = line_passed c.args.draft.now c.args.number c.args.line.now c.in-Passed.ensures
@@ -31,7 +23,9 @@ returns-in-Bad-clause-fault c = line_bad c.args.draft.now c.args.number c.args.l
 
 pub returns-in-Ok-None-clause-ok : goal.returns-in-Ok-None-clause-ok
 returns-in-Ok-None-clause-ok c =
-    line_taken c.args.draft.now c.args.number c.args.line.now c.in-Says.form _ c.take_words.new.draft c.in-Says.ensures (sym c.in-Ok-None.field-0-is ∙ c.in-Ok-None.ensures.fault)
+    let words = map (λ (w : Bor (List ℕ)). w.now) c.args.words.now in
+    let taken = taken_says (known_of c.args.draft.now) c.in-Of.form words (sym c.in-Ok-None.field-0-is ∙ c.in-Ok-None.ensures.fault) in
+    line_taken c.args.draft.now c.args.number c.args.line.now c.in-Of.form words c.take_words.new.draft (taken.0 ∙ c.in-Of.ensures) taken.1
     (c.in-Ok-None.ensures.takes (ap Ok c.in-Ok-None.field-0-is))
 
 pub returns-in-Ok-None-clause-small : goal.returns-in-Ok-None-clause-small
@@ -39,20 +33,15 @@ returns-in-Ok-None-clause-small c =
     let e = ap Ok c.in-Ok-None.field-0-is in
     let known = (c.in-Ok-None.ensures.takes e).known in
     let words = map (λ (w : Bor (List ℕ)). w.now) c.args.words.now in
+    let taken = taken_says (known_of c.args.draft.now) c.in-Of.form words (sym c.in-Ok-None.field-0-is ∙ c.in-Ok-None.ensures.fault) in
     record {
-      lines = says_before_last c.args.number c.args.line.now c.in-Says.form words c.in-Says.ensures c.requires.small.lines;
+      lines = says_before_last c.args.number c.args.line.now c.in-Of.form words (taken.0 ∙ c.in-Of.ensures) c.requires.small.lines;
       texts = omega (arith, c.in-Ok-None.ensures.few_names e, c.requires.small.texts);
-      procs = omega (arith, ap length (ap (λ (k : Known). k.procs) known), one_proc_more c.args.draft.now.procs c.in-Says.form words, c.requires.small.procs);
-      classes = omega (arith, ap length (ap (λ (k : Known). k.classes) known), one_class_more c.args.draft.now.classes c.in-Says.form words, c.requires.small.classes);
+      procs = omega (arith, ap length (ap (λ (k : Known). k.procs) known), one_proc_more c.args.draft.now.procs c.in-Of.form words, c.requires.small.procs);
+      classes = omega (arith, ap length (ap (λ (k : Known). k.classes) known), one_class_more c.args.draft.now.classes c.in-Of.form words, c.requires.small.classes);
       items = omega (arith, c.in-Ok-None.ensures.few_items e, c.requires.small.items);
     }
 
 pub returns-in-Ok-Some-clause-fault : goal.returns-in-Ok-Some-clause-fault
-returns-in-Ok-Some-clause-fault c = line_faulty c.args.draft.now c.args.number c.args.line.now c.in-Says.form (map (λ (w : Bor (List ℕ)). w.now) c.args.words.now) c.in-Ok-Some.code
-    c.in-Says.ensures (sym c.in-Ok-Some.field-0-is ∙ c.in-Ok-Some.ensures.fault)
-
-pub take_words-requires-clause-few : goal.take_words-requires-clause-few
-take_words-requires-clause-few c =
-    let f = (says_of_line c.args.number c.args.line.now c.in-Says.form _ c.in-Says.ensures).few_words in
-    let e : length (map (λ w. w.now) c.args.words.now) ≡ length c.args.words.now = length-map c.args.words.now (λ w. w.now) in
-    rw e at f
+returns-in-Ok-Some-clause-fault c = line_wrong c.args.draft.now c.args.number c.args.line.now (formed c.in-Of.form (map (λ (w : Bor (List ℕ)). w.now) c.args.words.now)) c.in-Ok-Some.code
+    c.in-Of.ensures (sym c.in-Ok-Some.field-0-is ∙ c.in-Ok-Some.ensures.fault)
