@@ -1,6 +1,6 @@
 -- The walk over one object's entries: what the first of them refer to, and what the next one does.
-use Rattle.std.proofs.Common.{◌≡◌, refl, sym, ◌∙◌, ap, subst, ℕ, ◌+◌, ◌<◌, ◌≤◌, List, [], ◌∷◌, ◌++◌, length, take, drop, get_or, inl, Option, Some, None, Bool, IsTrue, arith, append_assoc}
-use Rattle.std.proofs.lemmas.List.{append-nil, take-append-drop, drop_more}
+use Rattle.std.proofs.Common.{◌≡◌, refl, sym, ◌∙◌, ap, subst, ℕ, ◌+◌, ◌-◌, ◌<◌, ◌≤◌, List, [], ◌∷◌, ◌++◌, length, take, drop, get_or, inl, Option, Some, None, Bool, IsTrue, arith, append_assoc}
+use Rattle.std.proofs.lemmas.List.{append-nil, take-append-drop, drop_more, get_or-take, length-take}
 use Rattle.cg_kind.specs.Calls.{next_entries}
 use Rattle.cg_kind.specs.declared.notes.TheConstants.{AT_ONCE}
 use Rattle.cg_kind.proofs.References.{next_within, next_last, references_next, references_parts}
@@ -56,6 +56,12 @@ pub one_of : (xs : List ℕ) (i : ℕ) → i < length xs → Includes xs (get_or
 one_of xs i within =
     subst (λ (l : List ℕ). Includes l (get_or xs i 0)) (sym (taken_parts xs i within))
     (Includes-append_right (take i xs) (get_or xs i 0 ∷ drop (i + 1) xs) (get_or xs i 0) (inl refl))
+
+-- one that comes right after itself came before
+pub came_before : (xs : List ℕ) (i : ℕ) → 0 < i → i < length xs → get_or xs (i - 1) 0 ≡ get_or xs i 0 → Includes (take i xs) (get_or xs i 0)
+came_before xs i some within same =
+    subst (Includes (take i xs)) (get_or-take i xs (i - 1) 0 (omega (arith, some)) ∙ same)
+    (one_of (take i xs) (i - 1) (omega (arith, some, within, length-take i xs)))
 
 pub one_room : (old mid : View) (xs : List ℕ) (i : ℕ) → i < length xs → Lowered (take i xs) old mid → ((o : ℕ) → Includes (old.listed Cand) o → occurrences o xs ≤ old.number o)
     → Includes (mid.listed Cand) (get_or xs i 0) → 0 < mid.number (get_or xs i 0)

@@ -12,12 +12,12 @@ use Rattle.cg_graph.proofs.Members.{Includes-append_cases, Includes-append_right
 use Rattle.cg_graph.proofs.Objects.{occurrences-append}
 use Rattle.cg_trial.specs.View.{View, IsSame, Moved, Merged, IsReadyView, head_of}
 use Rattle.cg_trial.specs.Sift.{AreOthersSame, Walk, starts, goes, IsNowhereElse, IsParted, IsTwofold, IsExchanged, IsSifted, IsMember}
-use Rattle.cg_trial.proofs.Lists.{occurs_in, without-absent, once_before}
+use Rattle.cg_trial.proofs.Lists.{head_is, without-absent, once_before}
 use Rattle.cg_trial.proofs.Passes.{same_itself, same_more}
 use Rattle.cg_trial.proofs.Entries.{live_same}
 use Rattle.cg_trial.proofs.Placed.{one_place}
 use Rattle.cg_trial.proofs.Sifts.{without_middle}
-use Rattle.cg_trial.proofs.Waking.{member_counts}
+use Rattle.cg_trial.proofs.Waking.{member_within}
 
 -- Those that have numbers have left the list of the candidates up to some, which the others follow.
 pub record Exchanging (old now : View) (cursor : Option ℕ) : Type 0 where
@@ -51,17 +51,16 @@ module _ (old now : View) (o : ℕ) (so : Exchanging old now (Some o)) (two : Is
   first_is : (x : ℕ) (xs : List ℕ) → now.listed Cand ≡ x ∷ xs → o ≡ x
   first_is x xs is = let e : Some o ≡ Some x = so.at ∙ ap head_of is in cc
 
+  stands_first : Includes (now.listed Cand) o
+  stands_first = subst (λ (xs : List ℕ). Includes xs o) (sym (head_is (now.listed Cand) o so.at).1) (inl refl)
+
   -- the first of those that are left, or one of those that follow
   rest_is : now.number o ≢ 0 → (xs : List ℕ) → old.listed Cand ≡ so.gone ++ xs → now.listed Cand ≡ xs ++ old.listed Back → (ys : List ℕ) × (xs ≡ o ∷ ys)
-  rest_is has [] whole is = absurd (has (ap (λ (n : ℕ → ℕ). n o) so.numbers ∙ two.asleep o (first_of (old.listed Back) is)))
-    where
-      first_of : (ys : List ℕ) → now.listed Cand ≡ ys → Includes ys o
-      first_of [] none = absurd (let e : Some o ≡ None = so.at ∙ ap head_of none in cc)
-      first_of (y ∷ ys) some = inl (sym (first_is y ys some))
+  rest_is has [] whole is = absurd (has (ap (λ (n : ℕ → ℕ). n o) so.numbers ∙ two.asleep o (subst (λ (xs : List ℕ). Includes xs o) is stands_first)))
   rest_is has (x ∷ xs) whole is = (xs, ap (λ y. y ∷ xs) (sym (first_is x (xs ++ old.listed Back) is)))
 
   pub exchanging_live : IsTrue (now.live o)
-  exchanging_live = live_same old now o so.same (two.alive o (member (now.listed Cand) refl))
+  exchanging_live = live_same old now o so.same (two.alive o (within stands_first))
     where
       within : Includes (now.listed Cand) o → IsMember old o
       within h = go (Includes-append_cases so.rest (old.listed Back) o (subst (λ (xs : List ℕ). Includes xs o) so.candidates h))
@@ -69,10 +68,6 @@ module _ (old now : View) (o : ℕ) (so : Exchanging old now (Some o)) (two : Is
           go : Includes so.rest o ⊎ Includes (old.listed Back) o → IsMember old o
           go (inl k) = inl (subst (λ (xs : List ℕ). Includes xs o) (sym so.whole) (Includes-append_right so.gone so.rest o k))
           go (inr k) = inr k
-
-      member : (ys : List ℕ) → now.listed Cand ≡ ys → IsMember old o
-      member [] none = absurd (let e : Some o ≡ None = so.at ∙ ap head_of none in cc)
-      member (y ∷ ys) some = within (subst (λ (xs : List ℕ). Includes xs o) (sym some) (inl (sym (first_is y ys some))))
 
   -- one that has a number goes to the others that have
   module _ (has : now.number o ≢ 0) (new : View) (moved : Moved o Back now new) where
@@ -160,15 +155,12 @@ sifted_none kept v empty zero = record {
 module _ (old mid : View) (parted : IsParted old mid) where
   pub parted_twofold : IsReadyView old → IsNowhereElse old → IsTwofold mid
   parted_twofold ready alone = record {
-    alive = λ o h. live_same old mid o parted.same (ready.alive o (member_old o h));
+    alive = λ o h. live_same old mid o parted.same (ready.alive o (member_within old mid parted.sums o h));
     once = λ o. omega (arith, parted.sums (λ x. cond (x == o) 1 0), ready.once o);
-    alone = λ q o h k m. ap (occurrences o) (parted.others q h k) ∙ alone q o h (member_old o m);
+    alone = λ q o h k m. ap (occurrences o) (parted.others q h k) ∙ alone q o h (member_within old mid parted.sums o m);
     numbered = parted.numbered;
     asleep = parted.asleep;
   }
-    where
-      member_old : (o : ℕ) → IsMember mid o → Includes (old.listed Cand) o
-      member_old o h = occurs_in (old.listed Cand) o (omega (arith, parted.sums (λ x. cond (x == o) 1 0), member_counts mid o h))
 
   pub sifted_exchanged : (new : View) → IsExchanged mid new → IsSifted Back old new
   sifted_exchanged new then = record {

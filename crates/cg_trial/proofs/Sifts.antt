@@ -17,7 +17,7 @@ use Rattle.cg_graph.proofs.Members.{either, Includes-append_cases}
 use Rattle.cg_trial.proofs.Lists.{occurs, occurs_in, none_or_some, without-absent, without-append, without-cons_yes, once_before, IsAt, head_is, ahead, ahead_is}
 use Rattle.cg_trial.proofs.Passes.{same_itself, same_more, turn_of, turn_shorter, stands, at_end}
 use Rattle.cg_trial.proofs.Entries.{refs_same, length_same, live_same}
-use Rattle.cg_trial.proofs.Waking.{member_of, member_counts}
+use Rattle.cg_trial.proofs.Waking.{member_of, member_within}
 
 pub in_lists : (xs ys zs : List ℕ) (q : ℕ) → occurrences q xs + occurrences q ys ≡ occurrences q zs → Includes zs q → Includes ys q ⊎ Includes xs q
 in_lists xs ys zs q sum h = either (none_or_some (occurrences q ys)) (λ e. inr (occurs_in xs q (let k = occurs zs q h in omega arith))) (λ e. inl (occurs_in ys q e))
@@ -79,7 +79,7 @@ module _ (old now : View) (cursor : Option ℕ) (before steps : ℕ) (so : Sifti
   member_now q h = member_of now q (omega (arith, where_now q, occurs (old.listed Cand) q h))
 
   pub member_old : (q : ℕ) → IsMember now q → Includes (old.listed Cand) q
-  member_old q h = occurs_in (old.listed Cand) q (omega (arith, where_now q, member_counts now q h))
+  member_old q h = member_within old now so.sums q h
 
   pub sifting_ready : IsReadyView old → IsReadyView now
   sifting_ready ready = record {

@@ -31,6 +31,10 @@ pub member_counts : (v : View) (q : ℕ) → IsMember v q → 1 ≤ both (λ x. 
 member_counts v q (inl h) = omega (arith, occurs (v.listed Cand) q h)
 member_counts v q (inr h) = omega (arith, occurs (v.listed Back) q h)
 
+-- where the two lists have the sums that the candidates had, each member was one of these
+pub member_within : (a b : View) → ((f : ℕ → ℕ) → both f b ≡ sum_by f (a.listed Cand)) → (q : ℕ) → IsMember b q → Includes (a.listed Cand) q
+member_within a b sums q h = occurs_in (a.listed Cand) q (omega (arith, sums (λ x. cond (x == q) 1 0), member_counts b q h))
+
 pub member_kept : (a b : View) → ((f : ℕ → ℕ) → both f b ≡ both f a) → (q : ℕ) → IsMember a q → IsMember b q
 member_kept a b sums q h = member_of b q (omega (arith, sums (λ x. cond (x == q) 1 0), member_counts a q h))
 
@@ -80,6 +84,12 @@ woken_more r s a b c first then = record {
   longer = then.longer ∙ ap (λ (xs : List ℕ). xs ++ then.more) first.longer ∙ append_assoc (a.listed Cand) first.more then.more;
   lighter = omega (arith, first.lighter, then.lighter, length-append first.more then.more);
 }
+
+-- one that was taken back before stays as it is
+pub woken_again : (r : List ℕ) (p : ℕ) (a b : View) → Woken r a b → Includes r p → Woken (r ++ p ∷ []) a b
+woken_again r p a b before here =
+    woken_more r (p ∷ []) a b b before
+    (woken_idle p b (λ member. before.woken p here (member_kept b a (λ f. sym (before.sums f)) p member)))
 
 -- One target: its number was 0 and becomes 1.
 module _ (p : ℕ) (a c : View) (zero_was : a.number p ≡ 0) (numbers : (q : ℕ) → c.number q ≡ cond (q == p) 1 (a.number q)) where

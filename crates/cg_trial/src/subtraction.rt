@@ -1,5 +1,5 @@
 //! Trial subtraction, and the walk that takes out what is reached.
-ghost use Rattle.std.specs.Prelude.{◌≡◌, ◌≢◌, ◌↔◌, ℕ, ◌+◌, ◌*◌, ◌≤◌, ◌∷◌, [], false, length, IsTrue};
+ghost use Rattle.std.specs.Prelude.{◌≡◌, ◌≢◌, ◌↔◌, ℕ, ◌+◌, ◌*◌, ◌≤◌, ◌∷◌, [], ◌<◌, false, length, slice_index, take, IsTrue};
 ghost use Rattle.cg_graph.specs.Member.{Includes};
 ghost use Rattle.cg_graph.specs.Value.{references};
 ghost use Rattle.cg_graph.specs.Holdings.{occurrences};
@@ -121,14 +121,25 @@ fn wake<B: Kind>(heap: &mut Heap<B>, object: u64, place: Place)
     }
 }
 
-/// Each of these objects is taken back.
+/// Whether an object comes right after itself, as in a list that holds one object many times.
+#[inline(always)]
+fn is_repeated(objects: &[u64], at: usize) -> bool
+    requires { at < length objects.now }
+    ensures { IsTrue result → Includes (take at objects.now) (slice_index objects.now at) }
+{
+    at > 0 && objects[at - 1] == objects[at]
+}
+
+/// Each of these objects is taken back. One that comes right after itself is not sought again.
 #[inline(always)]
 fn take_back_each<B: Kind>(heap: &mut Heap<B>, objects: &[u64])
     requires { (o : ℕ) → Includes objects.now o → IsTrue ((view_of heap.old).live o) }
     ensures { Woken objects.now (view_of heap.old) (view_of heap.new) }
 {
-    'objects: for object in objects {
-        take_back(heap, *object);
+    'objects: for at in 0..objects.len() {
+        if !is_repeated(objects, at) {
+            take_back(heap, objects[at]);
+        }
     }
 }
 

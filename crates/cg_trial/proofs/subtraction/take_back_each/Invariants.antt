@@ -4,4 +4,4 @@ use Rattle.std.proofs.Common.{take}
 use Rattle.cg_trial.proofs.subtraction.take_back_each.Given as goal
 
 abbrev pub invariant-objects : goal.invariant-objects
-invariant-objects g l = Woken (take l.object-index l.objects) (view_of l.fn.heap) (view_of l.heap)
+invariant-objects g l = Woken (take l.at l.objects) (view_of l.fn.heap) (view_of l.heap)
