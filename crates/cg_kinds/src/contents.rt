@@ -119,8 +119,10 @@ pub trait Contents: Drop {
 
     #[inline(always)]
     fn append(&mut self, val: Val) -> Result<(), AllocError>
-        requires { kind ≡ code.List }
-        ensures ok { OnOk result (body self.new ≡ body_of ((body self.old).entries ++ item val ∷ []) (body self.new).spare) }
+        ensures appends { kind ≡ code.List → OnOk result (body self.new ≡
+            body_of ((body self.old).entries ++ item val ∷ []) (body self.new).spare) }
+        ensures others { kind ≢ code.List → OnOk result (body self.new ≡
+            body_of (body self.old).entries (body self.new).spare) }
         ensures err { OnErr result (body self.new ≡ body self.old) }
     {
         self.reserve(1)?;

@@ -9,7 +9,7 @@ index_mut-requires g c = holds-key g.C.Contents.body _ _ c.requires.held
 
 pub returns-clause-ok : goal.returns-clause-ok
 returns-clause-ok g c =
-    on_ok_weaker c.append.result (with_entries g.C.Contents.body _ _ _ c.index_mut.ensures.value (λ es. es ++ item c.args.val ∷ []) c.append.new.self) c.append.ensures.ok
+    on_ok_weaker c.append.result (with_entries g.C.Contents.body _ _ _ c.index_mut.ensures.value (λ es. es ++ item c.args.val ∷ []) c.append.new.self) (c.append.ensures.appends c.requires.list)
 
 pub returns-clause-err : goal.returns-clause-err
 returns-clause-err g c = on_err_weaker c.append.result (kept g.C.Contents.body _ _ _ c.index_mut.ensures.value c.append.new.self) c.append.ensures.err
