@@ -37,20 +37,13 @@ map_push : {A B : Type 0} (f : A → B) (xs : List A) (y : A) → map f (xs ++ y
 map_push f [] y = refl
 map_push f (x ∷ xs) y = ap (λ l. f x ∷ l) (map_push f xs y)
 
-found_place : (b : Bool) (n i : ℕ) → Some i ≡ cond b (Some n) None → i ≡ n
+pub found_place : (b : Bool) (n i : ℕ) → Some i ≡ cond b (Some n) None → i ≡ n
 found_place true n i e = cc
 found_place false n i e = cc
 
 module _ {A : Type 0} (f : A → List ℕ) (keys : List A) (text : List ℕ) where
   abbrev test : A → Bool
   test k = bytes_eq text (f k)
-
-  -- a text that is there has its place, and nothing changes
-  pub known : (i : ℕ) → Some i ≡ position test keys → true ≡ list_any test keys → (i ≡ text_number (map f keys) text) × (map f keys ≡ with_text (map f keys) text)
-  known i at found = (
-    found_place _ _ i at ∙ sym (place_map (bytes_eq text) f keys),
-    ap (λ b. cond b (map f keys) (map f keys ++ text ∷ [])) (found ∙ sym (any_map (bytes_eq text) f keys)),
-  )
 
   -- a text that is new goes last
   pub fresh : (eq : A → A → Bool) (x : A) (after : List A) → f x ≡ text → ((k : A) → eq x k ≡ bytes_eq (f x) (f k)) → false ≡ list_any test keys

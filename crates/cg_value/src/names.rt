@@ -1,5 +1,5 @@
 //! Interned texts. (Interning is ours; CPython interns identifiers likewise.)
-ghost use Rattle.std.specs.Prelude.{◌≡◌, ◌↔◌, ◌+◌, ◌-◌, ◌^◌, ◌<◌, List, [], length, map, position, IsTrue, IfOk, OnOk, OnErr, slice_get, Some};
+ghost use Rattle.std.specs.Prelude.{◌≡◌, ◌↔◌, is_some, ◌+◌, ◌-◌, ◌^◌, ◌<◌, List, [], length, map, position, IsTrue, IfOk, OnOk, OnErr, slice_get, Some};
 ghost use Rattle.std.specs.String.{string_bytes};
 ghost use Rattle.std.specs.Str.{bytes_eq};
 ghost use Rattle.cg_value.specs.Texts.{has_text, text_number, with_text};
@@ -16,7 +16,7 @@ const GUESSES: usize = 64;
 /// Most names end otherwise than the others, as those that are numbered do, so that all bits of the last byte count.
 #[inline(always)]
 fn guess_place(text: &str) -> usize
-    ensures { result < 64 }
+    ensures { result < GUESSES }
 {
     let bytes = text.as_bytes();
     let (first, last) = match (bytes.first(), bytes.last()) {
@@ -72,20 +72,31 @@ impl Names {
         }
     }
 
-    /// As `intern`, for a text whose guess is wrong.
+    /// As `find`, by the text's hash.
+    fn find_by_hash(&self, text: &str) -> Option<u32>
+        ensures index { result ≡ position (bytes_eq text.now) self.now }
+        ensures found { is_some result ≡ has_text self.now text.now }
+    {
+        match self.texts.get_index_of(text) {
+            Some(number) => Some(number as u32),
+            None => None,
+        }
+    }
+
+    /// As `intern`, by the text's hash.
     #[inline(never)]
-    fn look_up(&mut self, text: &str) -> Result<u32, AllocError>
+    fn intern_by_hash(&mut self, text: &str) -> Result<u32, AllocError>
         requires { length self.old < 2 ^ 32 - 1 }
         ensures number { IfOk result (λ number. number ≡ text_number self.old text.now) }
         ensures ok { OnOk result (self.new ≡ with_text self.old text.now) }
         ensures err { OnErr result (self.new ≡ self.old) }
     {
-        if let Some(number) = self.texts.get_index_of(text) {
-            return Ok(number as u32);
+        if let Some(number) = self.find_by_hash(text) {
+            return Ok(number);
         }
-        let number = self.texts.len();
+        let number = self.len();
         self.texts.insert(String::from_str(self.alloc, text)?)?;
-        Ok(number as u32)
+        Ok(number)
     }
 
     /// The number of a text: its position, after it was appended if it was not there.
@@ -102,7 +113,7 @@ impl Names {
         if self.is_number_of(guess, text) {
             return Ok(guess);
         }
-        let number = self.look_up(text)?;
+        let number = self.intern_by_hash(text)?;
         self.guesses[place] = number;
         Ok(number)
     }
@@ -115,10 +126,7 @@ impl Names {
         if self.is_number_of(guess, text) {
             return Some(guess);
         }
-        match self.texts.get_index_of(text) {
-            Some(number) => Some(number as u32),
-            None => None,
-        }
+        self.find_by_hash(text)
     }
 
     /// Whether a text is there.
