@@ -1,5 +1,5 @@
 //! The arena: nodes by serial, in one list for each place.
-ghost use Rattle.std.specs.Prelude.{◌≡◌, ◌≢◌, ℕ, ◌+◌, ◌-◌, ◌<◌, ◌≤◌, ◌^◌, ◌↔◌, ◌∷◌, [], ◌==◌, if◌then◌else◌, IsTrue, IsSome, IfSome, Some, None, OnOk, OnErr, IsOk, length, slice_get, option_map};
+ghost use Rattle.std.specs.Prelude.{◌≡◌, ◌≢◌, ◌+◌, ◌-◌, ◌<◌, ◌≤◌, ◌^◌, ◌↔◌, ◌∷◌, [], ◌==◌, IsTrue, IfSome, Some, None, OnOk, OnErr, IsOk, length, slice_get};
 ghost use Rattle.std.specs.FinMap as map;
 ghost use Rattle.slab.specs.Slab.{get, slab_len, HasRoomFor, Updates};
 ghost use Rattle.indexmap.specs.IndexMap.{spare};

@@ -1,7 +1,7 @@
 //! Nodes in slots, and the links between them.
-ghost use Rattle.std.specs.Prelude.{◌≡◌, Some, IsSome, option_and_then, option_map, ◌+◌, ◌<◌, ◌^◌};
+ghost use Rattle.std.specs.Prelude.{◌≡◌, Some, option_and_then, option_map, ◌+◌, ◌<◌, ◌^◌};
 ghost use Rattle.slab.specs.Slab.{get, ContainsKey};
-ghost use Rattle.cg_arena.specs.Slots.{with_after, with_before, with_place, with_count, with_mark, with_number, with_lowered, after_in, after_of};
+ghost use Rattle.cg_arena.specs.Slots.{with_place, with_count, with_mark, with_number, with_lowered, after_in, after_of};
 ghost use Rattle.cg_arena.specs.Links.{rewritten, after_set, before_set, tied, ends_without, ends_joined, place_set, all_placed, chain_from};
 
 use crate::ends::Ends;

@@ -2,7 +2,7 @@
 //!
 //! The finalized mark, the collector's number and the slot before are read and written by calls alone.
 ghost use Rattle.std.specs.Prelude.{◌≡◌, false, None};
-ghost use Rattle.cg_arena.specs.Nodes.{ArenaNode, new_node};
+ghost use Rattle.cg_arena.specs.Nodes.{new_node};
 
 use crate::word::Word;
 use cg_value::{KindCode, Place};

@@ -2,7 +2,7 @@
 ghost use Rattle.std.specs.Prelude.{◌≡◌, ◌≢◌, ◌≤◌, ◌<◌, ◌⊎◌, length, map, replicate, IfSome, codes};
 ghost use Rattle.std.specs.FinMap as fin;
 ghost use Rattle.std.specs.Io.KnownBytes.{Appends, Keeps, IsAtEnd};
-ghost use Rattle.cg_io.specs.Causes.{AppendsFront, Rose};
+ghost use Rattle.cg_io.specs.Causes.{Rose};
 ghost use Rattle.cg_heap.specs.Boxes.{six_kinds};
 ghost use Rattle.cg_machine.specs.World.{Ended, BudgetIsSpent};
 ghost use Rattle.cg_script.specs.declared.limits.TheConstants.{MOST_BUDGET};

@@ -1,6 +1,6 @@
 //! The second detection: what finalizers brought back is alive; the rest is the final set. (PEP 442, "disposal of cyclic
 //! isolates".)
-ghost use Rattle.std.specs.Prelude.{◌≡◌, ◌+◌, ◌≤◌, ℕ, Some, None, true, slice_get, option_and_then};
+ghost use Rattle.std.specs.Prelude.{◌≡◌, ◌+◌, ◌≤◌, Some, None, true, slice_get, option_and_then};
 ghost use Rattle.cg_value.specs.declared.Place.TheVariants as place_of;
 ghost use Rattle.cg_graph.specs.Object.{same_place};
 ghost use Rattle.cg_graph.specs.Rows.{referent_in, weak_references_in};

@@ -1,5 +1,5 @@
 //! The end: what was set aside is told and saved. (`gc` manual, `gc.garbage`, `gc.DEBUG_UNCOLLECTABLE`.)
-ghost use Rattle.std.specs.Prelude.{◌≡◌, ◌≤◌, ℕ};
+ghost use Rattle.std.specs.Prelude.{◌≡◌, ◌≤◌};
 ghost use Rattle.cg_script.specs.declared.Script.{Script as AnyScript};
 ghost use Rattle.cg_policy.specs.Policy.{Policy as Standing};
 ghost use Rattle.cg_policy.specs.Flagset.{bits_of};

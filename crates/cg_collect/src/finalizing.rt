@@ -1,6 +1,6 @@
 //! The finalizer phase: condemned objects are looked at, and the finalizers that have not run are run. (PEP 442: a
 //! finalizer is called once.)
-ghost use Rattle.std.specs.Prelude.{◌≡◌, ◌∷◌, [], ℕ, Some, None, slice_get};
+ghost use Rattle.std.specs.Prelude.{◌≡◌, ◌∷◌, [], Some, None, slice_get};
 ghost use Rattle.cg_script.specs.declared.Script.{Script as AnyScript};
 ghost use Rattle.cg_policy.specs.Policy.{Policy as Standing};
 ghost use Rattle.cg_value.specs.declared.Place.TheVariants as place_of;

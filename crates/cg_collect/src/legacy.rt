@@ -1,6 +1,5 @@
 //! Unreachable objects whose class has a legacy finalizer, and what they lead to, are set aside. (`gc` manual, `gc.garbage`;
 //! PEP 442, "legacy finalizers".)
-ghost use Rattle.std.specs.Prelude.{◌≡◌, []};
 ghost use Rattle.cg_graph.specs.Value.{references};
 ghost use Rattle.cg_graph.specs.Store.{IsLive, entries_of};
 ghost use Rattle.cg_heap.specs.Calls.{IsLiveValue};

@@ -1,5 +1,5 @@
 //! Where a collection stands, and what a turn of one phase leaves.
-ghost use Rattle.std.specs.Prelude.{◌≡◌, ◌∷◌, [], Some, None, ◌≤◌};
+ghost use Rattle.std.specs.Prelude.{◌≡◌, Some, None, ◌≤◌};
 ghost use Rattle.cg_machine.specs.Collect.{older};
 ghost use Rattle.cg_collect.specs.declared.answer.CollectStep.TheVariants as answer_of;
 ghost use Rattle.cg_collect.specs.Stages.{detection_at};

@@ -1,5 +1,5 @@
 //! All before the weak phase: trial subtraction, what survivors become, and what is set aside.
-ghost use Rattle.std.specs.Prelude.{◌≡◌, ◌+◌, ◌<◌, ◌≤◌, ◌∷◌, [], ℕ, Some, None, true, false, unwrap_or, if◌then◌else◌};
+ghost use Rattle.std.specs.Prelude.{◌≡◌, ◌+◌, ◌<◌, ◌≤◌, Some, None, unwrap_or, if◌then◌else◌};
 ghost use Rattle.cg_script.specs.declared.Script.{Script as AnyScript};
 ghost use Rattle.cg_machine.specs.Collect.{has_flag, stats};
 ghost use Rattle.cg_policy.specs.Policy.{Policy as Standing};

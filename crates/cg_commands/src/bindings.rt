@@ -1,5 +1,5 @@
 //! `x = v` and `del x`. Each answers the entry that is then to be given up.
-ghost use Rattle.std.specs.Prelude.{◌≡◌, ◌<◌, ◌∷◌, [], length, Some, slice_get};
+ghost use Rattle.std.specs.Prelude.{◌≡◌, ◌<◌, ◌∷◌, [], length, Some};
 ghost use Rattle.std.specs.List.{All};
 ghost use Rattle.cg_graph.specs.Value.{references_of_value, entry_references};
 ghost use Rattle.cg_script.specs.Texts.{operand_texts};

@@ -1,5 +1,5 @@
 //! `call f` and `quit v`.
-ghost use Rattle.std.specs.Prelude.{◌≡◌, ◌<◌, length};
+ghost use Rattle.std.specs.Prelude.{◌<◌, length};
 ghost use Rattle.std.specs.List.{All};
 ghost use Rattle.cg_script.specs.Texts.{operand_texts};
 ghost use Rattle.cg_script.specs.declared.command.Command.TheVariants as command;

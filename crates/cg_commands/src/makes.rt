@@ -1,5 +1,5 @@
 //! Objects that are made.
-ghost use Rattle.std.specs.Prelude.{◌≡◌, ◌<◌, ◌≤◌, ◌+◌, ◌↔◌, ◌++◌, ◌∷◌, [], ℕ, List, IfOk, IfSome, OnOk, OnErr, Some, None, Err, true, length, map, slice_get};
+ghost use Rattle.std.specs.Prelude.{◌≡◌, ◌<◌, ◌≤◌, ◌+◌, ◌↔◌, ◌++◌, ◌∷◌, [], List, IfOk, IfSome, OnOk, OnErr, Some, None, Err, true, length, map, slice_get};
 ghost use Rattle.std.specs.List.{All};
 ghost use Rattle.cg_value.specs.declared.KindCode.TheVariants as code;
 ghost use Rattle.cg_value.specs.declared.Val.{Val as AnyVal};

@@ -1,10 +1,7 @@
 //! What the commands that inspect tell of two lists, one in the other, as `a = list; b = list a` leaves them.
 ghost use Rattle.std.specs.Prelude.{◌≡◌, map, replicate, slice_get, IfSome, None, Some};
 ghost use Rattle.std.specs.FinMap as fin;
-ghost use Rattle.cg_graph.specs.Store.{IsLive};
 ghost use Rattle.cg_heap.specs.Boxes.{six_kinds};
-ghost use Rattle.cg_heap.specs.Keeps.{HasClass};
-ghost use Rattle.cg_heap.specs.Weak.{HasReferent};
 ghost use Rattle.cg_inspect.specs.Inspection.{IsIdle};
 ghost use Rattle.cg_machine.specs.declared.event.FrameSort.TheVariants as sort;
 

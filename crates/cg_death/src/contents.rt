@@ -1,5 +1,4 @@
 //! The last phase: the entries are taken out, and the object goes.
-ghost use Rattle.std.specs.Prelude.{◌≡◌};
 ghost use Rattle.cg_script.specs.declared.Script.{Script};
 ghost use Rattle.cg_heap.specs.Calls.{HasFewHolds};
 ghost use Rattle.cg_heap.specs.Weak.{IsInNoRow};

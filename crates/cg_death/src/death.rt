@@ -1,14 +1,13 @@
 //! The death of an object that nothing holds.
-ghost use Rattle.std.specs.Prelude.{◌≡◌, ◌≢◌, ◌↔◌, ◌∷◌, ◌++◌, [], ℕ, None, false, is_some, IsTrue, if◌then◌else◌};
+ghost use Rattle.std.specs.Prelude.{◌≡◌, ◌↔◌, ◌∷◌, [], None, false, is_some, IsTrue};
 ghost use Rattle.cg_value.specs.declared.Place.TheVariants as place_of;
-ghost use Rattle.cg_graph.specs.Rows.{referent_in, waiting_in};
-ghost use Rattle.cg_graph.specs.Store.{IsLive, count_of};
+ghost use Rattle.cg_graph.specs.Rows.{waiting_in};
+ghost use Rattle.cg_graph.specs.Store.{IsLive};
 ghost use Rattle.cg_graph.specs.Changes.{moved};
 ghost use Rattle.cg_machine.specs.World as machine;
 ghost use Rattle.cg_machine.specs.Frame.{begin_death};
 ghost use Rattle.cg_machine.specs.Represents.{Represents};
 ghost use Rattle.cg_heap.specs.Calls.{HasFewHolds};
-ghost use Rattle.cg_heap.specs.Weak.{cleared_weak};
 ghost use Rattle.cg_death.specs.declared.answer.DeathStep.TheVariants as answer_of;
 ghost use Rattle.cg_death.specs.declared.phase.Phase.TheVariants as phase_of;
 ghost use Rattle.cg_death.specs.Activities.{IsUnheld, HasHolds, IsReadyForDeathAt, own_holds_at, death_of};

@@ -1,5 +1,5 @@
 //! The phases that call finalizers: what class an object has, and its frames.
-ghost use Rattle.std.specs.Prelude.{◌≡◌, ◌<◌, ◌∷◌, [], option_and_then, slice_get, if◌then◌else◌, ◌==◌, IsTrue, ◌↔◌};
+ghost use Rattle.std.specs.Prelude.{◌≡◌, ◌<◌, ◌∷◌, [], option_and_then, slice_get, if◌then◌else◌, IsTrue, ◌↔◌};
 ghost use Rattle.cg_value.specs.declared.Place.TheVariants as place_of;
 ghost use Rattle.cg_graph.specs.Object.{object_at};
 ghost use Rattle.cg_graph.specs.Store.{IsLive, outside_of, count_of, objects_of};

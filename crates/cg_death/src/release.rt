@@ -1,5 +1,5 @@
 //! References that are given up one after the other.
-ghost use Rattle.std.specs.Prelude.{◌≡◌, ◌<◌, ◌++◌, ◌∷◌, [], ℕ, option_to_list, if◌then◌else◌, ◌==◌, IfNone, drop};
+ghost use Rattle.std.specs.Prelude.{◌≡◌, ◌<◌, ◌++◌, ◌∷◌, [], option_to_list, if◌then◌else◌, ◌==◌, IfNone, drop};
 ghost use Rattle.cg_value.specs.declared.Val.TheVariants as val_of;
 ghost use Rattle.cg_graph.specs.Value.{entry_references};
 ghost use Rattle.cg_graph.specs.Store.{outside_of, count_of};

@@ -1,5 +1,5 @@
 //! The phases on weak references: they lose the object, and the callbacks of those that waited are called.
-ghost use Rattle.std.specs.Prelude.{◌≡◌, ◌<◌, ◌∷◌, [], ℕ, Some, None, true, false, IfSome, IsSome, slice_get, option_map, option_and_then, if◌then◌else◌, is_some, unwrap_or};
+ghost use Rattle.std.specs.Prelude.{◌≡◌, ◌<◌, ◌∷◌, [], Some, None, true, false, IfSome, IsSome, slice_get, option_map, option_and_then, if◌then◌else◌, is_some, unwrap_or};
 ghost use Rattle.cg_script.specs.declared.Script.{Script};
 ghost use Rattle.cg_value.specs.declared.Val.TheVariants as val_of;
 ghost use Rattle.cg_graph.specs.Value.{item};

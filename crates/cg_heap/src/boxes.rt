@@ -1,9 +1,8 @@
 //! The six boxes of kinds, as one.
-ghost use Rattle.std.specs.Prelude.{◌≡◌, ◌≢◌, ◌<◌, ◌≤◌, ◌+◌, ◌-◌, ◌++◌, ◌∷◌, ◌↔◌, [], IsTrue, length, map, take, IfOk, OnOk, OnErr, IfSome, OnSome, IfNone, IsNone, IsSome, IsOk, None, Some, position, slice_get};
+ghost use Rattle.std.specs.Prelude.{◌≡◌, ◌<◌, ◌≤◌, ◌+◌, ◌-◌, ◌++◌, ◌∷◌, ◌↔◌, [], IsTrue, length, map, take, IfOk, OnOk, OnErr, IfSome, OnSome, IfNone, IsNone, IsSome, IsOk, None, Some, position, slice_get};
 ghost use Rattle.std.specs.FinMap as fin;
 ghost use Rattle.cg_value.specs.declared.KindCode.TheVariants as code;
 ghost use Rattle.cg_graph.specs.Value.{item, without_last, value_at, references, entry_at as entry_under};
-ghost use Rattle.cg_kind.specs.Bodies.{Holds, entries_at, spare_at, with_body};
 ghost use Rattle.cg_kind.specs.Calls.{has_key, next_entries, IsParts, CanPut, value_under, after_put, after_take, after_take_key, spare_after_leave};
 ghost use Rattle.cg_heap.specs.Boxes.{six_kinds, code_index, bodies_at, HasBody, entries_in_box, spare_in_box, boxes_with_body, boxes_without};
 ghost use Rattle.cg_heap.specs.Calls.{IsMutable};

@@ -1,5 +1,5 @@
 //! The heap: what it is, a new one, and what it answers.
-ghost use Rattle.std.specs.Prelude.{◌≡◌, ◌<◌, ◌≤◌, IfOk, IfSome, IsTrue, ◌↔◌, Some, None, map, replicate, length, position, slice_get};
+ghost use Rattle.std.specs.Prelude.{◌≡◌, ◌<◌, IfOk, IfSome, IsTrue, ◌↔◌, Some, None, map, replicate, length, position, slice_get};
 ghost use Rattle.std.specs.FinMap as fin;
 ghost use Rattle.cg_kind.specs.Calls.{has_key};
 ghost use Rattle.cg_graph.specs.Value.{value_at};

@@ -1,6 +1,6 @@
 //! Whole heaps over six kinds. The expected answers come from counting references by hand, as `sys.getrefcount` of
 //! Python does.
-ghost use Rattle.std.specs.Prelude.{◌≡◌, ◌↔◌, ◌<◌, ◌≤◌, ◌+◌, ◌++◌, ◌∷◌, [], ℕ, OnOk, map, replicate, slice_get, IfOk, IfSome, IsTrue, Some, None};
+ghost use Rattle.std.specs.Prelude.{◌≡◌, ◌↔◌, ◌<◌, ◌≤◌, ◌+◌, [], ℕ, map, replicate, slice_get, IfOk, IfSome, IsTrue, Some, None};
 ghost use Rattle.std.specs.FinMap as fin;
 ghost use Rattle.cg_value.specs.declared.KindCode.TheVariants as code;
 ghost use Rattle.cg_value.specs.declared.Val.{Val};

@@ -1,7 +1,7 @@
 //! What refers to an object.
 ghost use Rattle.std.specs.Prelude.{◌≡◌, IfOk, filter};
 ghost use Rattle.cg_graph.specs.Member.{includes};
-ghost use Rattle.cg_graph.specs.Value.{references, entry_references, references_of_value};
+ghost use Rattle.cg_graph.specs.Value.{references, entry_references};
 ghost use Rattle.cg_graph.specs.Object.{serials};
 ghost use Rattle.cg_graph.specs.Path.{refers_to};
 ghost use Rattle.cg_graph.specs.Store.{IsLive, entries_of, objects_of};

@@ -1,7 +1,7 @@
 //! The search for a path of holders.
-ghost use Rattle.std.specs.Prelude.{◌≡◌, ◌<◌, ℕ, List, IfOk, length};
-ghost use Rattle.cg_inspect.specs.Inspection.{IsIdle, IsReason, HeldElse, arrows_of};
-ghost use Rattle.cg_inspect.specs.Search.{HaveTrails, IsPathBack, IsOver};
+ghost use Rattle.std.specs.Prelude.{◌<◌, ℕ, List, IfOk, length};
+ghost use Rattle.cg_inspect.specs.Inspection.{IsIdle, IsReason};
+ghost use Rattle.cg_inspect.specs.Search.{HaveTrails, IsPathBack};
 
 use crate::live::live_objects;
 use crate::reason::Why;

@@ -1,5 +1,5 @@
 //! What the forms in memory share.
-ghost use Rattle.std.specs.Prelude.{◌≡◌, ◌+◌, ◌<◌, ◌≤◌, ◌++◌, length, take, drop, min};
+ghost use Rattle.std.specs.Prelude.{◌≡◌, ◌+◌, ◌++◌, length, take, drop, min};
 ghost use Rattle.cg_io.specs.Memory.{is_listed};
 
 /// Whether the call after this many calls stands in the list of those that fail.

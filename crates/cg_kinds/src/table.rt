@@ -1,5 +1,5 @@
 //! Pairs in the order in which their keys came, in a map that may have another order.
-ghost use Rattle.std.specs.Prelude.{◌≡◌, ◌<◌, ◌^◌, ◌+◌, ◌≤◌, ◌++◌, ◌∷◌, [], All, length, Some, None, IfSome, IfNone, IsNone, IsSome, IsOk, IfOk, OnOk, OnErr, OnSome, option_to_list, position, slice_get, remove, swap_remove, take, drop, slice_index_or, option_map, ◌-◌};
+ghost use Rattle.std.specs.Prelude.{◌≡◌, ◌<◌, ◌^◌, ◌+◌, ◌≤◌, ◌++◌, ◌∷◌, [], All, length, Some, None, IfSome, IfNone, IsNone, IsSome, IsOk, IfOk, OnOk, OnErr, option_to_list, position, slice_get, remove, swap_remove, take, drop, slice_index_or, option_map, ◌-◌};
 ghost use Rattle.std.specs.List.{range_with_len};
 ghost use Rattle.cg_graph.specs.Value.{value_at, put, without_key, entry_references, references, entry_at as entry_under};
 ghost use Rattle.cg_kind.specs.Calls.{has_key, next_entries};

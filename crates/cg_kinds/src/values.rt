@@ -1,5 +1,5 @@
 //! Values in two columns, as lists keep many of them.
-ghost use Rattle.std.specs.Prelude.{◌≡◌, ◌+◌, ◌-◌, ◌<◌, ◌≤◌, ◌^◌, ◌++◌, ◌∷◌, [], length, map, Some, IfOk, OnOk, OnErr, OnSome, IfNone, IsNone, option_to_list, remove, slice_get, slice_set, take, drop, vec_len, vec_capacity};
+ghost use Rattle.std.specs.Prelude.{◌≡◌, ◌+◌, ◌-◌, ◌<◌, ◌≤◌, ◌++◌, ◌∷◌, [], length, map, Some, IfOk, OnOk, OnErr, OnSome, IfNone, IsNone, option_to_list, remove, slice_get, slice_set, take, drop, vec_len, vec_capacity};
 ghost use Rattle.std.specs.List.{AllZip};
 ghost use Rattle.cg_graph.specs.Value.{item, references, reference_in};
 ghost use Rattle.cg_kind.specs.Calls.{AreItems, next_entries};

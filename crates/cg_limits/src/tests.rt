@@ -26,7 +26,7 @@ struct Holder<B: Kind> {
 }
 
 impl<B: Kind> Model for Holder<B> {
-    ghost use Rattle.std.specs.Prelude.{ℕ, ◌+◌, ◌≤◌, ◌<◌, IfSome};
+    ghost use Rattle.std.specs.Prelude.{◌+◌, ◌≤◌, ◌<◌, IfSome};
     ghost use Rattle.cg_graph.specs.Store.{Store, outside_of};
     ghost use Rattle.cg_heap.specs.Codes.{store_code};
     ghost use Rattle.cg_heap.specs.Keeps.{outside_total};

@@ -1,5 +1,5 @@
 //! Writing records as text.
-ghost use Rattle.std.specs.Prelude.{◌≡◌, ◌++◌, ◌∷◌, [], flat_map, codes, decimal, IfOk, OnOk};
+ghost use Rattle.std.specs.Prelude.{◌≡◌, ◌++◌, flat_map, decimal, IfOk, OnOk};
 ghost use Rattle.std.specs.List.{All};
 ghost use Rattle.cg_records.specs.Text.{numbered, member_text, graph_text, rest_text, record_text, text, IsWritable};
 

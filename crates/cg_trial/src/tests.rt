@@ -3,12 +3,11 @@ ghost use Rattle.std.specs.Prelude.{◌≡◌, ◌<◌, ◌≤◌, ◌+◌, map,
 ghost use Rattle.std.specs.List.{All};
 ghost use Rattle.std.specs.FinMap as fin;
 ghost use Rattle.cg_value.specs.declared.Val.{Val};
-ghost use Rattle.cg_graph.specs.Store.{IsLive, HasCode, list_at};
+ghost use Rattle.cg_graph.specs.Store.{IsLive, list_at};
 ghost use Rattle.cg_arena.specs.Nodes.{IsPlace};
 ghost use Rattle.cg_heap.specs.Boxes.{six_kinds};
 ghost use Rattle.cg_heap.specs.Keeps.{HasClass};
 ghost use Rattle.cg_heap.specs.Weak.{HasReferent};
-ghost use Rattle.cg_heap.specs.Calls.{CanPutIn};
 ghost use Rattle.cg_trial.specs.Split.{IsSplitPlace};
 
 use crate::split;

@@ -1,5 +1,5 @@
 //! Interned texts. (Interning is ours; CPython interns identifiers likewise.)
-ghost use Rattle.std.specs.Prelude.{◌≡◌, ◌↔◌, is_some, ◌+◌, ◌-◌, ◌^◌, ◌<◌, List, [], length, map, position, IsTrue, IfOk, OnOk, OnErr, slice_get, Some};
+ghost use Rattle.std.specs.Prelude.{◌≡◌, ◌↔◌, is_some, ◌-◌, ◌^◌, ◌<◌, List, [], length, map, position, IsTrue, IfOk, OnOk, OnErr, slice_get, Some};
 ghost use Rattle.std.specs.String.{string_bytes};
 ghost use Rattle.std.specs.Str.{bytes_eq};
 ghost use Rattle.cg_value.specs.Texts.{has_text, text_number, with_text};

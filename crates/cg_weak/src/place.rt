@@ -1,5 +1,5 @@
 //! Where a row stands in a chain that it has not come to yet.
-ghost use Rattle.std.specs.Prelude.{◌≡◌, ◌≢◌, ℕ, true, Some};
+ghost use Rattle.std.specs.Prelude.{◌≡◌, ◌≢◌, true, Some};
 ghost use Rattle.cg_weak.specs.Table.{below, above, IsLast, IsLinked, chain_at, older_at, newer_at};
 
 use crate::chains::Ends;

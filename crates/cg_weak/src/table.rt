@@ -1,5 +1,5 @@
 //! The table: rows by weak reference, and the chains of each object.
-ghost use Rattle.std.specs.Prelude.{◌≡◌, ℕ, ◌+◌, ◌++◌, ◌∷◌, [], ◌<◌, ◌≤◌, slice_get, true, false, nat_eq, if◌then◌else◌, IsTrue, ◌↔◌, IsSome, Some, OnOk, OnErr, IsOk};
+ghost use Rattle.std.specs.Prelude.{◌≡◌, ◌+◌, ◌++◌, ◌∷◌, [], ◌<◌, ◌≤◌, slice_get, true, false, if◌then◌else◌, IsTrue, ◌↔◌, IsSome, Some, OnOk, OnErr, IsOk};
 ghost use Rattle.std.specs.List.{All};
 ghost use Rattle.cg_graph.specs.Rows.{IsRising, referent_in, waited_in, weak_references_in, waiting_in, next_older_in, new_row, with_row_waiting, without_row};
 

@@ -1,5 +1,5 @@
 //! A whole extended script, line by line.
-ghost use Rattle.std.specs.Prelude.{◌≡◌, ◌<◌, ◌++◌, [], length, IfOk, IfErr, OnOk, OnErr, Ok, Err, None};
+ghost use Rattle.std.specs.Prelude.{◌≡◌, ◌<◌, ◌++◌, length, IfOk, IfErr, OnOk, OnErr, Ok, Err, None};
 ghost use Rattle.cg_script.specs.Pieces.{words_of, lines_of};
 ghost use Rattle.cg_weakcoll.specs.Expansion.{with_feeds, written, written_from, finalize_number, finalize_numbers_from, inside_after, fault_of, first_bad_from, first_bad, call_lines, expansion, IsFirstBad};
 

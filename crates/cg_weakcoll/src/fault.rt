@@ -1,5 +1,5 @@
 //! What is wrong with a line.
-ghost use Rattle.std.specs.Prelude.{◌≡◌, ◌||◌, map, length, is_some, codes};
+ghost use Rattle.std.specs.Prelude.{◌≡◌, ◌||◌, map, is_some};
 ghost use Rattle.std.specs.List.{list_all, list_any};
 ghost use Rattle.cg_script.specs.Words.{is_printable};
 ghost use Rattle.cg_weakcoll.specs.Expansion.{word_count, is_value_beside, words_fit, is_finalize, form_fault, begins_with, is_kept, name_fault, fault_by, inside_after};
