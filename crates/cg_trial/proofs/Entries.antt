@@ -1,6 +1,6 @@
 -- The walk over one object's entries: what the first of them refer to, and what the next one does.
-use Rattle.std.proofs.Common.{◌≡◌, refl, sym, ◌∙◌, ap, subst, ℕ, ◌+◌, ◌-◌, ◌<◌, ◌≤◌, List, [], ◌∷◌, ◌++◌, length, take, drop, get_or, inl, Option, Some, None, Bool, IsTrue, arith, append_assoc}
-use Rattle.std.proofs.lemmas.List.{append-nil, take-append-drop, drop_more, get_or-take, length-take}
+use Rattle.std.proofs.Common.{◌≡◌, true, false, cond, ◌⊎◌, inr, true≢false, replicate, refl, sym, ◌∙◌, ap, subst, ℕ, ◌+◌, ◌-◌, ◌<◌, ◌≤◌, List, [], ◌∷◌, ◌++◌, length, take, drop, get_or, inl, Option, Some, None, Bool, IsTrue, arith, append_assoc}
+use Rattle.std.proofs.lemmas.List.{append-nil, take-append-drop, drop_more, take_more, replicate-append-replicate}
 use Rattle.cg_kind.specs.Calls.{next_entries}
 use Rattle.cg_kind.specs.declared.notes.TheConstants.{AT_ONCE}
 use Rattle.cg_kind.proofs.References.{next_within, next_last, references_next, references_parts}
@@ -10,13 +10,16 @@ use Rattle.cg_value.specs.declared.Place.TheVariants.{Cand}
 use Rattle.cg_value.specs.declared.Entry.{Entry}
 use Rattle.cg_graph.specs.Member.{Includes}
 use Rattle.cg_graph.specs.Holdings.{occurrences}
-use Rattle.cg_trial.specs.View.{IsNext, View, IsSame, Lowered, IsReadyView, held_by, head_of}
+use Rattle.std.proofs.lemmas.Bool.{eqb-true, eq-eqb}
+use Rattle.std.specs.Prelude.{◌==◌}
+use Rattle.cg_graph.proofs.Members.{cases_of}
+use Rattle.cg_trial.specs.View.{IsNext, View, IsSame, Numbered, Lowered, IsReadyView, held_by, head_of}
 use Rattle.cg_graph.specs.Value.{references}
 use Rattle.cg_trial.specs.Paths.{entries_in}
 use Rattle.std.proofs.lemmas.List.Sums.{sum_by_push}
 use Rattle.cg_graph.proofs.Members.{Includes-append_left, Includes-append_right}
 use Rattle.cg_graph.proofs.Objects.{occurrences-append}
-use Rattle.cg_trial.proofs.Lists.{occurs, IsAt, head_is}
+use Rattle.cg_trial.proofs.Lists.{occurs_often, occurs_never, IsAt, head_is}
 use Rattle.cg_trial.proofs.Passes.{cand_same, but_numbers_itself, but_numbers_more, turn_of, at_end}
 
 pub live_same : (old mid : View) (o : ℕ) → IsSame old mid → IsTrue (old.live o) → IsTrue (mid.live o)
@@ -57,17 +60,48 @@ one_of xs i within =
     subst (λ (l : List ℕ). Includes l (get_or xs i 0)) (sym (taken_parts xs i within))
     (Includes-append_right (take i xs) (get_or xs i 0 ∷ drop (i + 1) xs) (get_or xs i 0) (inl refl))
 
--- one that comes right after itself came before
-pub came_before : (xs : List ℕ) (i : ℕ) → 0 < i → i < length xs → get_or xs (i - 1) 0 ≡ get_or xs i 0 → Includes (take i xs) (get_or xs i 0)
-came_before xs i some within same =
-    subst (Includes (take i xs)) (get_or-take i xs (i - 1) 0 (omega (arith, some)) ∙ same)
-    (one_of (take i xs) (i - 1) (omega (arith, some, within, length-take i xs)))
+-- One object in a row, from a place on.
+pub run_more : (xs : List ℕ) (from end o : ℕ) → take end xs ≡ take from xs ++ replicate (end - from) o → from < end → end < length xs → get_or xs end 0 ≡ o
+    → take (end + 1) xs ≡ take from xs ++ replicate (end + 1 - from) o
+run_more xs from end o so behind within same =
+    let more : end - from + 1 ≡ end + 1 - from = omega (arith, behind) in
+    take_more xs end 0 within
+    ∙ ap (λ (l : List ℕ). l ++ get_or xs end 0 ∷ []) so
+    ∙ ap (λ p. (take from xs ++ replicate (end - from) o) ++ p ∷ []) same
+    ∙ append_assoc (take from xs) (replicate (end - from) o) (o ∷ [])
+    ∙ ap (λ (l : List ℕ). take from xs ++ l) (replicate-append-replicate (end - from) 1 o)
+    ∙ ap (λ n. take from xs ++ replicate n o) more
 
-pub one_room : (old mid : View) (xs : List ℕ) (i : ℕ) → i < length xs → Lowered (take i xs) old mid → ((o : ℕ) → Includes (old.listed Cand) o → occurrences o xs ≤ old.number o)
-    → Includes (mid.listed Cand) (get_or xs i 0) → 0 < mid.number (get_or xs i 0)
-one_room old mid xs i within so room here =
-    let o = get_or xs i 0 in
-    omega (arith, occurs (o ∷ []) o (inl refl), room_next old mid (take i xs) (o ∷ []) (drop (i + 1) xs) xs so room (taken_parts xs i within) o here)
+pub run_room : (old mid : View) (xs : List ℕ) (from end o : ℕ) → take end xs ≡ take from xs ++ replicate (end - from) o → Lowered (take from xs) old mid → ((p : ℕ) → Includes (old.listed Cand) p → occurrences p xs ≤ old.number p)
+    → Includes (mid.listed Cand) o → end - from ≤ mid.number o
+run_room old mid xs from end o run so room here =
+    let parts : xs ≡ take from xs ++ (replicate (end - from) o ++ drop end xs) =
+    sym (take-append-drop end xs) ∙ ap (λ (l : List ℕ). l ++ drop end xs) run ∙ append_assoc (take from xs) (replicate (end - from) o) (drop end xs) in
+    omega (arith, occurs_often (end - from) o, room_next old mid (take from xs) (replicate (end - from) o) (drop end xs) xs so room parts o here)
+
+-- a candidate whose number is lower by this
+pub lowered_by : (n o : ℕ) (old new : View) → n ≤ old.number o → Numbered o (old.number o - n) old new → Lowered (replicate n o) old new
+lowered_by n o old new room numbered = record {
+  rest = numbered.rest;
+  lower = λ q h. go q (cases_of (q == o));
+}
+  where
+    go : (q : ℕ) → (q == o ≡ true) ⊎ (q == o ≡ false) → new.number q + occurrences q (replicate n o) ≡ old.number q
+    go q (inl e) =
+        let same : q ≡ o = eqb-true q o e in
+        let lower : new.number q ≡ old.number o - n = numbered.numbers q ∙ ap (λ b. cond b (old.number o - n) (old.number q)) e in
+        let often : occurrences q (replicate n o) ≡ n = ap (λ p. occurrences p (replicate n o)) same ∙ occurs_often n o in
+        omega (arith, room, lower, often, ap old.number same)
+    go q (inr e) =
+        let lower : new.number q ≡ old.number q = numbered.numbers q ∙ ap (λ b. cond b (old.number o - n) (old.number q)) e in
+        omega (arith, lower, occurs_never n q o (λ i. true≢false (sym (eq-eqb q o (sym i)) ∙ e)))
+
+-- one that is no candidate
+pub lowered_idle : (n o : ℕ) (v : View) → (Includes (v.listed Cand) o → ⊥) → Lowered (replicate n o) v v
+lowered_idle n o v other = record {
+  rest = but_numbers_itself v;
+  lower = λ q h. omega (arith, occurs_never n q o (λ i. other (subst (λ p. Includes (v.listed Cand) p) (sym i) h)));
+}
 
 -- Lowering has come to the entry `from`.
 pub record Lowering (o : ℕ) (old now : View) (from : ℕ) : Type 0 where

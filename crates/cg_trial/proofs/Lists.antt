@@ -1,5 +1,5 @@
 -- Laws on what stands in a list, how often, and what is left without_serial it.
-use Rattle.std.proofs.Common.{◌≡◌, ◌≢◌, refl, sym, ◌∙◌, ap, subst, ℕ, zero, suc, ◌+◌, ◌*◌, ◌≤◌, true, false, cond, not, ◌⊎◌, inl, inr, List, [], ◌∷◌, ◌++◌, length, Option, Some, None, arith, mul-le-mul_right}
+use Rattle.std.proofs.Common.{◌≡◌, ◌≢◌, refl, sym, ◌∙◌, ap, subst, replicate, ℕ, zero, suc, ◌+◌, ◌*◌, ◌<◌, ◌≤◌, true, false, cond, not, ◌⊎◌, inl, inr, List, [], ◌∷◌, ◌++◌, length, Option, Some, None, arith, mul-le-mul_right}
 use Rattle.std.proofs.lemmas.Bool.{eqb-true, eq-eqb, ne_eqb}
 use Rattle.std.proofs.lemmas.Bool.Decides.{nat_tests}
 use Rattle.std.proofs.lemmas.List.Sums.{sum_by-cons, length-filter, count_by-le-length}
@@ -27,6 +27,28 @@ occurs_in (x ∷ xs) o h = go (cases_of (x == o)) (λ k. occurs_in xs o k)
     go : (x == o ≡ true) ⊎ (x == o ≡ false) → (1 ≤ occurrences o xs → Includes xs o) → Includes (x ∷ xs) o
     go (inl e) rec = inl (eqb-true x o e)
     go (inr e) rec = let none : occurrences o (x ∷ xs) ≡ 0 + occurrences o xs = occurrences-cons o x xs ∙ ap (λ b. cond b 1 0 + occurrences o xs) e in inr (rec (omega arith))
+
+-- one object, so many times
+pub occurs_often : (n o : ℕ) → occurrences o (replicate n o) ≡ n
+occurs_often zero o = refl
+occurs_often (suc n) o =
+    let one : occurrences o (o ∷ replicate n o) ≡ 1 + occurrences o (replicate n o) = occurrences-cons o o (replicate n o) ∙ ap (λ b. cond b 1 0 + occurrences o (replicate n o)) (eq-eqb o o refl) in
+    omega (arith, one, occurs_often n o)
+
+pub occurs_never : (n p o : ℕ) → (o ≡ p → ⊥) → occurrences p (replicate n o) ≡ 0
+occurs_never zero p o other = refl
+occurs_never (suc n) p o other =
+    let none : occurrences p (o ∷ replicate n o) ≡ 0 + occurrences p (replicate n o) = occurrences-cons p o (replicate n o) ∙ ap (λ b. cond b 1 0 + occurrences p (replicate n o)) (ne_eqb o p other) in
+    omega (arith, none, occurs_never n p o other)
+
+pub always_that : (n o q : ℕ) → Includes (replicate n o) q → o ≡ q
+always_that zero o q h = absurd h
+always_that (suc n) o q (inl e) = e
+always_that (suc n) o q (inr h) = always_that n o q h
+
+pub that_is_there : (n o : ℕ) → 0 < n → Includes (replicate n o) o
+that_is_there zero o some = absurd (omega (arith, some))
+that_is_there (suc n) o some = inl refl
 
 pub without-cons_yes : (o x : ℕ) (xs : List ℕ) → x == o ≡ true → without_serial o (x ∷ xs) ≡ without_serial o xs
 without-cons_yes o x xs e = ap (λ b. cond (not b) (x ∷ without_serial o xs) (without_serial o xs)) (eq-eqb o x (sym (eqb-true x o e)))

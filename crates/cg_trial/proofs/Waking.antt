@@ -1,5 +1,5 @@
 -- Taking back: a target with the number 0 gets one, and where it was set aside the last place in the list.
-use Rattle.std.proofs.Common.{◌≡◌, ◌≢◌, refl, sym, ◌∙◌, ap, subst, ℕ, ◌+◌, ◌*◌, ◌≤◌, true, false, cond, ◌⊎◌, inl, inr, List, [], ◌∷◌, ◌++◌, length, take, arith, append_assoc, length-append}
+use Rattle.std.proofs.Common.{◌≡◌, ◌≢◌, refl, sym, ◌∙◌, ap, subst, replicate, ℕ, ◌+◌, ◌*◌, ◌<◌, ◌≤◌, true, false, cond, ◌⊎◌, inl, inr, List, [], ◌∷◌, ◌++◌, length, take, arith, append_assoc, length-append}
 use Rattle.std.proofs.lemmas.Bool.{eqb-true, eq-eqb}
 use Rattle.std.proofs.Math.Seq.{take-length}
 use Rattle.std.proofs.lemmas.List.{append-nil}
@@ -15,7 +15,7 @@ use Rattle.cg_trial.specs.View.{View, Numbered, Moved}
 use Rattle.cg_graph.specs.Value.{references}
 use Rattle.cg_trial.specs.Sift.{Woken, IsMember, both, is_zero, zeros}
 use Rattle.cg_graph.proofs.Members.{either, cases_of, Includes-append_cases, Includes-append_left, Includes-append_right}
-use Rattle.cg_trial.proofs.Lists.{occurs, occurs_in, none_or_some, sum_by-without, sum_by-parts, without-absent, Includes-without}
+use Rattle.cg_trial.proofs.Lists.{occurs, occurs_in, always_that, that_is_there, none_or_some, sum_by-without, sum_by-parts, without-absent, Includes-without}
 use Rattle.cg_trial.proofs.Passes.{same_itself, same_more}
 use Rattle.cg_kind.specs.Calls.{next_entries}
 use Rattle.cg_kind.proofs.References.{next_within, references_next}
@@ -85,11 +85,20 @@ woken_more r s a b c first then = record {
   lighter = omega (arith, first.lighter, then.lighter, length-append first.more then.more);
 }
 
--- one that was taken back before stays as it is
-pub woken_again : (r : List ℕ) (p : ℕ) (a b : View) → Woken r a b → Includes r p → Woken (r ++ p ∷ []) a b
-woken_again r p a b before here =
-    woken_more r (p ∷ []) a b b before
-    (woken_idle p b (λ member. before.woken p here (member_kept b a (λ f. sym (before.sums f)) p member)))
+-- one that comes several times is taken back once
+pub woken_run : (n p : ℕ) (a b : View) → 0 < n → Woken (p ∷ []) a b → Woken (replicate n p) a b
+woken_run n p a b some once = record {
+  same = once.same;
+  others = once.others;
+  sums = once.sums;
+  stays = once.stays;
+  woken = λ q h k. once.woken q (inl (always_that n p q h)) k;
+  only = λ q h. either (once.only q h) (λ k. inl k) (λ k. inr (subst (Includes (replicate n p)) (always_that 1 p q k) (that_is_there n p some)));
+  asleep = once.asleep;
+  more = once.more;
+  longer = once.longer;
+  lighter = once.lighter;
+}
 
 -- One target: its number was 0 and becomes 1.
 module _ (p : ℕ) (a c : View) (zero_was : a.number p ≡ 0) (numbers : (q : ℕ) → c.number q ≡ cond (q == p) 1 (a.number q)) where

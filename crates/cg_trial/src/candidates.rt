@@ -1,5 +1,5 @@
 //! What the search asks of the heap, over what it sees of it.
-ghost use Rattle.std.specs.Prelude.{◌≡◌, ◌≢◌, ◌↔◌, ◌<◌, ◌∷◌, [], IsTrue};
+ghost use Rattle.std.specs.Prelude.{◌≡◌, ◌≢◌, ◌↔◌, ◌<◌, ◌≤◌, ◌∷◌, [], replicate, IsTrue};
 ghost use Rattle.cg_graph.specs.Member.{Includes};
 ghost use Rattle.cg_graph.specs.Holdings.{occurrences};
 ghost use Rattle.cg_graph.specs.Store.{place_of};
@@ -77,6 +77,19 @@ pub fn lower_number<B: Kind>(heap: &mut Heap<B>, object: u64)
 {
     heap.sound();
     heap.lower(object);
+}
+
+/// The number of the object, if it is a candidate, is lower by this.
+#[inline(never)]
+pub fn lower_number_by<B: Kind>(heap: &mut Heap<B>, object: u64, times: usize)
+    requires live { IsTrue ((view_of heap.old).live object) }
+    requires room { Includes ((view_of heap.old).listed Place.Cand) object → times ≤ (view_of heap.old).number object }
+    ensures { Lowered (replicate times object) (view_of heap.old) (view_of heap.new) }
+{
+    let head = heap.head_of(object);
+    if is_candidate(heap, object, head.place) {
+        set_number(heap, object, (head.number as usize - times) as u32);
+    }
 }
 
 /// The object, which may be near, goes to the end of the list of a place.

@@ -1,5 +1,5 @@
 //! Trial subtraction, and the walk that takes out what is reached.
-ghost use Rattle.std.specs.Prelude.{◌≡◌, ◌≢◌, ◌↔◌, ℕ, ◌+◌, ◌*◌, ◌≤◌, ◌∷◌, [], ◌<◌, false, length, slice_index, take, IsTrue};
+ghost use Rattle.std.specs.Prelude.{◌≡◌, ◌≢◌, ◌↔◌, ℕ, ◌+◌, ◌-◌, ◌*◌, ◌≤◌, ◌∷◌, ◌++◌, [], replicate, ◌<◌, false, length, slice_index, take, IsTrue};
 ghost use Rattle.cg_graph.specs.Member.{Includes};
 ghost use Rattle.cg_graph.specs.Value.{references};
 ghost use Rattle.cg_graph.specs.Holdings.{occurrences};
@@ -13,8 +13,8 @@ ghost use Rattle.cg_trial.specs.Sift.{Woken, IsNowhereElse, IsParted, IsTwofold,
 ghost use Rattle.cg_trial.specs.Split.{IsSplitPlace, kept_place, entry_number_at, IsSameButPlaces};
 
 use crate::candidates::{
-    following, is_candidate, is_set_aside, lower_number, move_all, move_last, number_by_degree,
-    set_number,
+    following, is_candidate, is_set_aside, lower_number, lower_number_by, move_all, move_last,
+    number_by_degree, set_number,
 };
 use cg_arena::Near;
 use cg_heap::{Heap, Steps};
@@ -36,15 +36,48 @@ fn copy<B: Kind>(heap: &mut Heap<B>)
     }
 }
 
-/// Each of these objects that is a candidate gets a number that is lower by one, as often as it is among them.
+/// Where the objects end that are in a row the same as the one at `from`, as in a list that holds one object many times.
+#[inline(always)]
+fn end_of_run(objects: &[u64], from: usize) -> usize
+    requires { from < length objects.now }
+    ensures run { take result objects.now ≡ take from objects.now ++ replicate (result - from) (slice_index objects.now from) }
+    ensures behind { from < result }
+    ensures within { result ≤ length objects.now }
+{
+    let mut end = from + 1;
+    'run: while end < objects.len() && objects[end] == objects[from] {
+        end += 1;
+    }
+    end
+}
+
+/// An object gets a number that is lower by this, if it is a candidate.
+#[inline(always)]
+fn lower_run<B: Kind>(heap: &mut Heap<B>, object: u64, times: usize)
+    requires live { IsTrue ((view_of heap.old).live object) }
+    requires room { Includes ((view_of heap.old).listed Place.Cand) object → times ≤ (view_of heap.old).number object }
+    ensures { Lowered (replicate times object) (view_of heap.old) (view_of heap.new) }
+{
+    if times == 1 {
+        lower_number(heap, object);
+    } else {
+        lower_number_by(heap, object, times);
+    }
+}
+
+/// Each of these objects that is a candidate gets a number that is lower by one, as often as it is among them. One that comes
+/// several times in a row is sought once.
 #[inline(always)]
 fn lower_each<B: Kind>(heap: &mut Heap<B>, objects: &[u64])
     requires live { (o : ℕ) → Includes objects.now o → IsTrue ((view_of heap.old).live o) }
     requires room { (o : ℕ) → Includes ((view_of heap.old).listed Place.Cand) o → occurrences o objects.now ≤ (view_of heap.old).number o }
     ensures { Lowered objects.now (view_of heap.old) (view_of heap.new) }
 {
-    'objects: for object in objects {
-        lower_number(heap, *object);
+    let mut from = 0;
+    'runs: while from < objects.len() {
+        let end = end_of_run(objects, from);
+        lower_run(heap, objects[from], end - from);
+        from = end;
     }
 }
 
@@ -121,25 +154,17 @@ fn wake<B: Kind>(heap: &mut Heap<B>, object: u64, place: Place)
     }
 }
 
-/// Whether an object comes right after itself, as in a list that holds one object many times.
-#[inline(always)]
-fn is_repeated(objects: &[u64], at: usize) -> bool
-    requires { at < length objects.now }
-    ensures { IsTrue result → Includes (take at objects.now) (slice_index objects.now at) }
-{
-    at > 0 && objects[at - 1] == objects[at]
-}
-
-/// Each of these objects is taken back. One that comes right after itself is not sought again.
+/// Each of these objects is taken back. One that comes several times in a row is sought once.
 #[inline(always)]
 fn take_back_each<B: Kind>(heap: &mut Heap<B>, objects: &[u64])
     requires { (o : ℕ) → Includes objects.now o → IsTrue ((view_of heap.old).live o) }
     ensures { Woken objects.now (view_of heap.old) (view_of heap.new) }
 {
-    'objects: for at in 0..objects.len() {
-        if !is_repeated(objects, at) {
-            take_back(heap, objects[at]);
-        }
+    let mut from = 0;
+    'runs: while from < objects.len() {
+        let end = end_of_run(objects, from);
+        take_back(heap, objects[from]);
+        from = end;
     }
 }
 
