@@ -1,6 +1,5 @@
 -- One box among the six, before and after a call on it.
-use Rattle.std.proofs.Common.{◌≡◌, ℕ, ◌+◌, ◌<◌, List, [], ◌∷◌, ◌++◌, map, length, get_or, set, Option, Some, None, refl, sym, ap, ◌∙◌, subst, inl, inr, arith}
-use Rattle.std.proofs.lemmas.Bool.{cases_eq}
+use Rattle.std.proofs.Common.{◌≡◌, ℕ, ◌+◌, ◌<◌, List, [], ◌∷◌, ◌++◌, map, length, get_or, set, Option, Some, None, refl, sym, ap, ◌∙◌, subst, arith}
 use Rattle.std.specs.Prelude.{OnSome, IfNone, IsTrue, IsSome, is_some, ◌↔◌, position, cond, if◌then◌else◌, Bool, true, false}
 use Rattle.std.specs.List.{position_from}
 use Rattle.std.proofs.lemmas.Iterator.Adapters.{position_from-zero}
@@ -12,9 +11,7 @@ use Rattle.cg_value.specs.declared.KindCode.TheVariants.{List as ListKind, Tuple
 use Rattle.cg_value.specs.declared.Entry.{Entry}
 use Rattle.cg_value.specs.declared.Val.{Val}
 use Rattle.cg_graph.specs.Value.{item, same_value, value_at}
-use Rattle.cg_graph.proofs.Maps.{same_map, get-insert_same, get-insert_other}
-use Rattle.cg_kind.specs.Bodies.{Body, Bodies, body_of, with_body, entries_at, spare_at}
-use Rattle.cg_kind.proofs.BodyLemmas.{entries_at-with_body, spare_at-with_body}
+use Rattle.cg_kind.specs.Bodies.{Bodies, with_body, entries_at, spare_at}
 use Rattle.cg_kind.specs.Calls.{has_key, value_under}
 use Rattle.cg_heap.specs.Calls.{IsMutable}
 use Rattle.cg_heap.specs.Boxes.{six_kinds, code_index, bodies_at, boxes_with, boxes_with_body, entries_in_box, spare_in_box}
