@@ -3,7 +3,6 @@ pub mod Cuts
 pub mod Tables
 pub mod Alike
 pub mod Positions
-pub mod Declared
 pub mod Digits
 pub mod Places
 pub mod Split

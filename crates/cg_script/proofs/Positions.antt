@@ -1,12 +1,13 @@
 -- The classes of lines, the positions of their procedures and commands, and what they declare: one line on, and how one is found by its number.
-use Rattle.std.proofs.Common.{◌≡◌, refl, sym, ◌∙◌, ap, ℕ, ◌+◌, ◌<◌, ◌≤◌, Bool, List, [], ◌∷◌, ◌++◌, length, map, take, get_or, Option, Some, None}
+use Rattle.std.proofs.Common.{◌≡◌, false, ◌||◌, refl, sym, ◌∙◌, ap, ℕ, ◌+◌, ◌<◌, ◌≤◌, Bool, List, [], ◌∷◌, ◌++◌, length, map, take, get_or, Option, Some, None}
 use Rattle.std.specs.Prelude.{slice_get, option_map}
 use Rattle.std.proofs.lemmas.Option.{slice_get-map, slice_get_read}
 use Rattle.std.proofs.lemmas.List.{map-append, take_more, take_all}
 use Rattle.cg_script.specs.declared.item.ClassDef.{ClassDef}
 use Rattle.cg_script.specs.declared.item.Item.{Item}
 use Rattle.cg_script.specs.declared.item.Item.TheVariants.{Profile, Shutdown, Budget, Class, Def, Run}
-use Rattle.cg_script.specs.Items.{commands_of, procedures, classes, profile_of, declares_shutdown, StandAt, IsIndexOf}
+use Rattle.cg_script.specs.Items.{commands_of, procedures, classes, declared_profile, declares_shutdown, StandAt, IsIndexOf}
+use Rattle.cg_script.specs.Commands.{first_some}
 
 -- What is read off lines one by one.
 record IsByLines {A : Type 0} (read : List Item → List A) : Type 0 where
@@ -48,6 +49,25 @@ classes_by_lines = record { append = by }
     by (Def p ∷ xs) ys = by xs ys
     by (Run c ∷ xs) ys = by xs ys
 
+-- what lines declare, and those behind them
+profile_append : (xs ys : List Item) → declared_profile (xs ++ ys) ≡ first_some (declared_profile xs) (declared_profile ys)
+profile_append [] ys = refl
+profile_append (Profile n ∷ xs) ys = refl
+profile_append (Shutdown ∷ xs) ys = profile_append xs ys
+profile_append (Budget n ∷ xs) ys = profile_append xs ys
+profile_append (Class c ∷ xs) ys = profile_append xs ys
+profile_append (Def p ∷ xs) ys = profile_append xs ys
+profile_append (Run c ∷ xs) ys = profile_append xs ys
+
+shutdown_append : (xs ys : List Item) → declares_shutdown (xs ++ ys) ≡ (declares_shutdown xs || declares_shutdown ys)
+shutdown_append [] ys = refl
+shutdown_append (Profile n ∷ xs) ys = shutdown_append xs ys
+shutdown_append (Shutdown ∷ xs) ys = refl
+shutdown_append (Budget n ∷ xs) ys = shutdown_append xs ys
+shutdown_append (Class c ∷ xs) ys = shutdown_append xs ys
+shutdown_append (Def p ∷ xs) ys = shutdown_append xs ys
+shutdown_append (Run c ∷ xs) ys = shutdown_append xs ys
+
 -- the position of a line, for each thing that is read off it
 own_procedure : (items : List Item) (at : ℕ) (item : Item) → slice_get items at ≡ Some item
     → map (slice_get items) (map (λ p. at) (procedures (item ∷ []))) ≡ map (λ p. Some (Def p)) (procedures (item ∷ []))
@@ -67,20 +87,23 @@ own_command items at (Class c) e = refl
 own_command items at (Def p) e = refl
 own_command items at (Run c) e = ap (λ o. o ∷ []) e
 
--- the index of the lines before a position, in the list of all, with what all declare
-pub record IsIndexUpTo (items : List Item) (at : ℕ) (defs : List ClassDef) (procs runs : List ℕ) (chosen : ℕ) (declared : Bool) : Type 0 where
+-- the index of the lines before a position, in the list of all
+pub record IsIndexUpTo (items : List Item) (at : ℕ) (defs : List ClassDef) (procs runs : List ℕ) (chosen : Option ℕ) (declared : Bool) : Type 0 where
   pub classes : defs ≡ classes (take at items)
   pub procedures : StandAt Def items procs (procedures (take at items))
   pub commands : StandAt Run items runs (commands_of (take at items))
-  pub profile : chosen ≡ profile_of items
-  pub shutdown : declared ≡ declares_shutdown items
+  pub profile : chosen ≡ declared_profile (take at items)
+  pub shutdown : declared ≡ declares_shutdown (take at items)
 
 module _ (items : List Item) (at : ℕ) (item : Item) (within : at < length items) (is : item ≡ get_or items at item) where
   found : slice_get items at ≡ Some item
   found = slice_get_read items (length items) at item refl within is
 
+  front_more : take (at + 1) items ≡ take at items ++ item ∷ []
+  front_more = take_more items at item within ∙ ap (λ x. take at items ++ x ∷ []) (sym is)
+
   one_more : {A : Type 0} (read : List Item → List A) → IsByLines read → read (take (at + 1) items) ≡ read (take at items) ++ read (item ∷ [])
-  one_more read by = ap read (take_more items at item within ∙ ap (λ x. take at items ++ x ∷ []) (sym is)) ∙ by.append (take at items) (item ∷ [])
+  one_more read by = ap read front_more ∙ by.append (take at items) (item ∷ [])
 
   stand_more : {A : Type 0} (line : A → Item) (read : List Item → List A) (ps : List ℕ) → IsByLines read
       → map (slice_get items) (map (λ x. at) (read (item ∷ []))) ≡ map (λ x. Some (line x)) (read (item ∷ []))
@@ -92,20 +115,20 @@ module _ (items : List Item) (at : ℕ) (item : Item) (within : at < length item
       ∙ ap (map (λ x. Some (line x))) (sym (one_more read by))
 
   -- one line more
-  pub index_more : (defs new_defs : List ClassDef) (procs new_procs commands new_commands : List ℕ) (chosen new_chosen : ℕ) (declared new_declared : Bool)
+  pub index_more : (defs new_defs : List ClassDef) (procs new_procs commands new_commands : List ℕ) (chosen new_chosen : Option ℕ) (declared new_declared : Bool)
       → new_defs ≡ defs ++ classes (item ∷ []) → new_procs ≡ procs ++ map (λ p. at) (procedures (item ∷ [])) → new_commands ≡ commands ++ map (λ c. at) (commands_of (item ∷ []))
-      → new_chosen ≡ chosen → new_declared ≡ declared
+      → new_chosen ≡ first_some chosen (declared_profile (item ∷ [])) → new_declared ≡ (declared || declares_shutdown (item ∷ []))
       → IsIndexUpTo items at defs procs commands chosen declared → IsIndexUpTo items (at + 1) new_defs new_procs new_commands new_chosen new_declared
-  index_more defs new_defs procs new_procs commands new_commands chosen new_chosen declared new_declared ds ps cs same still before = record {
+  index_more defs new_defs procs new_procs commands new_commands chosen new_chosen declared new_declared ds ps cs which ends before = record {
     classes = ds ∙ ap (λ l. l ++ classes (item ∷ [])) before.classes ∙ sym (one_more classes classes_by_lines);
     procedures = ap (map (slice_get items)) ps ∙ stand_more Def procedures procs procedures_by_lines (own_procedure items at item found) before.procedures;
     commands = ap (map (slice_get items)) cs ∙ stand_more Run commands_of commands commands_by_lines (own_command items at item found) before.commands;
-    profile = same ∙ before.profile;
-    shutdown = still ∙ before.shutdown;
+    profile = which ∙ ap (λ p. first_some p (declared_profile (item ∷ []))) before.profile ∙ sym (ap declared_profile front_more ∙ profile_append (take at items) (item ∷ []));
+    shutdown = ends ∙ ap (λ b. b || declares_shutdown (item ∷ [])) before.shutdown ∙ sym (ap declares_shutdown front_more ∙ shutdown_append (take at items) (item ∷ []));
   }
 
 -- before the first line
-pub index_of_none : (items : List Item) (defs : List ClassDef) (procs commands : List ℕ) (chosen : ℕ) (declared : Bool) → defs ≡ [] → procs ≡ [] → commands ≡ [] → chosen ≡ profile_of items → declared ≡ declares_shutdown items
+pub index_of_none : (items : List Item) (defs : List ClassDef) (procs commands : List ℕ) (chosen : Option ℕ) (declared : Bool) → defs ≡ [] → procs ≡ [] → commands ≡ [] → chosen ≡ None → declared ≡ false
     → IsIndexUpTo items 0 defs procs commands chosen declared
 index_of_none items defs procs commands chosen declared d p c which ends = record {
   classes = d;
@@ -116,13 +139,13 @@ index_of_none items defs procs commands chosen declared d p c which ends = recor
 }
 
 -- at the end all lines were looked at
-pub index_of_all : (items : List Item) (at : ℕ) (defs : List ClassDef) (procs commands : List ℕ) (chosen : ℕ) (declared : Bool) → length items ≤ at → IsIndexUpTo items at defs procs commands chosen declared → IsIndexOf items defs procs commands chosen declared
+pub index_of_all : (items : List Item) (at : ℕ) (defs : List ClassDef) (procs commands : List ℕ) (chosen : Option ℕ) (declared : Bool) → length items ≤ at → IsIndexUpTo items at defs procs commands chosen declared → IsIndexOf items defs procs commands chosen declared
 index_of_all items at defs procs commands chosen declared past upto = record {
   classes = upto.classes ∙ ap classes (take_all at items past);
   procedures = upto.procedures ∙ ap (λ l. map (λ p. Some (Def p)) (procedures l)) (take_all at items past);
   commands = upto.commands ∙ ap (λ l. map (λ c. Some (Run c)) (commands_of l)) (take_all at items past);
-  profile = upto.profile;
-  shutdown = upto.shutdown;
+  profile = upto.profile ∙ ap declared_profile (take_all at items past);
+  shutdown = upto.shutdown ∙ ap declares_shutdown (take_all at items past);
 }
 
 -- What stands at a number of one list stands there in the other.

@@ -1,6 +1,6 @@
 -- The lines of a script by what they are: its commands outside procedures, its procedures and its classes, each found by its
 -- number among its own. (Ours.)
-use Rattle.std.specs.Prelude.{◌≡◌, ℕ, Bool, true, false, List, [], ◌∷◌, map, Some, slice_get}
+use Rattle.std.specs.Prelude.{◌≡◌, ℕ, Bool, true, false, List, [], ◌∷◌, map, Option, Some, None, unwrap_or, slice_get}
 use Rattle.cg_script.specs.declared.command.Command.{Command}
 use Rattle.cg_script.specs.declared.item.ClassDef.{ClassDef}
 use Rattle.cg_script.specs.declared.item.Proc.{Proc}
@@ -37,11 +37,15 @@ classes (Class c ∷ items) = c ∷ classes items
 classes (Def p ∷ items) = classes items
 classes (Run c ∷ items) = classes items
 
+-- the profile that is declared first, if one is
+abbrev pub declared_profile : List Item → Option ℕ
+declared_profile [] = None
+declared_profile (Profile n ∷ items) = Some n
+declared_profile (item ∷ items) = declared_profile items
+
 -- the profile, 1 where none is declared
 abbrev pub profile_of : List Item → ℕ
-profile_of [] = 1
-profile_of (Profile n ∷ items) = n
-profile_of (item ∷ items) = profile_of items
+profile_of items = unwrap_or (declared_profile items) 1
 
 -- whether a shutdown is declared
 abbrev pub declares_shutdown : List Item → Bool
@@ -53,11 +57,11 @@ declares_shutdown (item ∷ items) = declares_shutdown items
 abbrev pub StandAt : {A : Type 0} → (A → Item) → List Item → List ℕ → List A → Type 0
 StandAt line items positions those = map (slice_get items) positions ≡ map (λ x. Some (line x)) those
 
--- These are the classes of some lines, the positions of their procedures and of their commands outside procedures, their profile,
--- and whether they declare a shutdown.
-pub record IsIndexOf (items : List Item) (defs : List ClassDef) (procs runs : List ℕ) (chosen : ℕ) (declared : Bool) : Type 0 where
+-- These are the classes of some lines, the positions of their procedures and of their commands outside procedures, the profile
+-- that they declare, and whether they declare a shutdown.
+pub record IsIndexOf (items : List Item) (defs : List ClassDef) (procs runs : List ℕ) (chosen : Option ℕ) (declared : Bool) : Type 0 where
   pub classes : defs ≡ classes items
   pub procedures : StandAt Def items procs (procedures items)
   pub commands : StandAt Run items runs (commands_of items)
-  pub profile : chosen ≡ profile_of items
+  pub profile : chosen ≡ declared_profile items
   pub shutdown : declared ≡ declares_shutdown items

@@ -4,7 +4,7 @@ ghost use Rattle.cg_script.specs.declared.part.Said.{Said as AnySaid};
 ghost use Rattle.cg_script.specs.declared.part.Said.TheVariants.{Does, Ends};
 ghost use Rattle.cg_script.specs.Forms.{row};
 ghost use Rattle.cg_script.specs.Meanings.{all_fit, formed, code_of};
-ghost use Rattle.cg_script.specs.Reading.{nothing_known, is_misplaced, is_repeated, checked, procs_after, classes_after, budget_after, shutdown_after, inside_after};
+ghost use Rattle.cg_script.specs.Reading.{nothing_known, is_misplaced, is_repeated, checked, procs_after, classes_after, budget_after, shutdown_after};
 ghost use Rattle.cg_script.specs.Views.{known_of, grouped, is_placed, inside_behind, Takes};
 
 use crate::command::Command;
@@ -234,8 +234,11 @@ pub(crate) fn take_words(
     if names_unknown(parts.as_slice()) {
         return Ok(Some(NOT_DEFINED));
     }
-    let what = said_of(draft.alloc, form, parts.as_slice())?;
     define(draft, form, words)?;
-    push(draft.alloc, &mut draft.items, &mut draft.begun, what)?;
+    // `?` would move what is said twice more, for each line.
+    match said_of(draft.alloc, form, parts.as_slice()) {
+        Ok(what) => push(draft.alloc, &mut draft.items, &mut draft.begun, what)?,
+        Err(fault) => return Err(fault),
+    }
     Ok(None)
 }

@@ -1,44 +1,21 @@
 //! Where the procedures and the commands outside procedures stand among the lines of a script, so that each is found by its
 //! number, and what the lines declare of the whole script.
-ghost use Rattle.std.specs.Prelude.{◌≡◌, ◌++◌, ◌∷◌, [], map, IfOk, OnOk};
-ghost use Rattle.cg_script.specs.Items.{classes, procedures, commands_of, profile_of, declares_shutdown, IsIndexOf};
+ghost use Rattle.std.specs.Prelude.{◌≡◌, ◌||◌, ◌++◌, ◌∷◌, [], map, IfOk, OnOk};
+ghost use Rattle.cg_script.specs.Commands.{first_some};
+ghost use Rattle.cg_script.specs.Items.{classes, procedures, commands_of, declared_profile, declares_shutdown, IsIndexOf};
 
 use crate::item::{ClassDef, Item};
 use std::alloc::{AllocError, Global};
 
-/// The classes of some lines, the positions of their procedures and of their commands outside procedures, their profile, and
-/// whether they declare a shutdown.
+/// The classes of some lines, the positions of their procedures and of their commands outside procedures, the profile that they
+/// declare, and whether they declare a shutdown.
 #[derive(Drop)]
 pub(crate) struct Index {
     pub classes: Vec<ClassDef>,
     pub procedures: Vec<usize>,
     pub commands: Vec<usize>,
-    pub profile: u8,
+    pub profile: Option<u8>,
     pub shutdown: bool,
-}
-
-/// The profile that some lines declare, or 1.
-fn profile_in(items: &[Item]) -> u8
-    ensures { result ≡ profile_of items.now }
-{
-    'items: for item in items {
-        if let Item::Profile(profile) = item {
-            return *profile;
-        }
-    }
-    1
-}
-
-/// Whether some lines declare a shutdown.
-fn shutdown_in(items: &[Item]) -> bool
-    ensures { result ≡ declares_shutdown items.now }
-{
-    'items: for item in items {
-        if let Item::Shutdown = item {
-            return true;
-        }
-    }
-    false
 }
 
 impl Index {
@@ -50,8 +27,8 @@ impl Index {
             classes: Vec::new(alloc),
             procedures: Vec::new(alloc),
             commands: Vec::new(alloc),
-            profile: profile_in(items),
-            shutdown: shutdown_in(items),
+            profile: None,
+            shutdown: false,
         };
         'items: for at in 0..items.len() {
             index.add(at, &items[at])?;
@@ -66,11 +43,13 @@ impl Index {
             ≡ self.old.procedures.items ++ map (λ p. at) (procedures (item.now ∷ []))) }
         ensures commands { OnOk result (self.new.commands.items
             ≡ self.old.commands.items ++ map (λ c. at) (commands_of (item.now ∷ []))) }
-        ensures profile { self.new.profile ≡ self.old.profile }
-        ensures shutdown { self.new.shutdown ≡ self.old.shutdown }
+        ensures profile { OnOk result (self.new.profile ≡ first_some self.old.profile (declared_profile (item.now ∷ []))) }
+        ensures shutdown { OnOk result (self.new.shutdown ≡ (self.old.shutdown || declares_shutdown (item.now ∷ []))) }
     {
         match item {
-            Item::Profile(_) | Item::Shutdown | Item::Budget(_) => {}
+            Item::Profile(profile) => self.profile = self.profile.or(Some(*profile)),
+            Item::Shutdown => self.shutdown = true,
+            Item::Budget(_) => {}
             Item::Class(class) => self.classes.push(*class)?,
             Item::Def(_) => self.procedures.push(at)?,
             Item::Run(_) => self.commands.push(at)?,

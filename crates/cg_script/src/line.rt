@@ -1,11 +1,9 @@
 //! What a line means by its words alone.
-ghost use Rattle.std.specs.Prelude.{◌≡◌, ◌<◌, ◌≤◌, ◌+◌, [], length, map, codes, drop, take, true, false, nat_lt, ◌||◌, ◌==◌};
+ghost use Rattle.std.specs.Prelude.{◌≡◌, ◌<◌, ◌≤◌, ◌+◌, length, map, take, true, false, nat_lt, ◌||◌, ◌==◌};
 ghost use Rattle.std.specs.List.{list_all};
-ghost use Rattle.cg_script.specs.Pieces.{word_is, word_at, words_of};
+ghost use Rattle.cg_script.specs.Pieces.{word_is, words_of};
 ghost use Rattle.cg_script.specs.Words.{is_printable};
-ghost use Rattle.cg_script.specs.declared.form.Form.{Form as AnyForm};
-ghost use Rattle.cg_script.specs.Forms.{row};
-ghost use Rattle.cg_script.specs.Meanings.{fits, all_fit, repeats_finalizer, formed, binding_form, worded, is_passed, meaning};
+ghost use Rattle.cg_script.specs.Meanings.{binding_form, worded, is_passed, meaning};
 ghost use Rattle.cg_script.specs.Views.{meaning_of};
 
 use crate::form::{Form, binding_named, opener_named};

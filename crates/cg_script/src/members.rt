@@ -1,5 +1,5 @@
 //! Lists of operands, commands and items, which contracts see as lists.
-ghost use Rattle.std.specs.Prelude.{◌≡◌, ◌≤◌, ◌<◌, ◌+◌, ◌^◌, IfOk, OnSome, Some, length, slice_get, option_copied};
+ghost use Rattle.std.specs.Prelude.{◌≡◌, ◌<◌, ◌+◌, ◌^◌, IfOk, OnSome, Some, slice_get, option_copied};
 ghost use Rattle.cg_script.specs.Items.{classes, procedures, commands_of, profile_of, declares_shutdown};
 ghost use Rattle.cg_script.specs.declared.command.Command.{Command as AnyCommand};
 ghost use Rattle.cg_script.specs.declared.item.Proc.{Proc as AnyProc};
@@ -153,7 +153,7 @@ impl Items {
     pub fn profile(&self) -> u8
         ensures { result ≡ profile_of self.now }
     {
-        self.index.profile
+        self.index.profile.unwrap_or(1)
     }
 
     /// Whether they declare a shutdown. It takes constant time.

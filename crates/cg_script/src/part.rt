@@ -7,7 +7,7 @@ ghost use Rattle.cg_script.specs.declared.part.Part.TheVariants.{Text, Value as 
 ghost use Rattle.cg_script.specs.Tables.{named as named_in};
 ghost use Rattle.cg_script.specs.Words.{begins_name, is_value, is_variable, is_identifier, is_printable, is_quoted, string_text, is_number, number_of, are_digits, decimal_value, atoms, after_prefix, flags};
 ghost use Rattle.cg_script.specs.Meanings.{fits, repeats_finalizer, formed, code_of};
-ghost use Rattle.cg_script.specs.Parts.{Known, text_in, with_text_if, value_text, operand_or, numbered, finalizer, legacy, defined_number, finalizer_of, part_of, parts_from, texts_from, has_unknown, is_unknown};
+ghost use Rattle.cg_script.specs.Parts.{text_in, with_text_if, value_text, operand_or, numbered, finalizer, legacy, defined_number, finalizer_of, part_of, parts_from, texts_from, has_unknown};
 
 use crate::command::{Command, Operand};
 use crate::form::{Form, Sort, row_for, sort_in};

@@ -1,6 +1,6 @@
 //! Bytes between separators.
-ghost use Rattle.std.specs.Prelude.{◌≡◌, ◌<◌, ◌≤◌, ◌∷◌, ◌++◌, ◌==◌, ◌||◌, [], length, map, filter, position, not, take, unwrap_or, true};
-ghost use Rattle.std.specs.List.{list_all, position_or_len};
+ghost use Rattle.std.specs.Prelude.{◌≡◌, ◌<◌, ◌∷◌, ◌++◌, ◌==◌, ◌||◌, [], length, map, filter, position, not, take, unwrap_or, true};
+ghost use Rattle.std.specs.List.{list_all};
 ghost use Rattle.cg_script.specs.Pieces.{pieces, has_bytes, words_of, lines_of};
 ghost use Rattle.cg_script.specs.Words.{is_printable};
 

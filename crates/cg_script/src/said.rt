@@ -1,5 +1,5 @@
 //! How the parts of each form become a command or a declaration.
-ghost use Rattle.std.specs.Prelude.{◌≡◌, ◌≤◌, ◌++◌, map, drop, take, IfOk, Ok, Some};
+ghost use Rattle.std.specs.Prelude.{◌≡◌, ◌≤◌, IfOk, Ok, Some};
 ghost use Rattle.cg_script.specs.declared.part.Said.TheVariants.{Does as DoesIt};
 ghost use Rattle.cg_script.specs.Commands.{text_at as text_in, value_at as value_in, number_or, count_at as count_in, count_if, del_if, legacy_if, first_some, part_at, value_or, values_from as values_in, flags_in, said};
 

@@ -1,10 +1,10 @@
 //! The forms of words.
-ghost use Rattle.std.specs.Prelude.{◌≡◌, ◌≤◌, ◌&&◌, ◌||◌, nat_le, true, map, length, slice_index, if◌then◌else◌, Some, None, drop, codes, take, option_map, pos, neg_ℤ};
+ghost use Rattle.std.specs.Prelude.{◌≡◌, ◌≤◌, ◌&&◌, ◌||◌, nat_le, true, map, length, slice_index, if◌then◌else◌, Some, None, codes, option_map, pos, neg_ℤ};
 ghost use Rattle.std.specs.List.{list_all};
 ghost use Rattle.cg_script.specs.Tables.{named as named_in};
 ghost use Rattle.cg_script.specs.Alike.{rows_like};
 ghost use Rattle.cg_script.specs.Forms.{openers, bindings};
-ghost use Rattle.cg_script.specs.Words.{is_printable, is_digit, is_letter, is_name_byte, begins_name, is_identifier, reserves, is_reserved, is_variable, is_quoted, has_minus, are_digits, decimal_value, is_number, number_of, is_count, is_profile, is_value, atoms, after_prefix, is_identifier_after, names_finalizer, names_legacy, flags};
+ghost use Rattle.cg_script.specs.Words.{is_printable, is_digit, is_name_byte, begins_name, is_identifier, reserves, is_reserved, is_variable, is_quoted, has_minus, are_digits, decimal_value, is_number, number_of, is_count, is_profile, is_value, atoms, after_prefix, names_finalizer, names_legacy, flags};
 
 use crate::command::Operand;
 use crate::form::{Form, form_named, row_for};
