@@ -44,6 +44,21 @@ fn end_of_run(objects: &[u64], from: usize) -> usize
     ensures behind { from < result }
     ensures within { result ≤ length objects.now }
 {
+    let next = from + 1;
+    if next < objects.len() && objects[next] == objects[from] {
+        return end_of_long_run(objects, from);
+    }
+    next
+}
+
+/// The same. Most runs are of one object, and end before a loop begins.
+#[inline(never)]
+fn end_of_long_run(objects: &[u64], from: usize) -> usize
+    requires { from < length objects.now }
+    ensures run { take result objects.now ≡ take from objects.now ++ replicate (result - from) (slice_index objects.now from) }
+    ensures behind { from < result }
+    ensures within { result ≤ length objects.now }
+{
     let mut end = from + 1;
     'run: while end < objects.len() && objects[end] == objects[from] {
         end += 1;
