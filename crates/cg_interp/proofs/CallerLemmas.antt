@@ -17,8 +17,9 @@ use Rattle.cg_interp.specs.declared.activity.Activity.TheVariants as activity
 use Rattle.cg_policy.specs.Policy.{Policy}
 use Rattle.cg_interp.specs.Engines.{State, StandsFor, ActivityShows, ShowsAll, commands_from, frame_of, under, is_collecting, any_collecting}
 use Rattle.cg_interp.specs.declared.caller.Caller.{Caller}
-use Rattle.cg_interp.specs.declared.caller.Caller.TheVariants as caller_of
-use Rattle.cg_interp.specs.Callers.{caller_activity, with_next, without_rest_in_frame}
+use Rattle.cg_interp.specs.declared.caller.Runner.{Runner}
+use Rattle.cg_interp.specs.declared.caller.Runner.TheVariants as runner_is
+use Rattle.cg_interp.specs.Callers.{caller_activity, with_next, without_rest_in_frame, activity_at, left_when_stopped}
 use Rattle.cg_interp.proofs.Standing.{IsPlain, plain_frame, plain_script, replaced, spelled}
 
 -- Another activity with the same holds comes in the place of the one on top.
@@ -51,24 +52,32 @@ module _ (script : Script) (old new : State) (top top_after : Own) (a b : Activi
 
 module _ (script : Script) (old new : State) (w : World) where
   -- a frame is put back without its commands
-  pub stops_frame : (caller : Caller) → StandsFor script (under (caller_activity caller) old) w → new.store ≡ old.store → new.policy ≡ old.policy → new.activities ≡ caller_activity (without_rest_in_frame caller) ∷ old.activities → new.budget ≡ old.budget
+  stops_frame_by : (r : Runner) (next : Option ℕ) → StandsFor script (under (activity_at r next) old) w → new.store ≡ old.store → new.policy ≡ old.policy → new.activities ≡ activity_at r (left_when_stopped r next) ∷ old.activities → new.budget ≡ old.budget
       → StandsFor script new (with_stack (stopped_frame w.stack) w)
-  stops_frame (caller_of.Script next) stands store policy is budget =
+  stops_frame_by runner_is.Script next stands store policy is budget =
       retopped script old new (activity.Script next) (activity.Script next) (TopLevel (commands_from next (commands_of script.items))) (TopLevel (commands_from next (commands_of script.items))) stopped_frame w
       (plain_script _) (plain_script _) refl (λ below. refl) (λ tops e. e) refl refl stands store policy is budget
-  stops_frame (caller_of.Frame locals procedure next) stands store policy is budget =
+  stops_frame_by (runner_is.Frame locals procedure) next stands store policy is budget =
       retopped script old new (activity.Frame locals procedure next) (activity.Frame locals procedure None) (Framed (frame_of script locals procedure next)) (Framed (frame_of script locals procedure None)) stopped_frame w
       (plain_frame _) (plain_frame _) refl (λ below. refl) (λ tops e. e) refl refl stands store policy is budget
 
+  pub stops_frame : (caller : Caller) → StandsFor script (under (caller_activity caller) old) w → new.store ≡ old.store → new.policy ≡ old.policy → new.activities ≡ caller_activity (without_rest_in_frame caller) ∷ old.activities → new.budget ≡ old.budget
+      → StandsFor script new (with_stack (stopped_frame w.stack) w)
+  stops_frame caller = stops_frame_by caller.runner caller.next
+
   -- a caller is put back without its commands
-  pub stops : (caller : Caller) → StandsFor script (under (caller_activity caller) old) w → new.store ≡ old.store → new.policy ≡ old.policy → new.activities ≡ caller_activity (with_next None caller) ∷ old.activities → new.budget ≡ old.budget
+  stops_by : (r : Runner) (next : Option ℕ) → StandsFor script (under (activity_at r next) old) w → new.store ≡ old.store → new.policy ≡ old.policy → new.activities ≡ activity_at r None ∷ old.activities → new.budget ≡ old.budget
       → StandsFor script new (with_stack (without_commands w.stack) w)
-  stops (caller_of.Script next) stands store policy is budget =
+  stops_by runner_is.Script next stands store policy is budget =
       retopped script old new (activity.Script next) (activity.Script None) (TopLevel (commands_from next (commands_of script.items))) (TopLevel []) without_commands w
       (plain_script _) (plain_script _) refl (λ below. refl) (λ tops e. e) refl refl stands store policy is budget
-  stops (caller_of.Frame locals procedure next) stands store policy is budget =
+  stops_by (runner_is.Frame locals procedure) next stands store policy is budget =
       retopped script old new (activity.Frame locals procedure next) (activity.Frame locals procedure None) (Framed (frame_of script locals procedure next)) (Framed (frame_of script locals procedure None)) without_commands w
       (plain_frame _) (plain_frame _) refl (λ below. refl) (λ tops e. e) refl refl stands store policy is budget
+
+  pub stops : (caller : Caller) → StandsFor script (under (caller_activity caller) old) w → new.store ≡ old.store → new.policy ≡ old.policy → new.activities ≡ caller_activity (with_next None caller) ∷ old.activities → new.budget ≡ old.budget
+      → StandsFor script new (with_stack (without_commands w.stack) w)
+  stops caller = stops_by caller.runner caller.next
 
 -- the procedure of a function, which the heap keeps beside it
 pub procedure_known : (store : Store) (w : World) (f : ℕ) (class : Option ℕ) → Represents store w → IsLive store f → IfSome (fin.get store.nodes f) (λ n. class ≡ n.class) → procedure_of w f ≡ unwrap_or class 0

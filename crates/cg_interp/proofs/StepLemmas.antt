@@ -29,8 +29,9 @@ use Rattle.cg_interp.specs.declared.turned.Turned.{Turned}
 use Rattle.cg_interp.specs.declared.turned.Turned.TheVariants as turned
 use Rattle.cg_interp.specs.Engines.{State, StandsFor, commands_from, frame_of, under, ShowsAll, any_collecting}
 use Rattle.cg_interp.specs.declared.caller.Caller.{Caller}
-use Rattle.cg_interp.specs.declared.caller.Caller.TheVariants as caller_of
-use Rattle.cg_interp.specs.Callers.{caller_activity, caller_locals, with_next, told, MayCommand, Does, StartsCollection, ChangesOn, TellsChange, DoesAny, RunsTo, StaysKeptAfter, IsAtCommand, ComesNext, StepsFrom}
+use Rattle.cg_interp.specs.declared.caller.Runner.{Runner}
+use Rattle.cg_interp.specs.declared.caller.Runner.TheVariants as runner_is
+use Rattle.cg_interp.specs.Callers.{caller_activity, caller_locals, with_next, told, MayCommand, Does, StartsCollection, ChangesOn, TellsChange, DoesAny, RunsTo, StaysKeptAfter, IsAtCommand, ComesNext, StepsFrom, activity_at, locals_in, frame_caller}
 use Rattle.cg_interp.specs.Quietly.{ComesTo}
 use Rattle.cg_interp.specs.Collecting.{StandsWith}
 use Rattle.cg_interp.specs.Telling.{TurnsWith}
@@ -125,11 +126,11 @@ is_there commands rest None c is = absurd (cc)
 is_there commands rest (Some n) c is = still_there n commands c (subst (λ l. Includes l c) (sym is) (inl refl))
 
 -- the command that has the turn in the body of a procedure
-pub comes_next : (script : Script) (locals : Locals) (procedure : ℕ) (next : Option ℕ) (c : Command) (after : ℕ) (body : List Command) → body ≡ body_of script procedure → commands_from next body ≡ c ∷ commands_from (Some after) body → ComesNext script (caller_of.Frame locals procedure (Some after)) next c
+pub comes_next : (script : Script) (locals : Locals) (procedure : ℕ) (next : Option ℕ) (c : Command) (after : ℕ) (body : List Command) → body ≡ body_of script procedure → commands_from next body ≡ c ∷ commands_from (Some after) body → ComesNext script (frame_caller locals procedure (Some after)) next c
 comes_next script locals procedure next c after body is turn = subst (λ l. commands_from next l ≡ c ∷ commands_from (Some after) l) is turn
 
 -- the command that has the turn, and a caller that goes on behind it
-pub comes_next_at : (script : Script) (locals : Locals) (procedure n : ℕ) (c : Command) (body : List Command) (caller : Caller) → caller ≡ caller_of.Frame locals procedure (Some (n + 1)) → body ≡ body_of script procedure → n < length body → c ≡ get_or body n c → ComesNext script caller (Some n) c
+pub comes_next_at : (script : Script) (locals : Locals) (procedure n : ℕ) (c : Command) (body : List Command) (caller : Caller) → caller ≡ frame_caller locals procedure (Some (n + 1)) → body ≡ body_of script procedure → n < length body → c ≡ get_or body n c → ComesNext script caller (Some n) c
 comes_next_at script locals procedure n c body caller frame is within at = subst (λ k. ComesNext script k (Some n) c) (sym frame) (comes_next script locals procedure (Some n) c (n + 1) body is (next_there body n c within at))
 
 -- The script is on top.
@@ -257,40 +258,55 @@ pub record Without (script : Script) (caller : Caller) (c : Command) (e : State)
 
 -- A caller is on top.
 module _ (script : Script) (e : State) (w : World) where
+  pub runner_detects_none : (r : Runner) (next : Option ℕ) → StandsFor script (under (activity_at r next) e) w → detects w.stack ≡ false
+  runner_detects_none runner_is.Script next stands = ap detects (stands.shows.is ∙ ap (λ l. l ++ stands.shows.below) stands.shows.shows)
+  runner_detects_none (runner_is.Frame locals procedure) next stands = ap detects (stands.shows.is ∙ ap (λ l. l ++ stands.shows.below) stands.shows.shows)
+
   pub caller_detects_none : (caller : Caller) → StandsFor script (under (caller_activity caller) e) w → detects w.stack ≡ false
-  caller_detects_none (caller_of.Script next) stands = ap detects (stands.shows.is ∙ ap (λ l. l ++ stands.shows.below) stands.shows.shows)
-  caller_detects_none (caller_of.Frame locals procedure next) stands = ap detects (stands.shows.is ∙ ap (λ l. l ++ stands.shows.below) stands.shows.shows)
+  caller_detects_none caller = runner_detects_none caller.runner caller.next
 
   -- its next command is known, from which it has gone on
   module _ (next : Option ℕ) (c : Command) where
-    pub without_command : (caller : Caller) → ComesNext script caller next c → StandsFor script (under (caller_activity (with_next next caller)) e) w → Without script caller c e w
-    without_command (caller_of.Script after) is stands = record {
+    without_by : (r : Runner) (after : Option ℕ) → ComesNext script (record { runner = r; next = after }) next c → StandsFor script (under (activity_at r next) e) w → Without script (record { runner = r; next = after }) c e w
+    without_by runner_is.Script after is stands = record {
       world = script_goes_on script e next w stands after c is;
       stands = script_stands script e next w stands after c is;
       locals = script_locals script e next w stands after c is;
       does = script_does script e next w stands after c is;
     }
-    without_command (caller_of.Frame locals procedure after) is stands = record {
+    without_by (runner_is.Frame locals procedure) after is stands = record {
       world = frame_goes_on script e locals procedure next after c w stands is;
       stands = frame_stands script e locals procedure next after c w stands is;
       locals = frame_locals script e locals procedure next after c w stands is;
       does = frame_does script e locals procedure next after c w stands is;
     }
 
+    pub without_command : (caller : Caller) → ComesNext script caller next c → StandsFor script (under (caller_activity (with_next next caller)) e) w → Without script caller c e w
+    without_command caller = without_by caller.runner caller.next
+
     -- a collection is due
+    collects_by : (r : Runner) (after : Option ℕ) → ComesNext script (record { runner = r; next = after }) next c → StandsFor script (under (activity_at r next) e) w → (g : ℕ) → due w ≡ Some g → StepOf script w w.stack [] (push (new_collection g false w) w)
+    collects_by runner_is.Script after is stands = script_collects script e next w stands
+    collects_by (runner_is.Frame locals procedure) after is stands = frame_collects script e locals procedure next after c w stands is
+
     pub caller_collects : (caller : Caller) → ComesNext script caller next c → StandsFor script (under (caller_activity (with_next next caller)) e) w → (g : ℕ) → due w ≡ Some g → StepOf script w w.stack [] (push (new_collection g false w) w)
-    caller_collects (caller_of.Script after) is stands = script_collects script e next w stands
-    caller_collects (caller_of.Frame locals procedure after) is stands = frame_collects script e locals procedure next after c w stands is
+    caller_collects caller = collects_by caller.runner caller.next
 
     -- the command is one of a script that some bytes spell
+    doable_by : IsSpelled script → (names : ℕ) → names ≡ length script.names → (r : Runner) (after : Option ℕ) → ComesNext script (record { runner = r; next = after }) next c → IsSpelledCommand names c
+    doable_by spelled names same runner_is.Script after is = script_doable script spelled names same c (is_there (commands_of script.items) _ next c is)
+    doable_by spelled names same (runner_is.Frame locals procedure) after is = body_doable script spelled names procedure same c (is_there (body_of script procedure) _ next c is)
+
     pub caller_doable : IsSpelled script → (names : ℕ) → names ≡ length script.names → (caller : Caller) → ComesNext script caller next c → IsSpelledCommand names c
-    caller_doable spelled names same (caller_of.Script after) is = script_doable script spelled names same c (is_there (commands_of script.items) _ next c is)
-    caller_doable spelled names same (caller_of.Frame locals procedure after) is = body_doable script spelled names procedure same c (is_there (body_of script procedure) _ next c is)
+    caller_doable spelled names same caller = doable_by spelled names same caller.runner caller.next
 
   -- its locals live
+  live_by : (budget : ℕ) (next : Option ℕ) (r : Runner) → StandsFor script (under (activity_at r next) e) w → IsLawful script budget w → LocalsLive e.store (locals_in r)
+  live_by budget next runner_is.Script stands lawful = tt
+  live_by budget next (runner_is.Frame locals procedure) stands lawful = locals_are_live script budget e locals procedure next w stands lawful
+
   pub caller_live : (budget : ℕ) (next : Option ℕ) (caller : Caller) → StandsFor script (under (caller_activity (with_next next caller)) e) w → IsLawful script budget w → LocalsLive e.store (caller_locals caller)
-  caller_live budget next (caller_of.Script after) stands lawful = tt
-  caller_live budget next (caller_of.Frame locals procedure after) stands lawful = locals_are_live script budget e locals procedure next w stands lawful
+  caller_live budget next caller = live_by budget next caller.runner
 
   -- what a command may rest on
   pub may_command : (top : Own) → StandsFor script (under top e) w → IsKept script e.first_budget w → IsSound e.store → IsSpelled script → IsFit script e → MayCommand e

@@ -28,7 +28,8 @@ use Rattle.cg_machine.specs.Represents.{Represents}
 use Rattle.cg_interp.specs.declared.activity.Activity.{Activity}
 use Rattle.cg_interp.specs.declared.activity.Activity.TheVariants as activity
 use Rattle.cg_interp.specs.declared.caller.Caller.{Caller}
-use Rattle.cg_interp.specs.declared.caller.Caller.TheVariants as caller_of
+use Rattle.cg_interp.specs.declared.caller.Runner.{Runner}
+use Rattle.cg_interp.specs.declared.caller.Runner.TheVariants as runner_is
 use Rattle.cg_commands.specs.declared.locals.Locals.{Locals}
 use Rattle.cg_commands.specs.Stands.{HasLocals}
 use Rattle.cg_inspect.specs.Inspection.{IsIdle}
@@ -37,30 +38,51 @@ use Rattle.cg_interp.specs.Telling.{TurnsFrom}
 use Rattle.cg_interp.specs.Quietly.{ComesTo, ComesFrom}
 use Rattle.cg_interp.specs.Engines.{State, StandsFor, ShowsAll, under, any_collecting, commands_from}
 
--- the activity that a caller is
-abbrev pub caller_activity : Caller → Activity
-caller_activity (caller_of.Script next) = activity.Script next
-caller_activity (caller_of.Frame locals procedure next) = activity.Frame locals procedure next
+-- the activity that the script is, or a frame, with its next command
+abbrev pub activity_at : Runner → Option ℕ → Activity
+activity_at runner_is.Script next = activity.Script next
+activity_at (runner_is.Frame locals procedure) next = activity.Frame locals procedure next
 
 -- the locals of a frame
-abbrev pub caller_locals : Caller → Option Locals
-caller_locals (caller_of.Script next) = None
-caller_locals (caller_of.Frame locals procedure next) = Some locals
+abbrev pub locals_in : Runner → Option Locals
+locals_in runner_is.Script = None
+locals_in (runner_is.Frame locals procedure) = Some locals
 
--- the commands that it has left
+-- the commands of the script, or of a frame's procedure
+abbrev pub commands_in : Script → Runner → List Command
+commands_in script runner_is.Script = commands_of script.items
+commands_in script (runner_is.Frame locals procedure) = body_of script procedure
+
+-- the same, of a caller
+abbrev pub caller_activity : Caller → Activity
+caller_activity caller = activity_at caller.runner caller.next
+
+abbrev pub caller_locals : Caller → Option Locals
+caller_locals caller = locals_in caller.runner
+
+-- the commands that a caller has left
 abbrev pub commands_left : Script → Caller → List Command
-commands_left script (caller_of.Script next) = commands_from next (commands_of script.items)
-commands_left script (caller_of.Frame locals procedure next) = commands_from next (body_of script procedure)
+commands_left script caller = commands_from caller.next (commands_in script caller.runner)
 
 -- the same caller with another next command, or with none left
 abbrev pub with_next : Option ℕ → Caller → Caller
-with_next next (caller_of.Script was) = caller_of.Script next
-with_next next (caller_of.Frame locals procedure was) = caller_of.Frame locals procedure next
+with_next next caller = record { runner = caller.runner; next = next }
 
--- the same without a command left, if it is a frame
+-- the script, or a frame, with its next command
+abbrev pub script_caller : Option ℕ → Caller
+script_caller next = record { runner = runner_is.Script; next = next }
+
+abbrev pub frame_caller : Locals → ℕ → Option ℕ → Caller
+frame_caller locals procedure next = record { runner = runner_is.Frame locals procedure; next = next }
+
+-- what is left to it once a frame is stopped: of a frame nothing
+abbrev pub left_when_stopped : Runner → Option ℕ → Option ℕ
+left_when_stopped runner_is.Script next = next
+left_when_stopped (runner_is.Frame locals procedure) next = None
+
+-- the same caller without a command left, if it is a frame
 abbrev pub without_rest_in_frame : Caller → Caller
-without_rest_in_frame (caller_of.Script next) = caller_of.Script next
-without_rest_in_frame (caller_of.Frame locals procedure next) = caller_of.Frame locals procedure None
+without_rest_in_frame caller = with_next (left_when_stopped caller.runner caller.next) caller
 
 -- What a command may rest on: few references are held from outside, few objects were made, nothing stands in the places of a
 -- collection where none runs, and there is room for a caller, a release and a death.

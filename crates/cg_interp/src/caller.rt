@@ -5,19 +5,20 @@ ghost use Rattle.cg_interp.specs.Callers.{caller_activity, with_next, without_re
 use crate::activity::Activity;
 use cg_commands::Locals;
 
+/// What has commands.
+#[derive(Clone, Copy, Drop)]
+pub enum Runner {
+    /// The script.
+    Script,
+    /// A frame: its locals, and the procedure that it runs.
+    Frame { locals: Locals, procedure: u32 },
+}
+
 /// What has commands, with the number of its next one, if one is left.
 #[derive(Clone, Copy, Drop)]
-pub enum Caller {
-    /// The script.
-    Script {
-        next: Option<usize>,
-    },
-    /// A frame: its locals, and the procedure that it runs.
-    Frame {
-        locals: Locals,
-        procedure: u32,
-        next: Option<usize>,
-    },
+pub struct Caller {
+    pub runner: Runner,
+    pub next: Option<usize>,
 }
 
 impl Caller {
@@ -26,18 +27,7 @@ impl Caller {
     pub fn with_next(&self, next: Option<usize>) -> Caller
         ensures { result ≡ with_next next self.now }
     {
-        match *self {
-            Caller::Script { .. } => Caller::Script { next },
-            Caller::Frame {
-                locals,
-                procedure,
-                ..
-            } => Caller::Frame {
-                locals,
-                procedure,
-                next,
-            },
-        }
+        Caller { next, ..*self }
     }
 
     /// It goes on from the command with this number.
@@ -45,10 +35,7 @@ impl Caller {
     pub fn go_on_from(&mut self, number: usize)
         ensures { self.new ≡ with_next (Some number) self.old }
     {
-        match self {
-            Caller::Script { next } => *next = Some(number),
-            Caller::Frame { next, .. } => *next = Some(number),
-        }
+        self.next = Some(number);
     }
 
     /// What is under way where it is.
@@ -56,13 +43,10 @@ impl Caller {
     pub fn activity(&self) -> Activity
         ensures { result ≡ caller_activity self.now }
     {
-        match *self {
-            Caller::Script { next } => Activity::Script { next },
-            Caller::Frame {
-                locals,
-                procedure,
-                next,
-            } => Activity::Frame {
+        let next = self.next;
+        match self.runner {
+            Runner::Script => Activity::Script { next },
+            Runner::Frame { locals, procedure } => Activity::Frame {
                 locals,
                 procedure,
                 next,
@@ -74,9 +58,9 @@ impl Caller {
     pub fn stopped_frame(&self) -> Caller
         ensures { result ≡ without_rest_in_frame self.now }
     {
-        match *self {
-            Caller::Script { next } => Caller::Script { next },
-            Caller::Frame { .. } => self.with_next(None),
+        match self.runner {
+            Runner::Script => *self,
+            Runner::Frame { .. } => self.with_next(None),
         }
     }
 }

@@ -9,20 +9,19 @@ ghost use Rattle.cg_script.specs.Spelled.{IsSpelled, IsSpelledCommand};
 ghost use Rattle.cg_commands.specs.Attempts.{only_changes};
 ghost use Rattle.cg_commands.specs.Stands.{LocalsLive};
 ghost use Rattle.cg_policy.specs.Policy.{due_of};
-ghost use Rattle.cg_interp.specs.declared.caller.Caller.TheVariants as caller_of;
 ghost use Rattle.cg_interp.specs.declared.activity.Activity.TheVariants as activity_of;
 ghost use Rattle.cg_interp.specs.Engines.{StandsFor, under, commands_from};
 ghost use Rattle.cg_interp.specs.Collecting.{StandsWith};
 ghost use Rattle.cg_interp.specs.Turns.{IsFit, StaysFit, TurnKeeps, HasRoomForOneMore, HasMoreRoom};
 ghost use Rattle.cg_interp.specs.Telling.{IsAtTurn, TurnsFrom};
-ghost use Rattle.cg_interp.specs.Callers.{caller_activity, caller_locals, with_next, MayCommand, ComesNext, IsAtCommand, RunsTo, StepsFrom};
+ghost use Rattle.cg_interp.specs.Callers.{caller_activity, caller_locals, frame_caller, with_next, MayCommand, ComesNext, IsAtCommand, RunsTo, StepsFrom};
 
 use crate::activity::Activity;
-use crate::caller::Caller;
+use crate::caller::{Caller, Runner};
 use crate::engine::Engine;
 use crate::next::{body_of, next_in, next_of};
 use crate::turned::Turned;
-use cg_commands::{Locals, change, gives, makes_object, only_changes, perform};
+use cg_commands::{Locals, change, makes_object, only_changes, perform};
 use cg_kind::Kind;
 use cg_script::{Command, Script};
 
@@ -38,7 +37,10 @@ impl<B: Kind> Engine<B> {
         'commands: loop {
             match next_in(&script.items, next) {
                 Some((command, after)) => {
-                    let gone_on = Caller::Script { next: Some(after) };
+                    let gone_on = Caller {
+                        runner: Runner::Script,
+                        next: Some(after),
+                    };
                     match self.step(&gone_on, &None, next, command) {
                         Some(answer) => return answer,
                         None => next = Some(after),
@@ -102,9 +104,8 @@ impl<B: Kind> Engine<B> {
             }
             match next_of(body, Some(number)) {
                 Some((command, after)) => {
-                    let gone_on = Caller::Frame {
-                        locals,
-                        procedure,
+                    let gone_on = Caller {
+                        runner: Runner::Frame { locals, procedure },
                         next: Some(after),
                     };
                     match self.step(&gone_on, &Some(locals), Some(number), command) {
@@ -132,7 +133,7 @@ impl<B: Kind> Engine<B> {
         requires stands { (script : AnyScript) × (body.now ≡ body_in script procedure)
             × IsAtTurn script (activity_of.Frame locals procedure (Some number.old)) self.old }
         ensures steps { (script : AnyScript) → body.now ≡ body_in script procedure
-            → StepsFrom script (caller_of.Frame locals procedure (Some number.new)) (Some number.old) self.old self.new result }
+            → StepsFrom script (frame_caller locals procedure (Some number.new)) (Some number.old) self.old self.new result }
         ensures left { length (commands_from (Some number.new) body.now) ≤ length (commands_from (Some number.old) body.now) }
         ensures fit { StaysFit self.old self.new }
     {
@@ -159,16 +160,15 @@ impl<B: Kind> Engine<B> {
         requires stands { (script : AnyScript) × (body.now ≡ body_in script procedure)
             × IsAtTurn script (activity_of.Frame locals procedure (Some number.old)) self.old }
         ensures steps { (script : AnyScript) → body.now ≡ body_in script procedure
-            → StepsFrom script (caller_of.Frame locals procedure (Some number.new)) (Some number.old) self.old self.new result }
+            → StepsFrom script (frame_caller locals procedure (Some number.new)) (Some number.old) self.old self.new result }
         ensures left { length (commands_from (Some number.new) body.now) ≤ length (commands_from (Some number.old) body.now) }
         ensures fit { StaysFit self.old self.new }
     {
         let within = Some(locals);
         let mut at = *number;
         // It is put together once: for each command it would be copied, field by field.
-        let mut caller = Caller::Frame {
-            locals,
-            procedure,
+        let mut caller = Caller {
+            runner: Runner::Frame { locals, procedure },
             next: Some(at),
         };
         'commands: loop {
@@ -305,7 +305,7 @@ impl<B: Kind> Engine<B> {
         ensures fit { StaysFit self.old self.new }
     {
         let changed = change(&mut self.heap, locals, command);
-        self.answer(caller, gives(changed))
+        self.answer_change(caller, changed)
     }
 
     /// The same, where an object is made only if there is room for its death.

@@ -15,7 +15,8 @@ use Rattle.cg_script.specs.Words.{is_identifier, is_identifier_after, after_pref
 use Rattle.cg_script.specs.Forms.{openers}
 use Rattle.cg_script.specs.Meanings.{fits}
 use Rattle.cg_script.specs.Parts.{Known, defined_number, finalizer, legacy, legacy_of, finalizer_of, is_unknown}
-use Rattle.cg_script.specs.Commands.{del_if, legacy_if, first_some}
+use Rattle.std.specs.Option.{option_or}
+use Rattle.cg_script.specs.Commands.{del_if, legacy_if}
 use Rattle.cg_script.specs.Canonical.{Naming, text_of, name_of, class_words}
 use Rattle.cg_script.proofs.Ascii.{both}
 use Rattle.cg_script.proofs.Joined.{and_both}
@@ -102,13 +103,13 @@ module _ (n : Naming) (known : Known) (names : Names n known.procs known.classes
 
   -- the class of one finalizer's part, or two
   abbrev words1 : List ℕ → Part → List (List ℕ)
-  words1 c p = class_words n (record { name = text_number known.texts c; del = first_some (del_if (Some p)) None; legacy = first_some (legacy_if (Some p)) None })
+  words1 c p = class_words n (record { name = text_number known.texts c; del = option_or (del_if (Some p)) None; legacy = option_or (legacy_if (Some p)) None })
 
   abbrev words2 : List ℕ → Part → Part → List (List ℕ)
-  words2 c p q = class_words n (record { name = text_number known.texts c; del = first_some (del_if (Some p)) (del_if (Some q)); legacy = first_some (legacy_if (Some p)) (legacy_if (Some q)) })
+  words2 c p q = class_words n (record { name = text_number known.texts c; del = option_or (del_if (Some p)) (del_if (Some q)); legacy = option_or (legacy_if (Some p)) (legacy_if (Some q)) })
 
   abbrev said2 : List ℕ → Part → Part → Said
-  said2 c p q = Declares (items.Class (record { name = text_number known.texts c; del = first_some (del_if (Some p)) (del_if (Some q)); legacy = first_some (legacy_if (Some p)) (legacy_if (Some q)) }))
+  said2 c p q = Declares (items.Class (record { name = text_number known.texts c; del = option_or (del_if (Some p)) (del_if (Some q)); legacy = option_or (legacy_if (Some p)) (legacy_if (Some q)) }))
 
   one_word : (c f : List ℕ) (p : Part) → IsDel n p f ⊎ IsLegacy n p f → words1 c p ≡ codes "class" ∷ text_of n.texts (text_number known.texts c) ∷ f ∷ []
   one_word c f p (inl d) = ap (words1 c) d.part ∙ ap (λ (v : List ℕ). codes "class" ∷ text_of n.texts (text_number known.texts c) ∷ v ∷ []) d.word

@@ -7,7 +7,7 @@ use Rattle.cg_script.specs.declared.item.ClassDef.{ClassDef}
 use Rattle.cg_script.specs.declared.item.Item.{Item}
 use Rattle.cg_script.specs.declared.item.Item.TheVariants.{Profile, Shutdown, Budget, Class, Def, Run}
 use Rattle.cg_script.specs.Items.{commands_of, procedures, classes, declared_profile, declares_shutdown, StandAt, IsIndexOf}
-use Rattle.cg_script.specs.Commands.{first_some}
+use Rattle.std.specs.Option.{option_or}
 
 -- What is read off lines one by one.
 record IsByLines {A : Type 0} (read : List Item → List A) : Type 0 where
@@ -50,7 +50,7 @@ classes_by_lines = record { append = by }
     by (Run c ∷ xs) ys = by xs ys
 
 -- what lines declare, and those behind them
-profile_append : (xs ys : List Item) → declared_profile (xs ++ ys) ≡ first_some (declared_profile xs) (declared_profile ys)
+profile_append : (xs ys : List Item) → declared_profile (xs ++ ys) ≡ option_or (declared_profile xs) (declared_profile ys)
 profile_append [] ys = refl
 profile_append (Profile n ∷ xs) ys = refl
 profile_append (Shutdown ∷ xs) ys = profile_append xs ys
@@ -117,13 +117,13 @@ module _ (items : List Item) (at : ℕ) (item : Item) (within : at < length item
   -- one line more
   pub index_more : (defs new_defs : List ClassDef) (procs new_procs commands new_commands : List ℕ) (chosen new_chosen : Option ℕ) (declared new_declared : Bool)
       → new_defs ≡ defs ++ classes (item ∷ []) → new_procs ≡ procs ++ map (λ p. at) (procedures (item ∷ [])) → new_commands ≡ commands ++ map (λ c. at) (commands_of (item ∷ []))
-      → new_chosen ≡ first_some chosen (declared_profile (item ∷ [])) → new_declared ≡ (declared || declares_shutdown (item ∷ []))
+      → new_chosen ≡ option_or chosen (declared_profile (item ∷ [])) → new_declared ≡ (declared || declares_shutdown (item ∷ []))
       → IsIndexUpTo items at defs procs commands chosen declared → IsIndexUpTo items (at + 1) new_defs new_procs new_commands new_chosen new_declared
   index_more defs new_defs procs new_procs commands new_commands chosen new_chosen declared new_declared ds ps cs which ends before = record {
     classes = ds ∙ ap (λ l. l ++ classes (item ∷ [])) before.classes ∙ sym (one_more classes classes_by_lines);
     procedures = ap (map (slice_get items)) ps ∙ stand_more Def procedures procs procedures_by_lines (own_procedure items at item found) before.procedures;
     commands = ap (map (slice_get items)) cs ∙ stand_more Run commands_of commands commands_by_lines (own_command items at item found) before.commands;
-    profile = which ∙ ap (λ p. first_some p (declared_profile (item ∷ []))) before.profile ∙ sym (ap declared_profile front_more ∙ profile_append (take at items) (item ∷ []));
+    profile = which ∙ ap (λ p. option_or p (declared_profile (item ∷ []))) before.profile ∙ sym (ap declared_profile front_more ∙ profile_append (take at items) (item ∷ []));
     shutdown = ends ∙ ap (λ b. b || declares_shutdown (item ∷ [])) before.shutdown ∙ sym (ap declares_shutdown front_more ∙ shutdown_append (take at items) (item ∷ []));
   }
 

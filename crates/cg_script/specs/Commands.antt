@@ -1,5 +1,6 @@
 -- What a line says in a script: how the parts of each form become a command or a declaration. (Ours.)
 use Rattle.std.specs.Prelude.{ℕ, List, map, drop, Option, None, Some, slice_get, bit_or, ℤ, pos}
+use Rattle.std.specs.Option.{option_or}
 use Rattle.cg_script.specs.declared.command.Operand.{Operand}
 use Rattle.cg_script.specs.declared.command.Operand.TheVariants as operands
 use Rattle.cg_script.specs.declared.command.Command.TheVariants as commands
@@ -44,10 +45,6 @@ del_if other = None
 abbrev pub legacy_if : Option Part → Option ℕ
 legacy_if (Some (parts.Legacy n)) = Some n
 legacy_if other = None
-
-abbrev pub first_some : Option ℕ → Option ℕ → Option ℕ
-first_some None other = other
-first_some (Some n) other = Some n
 
 -- the part at a place, counted from 0
 abbrev pub part_at : List Part → ℕ → Option Part
@@ -117,8 +114,8 @@ said forms.Shutdown p = Declares items.Shutdown
 said forms.Budget p = Declares (items.Budget (count_at p 1))
 said forms.Class p = Declares (items.Class (record {
   name = text_at p 1;
-  del = first_some (del_if (part_at p 2)) (del_if (part_at p 3));
-  legacy = first_some (legacy_if (part_at p 2)) (legacy_if (part_at p 3));
+  del = option_or (del_if (part_at p 2)) (del_if (part_at p 3));
+  legacy = option_or (legacy_if (part_at p 2)) (legacy_if (part_at p 3));
 }))
 said forms.Def p = Begins (text_at p 1)
 said forms.End p = Ends

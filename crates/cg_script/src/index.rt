@@ -1,7 +1,7 @@
 //! Where the procedures and the commands outside procedures stand among the lines of a script, so that each is found by its
 //! number, and what the lines declare of the whole script.
 ghost use Rattle.std.specs.Prelude.{◌≡◌, ◌||◌, ◌++◌, ◌∷◌, [], map, IfOk, OnOk};
-ghost use Rattle.cg_script.specs.Commands.{first_some};
+ghost use Rattle.std.specs.Option.{option_or};
 ghost use Rattle.cg_script.specs.Items.{classes, procedures, commands_of, declared_profile, declares_shutdown, IsIndexOf};
 
 use crate::item::{ClassDef, Item};
@@ -43,7 +43,7 @@ impl Index {
             ≡ self.old.procedures.items ++ map (λ p. at) (procedures (item.now ∷ []))) }
         ensures commands { OnOk result (self.new.commands.items
             ≡ self.old.commands.items ++ map (λ c. at) (commands_of (item.now ∷ []))) }
-        ensures profile { OnOk result (self.new.profile ≡ first_some self.old.profile (declared_profile (item.now ∷ []))) }
+        ensures profile { OnOk result (self.new.profile ≡ option_or self.old.profile (declared_profile (item.now ∷ []))) }
         ensures shutdown { OnOk result (self.new.shutdown ≡ (self.old.shutdown || declares_shutdown (item.now ∷ []))) }
     {
         match item {

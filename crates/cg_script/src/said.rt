@@ -1,7 +1,8 @@
 //! How the parts of each form become a command or a declaration.
 ghost use Rattle.std.specs.Prelude.{◌≡◌, ◌≤◌, IfOk, Ok, Some};
+ghost use Rattle.std.specs.Option.{option_or};
 ghost use Rattle.cg_script.specs.declared.part.Said.TheVariants.{Does as DoesIt};
-ghost use Rattle.cg_script.specs.Commands.{text_at as text_in, value_at as value_in, number_or, count_at as count_in, count_if, del_if, legacy_if, first_some, part_at, value_or, values_from as values_in, flags_in, said};
+ghost use Rattle.cg_script.specs.Commands.{text_at as text_in, value_at as value_in, number_or, count_at as count_in, count_if, del_if, legacy_if, part_at, value_or, values_from as values_in, flags_in, said};
 
 use crate::command::{Command, Operand};
 use crate::form::Form;
@@ -90,15 +91,6 @@ fn legacy_at(parts: &[Part], place: usize) -> Option<u32>
     match parts.get(place) {
         Some(Part::Legacy(proc)) => Some(*proc),
         _ => None,
-    }
-}
-
-fn either(first: Option<u32>, second: Option<u32>) -> Option<u32>
-    ensures { result ≡ first_some first second }
-{
-    match first {
-        Some(_) => first,
-        None => second,
     }
 }
 
@@ -274,12 +266,12 @@ pub(crate) fn said_of(alloc: Global, form: Form, parts: &[Part]) -> Result<Said,
 /// A class with its finalizers.
 fn class_of(parts: &[Part]) -> ClassDef
     ensures name { result.name ≡ text_in parts.now 1 }
-    ensures del { result.del ≡ first_some (del_if (part_at parts.now 2)) (del_if (part_at parts.now 3)) }
-    ensures legacy { result.legacy ≡ first_some (legacy_if (part_at parts.now 2)) (legacy_if (part_at parts.now 3)) }
+    ensures del { result.del ≡ option_or (del_if (part_at parts.now 2)) (del_if (part_at parts.now 3)) }
+    ensures legacy { result.legacy ≡ option_or (legacy_if (part_at parts.now 2)) (legacy_if (part_at parts.now 3)) }
 {
     ClassDef {
         name: text_at(parts, 1),
-        del: either(del_at(parts, 2), del_at(parts, 3)),
-        legacy: either(legacy_at(parts, 2), legacy_at(parts, 3)),
+        del: del_at(parts, 2).or(del_at(parts, 3)),
+        legacy: legacy_at(parts, 2).or(legacy_at(parts, 3)),
     }
 }

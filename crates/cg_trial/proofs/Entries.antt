@@ -1,6 +1,6 @@
 -- The walk over one object's entries: what the first of them refer to, and what the next one does.
 use Rattle.std.proofs.Common.{◌≡◌, true, false, cond, ◌⊎◌, inr, true≢false, replicate, refl, sym, ◌∙◌, ap, subst, ℕ, ◌+◌, ◌-◌, ◌<◌, ◌≤◌, List, [], ◌∷◌, ◌++◌, length, take, drop, get_or, inl, Option, Some, None, Bool, IsTrue, arith, append_assoc}
-use Rattle.std.proofs.lemmas.List.{append-nil, take-append-drop, drop_more, take_more, replicate-append-replicate}
+use Rattle.std.proofs.lemmas.List.{append-nil, take-append-drop, drop_more, take_more, replicate_more}
 use Rattle.cg_kind.specs.Calls.{next_entries}
 use Rattle.cg_kind.specs.declared.notes.TheConstants.{AT_ONCE}
 use Rattle.cg_kind.proofs.References.{next_within, next_last, references_next, references_parts}
@@ -69,7 +69,7 @@ run_more xs from end o so behind within same =
     ∙ ap (λ (l : List ℕ). l ++ get_or xs end 0 ∷ []) so
     ∙ ap (λ p. (take from xs ++ replicate (end - from) o) ++ p ∷ []) same
     ∙ append_assoc (take from xs) (replicate (end - from) o) (o ∷ [])
-    ∙ ap (λ (l : List ℕ). take from xs ++ l) (replicate-append-replicate (end - from) 1 o)
+    ∙ ap (λ (l : List ℕ). take from xs ++ l) (replicate_more (end - from) o)
     ∙ ap (λ n. take from xs ++ replicate n o) more
 
 pub run_room : (old mid : View) (xs : List ℕ) (from end o : ℕ) → take end xs ≡ take from xs ++ replicate (end - from) o → Lowered (take from xs) old mid → ((p : ℕ) → Includes (old.listed Cand) p → occurrences p xs ≤ old.number p)

@@ -4,6 +4,7 @@ use Rattle.std.proofs.lemmas.Bool.{eqb-true, eq-eqb, ne_eqb}
 use Rattle.std.proofs.lemmas.Bool.Decides.{nat_tests}
 use Rattle.std.proofs.lemmas.List.Sums.{sum_by-cons, length-filter, count_by-le-length}
 use Rattle.std.proofs.lemmas.List.Elements.{filter-append}
+use Rattle.std.proofs.lemmas.List.Folds.{sum_by-replicate}
 use Rattle.std.specs.Prelude.{◌==◌, sum_by, nat_eq}
 use Rattle.cg_graph.proofs.Members.{either, cases_of}
 use Rattle.cg_graph.proofs.Objects.{occurrences-append}
@@ -30,16 +31,10 @@ occurs_in (x ∷ xs) o h = go (cases_of (x == o)) (λ k. occurs_in xs o k)
 
 -- one object, so many times
 pub occurs_often : (n o : ℕ) → occurrences o (replicate n o) ≡ n
-occurs_often zero o = refl
-occurs_often (suc n) o =
-    let one : occurrences o (o ∷ replicate n o) ≡ 1 + occurrences o (replicate n o) = occurrences-cons o o (replicate n o) ∙ ap (λ b. cond b 1 0 + occurrences o (replicate n o)) (eq-eqb o o refl) in
-    omega (arith, one, occurs_often n o)
+occurs_often n o = sum_by-replicate (λ y. cond (y == o) 1 0) n o ∙ ap (λ b. n * cond b 1 0) (eq-eqb o o refl) ∙ omega arith
 
 pub occurs_never : (n p o : ℕ) → (o ≡ p → ⊥) → occurrences p (replicate n o) ≡ 0
-occurs_never zero p o other = refl
-occurs_never (suc n) p o other =
-    let none : occurrences p (o ∷ replicate n o) ≡ 0 + occurrences p (replicate n o) = occurrences-cons p o (replicate n o) ∙ ap (λ b. cond b 1 0 + occurrences p (replicate n o)) (ne_eqb o p other) in
-    omega (arith, none, occurs_never n p o other)
+occurs_never n p o other = sum_by-replicate (λ y. cond (y == p) 1 0) n o ∙ ap (λ b. n * cond b 1 0) (ne_eqb o p other) ∙ omega arith
 
 pub always_that : (n o q : ℕ) → Includes (replicate n o) q → o ≡ q
 always_that zero o q h = absurd h

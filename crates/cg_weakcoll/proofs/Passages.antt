@@ -19,7 +19,8 @@ use Rattle.cg_script.specs.Words.{after_prefix}
 use Rattle.cg_script.specs.Forms.{row}
 use Rattle.cg_script.specs.Meanings.{is_passed}
 use Rattle.cg_script.specs.Parts.{Known, parts_of, parts_from, texts_from, numbered, defined_number, finalizer, legacy, legacy_of, finalizer_of, is_unknown, has_unknown}
-use Rattle.cg_script.specs.Commands.{count_or, del_if, legacy_if, first_some, said}
+use Rattle.std.specs.Option.{option_or}
+use Rattle.cg_script.specs.Commands.{count_or, del_if, legacy_if, said}
 use Rattle.cg_script.specs.Reading.{is_repeated, procs_after, known_after, good, lines_from}
 use Rattle.cg_script.specs.Canonical.{text_of}
 use Rattle.cg_script.proofs.Grouped.{inside_said}
@@ -129,7 +130,7 @@ module _ (all names : List (List ℕ)) (Free : List ℕ → Type 0) where
       go None h = behind (after_prefix (codes "legacy=") word) refl h
       go (Some name) h = none_found (defined_number procs name) h
 
-  one_some : (a b : Option ℕ) (k : ℕ) → first_some a b ≡ Some k → (a ≡ Some k) ⊎ (b ≡ Some k)
+  one_some : (a b : Option ℕ) (k : ℕ) → option_or a b ≡ Some k → (a ≡ Some k) ⊎ (b ≡ Some k)
   one_some None b k e = inr e
   one_some (Some j) b k e = inl e
 

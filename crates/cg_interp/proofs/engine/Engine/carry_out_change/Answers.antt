@@ -14,8 +14,8 @@ pub change-changed-requires-clause-locals : goal.change-changed-requires-clause-
 change-changed-requires-clause-locals g c =
     subst (λ (e : State). LocalsLive e.store c.args.locals.now) (sym c.self.view_is) c.requires.locals
 
-pub answer-requires-clause-performed : goal.answer-requires-clause-performed
-answer-requires-clause-performed g c =
+pub answer_change-requires-clause-performed : goal.answer_change-requires-clause-performed
+answer_change-requires-clause-performed g c =
     let (script, spelled, fit, w, at) = c.requires.stands in
     let before = subst (λ e. StandsFor script (under (caller_activity c.args.caller.now) e) w) (sym c.self.view_is) at.stands in
     let locals = subst (λ l. HasLocals l w) (sym c.requires.own) at.locals in (
@@ -31,8 +31,7 @@ answer-requires-clause-performed g c =
         few = subst (λ (e : State). HasFewHolds e.store) (sym c.self.view_is) c.requires.may.few;
         performed = record {
           stood = before;
-          answers = subst (λ d. CommandAnswers d (effect w c.args.command.now) c.self.inside.heap c.self.inside.policy c.change-changed.new.heap c.self.inside.policy) (sym c.gives.ensures)
-              (c.change-changed.ensures.performs c.self.inside.policy w (record { represents = before.represents; locals_are = locals }) (policy_is script _ w before));
+          answers = c.change-changed.ensures.performs c.self.inside.policy w (record { represents = before.represents; locals_are = locals }) (policy_is script _ w before);
           kept = subst (λ (e : State). StaysKeptAfter script e.first_budget w c.args.command.now) (sym c.self.view_is) at.kept;
         };
       },
@@ -42,10 +41,9 @@ pub returns-clause-does : goal.returns-clause-does
 returns-clause-does g c = λ script w at.
     let before = subst (λ e. StandsFor script (under (caller_activity c.args.caller.now) e) w) (sym c.self.view_is) at.stands in
     let locals = subst (λ l. HasLocals l w) (sym c.requires.own) at.locals in
-    c.answer.ensures.does script w c.args.command.now c.self.inside.heap c.self.inside.policy (record {
+    c.answer_change.ensures.does script w c.args.command.now c.self.inside.heap c.self.inside.policy (record {
       stood = before;
-      answers = subst (λ d. CommandAnswers d (effect w c.args.command.now) c.self.inside.heap c.self.inside.policy c.change-changed.new.heap c.self.inside.policy) (sym c.gives.ensures)
-          (c.change-changed.ensures.performs c.self.inside.policy w (record { represents = before.represents; locals_are = locals }) (policy_is script _ w before));
+      answers = c.change-changed.ensures.performs c.self.inside.policy w (record { represents = before.represents; locals_are = locals }) (policy_is script _ w before);
       kept = subst (λ (e : State). StaysKeptAfter script e.first_budget w c.args.command.now) (sym c.self.view_is) at.kept;
     })
 
@@ -54,7 +52,7 @@ returns-clause-fit g c =
     let (script, spelled, fit, w, at) = c.requires.stands in
     let before = subst (λ e. StandsFor script (under (caller_activity c.args.caller.now) e) w) (sym c.self.view_is) at.stands in
     let locals = subst (λ l. HasLocals l w) (sym c.requires.own) at.locals in
-    fit_then c.args.self.now _ c.answer.new.self
+    fit_then c.args.self.now _ c.answer_change.new.self
     (fit_after false c.args.self.now _ c.self.view_is c.change-changed.new.heap c.self.inside.policy
     (c.change-changed.ensures.grows w (record { represents = before.represents; locals_are = locals })) (λ no. absurd (cc)))
-    (still_fit _ c.answer.new.self c.answer.ensures.keeps)
+    (still_fit _ c.answer_change.new.self c.answer_change.ensures.keeps)

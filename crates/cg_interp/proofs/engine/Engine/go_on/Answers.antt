@@ -1,9 +1,9 @@
 use Rattle.std.proofs.Common.{refl, Some}
 use Rattle.cg_interp.specs.declared.activity.Activity.TheVariants as activity_of
-use Rattle.cg_interp.specs.declared.caller.Caller.TheVariants as caller_of
 use Rattle.cg_interp.proofs.Keeping.{fit_here, fit_then}
 use Rattle.cg_interp.proofs.Quietly.{comes_here, at_turn_then, comes_from_then, turns_from_then}
 use Rattle.cg_interp.proofs.StepLemmas.{caller_detects_none}
+use Rattle.cg_interp.specs.Callers.{script_caller}
 use Rattle.cg_interp.proofs.engine.Engine.go_on.Goals as goal
 
 pub commands-init : goal.commands-init
@@ -22,7 +22,7 @@ step-requires g c = record {
 pub returns-in-Some-step-clause-turns : goal.returns-in-Some-step-clause-turns
 returns-in-Some-step-clause-turns g c =
     turns_from_then c.args.script.now (activity_of.Script c.args.next) (activity_of.Script c.commands.next) c.args.self.now c.commands.self c.commands.invariant.comes c.commands.invariant.fit
-    (λ w. caller_detects_none c.args.script.now c.commands.self w (caller_of.Script c.commands.next)) _ _ (c.in-Some-step.ensures.steps c.args.script.now c.in-Some.ensures.some)
+    (λ w. caller_detects_none c.args.script.now c.commands.self w (script_caller c.commands.next)) _ _ (c.in-Some-step.ensures.steps c.args.script.now c.in-Some.ensures.some)
 
 pub returns-in-Some-step-clause-fit : goal.returns-in-Some-step-clause-fit
 returns-in-Some-step-clause-fit g c = fit_then c.args.self.now c.commands.self c.step.new.self c.commands.invariant.fit c.step.ensures.fit
@@ -41,7 +41,7 @@ end-requires-clause-stands g c =
 pub returns-in-None-clause-turns : goal.returns-in-None-clause-turns
 returns-in-None-clause-turns g c =
     turns_from_then c.args.script.now (activity_of.Script c.args.next) (activity_of.Script c.commands.next) c.args.self.now c.commands.self c.commands.invariant.comes c.commands.invariant.fit
-    (λ w. caller_detects_none c.args.script.now c.commands.self w (caller_of.Script c.commands.next)) c.end.new.self c.end.result c.end.ensures.turns
+    (λ w. caller_detects_none c.args.script.now c.commands.self w (script_caller c.commands.next)) c.end.new.self c.end.result c.end.ensures.turns
 
 pub returns-in-None-clause-fit : goal.returns-in-None-clause-fit
 returns-in-None-clause-fit g c = fit_then c.args.self.now c.commands.self c.end.new.self c.commands.invariant.fit c.end.ensures.fit

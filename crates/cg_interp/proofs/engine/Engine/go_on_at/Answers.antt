@@ -1,12 +1,12 @@
 use Rattle.std.proofs.Common.{sym, ◌∙◌, ap, Some, [], arith}
 use Rattle.cg_interp.specs.declared.activity.Activity.TheVariants as activity_of
-use Rattle.cg_interp.specs.declared.caller.Caller.TheVariants as caller_of
 use Rattle.cg_interp.specs.Engines.{commands_from}
 use Rattle.cg_interp.proofs.Lawfully.{has_room}
 use Rattle.cg_interp.proofs.Telling.{turns_plainly}
 use Rattle.cg_interp.proofs.Keeping.{fit_then}
 use Rattle.cg_interp.proofs.Quietly.{at_turn_then, comes_from_then, turns_from_then}
 use Rattle.cg_interp.proofs.StepLemmas.{caller_detects_none, comes_next}
+use Rattle.cg_interp.specs.Callers.{frame_caller}
 use Rattle.cg_interp.proofs.engine.Engine.go_on_at.Goals as goal
 
 pub change_on-requires : goal.change_on-requires
@@ -21,7 +21,7 @@ change_on-requires g c = record {
 pub returns-in-Some-clause-turns : goal.returns-in-Some-clause-turns
 returns-in-Some-clause-turns g c =
     turns_from_then c.args.script.now (activity_of.Frame c.args.locals c.args.procedure (Some c.args.number)) (activity_of.Frame c.args.locals c.args.procedure (Some c.commands.number)) c.args.self.now c.commands.self c.commands.invariant.comes c.commands.invariant.fit
-    (λ w. caller_detects_none c.args.script.now c.commands.self w (caller_of.Frame c.args.locals c.args.procedure (Some c.commands.number))) _ _ (c.in-Some.ensures.steps c.args.script.now c.body_of-body.ensures)
+    (λ w. caller_detects_none c.args.script.now c.commands.self w (frame_caller c.args.locals c.args.procedure (Some c.commands.number))) _ _ (c.in-Some.ensures.steps c.args.script.now c.body_of-body.ensures)
 
 pub step-requires-clause-stands : goal.step-requires-clause-stands
 step-requires-clause-stands g c =
@@ -38,9 +38,9 @@ returns-in-Some-step-clause-turns g c =
     let before = activity_of.Frame c.args.locals c.args.procedure (Some c.commands.number) in
     let changed = activity_of.Frame c.args.locals c.args.procedure (Some c.change_on.new.number) in
     turns_from_then c.args.script.now (activity_of.Frame c.args.locals c.args.procedure (Some c.args.number)) before c.args.self.now c.commands.self c.commands.invariant.comes c.commands.invariant.fit
-    (λ w. caller_detects_none c.args.script.now c.commands.self w (caller_of.Frame c.args.locals c.args.procedure (Some c.commands.number))) _ _
+    (λ w. caller_detects_none c.args.script.now c.commands.self w (frame_caller c.args.locals c.args.procedure (Some c.commands.number))) _ _
     (turns_from_then c.args.script.now before changed c.commands.self c.change_on.new.self (c.in-None.ensures.steps c.args.script.now c.body_of-body.ensures) c.change_on.ensures.fit
-    (λ w. caller_detects_none c.args.script.now c.change_on.new.self w (caller_of.Frame c.args.locals c.args.procedure (Some c.change_on.new.number))) _ _
+    (λ w. caller_detects_none c.args.script.now c.change_on.new.self w (frame_caller c.args.locals c.args.procedure (Some c.change_on.new.number))) _ _
     (c.in-Some-step.ensures.steps c.args.script.now
     (comes_next c.args.script.now c.args.locals c.args.procedure (Some c.change_on.new.number) c.in-Some-next_of.command.now c.in-Some-next_of.after c.body_of-body.result.now c.body_of-body.ensures c.in-Some-next_of.ensures.some)))
 
@@ -72,9 +72,9 @@ returns-in-None-next_of-clause-turns g c =
     let before = activity_of.Frame c.args.locals c.args.procedure (Some c.commands.number) in
     let changed = activity_of.Frame c.args.locals c.args.procedure (Some c.change_on.new.number) in
     turns_from_then c.args.script.now (activity_of.Frame c.args.locals c.args.procedure (Some c.args.number)) before c.args.self.now c.commands.self c.commands.invariant.comes c.commands.invariant.fit
-    (λ w. caller_detects_none c.args.script.now c.commands.self w (caller_of.Frame c.args.locals c.args.procedure (Some c.commands.number))) _ _
+    (λ w. caller_detects_none c.args.script.now c.commands.self w (frame_caller c.args.locals c.args.procedure (Some c.commands.number))) _ _
     (turns_from_then c.args.script.now before changed c.commands.self c.change_on.new.self (c.in-None.ensures.steps c.args.script.now c.body_of-body.ensures) c.change_on.ensures.fit
-    (λ w. caller_detects_none c.args.script.now c.change_on.new.self w (caller_of.Frame c.args.locals c.args.procedure (Some c.change_on.new.number))) c.leave.new.self c.leave.result
+    (λ w. caller_detects_none c.args.script.now c.change_on.new.self w (frame_caller c.args.locals c.args.procedure (Some c.change_on.new.number))) c.leave.new.self c.leave.result
     (λ w stands kept.
     turns_plainly c.args.script.now w c.leave.new.self c.leave.result
     (c.leave.ensures.leaves c.args.script.now c.args.procedure (Some c.change_on.new.number) w (ap (commands_from (Some c.change_on.new.number)) (sym c.body_of-body.ensures) ∙ c.in-None-next_of.ensures.none) stands)))

@@ -1,8 +1,7 @@
 use Rattle.std.proofs.Common.{◌∙◌, sym, ap, subst, ◌+◌, Some, None, length, arith}
 use Rattle.cg_policy.specs.Policy.{due_of}
 use Rattle.cg_interp.specs.declared.activity.Activity.TheVariants as activity_of
-use Rattle.cg_interp.specs.declared.caller.Caller.TheVariants as caller_of
-use Rattle.cg_interp.specs.Callers.{caller_activity, caller_locals, with_next, StepsFrom}
+use Rattle.cg_interp.specs.Callers.{caller_activity, caller_locals, with_next, StepsFrom, frame_caller}
 use Rattle.cg_interp.specs.Telling.{IsAtTurn}
 use Rattle.cg_interp.proofs.Keeping.{fit_then}
 use Rattle.cg_interp.proofs.NextCommands.{next_there}
@@ -30,7 +29,7 @@ pub returns-in-Some-step_change-clause-steps : goal.returns-in-Some-step_change-
 returns-in-Some-step_change-clause-steps g c = λ script is.
     let frame = c.go_on_from.ensures ∙ ap (with_next (Some (c.commands.at + 1))) c.commands.invariant.caller in
     turns_from_then script (activity_of.Frame c.args.locals c.args.procedure (Some c.args.number.now)) (activity_of.Frame c.args.locals c.args.procedure (Some c.commands.at)) c.args.self.now c.commands.self (c.commands.invariant.comes script is) c.commands.invariant.fit
-    (λ w. caller_detects_none script c.commands.self w (caller_of.Frame c.args.locals c.args.procedure (Some c.commands.at))) _ _
+    (λ w. caller_detects_none script c.commands.self w (frame_caller c.args.locals c.args.procedure (Some c.commands.at))) _ _
     (subst (λ k. StepsFrom script k (Some c.commands.at) c.commands.self c.step_change.new.self (Some c.in-Some-step_change.answer)) frame
     (c.in-Some-step_change.ensures.steps script (Some c.commands.at)
     (comes_next_at script c.args.locals c.args.procedure c.commands.at c.in-Some.command.now c.args.body.now _ frame is c.in-Some.ensures.lookup.3.0 c.in-Some.ensures.lookup.1)))

@@ -1,12 +1,12 @@
 use Rattle.std.proofs.Common.{◌≡◌, ◌≤◌, length, Some, None}
 use Rattle.cg_policy.specs.Policy.{due_of}
 use Rattle.cg_interp.specs.declared.activity.Activity.TheVariants as activity_of
-use Rattle.cg_interp.specs.declared.caller.Caller.TheVariants as caller_of
 use Rattle.cg_script.specs.declared.Script.{Script}
 use Rattle.cg_machine.specs.Program.{body_of}
 use Rattle.cg_interp.specs.Engines.{commands_from}
 use Rattle.cg_interp.specs.Turns.{StaysFit}
 use Rattle.cg_interp.specs.Quietly.{ComesFrom}
+use Rattle.cg_interp.specs.Callers.{frame_caller}
 use Rattle.cg_interp.proofs.engine.Engine.make_changes.Given as goal
 
 -- the commands so far were done quietly, the next one has the turn, and no collection is due before it
@@ -15,7 +15,7 @@ invariant-commands g l = record {
   comes : (script : Script) → l.body ≡ body_of script l.procedure → ComesFrom script (activity_of.Frame l.fn.locals l.procedure (Some l.initial.at)) l.fn.self (activity_of.Frame l.fn.locals l.procedure (Some l.at)) l.self;
   fit : StaysFit l.fn.self l.self;
   none : due_of l.self.policy ≡ None;
-  caller : l.caller ≡ caller_of.Frame l.fn.locals l.fn.procedure (Some l.at);
+  caller : l.caller ≡ frame_caller l.fn.locals l.fn.procedure (Some l.at);
   left : length (commands_from (Some l.at) l.body) ≤ length (commands_from (Some l.initial.at) l.body);
 }
 
