@@ -34,7 +34,9 @@ use Rattle.cg_interp.specs.declared.turned.Turned.{Turned}
 use Rattle.cg_death.specs.declared.release.Release.{Release}
 use Rattle.cg_death.specs.Activities.{references_left}
 use Rattle.cg_interp.specs.Callers.{Changes, releasing, call_of, GivesUp, RunsTo, IsPerformed}
+use Rattle.cg_interp.specs.Turns.{StaysSound}
 use Rattle.cg_interp.proofs.CallerLemmas.{same_engine}
+use Rattle.cg_interp.proofs.Lawfully.{stays_sound}
 use Rattle.cg_interp.proofs.UnderWay.{under_way}
 use Rattle.cg_commands.specs.Reasons.{Explained}
 use Rattle.cg_commands.proofs.Explaining.{explanation}
@@ -169,7 +171,7 @@ module _ (script : Script) (e : State) (top : Own) (w : World) (command : Comman
       }
 
   -- the same without a line, which is a change with no line due
-  pub gives : (given_up : Entry) → IsPerformed script top e w command before was (Ok (done_of.Gives given_up)) → IsPerformed script top e w command before was (Ok (done_of.Changed None given_up))
+  gives : (given_up : Entry) → IsPerformed script top e w command before was (Ok (done_of.Gives given_up)) → IsPerformed script top e w command before was (Ok (done_of.Changed None given_up))
   gives given_up p = record {
     stood = p.stood;
     answers = record { heap = p.answers.heap; policy = p.answers.policy ∙ same (effect w command) };
@@ -183,6 +185,21 @@ module _ (script : Script) (e : State) (top : Own) (w : World) (command : Comman
       same (Ok (ExplainsEffect o)) = refl
       same (Ok QuitsEffect) = refl
       same (Err number) = refl
+
+  -- what such a change leaves: the world, in which its references are to be given up
+  module _ (given_up : Entry) (p : IsPerformed script top e w command before was (Ok (done_of.Gives given_up))) where
+    abbrev pub left : World
+    left = p.answers.heap.after
+
+    pub left_may : CommandStep script w command [] (releasing given_up left)
+    left_may = change_may script w (effect w command) p.answers.heap.wants_memory _ _ p.answers.heap.after p.answers.heap.is
+
+    pub gives_left : Changes script top e given_up left
+    unfolding gives
+    gives_left = changed None given_up (gives given_up p)
+
+    pub left_sound : StaysSound script (releasing given_up left)
+    left_sound = stays_sound script e.first_budget (releasing given_up left) (p.kept [] (releasing given_up left) left_may)
 
   -- where heap and policy are as before the engine stands for the same world
   pub as_before : StandsFor script (under top (record e { store = before; policy = was })) w → e.store ≡ before → e.policy ≡ was → StandsFor script (under top e) w

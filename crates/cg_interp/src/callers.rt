@@ -304,8 +304,11 @@ impl<B: Kind> Engine<B> {
         ensures policy { IfNone result (self.new.policy ≡ self.old.policy) }
         ensures fit { StaysFit self.old self.new }
     {
-        let changed = change(&mut self.heap, locals, command);
-        self.answer_change(caller, changed)
+        // What it answers is told apart where it comes: handed on, or made a `Done`, it would be copied for each command.
+        match change(&mut self.heap, locals, command) {
+            Ok(given_up) => self.change(caller, None, given_up),
+            Err(refusal) => Some(self.refuse(caller, refusal.number())),
+        }
     }
 
     /// The same, where an object is made only if there is room for its death.

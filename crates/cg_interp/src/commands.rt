@@ -16,7 +16,6 @@ ghost use Rattle.cg_machine.specs.Commands.{refused, stopped_frame, without_comm
 ghost use Rattle.cg_laws.specs.Kept.{StaysKept};
 ghost use Rattle.cg_machine.specs.Effects.{Collects};
 ghost use Rattle.cg_policy.specs.Policy.{Policy as AnyPolicy};
-ghost use Rattle.cg_commands.specs.Answers.{gives};
 ghost use Rattle.cg_interp.specs.declared.activity.Activity.TheVariants as activity_of;
 ghost use Rattle.cg_interp.specs.Engines.{StandsFor, under};
 ghost use Rattle.cg_interp.specs.Quietly.{ComesTo};
@@ -56,30 +55,7 @@ impl<B: Kind> Engine<B> {
         }
     }
 
-    /// `answer` for a command that changes names or entries and tells no line, of which there is less to take apart: most commands
-    /// are of these.
-    #[inline(always)]
-    pub fn answer_change(
-        &mut self,
-        caller: &Caller,
-        changed: Result<Entry, Refusal>,
-    ) -> Option<Turned>
-        requires room { 2 < self.old.room }
-        requires performed { (script : AnyScript) × IsSpelled script × IsFit script self.old
-            × HasPerformed script (caller_activity caller.now) self.old (gives changed) }
-        ensures does { (script : AnyScript) (w : World) (command : AnyCommand) (before : Store) (was : AnyPolicy)
-            → IsPerformed script (caller_activity caller.now) self.old w command before was (gives changed)
-            → RunsTo script w command (caller_activity caller.now) self.new result }
-        ensures policy { IfNone result (self.new.policy ≡ self.old.policy) }
-        ensures keeps { TurnKeeps self.old self.new }
-    {
-        match changed {
-            Ok(given_up) => self.change(caller, None, given_up),
-            Err(refusal) => Some(self.refuse(caller, refusal.number())),
-        }
-    }
-
-    /// What `answer` does once the command has been done.
+    /// The same once it has been done.
     #[inline(always)]
     fn proceed(&mut self, caller: &Caller, done: Done) -> Option<Turned>
         requires room { 2 < self.old.room }
@@ -103,7 +79,7 @@ impl<B: Kind> Engine<B> {
 
     /// A command was refused, which also ends the frame that it stood in.
     #[inline(always)]
-    fn refuse(&mut self, caller: &Caller, number: u8) -> Turned
+    pub fn refuse(&mut self, caller: &Caller, number: u8) -> Turned
         requires room { 0 < self.old.room }
         ensures refuses { (script : AnyScript) (w : World) → StandsFor script (under (caller_activity caller.now) self.old) w
             → Makes script (refused number w) self.new result }
@@ -127,7 +103,12 @@ impl<B: Kind> Engine<B> {
     /// A command changed what it had to, and references are given up. The death of an object that nothing holds any more
     /// begins.
     #[inline(always)]
-    fn change(&mut self, caller: &Caller, line: Option<Event>, given_up: Entry) -> Option<Turned>
+    pub fn change(
+        &mut self,
+        caller: &Caller,
+        line: Option<Event>,
+        given_up: Entry,
+    ) -> Option<Turned>
         requires room { 2 < self.old.room }
         requires stands { (script : AnyScript) × (after : World) × Changes script (caller_activity caller.now) self.old given_up after
             × StaysSound script (releasing given_up after) }
