@@ -266,6 +266,24 @@ impl Arena {
         }
     }
 
+    /// `inc`, and where the node is, unless it does not lie where its guess says.
+    #[inline(always)]
+    pub fn inc_located(&mut self, serial: u64, near: &mut Near)
+        requires has { HasNode self.old serial }
+        requires room { count_at self.old serial < 2 ^ 32 - 1 }
+        ensures { self.new ≡ counted_up (serial ∷ []) self.old }
+    {
+        let guess = self.index.guess(serial);
+        *near = Near::at(Some(guess));
+        match node_if(&self.slots, guess, serial) {
+            Some(slot) => {
+                let count = slot.count + 1;
+                set_count(&mut self.slots, guess, count);
+            }
+            None => inc_by_row(&self.index, &mut self.slots, serial),
+        }
+    }
+
     /// The count, which is above 0, falls by 1. It answers whether the count is now 0. (Developer guide: an object
     /// whose count reaches 0 is deallocated.)
     #[inline(always)]
@@ -353,6 +371,17 @@ impl Arena {
         ensures { IfSome (map.get self.now.nodes serial) (λ n. result ≡ n.code) }
     {
         let (at, slot) = self.index.slot_of(&self.slots, serial);
+        *near = Near::at(Some(at));
+        slot.code
+    }
+
+    /// `locate`, where the node is near.
+    #[inline(always)]
+    pub fn locate_near(&self, serial: u64, near: &mut Near) -> KindCode
+        requires { HasNode self.now serial }
+        ensures { IfSome (map.get self.now.nodes serial) (λ n. result ≡ n.code) }
+    {
+        let (at, slot) = self.index.slot_near(&self.slots, serial, *near);
         *near = Near::at(Some(at));
         slot.code
     }

@@ -13,7 +13,7 @@ use crate::bindings::given_up;
 use crate::done::{Refusal, refusal_by};
 use crate::locals::Locals;
 use crate::lookups::{index_in, is_hashable};
-use crate::operands::{Wanted, object_near, value};
+use crate::operands::{value_near, Wanted, object_near, value};
 use cg_arena::Near;
 use cg_heap::Heap;
 use cg_kind::Kind;
@@ -33,9 +33,9 @@ pub(crate) fn append<B: Kind>(
     requires locals { LocalsLive heap.old locals.now }
     ensures { PerformsOnHeap heap.old locals.now (λ w. effect w (command.Append list.now operand.now)) heap.new (gives result) }
 {
-    let list = value(heap, locals, list)?;
-    let val = value(heap, locals, operand)?;
     let mut near = Near::default();
+    let list = value_near(heap, locals, list, &mut near)?;
+    let val = value(heap, locals, operand)?;
     let target = object_near(heap, list, Wanted::ScriptList, &mut near)?;
     heap.sound();
     match heap.append_near(target, near, val) {
@@ -59,9 +59,9 @@ pub(crate) fn set_item<B: Kind>(
     requires few { HasFewHolds heap.old }
     ensures { PerformsOnHeap heap.old locals.now (λ w. effect w (command.SetItem list.now index operand.now)) heap.new (gives result) }
 {
-    let list = value(heap, locals, list)?;
-    let val = value(heap, locals, operand)?;
     let mut near = Near::default();
+    let list = value_near(heap, locals, list, &mut near)?;
+    let val = value(heap, locals, operand)?;
     let target = object_near(heap, list, Wanted::ScriptList, &mut near)?;
     let _i = index_in(heap, target, near, index)?;
     heap.sound();
@@ -85,8 +85,8 @@ pub(crate) fn del_item<B: Kind>(
     requires few { HasFewHolds heap.old }
     ensures { PerformsOnHeap heap.old locals.now (λ w. effect w (command.DelItem list.now index)) heap.new (gives result) }
 {
-    let list = value(heap, locals, list)?;
     let mut near = Near::default();
+    let list = value_near(heap, locals, list, &mut near)?;
     let target = object_near(heap, list, Wanted::List, &mut near)?;
     let i = index_in(heap, target, near, index)?;
     heap.sound();
@@ -110,10 +110,10 @@ pub(crate) fn put<B: Kind>(
     requires few { HasFewHolds heap.old }
     ensures { PerformsOnHeap heap.old locals.now (λ w. effect w (command.Put dict.now key.now operand.now)) heap.new (gives result) }
 {
-    let dict = value(heap, locals, dict)?;
+    let mut near = Near::default();
+    let dict = value_near(heap, locals, dict, &mut near)?;
     let key = value(heap, locals, key)?;
     let val = value(heap, locals, operand)?;
-    let mut near = Near::default();
     let target = object_near(heap, dict, Wanted::Dict, &mut near)?;
     if !is_hashable(heap, key) {
         return Err(Refusal::Unhashable);
@@ -139,9 +139,9 @@ pub(crate) fn remove<B: Kind>(
     requires few { HasFewHolds heap.old }
     ensures { PerformsOnHeap heap.old locals.now (λ w. effect w (command.Remove dict.now key.now)) heap.new (gives result) }
 {
-    let dict = value(heap, locals, dict)?;
-    let key = value(heap, locals, key)?;
     let mut near = Near::default();
+    let dict = value_near(heap, locals, dict, &mut near)?;
+    let key = value(heap, locals, key)?;
     let target = object_near(heap, dict, Wanted::Dict, &mut near)?;
     if !is_hashable(heap, key) {
         return Err(Refusal::Unhashable);
@@ -168,9 +168,9 @@ pub(crate) fn set_attr<B: Kind>(
     requires few { HasFewHolds heap.old }
     ensures { PerformsOnHeap heap.old locals.now (λ w. effect w (command.SetAttr instance.now attr operand.now)) heap.new (gives result) }
 {
-    let instance = value(heap, locals, instance)?;
-    let val = value(heap, locals, operand)?;
     let mut near = Near::default();
+    let instance = value_near(heap, locals, instance, &mut near)?;
+    let val = value(heap, locals, operand)?;
     let target = object_near(heap, instance, Wanted::Inst, &mut near)?;
     heap.sound();
     match heap.put_near(target, near, Val::Str(attr), val) {
@@ -193,8 +193,8 @@ pub(crate) fn del_attr<B: Kind>(
     requires few { HasFewHolds heap.old }
     ensures { PerformsOnHeap heap.old locals.now (λ w. effect w (command.DelAttr instance.now attr)) heap.new (gives result) }
 {
-    let instance = value(heap, locals, instance)?;
     let mut near = Near::default();
+    let instance = value_near(heap, locals, instance, &mut near)?;
     let target = object_near(heap, instance, Wanted::Inst, &mut near)?;
     heap.sound();
     match heap.take_key_near(target, near, Val::Str(attr)) {

@@ -15,7 +15,7 @@ ghost use Rattle.cg_commands.specs.Stands.{LocalsLive};
 use crate::bindings::bind_to;
 use crate::done::Refusal;
 use crate::locals::Locals;
-use crate::operands::{Wanted, object, object_near, value};
+use crate::operands::{value_near, Wanted, object, object_near, value};
 use cg_arena::Near;
 use cg_heap::Heap;
 use cg_kind::Kind;
@@ -37,8 +37,8 @@ pub(crate) fn item<B: Kind>(
     requires few { HasFewHolds heap.old }
     ensures { PerformsOnHeap heap.old locals.now (λ w. effect w (command.Item name list.now index)) heap.new (gives result) }
 {
-    let val = value(heap, locals, list)?;
     let mut near = Near::default();
+    let val = value_near(heap, locals, list, &mut near)?;
     let target = object_near(heap, val, Wanted::Sequence, &mut near)?;
     let found = entry_in(heap, target, near, index)?;
     heap.sound();
@@ -60,9 +60,9 @@ pub(crate) fn get<B: Kind>(
     requires few { HasFewHolds heap.old }
     ensures { PerformsOnHeap heap.old locals.now (λ w. effect w (command.Get name dict.now key.now)) heap.new (gives result) }
 {
-    let val = value(heap, locals, dict)?;
-    let key = value(heap, locals, key)?;
     let mut near = Near::default();
+    let val = value_near(heap, locals, dict, &mut near)?;
+    let key = value(heap, locals, key)?;
     let target = object_near(heap, val, Wanted::Dict, &mut near)?;
     if !is_hashable(heap, key) {
         return Err(Refusal::Unhashable);
@@ -89,8 +89,8 @@ pub(crate) fn attr<B: Kind>(
     requires few { HasFewHolds heap.old }
     ensures { PerformsOnHeap heap.old locals.now (λ w. effect w (command.Attr name instance.now attr)) heap.new (gives result) }
 {
-    let val = value(heap, locals, instance)?;
     let mut near = Near::default();
+    let val = value_near(heap, locals, instance, &mut near)?;
     let target = object_near(heap, val, Wanted::Inst, &mut near)?;
     heap.sound();
     match heap.value_near(target, near, Val::Str(attr)) {

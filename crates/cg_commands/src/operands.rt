@@ -124,6 +124,35 @@ pub(crate) fn value<B: Kind>(
     }
 }
 
+/// The value of an operand that names an object, mostly, and where that may lie.
+#[inline(always)]
+pub(crate) fn value_near<B: Kind>(
+    heap: &Heap<B>,
+    locals: &Option<Locals>,
+    operand: &Operand,
+    near: &mut Near,
+) -> Result<Val, Refusal>
+    requires known { All (λ n. n < length heap.now.names) (operand_texts operand.now) }
+    requires locals { LocalsLive heap.now locals.now }
+    ensures ok { IfOk result (λ v. Reads heap.now locals.now (λ w. machine.value w operand.now) v) }
+    ensures live { IfOk result (λ v. IsLiveValue heap.now v) }
+    ensures err { IfErr result (λ r. IsRefused heap.now locals.now (λ w. machine.value w operand.now) r) }
+{
+    match operand {
+        Operand::Name(name) => {
+            heap.sound();
+            match heap.name_near(*name, near) {
+                Some(value) => Ok(value),
+                None => Err(Refusal::NoName),
+            }
+        }
+        _ => match seldom_value(heap, locals, operand) {
+            Some(value) => Ok(value),
+            None => Err(Refusal::NoName),
+        },
+    }
+}
+
 /// The value of an operand, if it has one, where it is no name.
 ///
 /// One sort is asked for after the other, that of most operands first: one `match` for all would become a jump by way of a
@@ -258,7 +287,7 @@ pub(crate) fn object_near<B: Kind>(
     let Val::Ref(object) = val else {
         return Err(wanted.refusal());
     };
-    if wanted.admits(heap.locate(object, near), object) {
+    if wanted.admits(heap.locate_near(object, near), object) {
         Ok(object)
     } else {
         Err(wanted.refusal())

@@ -71,6 +71,18 @@ pub fn count_in(arena: &mut Arena, val: Val)
     }
 }
 
+/// `count_in`, and where the object is.
+#[inline(always)]
+pub fn count_in_located(arena: &mut Arena, val: Val, near: &mut Near)
+    requires live { (s : ℕ) → val ≡ val_of.Ref s → HasNode arena.old s }
+    requires room { (s : ℕ) → val ≡ val_of.Ref s → count_at arena.old s < 2 ^ 32 - 1 }
+    ensures { arena.new ≡ counted_up (references_of_value (Some val)) arena.old }
+{
+    if let Val::Ref(serial) = val {
+        arena.inc_located(serial, near);
+    }
+}
+
 /// Counts the references of entries.
 pub fn count_all(arena: &mut Arena, parts: &[Entry])
     requires live { (s : ℕ) → 0 < occurrences s (references parts.now) → HasNode arena.old s }

@@ -2,14 +2,22 @@
 ghost use Rattle.std.specs.Prelude.{◌≡◌, ◌<◌, IfOk, Some, None, length, replicate, slice_get, slice_set};
 ghost use Rattle.cg_heap.specs.Calls.{IsGreatestBound};
 
+use cg_arena::Near;
 use cg_value::Val;
 use std::alloc::{AllocError, Global};
 use std::marker::Model;
 
-/// The values of the names, `None` where a name is unbound.
+/// The value of a name, `None` where it is unbound, and where the object may lie that it refers to.
+#[derive(Clone, Copy)]
+struct Bound {
+    val: Option<Val>,
+    near: Near,
+}
+
+/// The values of the names.
 #[derive(Drop)]
 pub struct Names {
-    values: Vec<Option<Val>>,
+    values: Vec<Bound>,
     // No name from this one on is bound.
     upper: usize,
 }
@@ -21,21 +29,21 @@ impl Model for Names {
 
     ghost Value = { List (Option Val) };
 
-    ghost view = { λ n. n.values.items };
+    ghost view = { λ n. map (λ b. b.val) n.values.items };
 
-    ghost invariant = { λ n. (n.upper ≤ length n.values.items) × AreBoundBelow n.upper n.values.items };
+    ghost invariant = { λ n. (n.upper ≤ length n.values.items) × AreBoundBelow n.upper (map (λ b. b.val) n.values.items) };
 }
 
 /// Another value for a name.
 #[inline(always)]
-fn replace(values: &mut Vec<Option<Val>>, name: usize, val: Option<Val>) -> Option<Val>
+fn replace(values: &mut Vec<Bound>, name: usize, bound: Bound) -> Option<Val>
     requires { name < length values.old.items }
-    ensures old { slice_get values.old.items name ≡ Some result }
-    ensures set { values.new.items ≡ slice_set values.old.items name val }
+    ensures old { option_map (λ b. b.val) (slice_get values.old.items name) ≡ Some result }
+    ensures set { values.new.items ≡ slice_set values.old.items name bound }
 {
     let slot = &mut values[name];
-    let old = *slot;
-    *slot = val;
+    let old = slot.val;
+    *slot = bound;
     old
 }
 
@@ -46,7 +54,7 @@ impl Names {
     {
         let mut values = Vec::new(alloc);
         for _name in 0..n {
-            values.push(None)?;
+            values.push(Bound { val: None, near: Near::default() })?;
         }
         Ok(Names { values, upper: 0 })
     }
@@ -57,17 +65,28 @@ impl Names {
         requires { name < length self.now }
         ensures { slice_get self.now name ≡ Some result }
     {
-        self.values[name]
+        self.values[name].val
+    }
+
+    /// The same, and where the object may lie that it refers to.
+    #[inline(always)]
+    pub fn get_near(&self, name: usize, near: &mut Near) -> Option<Val>
+        requires { name < length self.now }
+        ensures { slice_get self.now name ≡ Some result }
+    {
+        let bound = &self.values[name];
+        *near = bound.near;
+        bound.val
     }
 
     /// Gives a name another value, and answers the one that it had.
     #[inline(always)]
-    pub fn replace(&mut self, name: usize, val: Option<Val>) -> Option<Val>
+    pub fn replace(&mut self, name: usize, val: Option<Val>, near: Near) -> Option<Val>
         requires { name < length self.old }
         ensures old { slice_get self.old name ≡ Some result }
         ensures set { self.new ≡ slice_set self.old name val }
     {
-        let old = replace(&mut self.values, name, val);
+        let old = replace(&mut self.values, name, Bound { val, near });
         if val.is_some() {
             self.upper = self.upper.max(name + 1);
         }
@@ -80,7 +99,7 @@ impl Names {
         ensures greatest { IsGreatestBound self.old result }
     {
         'down: while self.upper > 0 {
-            if self.values[self.upper - 1].is_some() {
+            if self.values[self.upper - 1].val.is_some() {
                 return Some(self.upper - 1);
             }
             self.upper -= 1;

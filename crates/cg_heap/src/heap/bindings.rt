@@ -5,7 +5,8 @@ ghost use Rattle.cg_graph.specs.Changes.{held, named};
 ghost use Rattle.cg_heap.specs.Calls.{HasFewHolds, IsGreatestBound, IsLiveValue};
 
 use super::Heap;
-use crate::counts::count_in;
+use crate::counts::count_in_located;
+use cg_arena::Near;
 use cg_kind::Kind;
 use cg_value::Val;
 
@@ -21,8 +22,9 @@ impl<B: Kind> Heap<B> {
         ensures old { slice_get self.old.names name ≡ Some result }
         ensures rest { self.new ≡ held (references_of_value result) (named name (Some val) self.old) }
     {
-        count_in(&mut self.arena, val);
-        self.names.replace(name as usize, Some(val))
+        let mut near = Near::default();
+        count_in_located(&mut self.arena, val, &mut near);
+        self.names.replace(name as usize, Some(val), near)
     }
 
     /// Takes the value of a name, `None` where it was unbound. Its reference is now an outside hold.
@@ -33,7 +35,7 @@ impl<B: Kind> Heap<B> {
         ensures old { slice_get self.old.names name ≡ Some result }
         ensures rest { self.new ≡ held (references_of_value result) (named name None self.old) }
     {
-        self.names.replace(name as usize, None)
+        self.names.replace(name as usize, None, Near::default())
     }
 
     /// The bound name with the greatest number, `None` exactly where no name is bound. What this call passes over is passed

@@ -13,7 +13,7 @@ use crate::counts::seat_near;
 use crate::steps::Steps;
 use cg_arena::{Head, Near};
 use cg_kind::{Kind, Noted, ROOM};
-use cg_value::{Entry, KindCode, Place};
+use cg_value::{Entry, KindCode, Place, Val};
 use std::sync::ledger::Ledger;
 
 impl<B: Kind> Heap<B> {
@@ -42,6 +42,24 @@ impl<B: Kind> Heap<B> {
         ensures { IfSome (fin.get self.now.nodes object) (λ n. result ≡ n.code) }
     {
         self.arena.locate(object, near)
+    }
+
+    /// `locate`, where the object is near.
+    #[inline(always)]
+    pub fn locate_near(&self, object: u64, near: &mut Near) -> KindCode
+        requires { IsLive self.now object }
+        ensures { IfSome (fin.get self.now.nodes object) (λ n. result ≡ n.code) }
+    {
+        self.arena.locate_near(object, near)
+    }
+
+    /// The value of a name, and where the object is that it refers to.
+    #[inline(always)]
+    pub fn name_near(&self, name: u32, near: &mut Near) -> Option<Val>
+        requires { name < length self.now.names }
+        ensures { slice_get self.now.names name ≡ Some result }
+    {
+        self.names.get_near(name as usize, near)
     }
 
     /// `head_of`, where the object is near.
