@@ -256,17 +256,11 @@ impl Arena {
         requires room { count_at self.old serial < 2 ^ 32 - 1 }
         ensures { self.new ≡ counted_up (serial ∷ []) self.old }
     {
-        let guess = self.index.guess(serial);
-        match node_if(&self.slots, guess, serial) {
-            Some(slot) => {
-                let count = slot.count + 1;
-                set_count(&mut self.slots, guess, count);
-            }
-            None => inc_by_row(&self.index, &mut self.slots, serial),
-        }
+        let mut near = Near::default();
+        self.inc_located(serial, &mut near);
     }
 
-    /// `inc`, and where the node is, unless it does not lie where its guess says.
+    /// `inc`, and where the node is.
     #[inline(always)]
     pub fn inc_located(&mut self, serial: u64, near: &mut Near)
         requires has { HasNode self.old serial }
@@ -274,7 +268,7 @@ impl Arena {
         ensures { self.new ≡ counted_up (serial ∷ []) self.old }
     {
         let guess = self.index.guess(serial);
-        *near = Near::at(Some(guess));
+        *near = Near { slot: guess };
         match node_if(&self.slots, guess, serial) {
             Some(slot) => {
                 let count = slot.count + 1;
@@ -364,25 +358,14 @@ impl Arena {
         self.node(serial).body
     }
 
-    /// The kind, and where the node is.
+    /// The kind, and where the node is. Nothing is looked up where it is near already.
     #[inline(always)]
     pub fn locate(&self, serial: u64, near: &mut Near) -> KindCode
         requires { HasNode self.now serial }
         ensures { IfSome (map.get self.now.nodes serial) (λ n. result ≡ n.code) }
     {
-        let (at, slot) = self.index.slot_of(&self.slots, serial);
-        *near = Near::at(Some(at));
-        slot.code
-    }
-
-    /// `locate`, where the node is near.
-    #[inline(always)]
-    pub fn locate_near(&self, serial: u64, near: &mut Near) -> KindCode
-        requires { HasNode self.now serial }
-        ensures { IfSome (map.get self.now.nodes serial) (λ n. result ≡ n.code) }
-    {
         let (at, slot) = self.index.slot_near(&self.slots, serial, *near);
-        *near = Near::at(Some(at));
+        *near = Near { slot: at };
         slot.code
     }
 

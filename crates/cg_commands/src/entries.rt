@@ -13,7 +13,7 @@ use crate::bindings::given_up;
 use crate::done::{Refusal, refusal_by};
 use crate::locals::Locals;
 use crate::lookups::{index_in, is_hashable};
-use crate::operands::{value_near, Wanted, object_near, value};
+use crate::operands::{Wanted, object_near, value, value_near};
 use cg_arena::Near;
 use cg_heap::Heap;
 use cg_kind::Kind;

@@ -9,7 +9,8 @@ ghost use Rattle.cg_commands.specs.Stands.{LocalsLive};
 
 use crate::done::{Done, Refusal, told};
 use crate::locals::Locals;
-use crate::operands::{Wanted, object, value};
+use crate::operands::{Wanted, object_near, value, value_near};
+use cg_arena::Near;
 use cg_heap::Heap;
 use cg_kind::Kind;
 use cg_script::Operand;
@@ -26,8 +27,9 @@ pub(crate) fn call<B: Kind>(
     requires locals { LocalsLive heap.now locals.now }
     ensures { PerformsOnHeap heap.now locals.now (λ w. effect w (command.Call operand.now)) heap.now result }
 {
-    let val = value(heap, locals, operand)?;
-    let target = object(heap, val, Wanted::Func)?;
+    let mut near = Near::default();
+    let val = value_near(heap, locals, operand, &mut near)?;
+    let target = object_near(heap, val, Wanted::Func, &mut near)?;
     Ok(Done::Calls(target))
 }
 

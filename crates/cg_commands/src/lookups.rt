@@ -15,7 +15,7 @@ ghost use Rattle.cg_commands.specs.Stands.{LocalsLive};
 use crate::bindings::bind_to;
 use crate::done::Refusal;
 use crate::locals::Locals;
-use crate::operands::{value_near, Wanted, object, object_near, value};
+use crate::operands::{Wanted, object_near, value, value_near};
 use cg_arena::Near;
 use cg_heap::Heap;
 use cg_kind::Kind;
@@ -113,8 +113,9 @@ pub(crate) fn deref<B: Kind>(
     requires few { HasFewHolds heap.old }
     ensures { PerformsOnHeap heap.old locals.now (λ w. effect w (command.Deref name weak.now)) heap.new (gives result) }
 {
-    let val = value(heap, locals, weak)?;
-    let target = object(heap, val, Wanted::Weak)?;
+    let mut near = Near::default();
+    let val = value_near(heap, locals, weak, &mut near)?;
+    let target = object_near(heap, val, Wanted::Weak, &mut near)?;
     heap.sound();
     match heap.referent_of(target) {
         Some(referent) => bind_to(heap, locals, name, Val::Ref(referent)),

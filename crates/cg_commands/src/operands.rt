@@ -110,12 +110,9 @@ pub(crate) fn value<B: Kind>(
     ensures err { IfErr result (λ r. IsRefused heap.now locals.now (λ w. machine.value w operand.now) r) }
 {
     match operand {
-        Operand::Name(name) => {
-            heap.sound();
-            match heap.name(*name) {
-                Some(value) => Ok(value),
-                None => Err(Refusal::NoName),
-            }
+        Operand::Name(_) => {
+            let mut near = Near::default();
+            value_near(heap, locals, operand, &mut near)
         }
         _ => match number_or_other(heap, locals, operand) {
             Some(value) => Ok(value),
@@ -124,7 +121,7 @@ pub(crate) fn value<B: Kind>(
     }
 }
 
-/// The value of an operand that names an object, mostly, and where that may lie.
+/// The same, and where the object may lie to which a name refers. It is for operands that are names nearly always.
 #[inline(always)]
 pub(crate) fn value_near<B: Kind>(
     heap: &Heap<B>,
@@ -272,7 +269,7 @@ pub(crate) fn object<B: Kind>(heap: &Heap<B>, val: Val, wanted: Wanted) -> Resul
     object_near(heap, val, wanted, &mut near)
 }
 
-/// The same, and where the object is, for what is done to it next.
+/// The same, and where the object is, for what is done to it next. Nothing is looked up where it is near already.
 #[inline(always)]
 pub(crate) fn object_near<B: Kind>(
     heap: &Heap<B>,
@@ -287,7 +284,7 @@ pub(crate) fn object_near<B: Kind>(
     let Val::Ref(object) = val else {
         return Err(wanted.refusal());
     };
-    if wanted.admits(heap.locate_near(object, near), object) {
+    if wanted.admits(heap.locate(object, near), object) {
         Ok(object)
     } else {
         Err(wanted.refusal())

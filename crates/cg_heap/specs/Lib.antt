@@ -3,3 +3,4 @@ pub mod Codes
 pub mod Weak
 pub mod Keeps
 pub mod Calls
+pub mod Names

@@ -66,21 +66,21 @@ pub fn count_in(arena: &mut Arena, val: Val)
     requires room { (s : ℕ) → val ≡ val_of.Ref s → count_at arena.old s < 2 ^ 32 - 1 }
     ensures { arena.new ≡ counted_up (references_of_value (Some val)) arena.old }
 {
-    if let Val::Ref(serial) = val {
-        arena.inc(serial);
-    }
+    let _near = count_in_located(arena, val);
 }
 
-/// `count_in`, and where the object is.
+/// The same, and where the object is to which the value refers, if it refers to one.
 #[inline(always)]
-pub fn count_in_located(arena: &mut Arena, val: Val, near: &mut Near)
+pub fn count_in_located(arena: &mut Arena, val: Val) -> Near
     requires live { (s : ℕ) → val ≡ val_of.Ref s → HasNode arena.old s }
     requires room { (s : ℕ) → val ≡ val_of.Ref s → count_at arena.old s < 2 ^ 32 - 1 }
     ensures { arena.new ≡ counted_up (references_of_value (Some val)) arena.old }
 {
+    let mut near = Near::default();
     if let Val::Ref(serial) = val {
-        arena.inc_located(serial, near);
+        arena.inc_located(serial, &mut near);
     }
+    near
 }
 
 /// Counts the references of entries.

@@ -1,14 +1,15 @@
 //! The names, and up to which of them one may be bound.
 ghost use Rattle.std.specs.Prelude.{◌≡◌, ◌<◌, IfOk, Some, None, length, replicate, slice_get, slice_set};
 ghost use Rattle.cg_heap.specs.Calls.{IsGreatestBound};
+ghost use Rattle.cg_heap.specs.Names.{values_of};
 
 use cg_arena::Near;
 use cg_value::Val;
 use std::alloc::{AllocError, Global};
 use std::marker::Model;
 
-/// The value of a name, `None` where it is unbound, and where the object may lie that it refers to.
-#[derive(Clone, Copy)]
+/// The value of a name, `None` where it is unbound, and where the object may lie to which it refers.
+#[derive(Clone, Copy, Drop)]
 struct Bound {
     val: Option<Val>,
     near: Near,
@@ -17,7 +18,7 @@ struct Bound {
 /// The values of the names.
 #[derive(Drop)]
 pub struct Names {
-    values: Vec<Bound>,
+    names: Vec<Bound>,
     // No name from this one on is bound.
     upper: usize,
 }
@@ -26,22 +27,23 @@ impl Model for Names {
     ghost use Rattle.std.specs.Prelude.{◌≤◌, List, Option, length};
     ghost use Rattle.cg_value.specs.declared.Val.{Val};
     ghost use Rattle.cg_heap.specs.Calls.{AreBoundBelow};
+    ghost use Rattle.cg_heap.specs.Names.{values_of};
 
     ghost Value = { List (Option Val) };
 
-    ghost view = { λ n. map (λ b. b.val) n.values.items };
+    ghost view = { λ n. values_of n.names.items };
 
-    ghost invariant = { λ n. (n.upper ≤ length n.values.items) × AreBoundBelow n.upper (map (λ b. b.val) n.values.items) };
+    ghost invariant = { λ n. (n.upper ≤ length (values_of n.names.items)) × AreBoundBelow n.upper (values_of n.names.items) };
 }
 
-/// Another value for a name.
+/// Another value for a name. It answers the one that it had.
 #[inline(always)]
-fn replace(values: &mut Vec<Bound>, name: usize, bound: Bound) -> Option<Val>
-    requires { name < length values.old.items }
-    ensures old { option_map (λ b. b.val) (slice_get values.old.items name) ≡ Some result }
-    ensures set { values.new.items ≡ slice_set values.old.items name bound }
+fn replace(names: &mut Vec<Bound>, name: usize, bound: Bound) -> Option<Val>
+    requires { name < length names.old.items }
+    ensures old { slice_get (values_of names.old.items) name ≡ Some result }
+    ensures set { values_of names.new.items ≡ slice_set (values_of names.old.items) name bound.val }
 {
-    let slot = &mut values[name];
+    let slot = &mut names[name];
     let old = slot.val;
     *slot = bound;
     old
@@ -52,11 +54,15 @@ impl Names {
     pub fn new(alloc: Global, n: u32) -> Result<Names, AllocError>
         ensures { IfOk result (λ names. names ≡ replicate n None) }
     {
-        let mut values = Vec::new(alloc);
+        let unbound = Bound {
+            val: None,
+            near: Near::default(),
+        };
+        let mut names = Vec::new(alloc);
         for _name in 0..n {
-            values.push(Bound { val: None, near: Near::default() })?;
+            names.push(unbound)?;
         }
-        Ok(Names { values, upper: 0 })
+        Ok(Names { names, upper: 0 })
     }
 
     /// The value of a name.
@@ -65,28 +71,28 @@ impl Names {
         requires { name < length self.now }
         ensures { slice_get self.now name ≡ Some result }
     {
-        self.values[name].val
+        self.names[name].val
     }
 
-    /// The same, and where the object may lie that it refers to.
+    /// The same, and where the object may lie to which the name refers.
     #[inline(always)]
     pub fn get_near(&self, name: usize, near: &mut Near) -> Option<Val>
         requires { name < length self.now }
         ensures { slice_get self.now name ≡ Some result }
     {
-        let bound = &self.values[name];
+        let bound = &self.names[name];
         *near = bound.near;
         bound.val
     }
 
-    /// Gives a name another value, and answers the one that it had.
+    /// Gives a name another value, whose object may lie there, and answers the one that it had.
     #[inline(always)]
     pub fn replace(&mut self, name: usize, val: Option<Val>, near: Near) -> Option<Val>
         requires { name < length self.old }
         ensures old { slice_get self.old name ≡ Some result }
         ensures set { self.new ≡ slice_set self.old name val }
     {
-        let old = replace(&mut self.values, name, Bound { val, near });
+        let old = replace(&mut self.names, name, Bound { val, near });
         if val.is_some() {
             self.upper = self.upper.max(name + 1);
         }
@@ -99,7 +105,7 @@ impl Names {
         ensures greatest { IsGreatestBound self.old result }
     {
         'down: while self.upper > 0 {
-            if self.values[self.upper - 1].val.is_some() {
+            if self.names[self.upper - 1].val.is_some() {
                 return Some(self.upper - 1);
             }
             self.upper -= 1;

@@ -600,18 +600,19 @@ fn weak_references_are_cleared_and_forgotten(rt: HostRuntime) -> Result<(), Fail
 
 #[test]
 fn the_greatest_bound_name_is_answered(rt: HostRuntime) -> Result<(), Fail> {
+    let near = Near::default();
     let mut names = Names::new(rt.alloc(), 4)?;
     assert_eq!(rt; names.greatest(), None);
-    names.replace(1, Some(Val::Int(7)));
-    names.replace(3, Some(Val::None));
+    names.replace(1, Some(Val::Int(7)), near);
+    names.replace(3, Some(Val::None), near);
     assert_eq!(rt; names.greatest(), Some(3));
-    names.replace(3, None);
+    names.replace(3, None, near);
     assert_eq!(rt; names.greatest(), Some(1));
     // One above it is bound before it is given up, as finalizers may do.
-    names.replace(2, Some(Val::Int(8)));
-    names.replace(1, None);
+    names.replace(2, Some(Val::Int(8)), near);
+    names.replace(1, None, near);
     assert_eq!(rt; names.greatest(), Some(2));
-    names.replace(2, None);
+    names.replace(2, None, near);
     assert_eq!(rt; names.greatest(), None);
     Ok(())
 }

@@ -22,8 +22,7 @@ impl<B: Kind> Heap<B> {
         ensures old { slice_get self.old.names name ≡ Some result }
         ensures rest { self.new ≡ held (references_of_value result) (named name (Some val) self.old) }
     {
-        let mut near = Near::default();
-        count_in_located(&mut self.arena, val, &mut near);
+        let near = count_in_located(&mut self.arena, val);
         self.names.replace(name as usize, Some(val), near)
     }
 

@@ -35,7 +35,7 @@ impl<B: Kind> Heap<B> {
         self.arena.next_near(object, near)
     }
 
-    /// The kind, and where the object is, for what is asked of it next.
+    /// The kind, and where the object is, for what is asked of it next. Nothing is looked up where it is near already.
     #[inline(always)]
     pub fn locate(&self, object: u64, near: &mut Near) -> KindCode
         requires { IsLive self.now object }
@@ -44,16 +44,7 @@ impl<B: Kind> Heap<B> {
         self.arena.locate(object, near)
     }
 
-    /// `locate`, where the object is near.
-    #[inline(always)]
-    pub fn locate_near(&self, object: u64, near: &mut Near) -> KindCode
-        requires { IsLive self.now object }
-        ensures { IfSome (fin.get self.now.nodes object) (λ n. result ≡ n.code) }
-    {
-        self.arena.locate_near(object, near)
-    }
-
-    /// The value of a name, and where the object is that it refers to.
+    /// The value of a name, and where the object is to which it refers, if it refers to one.
     #[inline(always)]
     pub fn name_near(&self, name: u32, near: &mut Near) -> Option<Val>
         requires { name < length self.now.names }

@@ -58,16 +58,16 @@ returns-then-not-is_hashable g c =
     (goes_on c.args.heap.now c.args.heap.now c.args.locals.now (λ w. object w (test_of wanted.Dict) (number_of (refusal_of wanted.Dict)) c.in_ok-dict.dict) (object_from c.args.heap.now.rows c.in_ok-target.target c.in_ok-target.ensures.ok.node) _ (Err refusal.Unhashable) (reads-object c.args.heap.now c.args.locals.now (test_of wanted.Dict) c.in_ok-dict.dict c.in_ok-target.target c.in_ok-target.ensures.ok (number_of (refusal_of wanted.Dict)))
     (stops c.args.heap.now c.args.locals.now (λ w. unless (is_hashable w c.in_ok-key.key) unhashable) _ refusal.Unhashable (no-hash c.args.heap.now c.args.locals.now c.in_ok-key.key c.is_hashable.result c.is_hashable.ensures c.if-not-is_hashable.true))))))
 
+pub value_near-requires-clause-known : goal.value_near-requires-clause-known
+value_near-requires-clause-known g c =
+    all_left (λ n. n < length c.args.heap.now.names) (operand_texts c.args.dict.now) (operand_texts c.args.key.now) (all_left (λ n. n < length c.args.heap.now.names) (operand_texts c.args.dict.now ++ operand_texts c.args.key.now) (operand_texts c.args.operand.now) c.requires.known)
+
 pub value-requires-clause-known : goal.value-requires-clause-known
 value-requires-clause-known g c =
-    all_left (λ n. n < length c.args.heap.now.names) (operand_texts c.args.dict.now) (operand_texts c.args.key.now) (all_left (λ n. n < length c.args.heap.now.names) (operand_texts c.args.dict.now ++ operand_texts c.args.key.now) (operand_texts c.args.operand.now) c.requires.known)
+    all_right (λ n. n < length c.args.heap.now.names) (operand_texts c.args.dict.now) (operand_texts c.args.key.now) (all_left (λ n. n < length c.args.heap.now.names) (operand_texts c.args.dict.now ++ operand_texts c.args.key.now) (operand_texts c.args.operand.now) c.requires.known)
 
 pub value-requires-2-clause-known : goal.value-requires-2-clause-known
 value-requires-2-clause-known g c =
-    all_right (λ n. n < length c.args.heap.now.names) (operand_texts c.args.dict.now) (operand_texts c.args.key.now) (all_left (λ n. n < length c.args.heap.now.names) (operand_texts c.args.dict.now ++ operand_texts c.args.key.now) (operand_texts c.args.operand.now) c.requires.known)
-
-pub value-requires-3-clause-known : goal.value-requires-3-clause-known
-value-requires-3-clause-known g c =
     all_right (λ n. n < length c.args.heap.now.names) (operand_texts c.args.dict.now ++ operand_texts c.args.key.now) (operand_texts c.args.operand.now) c.requires.known
 
 pub put_near-requires-clause-other : goal.put_near-requires-clause-other

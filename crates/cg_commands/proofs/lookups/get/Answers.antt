@@ -19,8 +19,8 @@ use Rattle.cg_commands.proofs.TextLemmas.{all_left}
 use Rattle.cg_commands.specs.Answers.{gives}
 use Rattle.cg_commands.proofs.lookups.get.Goals as goal
 
-pub value-requires-clause-known : goal.value-requires-clause-known
-value-requires-clause-known g c =
+pub value_near-requires-clause-known : goal.value_near-requires-clause-known
+value_near-requires-clause-known g c =
     all_left (λ n. n < length c.args.heap.now.names) (operand_texts c.args.dict.now) (operand_texts c.args.key.now)
     (All-tail (λ n. n < length c.args.heap.now.names) c.args.name (operand_texts c.args.dict.now ++ operand_texts c.args.key.now) c.requires.known)
 

@@ -4,11 +4,11 @@ use Rattle.cg_arena.specs.Table.{rows_of}
 use Rattle.cg_arena.proofs.Sound.{found, node_here}
 use Rattle.cg_arena.proofs.arena.Arena.locate.Goals as goal
 
-pub slot_of-at-requires : goal.slot_of-at-requires
-slot_of-at-requires c = found c.self.inside.slots c.self.inside.ends c.self.inside.index c.self.invariant (spare c.self.inside.index.rows) c.args.self.now c.self.view_is c.args.serial c.requires
+pub slot_near-at-requires : goal.slot_near-at-requires
+slot_near-at-requires c = found c.self.inside.slots c.self.inside.ends c.self.inside.index c.self.invariant (spare c.self.inside.index.rows) c.args.self.now c.self.view_is c.args.serial c.requires
 
 pub returns : goal.returns
 returns c =
-    subst (λ x. IfSome x (λ n. c.slot_of-at.result.1.code ≡ n.code))
-    (sym (node_here c.self.inside.slots c.self.inside.ends (rows_of c.self.inside.slots) (spare c.self.inside.index.rows) c.args.self.now c.self.view_is c.args.serial c.slot_of-at.result.0 c.slot_of-at.result.1 c.slot_of-at.ensures.at c.slot_of-at.ensures.slot))
+    subst (λ x. IfSome x (λ n. c.slot_near-at.result.1.code ≡ n.code))
+    (sym (node_here c.self.inside.slots c.self.inside.ends (rows_of c.self.inside.slots) (spare c.self.inside.index.rows) c.args.self.now c.self.view_is c.args.serial c.slot_near-at.result.0 c.slot_near-at.result.1 c.slot_near-at.ensures.at c.slot_near-at.ensures.slot))
     refl

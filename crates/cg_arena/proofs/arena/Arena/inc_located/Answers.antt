@@ -2,8 +2,8 @@ use Rattle.std.proofs.Common.{◌+◌, refl, arith}
 use Rattle.indexmap.specs.IndexMap.{spare}
 use Rattle.cg_arena.specs.Index.{HasRow}
 use Rattle.cg_arena.proofs.Sound.{count_kept, found_by_row, count_here, up_view}
-use Rattle.cg_arena.proofs.arena.Arena.inc.Goals as goal
-use Rattle.cg_arena.proofs.arena.Arena.inc.Goals.{In-None}
+use Rattle.cg_arena.proofs.arena.Arena.inc_located.Goals as goal
+use Rattle.cg_arena.proofs.arena.Arena.inc_located.Goals.{In-None}
 
 pub overflow_add-count : goal.overflow_add-count
 overflow_add-count c =
