@@ -15,6 +15,7 @@ ghost use Rattle.cg_heap.specs.Calls.{CanPutIn, CanTake, IsLiveValue};
 use crate::names::Names;
 use crate::{Heap, HeapFault};
 use cg_any_kind::{AnyKind, six};
+use cg_arena::Near;
 use cg_kind::Kind;
 use cg_value::{Entry, KindCode, Place, Val};
 use std::alloc::{AllocError, Global};
