@@ -1,9 +1,12 @@
-use Rattle.std.proofs.Common.{length, ◌-◌, take}
+use Rattle.std.proofs.Common.{length, ◌-◌, ◌≤◌, take}
 use Rattle.cg_trial.specs.View.{view_of, Lowered}
 use Rattle.cg_trial.proofs.subtraction.lower_each.Given as goal
 
 abbrev pub invariant-runs : goal.invariant-runs
-invariant-runs g l = Lowered (take l.from l.objects) (view_of l.fn.heap) (view_of l.heap)
+invariant-runs g l = record {
+  lowered : Lowered (take l.from l.objects) (view_of l.fn.heap) (view_of l.heap);
+  within : l.from ≤ length l.objects;
+}
 
 abbrev pub decreases-runs : goal.decreases-runs
 decreases-runs g l = length l.objects - l.from
