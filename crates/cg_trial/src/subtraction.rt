@@ -59,34 +59,36 @@ fn end_of_long_run(objects: &[u64], from: usize) -> usize
     ensures behind { from < result }
     ensures within { result ≤ length objects.now }
 {
+    let object = objects[from];
     let mut end = from + 1;
-    'run: while end < objects.len() && objects[end] == objects[from] {
+    'run: while end < objects.len() && objects[end] == object {
         end += 1;
     }
     end
 }
 
 /// Each of these objects that is a candidate gets a number that is lower by one, as often as it is among them. One that comes
-/// several times in a row is sought once.
+/// several times in a row is sought for all of them at once; whether it does is seen by the object at `next`.
 #[inline(always)]
 fn lower_each<B: Kind>(heap: &mut Heap<B>, objects: &[u64])
     requires live { (o : ℕ) → Includes objects.now o → IsTrue ((view_of heap.old).live o) }
     requires room { (o : ℕ) → Includes ((view_of heap.old).listed Place.Cand) o → occurrences o objects.now ≤ (view_of heap.old).number o }
     ensures { Lowered objects.now (view_of heap.old) (view_of heap.new) }
 {
-    let mut from = 0;
-    'runs: while from + 1 < objects.len() {
-        if objects[from] == objects[from + 1] {
-            let end = end_of_long_run(objects, from);
-            lower_number_by(heap, objects[from], end - from);
-            from = end;
+    let mut next = 1;
+    'runs: while next < objects.len() {
+        let object = objects[next - 1];
+        if object == objects[next] {
+            let end = end_of_long_run(objects, next - 1);
+            lower_number_by(heap, object, end - (next - 1));
+            next = end + 1;
         } else {
-            lower_number(heap, objects[from]);
-            from += 1;
+            lower_number(heap, object);
+            next += 1;
         }
     }
-    if from < objects.len() {
-        lower_number(heap, objects[from]);
+    if next <= objects.len() {
+        lower_number(heap, objects[next - 1]);
     }
 }
 
