@@ -89,9 +89,10 @@ one_room old mid xs from within so room here =
     let o = get_or xs from 0 in
     omega (arith, occurs_often 1 o, room_next old mid (take from xs) (o ∷ []) (drop (from + 1) xs) xs so room (taken_parts xs from within) o here)
 
-pub lowered_run : (old mid new : View) (xs : List ℕ) (from end next o : ℕ) → take end xs ≡ take from xs ++ replicate (end - from) o → next ≡ end → Lowered (take from xs) old mid → Lowered (replicate (end - from) o) mid new → Lowered (take next xs) old new
-lowered_run old mid new xs from end next o run is so more =
-    subst (λ (r : List ℕ). Lowered r old new) (sym (ap (λ n. take n xs) is ∙ run)) (lowered_more old mid new (take from xs) _ so more)
+pub lowered_run : (old mid new : View) (xs : List ℕ) (from end next times o : ℕ) → take end xs ≡ take from xs ++ replicate (end - from) o → next ≡ end → times ≡ end - from → Lowered (take from xs) old mid → Lowered (replicate times o) mid new
+    → Lowered (take next xs) old new
+lowered_run old mid new xs from end next times o run is often so more =
+    subst (λ (r : List ℕ). Lowered r old new) (sym (ap (λ n. take n xs) is ∙ run ∙ ap (λ n. take from xs ++ replicate n o) (sym often))) (lowered_more old mid new (take from xs) _ so more)
 
 pub lowered_next : (old mid new : View) (xs : List ℕ) (from next : ℕ) → from < length xs → next ≡ from + 1 → Lowered (take from xs) old mid → Lowered (get_or xs from 0 ∷ []) mid new → Lowered (take next xs) old new
 lowered_next old mid new xs from next within is so more =

@@ -80,7 +80,7 @@ fn lower_each<B: Kind>(heap: &mut Heap<B>, objects: &[u64])
         let object = objects[next - 1];
         if object == objects[next] {
             let end = end_of_long_run(objects, next - 1);
-            lower_number_by(heap, object, end - (next - 1));
+            lower_number_by(heap, object, end + 1 - next);
             next = end + 1;
         } else {
             lower_number(heap, object);
