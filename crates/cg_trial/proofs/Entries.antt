@@ -60,6 +60,9 @@ one_of xs i within =
     subst (λ (l : List ℕ). Includes l (get_or xs i 0)) (sym (taken_parts xs i within))
     (Includes-append_right (take i xs) (get_or xs i 0 ∷ drop (i + 1) xs) (get_or xs i 0) (inl refl))
 
+pub rest_of : (xs : List ℕ) (i o : ℕ) → Includes (drop i xs) o → Includes xs o
+rest_of xs i o h = subst (λ (l : List ℕ). Includes l o) (take-append-drop i xs) (Includes-append_right (take i xs) (drop i xs) o h)
+
 -- One object in a row, from a place on.
 pub run_more : (xs : List ℕ) (from end o : ℕ) → take end xs ≡ take from xs ++ replicate (end - from) o → from < end → end < length xs → get_or xs end 0 ≡ o
     → take (end + 1) xs ≡ take from xs ++ replicate (end + 1 - from) o
@@ -78,6 +81,22 @@ run_room old mid xs from end o run so room here =
     let parts : xs ≡ take from xs ++ (replicate (end - from) o ++ drop end xs) =
     sym (take-append-drop end xs) ∙ ap (λ (l : List ℕ). l ++ drop end xs) run ∙ append_assoc (take from xs) (replicate (end - from) o) (drop end xs) in
     omega (arith, occurs_often (end - from) o, room_next old mid (take from xs) (replicate (end - from) o) (drop end xs) xs so room parts o here)
+
+-- The same, of one object.
+pub one_room : (old mid : View) (xs : List ℕ) (from : ℕ) → from < length xs → Lowered (take from xs) old mid → ((p : ℕ) → Includes (old.listed Cand) p → occurrences p xs ≤ old.number p)
+    → Includes (mid.listed Cand) (get_or xs from 0) → 0 < mid.number (get_or xs from 0)
+one_room old mid xs from within so room here =
+    let o = get_or xs from 0 in
+    omega (arith, occurs_often 1 o, room_next old mid (take from xs) (o ∷ []) (drop (from + 1) xs) xs so room (taken_parts xs from within) o here)
+
+pub lowered_run : (old mid new : View) (xs : List ℕ) (from end next times o : ℕ) → take end xs ≡ take from xs ++ replicate (end - from) o → next ≡ end → times ≡ end - from → Lowered (take from xs) old mid → Lowered (replicate times o) mid new
+    → Lowered (take next xs) old new
+lowered_run old mid new xs from end next times o run is often so more =
+    subst (λ (r : List ℕ). Lowered r old new) (sym (ap (λ n. take n xs) is ∙ run ∙ ap (λ n. take from xs ++ replicate n o) (sym often))) (lowered_more old mid new (take from xs) _ so more)
+
+pub lowered_next : (old mid new : View) (xs : List ℕ) (from next : ℕ) → from < length xs → next ≡ from + 1 → Lowered (take from xs) old mid → Lowered (get_or xs from 0 ∷ []) mid new → Lowered (take next xs) old new
+lowered_next old mid new xs from next within is so more =
+    subst (λ (r : List ℕ). Lowered r old new) (sym (ap (λ n. take n xs) is ∙ take_more xs from 0 within)) (lowered_more old mid new (take from xs) _ so more)
 
 -- a candidate whose number is lower by this
 pub lowered_by : (n o : ℕ) (old new : View) → n ≤ old.number o → Numbered o (old.number o - n) old new → Lowered (replicate n o) old new

@@ -1,5 +1,5 @@
 -- Laws on what stands in a list, how often, and what is left without_serial it.
-use Rattle.std.proofs.Common.{◌≡◌, ◌≢◌, refl, sym, ◌∙◌, ap, subst, replicate, ℕ, zero, suc, ◌+◌, ◌*◌, ◌<◌, ◌≤◌, true, false, cond, not, ◌⊎◌, inl, inr, List, [], ◌∷◌, ◌++◌, length, Option, Some, None, arith, mul-le-mul_right}
+use Rattle.std.proofs.Common.{◌≡◌, ◌≢◌, refl, sym, ◌∙◌, ap, subst, replicate, ℕ, zero, suc, ◌+◌, ◌*◌, ◌≤◌, true, false, cond, not, ◌⊎◌, inl, inr, List, [], ◌∷◌, ◌++◌, length, Option, Some, None, arith, mul-le-mul_right}
 use Rattle.std.proofs.lemmas.Bool.{eqb-true, eq-eqb, ne_eqb}
 use Rattle.std.proofs.lemmas.Bool.Decides.{nat_tests}
 use Rattle.std.proofs.lemmas.List.Sums.{sum_by-cons, length-filter, count_by-le-length}
@@ -40,10 +40,6 @@ pub always_that : (n o q : ℕ) → Includes (replicate n o) q → o ≡ q
 always_that zero o q h = absurd h
 always_that (suc n) o q (inl e) = e
 always_that (suc n) o q (inr h) = always_that n o q h
-
-pub that_is_there : (n o : ℕ) → 0 < n → Includes (replicate n o) o
-that_is_there zero o some = absurd (omega (arith, some))
-that_is_there (suc n) o some = inl refl
 
 pub without-cons_yes : (o x : ℕ) (xs : List ℕ) → x == o ≡ true → without_serial o (x ∷ xs) ≡ without_serial o xs
 without-cons_yes o x xs e = ap (λ b. cond (not b) (x ∷ without_serial o xs) (without_serial o xs)) (eq-eqb o x (sym (eqb-true x o e)))

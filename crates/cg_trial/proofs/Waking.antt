@@ -1,8 +1,8 @@
 -- Taking back: a target with the number 0 gets one, and where it was set aside the last place in the list.
-use Rattle.std.proofs.Common.{◌≡◌, ◌≢◌, refl, sym, ◌∙◌, ap, subst, replicate, ℕ, ◌+◌, ◌*◌, ◌<◌, ◌≤◌, true, false, cond, ◌⊎◌, inl, inr, List, [], ◌∷◌, ◌++◌, length, take, arith, append_assoc, length-append}
+use Rattle.std.proofs.Common.{◌≡◌, ◌≢◌, refl, sym, ◌∙◌, ap, subst, replicate, ℕ, ◌+◌, ◌-◌, ◌*◌, ◌≤◌, true, false, cond, ◌⊎◌, inl, inr, List, [], ◌∷◌, ◌++◌, length, take, drop, get_or, arith, append_assoc, length-append}
 use Rattle.std.proofs.lemmas.Bool.{eqb-true, eq-eqb}
-use Rattle.std.proofs.Math.Seq.{take-length}
-use Rattle.std.proofs.lemmas.List.{append-nil}
+use Rattle.std.proofs.Math.Seq.{take-length, take-add}
+use Rattle.std.proofs.lemmas.List.{append-nil, take-append-drop, take_more, get_or-drop}
 use Rattle.std.proofs.lemmas.List.Sums.{sum_by_push}
 use Rattle.std.specs.Prelude.{◌==◌, sum_by}
 use Rattle.cg_value.specs.declared.Place.{Place}
@@ -13,9 +13,9 @@ use Rattle.cg_graph.specs.Holdings.{occurrences}
 use Rattle.cg_graph.specs.Places.{without_serial}
 use Rattle.cg_trial.specs.View.{View, Numbered, Moved}
 use Rattle.cg_graph.specs.Value.{references}
-use Rattle.cg_trial.specs.Sift.{Woken, IsMember, both, is_zero, zeros}
+use Rattle.cg_trial.specs.Sift.{Woken, IsFirstZero, IsMember, both, is_zero, zeros}
 use Rattle.cg_graph.proofs.Members.{either, cases_of, Includes-append_cases, Includes-append_left, Includes-append_right}
-use Rattle.cg_trial.proofs.Lists.{occurs, occurs_in, always_that, that_is_there, none_or_some, sum_by-without, sum_by-parts, without-absent, Includes-without}
+use Rattle.cg_trial.proofs.Lists.{occurs, occurs_in, always_that, none_or_some, sum_by-without, sum_by-parts, without-absent, Includes-without}
 use Rattle.cg_trial.proofs.Passes.{same_itself, same_more}
 use Rattle.cg_kind.specs.Calls.{next_entries}
 use Rattle.cg_kind.proofs.References.{next_within, references_next}
@@ -38,13 +38,14 @@ member_within a b sums q h = occurs_in (a.listed Cand) q (omega (arith, sums (λ
 pub member_kept : (a b : View) → ((f : ℕ → ℕ) → both f b ≡ both f a) → (q : ℕ) → IsMember a q → IsMember b q
 member_kept a b sums q h = member_of b q (omega (arith, sums (λ x. cond (x == q) 1 0), member_counts a q h))
 
-pub woken_none : (v : View) → Woken [] v v
-woken_none v = record {
+-- objects that have numbers
+pub woken_awake : (r : List ℕ) (v : View) → ((p : ℕ) → Includes r p → v.number p ≢ 0) → Woken r v v
+woken_awake r v awake = record {
   same = same_itself v;
   others = λ q h k. refl;
   sums = λ f. refl;
   stays = λ p h. h;
-  woken = λ p h k. absurd h;
+  woken = λ p h k. awake p h;
   only = λ p h. inl h;
   asleep = λ h. h;
   more = [];
@@ -52,24 +53,8 @@ woken_none v = record {
   lighter = omega arith;
 }
 
--- a target that has a number, or is no candidate
-pub woken_idle : (p : ℕ) (v : View) → (IsMember v p → v.number p ≢ 0) → Woken (p ∷ []) v v
-woken_idle p v idle = record {
-  same = same_itself v;
-  others = λ q h k. refl;
-  sums = λ f. refl;
-  stays = λ q h. h;
-  woken = λ q h k. known q h k;
-  only = λ q h. inl h;
-  asleep = λ h. h;
-  more = [];
-  longer = sym (append-nil (v.listed Cand));
-  lighter = omega arith;
-}
-  where
-    known : (q : ℕ) → Includes (p ∷ []) q → IsMember v q → v.number q ≢ 0
-    known q (inl i) k = subst (λ o. IsMember v o → v.number o ≢ 0) i idle k
-    known q (inr h) k = absurd h
+pub woken_none : (v : View) → Woken [] v v
+woken_none v = woken_awake [] v (λ p h. absurd h)
 
 pub woken_more : (r s : List ℕ) (a b c : View) → Woken r a b → Woken s b c → Woken (r ++ s) a c
 woken_more r s a b c first then = record {
@@ -85,20 +70,25 @@ woken_more r s a b c first then = record {
   lighter = omega (arith, first.lighter, then.lighter, length-append first.more then.more);
 }
 
--- one that comes several times is taken back once
-pub woken_run : (n p : ℕ) (a b : View) → 0 < n → Woken (p ∷ []) a b → Woken (replicate n p) a b
-woken_run n p a b some once = record {
-  same = once.same;
-  others = once.others;
-  sums = once.sums;
-  stays = once.stays;
-  woken = λ q h k. once.woken q (inl (always_that n p q h)) k;
-  only = λ q h. either (once.only q h) (λ k. inl k) (λ k. inr (subst (Includes (replicate n p)) (always_that 1 p q k) (that_is_there n p some)));
-  asleep = once.asleep;
-  more = once.more;
-  longer = once.longer;
-  lighter = once.lighter;
-}
+-- one that has a number, as often as it comes
+pub awake_run : (v : View) (xs : List ℕ) (at end o : ℕ) → take end xs ≡ take at xs ++ replicate (end - at) o → v.number o ≢ 0 → ((p : ℕ) → Includes (take at xs) p → v.number p ≢ 0)
+    → (p : ℕ) → Includes (take end xs) p → v.number p ≢ 0
+awake_run v xs at end o run awake before p h =
+    either (Includes-append_cases (take at xs) (replicate (end - at) o) p (subst (λ (l : List ℕ). Includes l p) run h))
+    (λ i. before p i)
+    (λ i. subst (λ q. v.number q ≢ 0) (always_that (end - at) o p i) awake)
+
+-- those that have numbers, and the one behind them
+pub woken_next : (xs : List ℕ) (from at : ℕ) (a b c : View) → Woken (take from xs) a b → IsFirstZero b (drop from xs) at → Woken (get_or xs (from + at) 0 ∷ []) b c → Woken (take (from + (at + 1)) xs) a c
+woken_next xs from at a b c so first more =
+    let rest = drop from xs in
+    let parts : take (from + (at + 1)) xs ≡ take from xs ++ (take at rest ++ get_or xs (from + at) 0 ∷ []) =
+    take-add from (at + 1) xs ∙ ap (λ (l : List ℕ). take from xs ++ l) (take_more rest at 0 first.within ∙ ap (λ o. take at rest ++ o ∷ []) (get_or-drop from xs at 0)) in
+    subst (λ (l : List ℕ). Woken l a c) (sym parts) (woken_more _ _ a b c so (woken_more _ _ b b c (woken_awake (take at rest) b first.before) more))
+
+-- the rest have numbers
+pub woken_rest : (xs : List ℕ) (from : ℕ) (a b : View) → Woken (take from xs) a b → ((p : ℕ) → Includes (drop from xs) p → b.number p ≢ 0) → Woken xs a b
+woken_rest xs from a b so awake = subst (λ (l : List ℕ). Woken l a b) (take-append-drop from xs) (woken_more _ _ a b b so (woken_awake (drop from xs) b awake))
 
 -- One target: its number was 0 and becomes 1.
 module _ (p : ℕ) (a c : View) (zero_was : a.number p ≡ 0) (numbers : (q : ℕ) → c.number q ≡ cond (q == p) 1 (a.number q)) where

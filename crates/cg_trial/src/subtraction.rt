@@ -1,5 +1,5 @@
 //! Trial subtraction, and the walk that takes out what is reached.
-ghost use Rattle.std.specs.Prelude.{◌≡◌, ◌≢◌, ◌↔◌, ℕ, ◌+◌, ◌-◌, ◌*◌, ◌≤◌, ◌∷◌, ◌++◌, [], replicate, ◌<◌, false, length, slice_index, take, IsTrue};
+ghost use Rattle.std.specs.Prelude.{◌≡◌, ◌≢◌, ◌↔◌, ℕ, ◌+◌, ◌-◌, ◌*◌, ◌≤◌, ◌∷◌, ◌++◌, [], replicate, ◌<◌, false, length, slice_index, take, IsTrue, IfSome, None};
 ghost use Rattle.cg_graph.specs.Member.{Includes};
 ghost use Rattle.cg_graph.specs.Value.{references};
 ghost use Rattle.cg_graph.specs.Holdings.{occurrences};
@@ -9,7 +9,7 @@ ghost use Rattle.cg_arena.specs.Nodes.{IsPlace};
 ghost use Rattle.cg_heap.specs.Calls.{IsListed};
 ghost use Rattle.cg_trial.specs.View.{view_of, IsReadyView, IsSameButNumbers, Lowered, held_by};
 ghost use Rattle.cg_trial.specs.Paths.{entries_in};
-ghost use Rattle.cg_trial.specs.Sift.{Woken, IsNowhereElse, IsParted, IsTwofold, IsExchanged, IsSifted, IsSieved};
+ghost use Rattle.cg_trial.specs.Sift.{Woken, IsFirstZero, IsNowhereElse, IsParted, IsTwofold, IsExchanged, IsSifted, IsSieved};
 ghost use Rattle.cg_trial.specs.Split.{IsSplitPlace, kept_place, entry_number_at, IsSameButPlaces};
 
 use crate::candidates::{
@@ -59,40 +59,36 @@ fn end_of_long_run(objects: &[u64], from: usize) -> usize
     ensures behind { from < result }
     ensures within { result ≤ length objects.now }
 {
+    let object = objects[from];
     let mut end = from + 1;
-    'run: while end < objects.len() && objects[end] == objects[from] {
+    'run: while end < objects.len() && objects[end] == object {
         end += 1;
     }
     end
 }
 
-/// An object gets a number that is lower by this, if it is a candidate.
-#[inline(always)]
-fn lower_run<B: Kind>(heap: &mut Heap<B>, object: u64, times: usize)
-    requires live { IsTrue ((view_of heap.old).live object) }
-    requires room { Includes ((view_of heap.old).listed Place.Cand) object → times ≤ (view_of heap.old).number object }
-    ensures { Lowered (replicate times object) (view_of heap.old) (view_of heap.new) }
-{
-    if times == 1 {
-        lower_number(heap, object);
-    } else {
-        lower_number_by(heap, object, times);
-    }
-}
-
 /// Each of these objects that is a candidate gets a number that is lower by one, as often as it is among them. One that comes
-/// several times in a row is sought once.
+/// several times in a row is sought for all of them at once; whether it does is seen by the object at `next`.
 #[inline(always)]
 fn lower_each<B: Kind>(heap: &mut Heap<B>, objects: &[u64])
     requires live { (o : ℕ) → Includes objects.now o → IsTrue ((view_of heap.old).live o) }
     requires room { (o : ℕ) → Includes ((view_of heap.old).listed Place.Cand) o → occurrences o objects.now ≤ (view_of heap.old).number o }
     ensures { Lowered objects.now (view_of heap.old) (view_of heap.new) }
 {
-    let mut from = 0;
-    'runs: while from < objects.len() {
-        let end = end_of_run(objects, from);
-        lower_run(heap, objects[from], end - from);
-        from = end;
+    let mut next = 1;
+    'runs: while next < objects.len() {
+        let object = objects[next - 1];
+        if object == objects[next] {
+            let end = end_of_long_run(objects, next - 1);
+            lower_number_by(heap, object, end + 1 - next);
+            next = end + 1;
+        } else {
+            lower_number(heap, object);
+            next += 1;
+        }
+    }
+    if next <= objects.len() {
+        lower_number(heap, objects[next - 1]);
     }
 }
 
@@ -140,20 +136,28 @@ fn subtract<B: Kind, L: Ledger>(heap: &mut Heap<B>, steps: &mut Steps<L>)
     }
 }
 
-/// A candidate with the number 0 gets the number 1, and where it was set aside, the last place in the list, so that the walk
-/// comes to it.
+/// The first of these objects that has the number 0: its position, and its place. Nothing is written on the way, so that
+/// where the heap has its slots is read once for all of them.
 #[inline(always)]
-fn take_back<B: Kind>(heap: &mut Heap<B>, object: u64)
-    requires { IsTrue ((view_of heap.old).live object) }
-    ensures { Woken (object ∷ []) (view_of heap.old) (view_of heap.new) }
+fn first_to_wake<B: Kind>(heap: &Heap<B>, objects: &[u64]) -> Option<(usize, Place)>
+    requires { (o : ℕ) → Includes objects.now o → IsTrue ((view_of heap.now).live o) }
+    ensures first { IfSome result (λ r. IsFirstZero (view_of heap.now) objects.now r.0) }
+    ensures place { IfSome result (λ r. r.1 ≡ place_of heap.now (slice_index objects.now r.0)) }
+    ensures none { result ≡ None → (o : ℕ) → Includes objects.now o → (view_of heap.now).number o ≢ 0 }
 {
-    let head = heap.head_of(object);
-    if head.number == 0 {
-        wake(heap, object, head.place);
+    let mut at = 0;
+    'objects: while at < objects.len() {
+        let head = heap.head_of(objects[at]);
+        if head.number == 0 {
+            return Some((at, head.place));
+        }
+        at = end_of_run(objects, at);
     }
+    None
 }
 
-/// The same, of an object in this place that has the number 0.
+/// An object with the number 0 in this place gets the number 1, if it is a candidate, and where it was set aside, the last
+/// place in the list, so that the walk comes to it.
 #[inline(never)]
 fn wake<B: Kind>(heap: &mut Heap<B>, object: u64, place: Place)
     requires live { IsTrue ((view_of heap.old).live object) }
@@ -176,10 +180,9 @@ fn take_back_each<B: Kind>(heap: &mut Heap<B>, objects: &[u64])
     ensures { Woken objects.now (view_of heap.old) (view_of heap.new) }
 {
     let mut from = 0;
-    'runs: while from < objects.len() {
-        let end = end_of_run(objects, from);
-        take_back(heap, objects[from]);
-        from = end;
+    'zeros: while let Some((at, place)) = first_to_wake(heap, &objects[from..]) {
+        wake(heap, objects[from + at], place);
+        from += at + 1;
     }
 }
 

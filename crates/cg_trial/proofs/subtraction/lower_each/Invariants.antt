@@ -1,9 +1,13 @@
-use Rattle.std.proofs.Common.{length, ◌-◌, take}
+use Rattle.std.proofs.Common.{length, ◌+◌, ◌-◌, ◌≤◌, take}
 use Rattle.cg_trial.specs.View.{view_of, Lowered}
 use Rattle.cg_trial.proofs.subtraction.lower_each.Given as goal
 
 abbrev pub invariant-runs : goal.invariant-runs
-invariant-runs g l = Lowered (take l.from l.objects) (view_of l.fn.heap) (view_of l.heap)
+invariant-runs g l = record {
+  lowered : Lowered (take (l.next - 1) l.objects) (view_of l.fn.heap) (view_of l.heap);
+  within : l.next ≤ length l.objects + 1;
+  behind : 1 ≤ l.next;
+}
 
 abbrev pub decreases-runs : goal.decreases-runs
-decreases-runs g l = length l.objects - l.from
+decreases-runs g l = length l.objects + 1 - l.next

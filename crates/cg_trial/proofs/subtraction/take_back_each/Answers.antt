@@ -1,24 +1,32 @@
-use Rattle.std.proofs.Common.{List, ℕ, sym, subst, arith}
-use Rattle.std.proofs.lemmas.List.{take_all}
+use Rattle.std.proofs.Common.{List, ℕ, ◌+◌, refl, sym, subst, arith}
+use Rattle.std.proofs.lemmas.List.{take_rest}
+use Rattle.cg_graph.specs.Member.{Includes}
 use Rattle.cg_trial.specs.View.{view_of}
-use Rattle.cg_trial.specs.Sift.{Woken}
-use Rattle.cg_trial.proofs.Entries.{live_same, one_of}
-use Rattle.cg_trial.proofs.Waking.{woken_none, woken_more, woken_run}
+use Rattle.cg_trial.specs.Sift.{IsFirstZero}
+use Rattle.cg_trial.proofs.Entries.{live_same, one_of, rest_of}
+use Rattle.cg_trial.proofs.Waking.{woken_none, woken_next, woken_rest}
 use Rattle.cg_trial.proofs.subtraction.take_back_each.Goals as goal
 
-pub runs-init : goal.runs-init
-runs-init g c = woken_none (view_of c.args.heap.now)
+pub zeros-init : goal.zeros-init
+zeros-init g c = record { woken = woken_none (view_of c.args.heap.now); within = omega arith }
 
-pub take_back-requires : goal.take_back-requires
-take_back-requires g c =
-    live_same (view_of c.args.heap.now) (view_of c.runs.heap) _ c.runs.invariant.same (c.requires _ (one_of c.args.objects.now c.runs.from c.runs-test.true))
+pub first_to_wake-requires : goal.first_to_wake-requires
+first_to_wake-requires g c = λ p h.
+    live_same (view_of c.args.heap.now) (view_of c.zeros.heap) p c.zeros.invariant.woken.same
+    (c.requires p (rest_of c.args.objects.now c.zeros.from p (subst (λ (xs : List ℕ). Includes xs p) (take_rest c.args.objects.now c.zeros.from) h)))
 
-pub runs-preserved : goal.runs-preserved
-runs-preserved g c =
-    subst (λ (xs : List ℕ). Woken xs (view_of c.args.heap.now) (view_of c.take_back.new.heap)) (sym c.end_of_run-end.ensures.run)
-    (woken_more _ _ (view_of c.args.heap.now) (view_of c.runs.heap) (view_of c.take_back.new.heap) c.runs.invariant
-    (woken_run _ _ (view_of c.runs.heap) (view_of c.take_back.new.heap) (omega (arith, c.end_of_run-end.ensures.behind)) c.take_back.ensures))
+pub wake-requires-clause-live : goal.wake-requires-clause-live
+wake-requires-clause-live g c =
+    live_same (view_of c.args.heap.now) (view_of c.zeros.heap) _ c.zeros.invariant.woken.same (c.requires _ (one_of c.args.objects.now (c.zeros.from + c.in-Some.at) (omega (arith, c.in-Some.ensures.first.within))))
+
+pub zeros-preserved : goal.zeros-preserved
+zeros-preserved g c = record {
+  woken = woken_next c.args.objects.now c.zeros.from c.in-Some.at (view_of c.args.heap.now) (view_of c.zeros.heap) (view_of c.wake.new.heap) c.zeros.invariant.woken
+      (subst (λ (xs : List ℕ). IsFirstZero (view_of c.zeros.heap) xs c.in-Some.at) (take_rest c.args.objects.now c.zeros.from) c.in-Some.ensures.first)
+      c.wake.ensures;
+  within = omega (arith, c.in-Some.ensures.first.within);
+}
 
 pub returns : goal.returns
-returns g c =
-    subst (λ (xs : List ℕ). Woken xs (view_of c.args.heap.now) (view_of c.runs.heap)) (take_all c.runs.from c.args.objects.now (omega (arith, c.runs-test.false))) c.runs.invariant
+returns g c = woken_rest c.args.objects.now c.zeros.from (view_of c.args.heap.now) (view_of c.zeros.heap) c.zeros.invariant.woken
+    (λ p h. c.in_default.ensures.none refl p (subst (λ (xs : List ℕ). Includes xs p) (sym (take_rest c.args.objects.now c.zeros.from)) h))
