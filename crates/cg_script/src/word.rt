@@ -23,10 +23,18 @@ fn may_stand_in_name(byte: u8) -> bool
     may_begin_name(byte) || byte.is_ascii_digit()
 }
 
-fn has_name_bytes(word: &[u8]) -> bool
+fn has_name_bytes(bytes: &[u8]) -> bool
+    ensures { result ≡ list_all is_name_byte bytes.now }
+{
+    bytes.iter().all(|byte| may_stand_in_name(*byte))
+}
+
+/// Whether a word that begins as a name goes on as one. What begins a name may stand in it, and is not looked at twice.
+fn goes_on_as_name(word: &[u8]) -> bool
+    requires { begins_name (slice_index word.now 0) ≡ true }
     ensures { result ≡ list_all is_name_byte word.now }
 {
-    word.iter().all(|byte| may_stand_in_name(*byte))
+    has_name_bytes(&word[1..])
 }
 
 pub(crate) fn is_identifier_word(word: &[u8]) -> bool
@@ -35,7 +43,7 @@ pub(crate) fn is_identifier_word(word: &[u8]) -> bool
     match word.first() {
         Some(first) => word.len() <= MOST_NAME_BYTES
             && may_begin_name(*first)
-            && has_name_bytes(word),
+            && goes_on_as_name(word),
         None => false,
     }
 }
@@ -58,10 +66,16 @@ fn is_reserved_for_form(word: &[u8]) -> bool
     reserves(form_named(word))
 }
 
+/// The fewest bytes of a word that no variable may be.
+const FEWEST_RESERVED: usize = 2;
+
 /// Whether no variable may be this word: it has a meaning of its own somewhere in the language.
 fn is_reserved_word(word: &[u8]) -> bool
     ensures { result ≡ is_reserved word.now }
 {
+    if word.len() < FEWEST_RESERVED {
+        return false;
+    }
     atom(word).is_some() || is_reserved_for_form(word)
 }
 
@@ -79,7 +93,7 @@ pub(crate) fn is_free_name(word: &[u8]) -> bool
     requires begins { begins_name (slice_index word.now 0) ≡ true }
     ensures { result ≡ is_variable word.now }
 {
-    word.len() <= MOST_NAME_BYTES && has_name_bytes(word) && !is_reserved_for_form(word)
+    word.len() <= MOST_NAME_BYTES && goes_on_as_name(word) && !is_reserved_for_form(word)
 }
 
 pub(crate) fn is_printable_text(bytes: &[u8]) -> bool

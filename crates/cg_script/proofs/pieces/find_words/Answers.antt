@@ -16,8 +16,9 @@ words-preserved c =
     let i = c.in-Some.i in
     let k = c.words.invariant in
     let space = c.if-bytes-at-ne32.false in
-    let found = found_as (texts_of c.words.words.items) _ _ _ c.push_word.ensures (same_piece bytes at k.within k.printable i c.in-Some.ensures.place) in
+    let found = found_as (texts_of c.words.words.items) _ _ _ c.push_word.ensures.words (same_piece bytes at k.within k.printable i c.in-Some.ensures.place) in
     record {
+      room = c.push_word.ensures.room ∙ k.room;
       within = omega (arith, within_here bytes at k.within k.printable i c.in-Some.ensures.place);
       printable = printable_behind bytes at k.within k.printable i c.in-Some.ensures.place space;
       few = few_found c.push_word.new.words.items _ found;
@@ -34,7 +35,7 @@ returns-then-bytes-at-ne32-clause-words c =
     let at = c.words.at in
     let i = c.in-Some.i in
     let k = c.words.invariant in
-    let found = found_as (texts_of c.words.words.items) _ _ _ c.push_word.ensures (same_piece bytes at k.within k.printable i c.in-Some.ensures.place) in
+    let found = found_as (texts_of c.words.words.items) _ _ _ c.push_word.ensures.words (same_piece bytes at k.within k.printable i c.in-Some.ensures.place) in
     first_last (texts_of c.words.words.items) (texts_of c.push_word.new.words.items) (take at bytes) (take i (drop at bytes)) (word_here bytes at k.within k.printable i c.in-Some.ensures.place) found k.found
     ∙ ap (λ bs. take MOST_FOUND (words_of bs)) (sym (take-add at i bytes))
 
@@ -46,7 +47,7 @@ returns-in-None-clause-words c =
     let bytes = c.args.bytes.now in
     let at = c.words.at in
     let k = c.words.invariant in
-    let found = found_as (texts_of c.words.words.items) _ _ _ c.push_word-in-None.ensures (all_taken at bytes) in
+    let found = found_as (texts_of c.words.words.items) _ _ _ c.push_word-in-None.ensures.words (all_taken at bytes) in
     first_last (texts_of c.words.words.items) (texts_of c.push_word-in-None.new.words.items) (take at bytes) (drop at bytes) (word_last bytes at k.within k.printable c.in-None.ensures.place) found k.found
     ∙ ap (λ bs. take MOST_FOUND (words_of bs)) (take-append-drop at bytes ∙ sym (take-length bytes))
 
