@@ -1,15 +1,12 @@
 -- The form that a word picks is found among those whose words begin as it does and are as long; by what form it is, it is that of a line `x = ..` or of another.
 use Rattle.std.proofs.Common.{◌≡◌, ℕ, List, [], ◌∷◌, ◌++◌, Bool, true, false, cond, not, ◌&&◌, ◌||◌, ◌<◌, length, nat_le, get_or, Option, Some, None, refl, sym, ap, ◌∙◌, arith}
 use Rattle.std.specs.List.{list_all}
-use Rattle.std.specs.Option.{is_none, is_some}
+use Rattle.std.specs.Option.{is_none}
 use Rattle.std.specs.Str.{bytes_eq}
-use Rattle.std.proofs.lemmas.Slice.Eq.{bytes_eq-Decides}
 use Rattle.std.proofs.lemmas.Bool.Decides.{nat_tests}
 use Rattle.cg_script.specs.declared.form.Form.{Form}
 use Rattle.cg_script.specs.Tables.{named}
-use Rattle.cg_script.specs.declared.command.Operand.{Operand}
-use Rattle.cg_script.specs.Words.{atoms, reserves, is_reserved}
-use Rattle.cg_script.proofs.Ascii.{both}
+use Rattle.cg_script.specs.Words.{reserves}
 use Rattle.cg_script.specs.Forms.{word_of, by_words, binds, binding_forms, opening_forms, worded_forms, words_of_forms, openers, bindings}
 use Rattle.cg_script.proofs.Rows.{by_words-is}
 use Rattle.cg_script.specs.Alike.{forms_like}
@@ -128,20 +125,3 @@ reserved_by_word w =
     go : (m : Option Form) → (reserves (kept (λ form. not (binds form)) m) || reserves (kept binds m)) ≡ reserves m
     go None = refl
     go (Some form) = by (binds form) form
-
--- no row has a word so short
-no_short_row : {A : Type 0} (rows : List (List ℕ × A)) (w : List ℕ) → length w < 2 → list_all (λ row. nat_le 2 (length row.0)) rows ≡ true → named rows w ≡ None
-no_short_row [] w short all = refl
-no_short_row (row ∷ rows) w short all = by (bytes_eq w row.0) refl (both (nat_le 2 (length row.0)) (list_all (λ row. nat_le 2 (length row.0)) rows) all) (no_short_row rows w short)
-  where
-    by : (b : Bool) → bytes_eq w row.0 ≡ b → (nat_le 2 (length row.0) ≡ true) × (list_all (λ row. nat_le 2 (length row.0)) rows ≡ true) → (list_all (λ row. nat_le 2 (length row.0)) rows ≡ true → named rows w ≡ None) → cond b (Some row.1) (named rows w) ≡ None
-    by true e p later = let long = p.0 in let same : length w ≡ length row.0 = ap length ((bytes_eq-Decides w row.0).0 e) in absurd (grind (arith, nat_tests))
-    by false e p later = later p.1
-
--- no word so short is reserved
-pub short_is_free : (w : List ℕ) → length w < 2 → false ≡ is_reserved w
-unfolding atoms
-short_is_free w short =
-    let few : length w < 3 = omega (arith, short) in
-    sym (ap (λ (m : Option Operand). is_some m || reserves (named openers w) || reserves (named bindings w)) (no_short_row atoms w short refl)
-    ∙ reserved_by_word w ∙ ap reserves (short_names_none w few))

@@ -66,16 +66,10 @@ fn is_reserved_for_form(word: &[u8]) -> bool
     reserves(form_named(word))
 }
 
-/// The fewest bytes of a word that no variable may be.
-const FEWEST_RESERVED: usize = 2;
-
 /// Whether no variable may be this word: it has a meaning of its own somewhere in the language.
 fn is_reserved_word(word: &[u8]) -> bool
     ensures { result ≡ is_reserved word.now }
 {
-    if word.len() < FEWEST_RESERVED {
-        return false;
-    }
     atom(word).is_some() || is_reserved_for_form(word)
 }
 
@@ -275,19 +269,32 @@ fn atoms_like(byte: u8, count: usize) -> &'static [(&'static [u8], Operand)]
     }
 }
 
-/// The value with a word of its own that a word is, if it is one.
+/// The value with a word of its own that a word with bytes is, if it is one. Only those that begin as it does and are as long are
+/// compared with it.
 #[inline(always)]
-pub(crate) fn atom(word: &[u8]) -> Option<Operand>
+fn atom_among_like(word: &[u8]) -> Option<Operand>
+    requires { 1 ≤ length word.now }
     ensures { result ≡ named_in atoms word.now }
 {
-    if word.is_empty() {
-        return None;
-    }
     let rows = atoms_like(word[0], word.len());
     if rows.is_empty() {
         return None;
     }
     named(rows, word)
+}
+
+/// The fewest bytes of a value's own word.
+const FEWEST_ATOM_BYTES: usize = 2;
+
+/// The value with a word of its own that a word is, if it is one. Most names are too short for it.
+#[inline(always)]
+pub(crate) fn atom(word: &[u8]) -> Option<Operand>
+    ensures { result ≡ named_in atoms word.now }
+{
+    if word.len() < FEWEST_ATOM_BYTES {
+        return None;
+    }
+    atom_among_like(word)
 }
 
 /// Whether a word stands for a value: `none`, `self`, `ref`, `garbage`, `c0` to `c7`, a string, a variable, or a whole number of
