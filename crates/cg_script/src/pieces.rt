@@ -29,11 +29,11 @@ fn cut(bytes: &[u8], separator: u8) -> (&[u8], &[u8])
     }
 }
 
-/// The first place of a byte that is a space, or not printable, as a line feed is.
-fn place_of_end(bytes: &[u8]) -> Option<usize>
-    ensures place { result ≡ position (λ b. not (is_printable b) || b == 32) bytes.now }
+/// Whether a byte may stand in a word: it is printable, and no space.
+fn may_stand_in_word(byte: u8) -> bool
+    ensures { result ≡ not (not (is_printable byte) || byte == 32) }
 {
-    bytes.iter().position(|byte| !(33..=126).contains(byte))
+    (33..=126).contains(&byte)
 }
 
 /// Takes a piece of a line as a word, unless it is empty, or there are too many.
@@ -61,22 +61,22 @@ fn find_words<'a>(bytes: &'a [u8], words: &mut Words<'a>) -> Option<usize>
     ensures words { map (λ w. w.now) words.new.items
         ≡ take MOST_FOUND (words_of (take (unwrap_or result (length bytes.now)) bytes.now)) }
 {
+    let mut start = 0;
     let mut at = 0;
-    'words: while at < bytes.len() {
-        match place_of_end(&bytes[at..]) {
-            Some(i) => {
-                push_word(words, &bytes[at..at + i]);
-                if bytes[at + i] != b' ' {
-                    return Some(at + i);
-                }
-                at += i + 1;
-            }
-            None => {
-                push_word(words, &bytes[at..]);
-                return None;
-            }
+    'bytes: while at < bytes.len() {
+        let byte = bytes[at];
+        if may_stand_in_word(byte) {
+            at += 1;
+            continue;
         }
+        push_word(words, &bytes[start..at]);
+        if byte != b' ' {
+            return Some(at);
+        }
+        at += 1;
+        start = at;
     }
+    push_word(words, &bytes[start..]);
     None
 }
 

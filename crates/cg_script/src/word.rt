@@ -75,6 +75,7 @@ fn is_reserved_word(word: &[u8]) -> bool
 
 /// Whether a word may name a variable: 1 to 32 letters, digits and `_`, of which the first is no digit, and no word of the
 /// language. (Ours.)
+#[inline(always)]
 pub fn is_variable(word: &[u8]) -> bool
     ensures { result ≡ is_variable word.now }
 {
