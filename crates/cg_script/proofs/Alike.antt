@@ -1,7 +1,10 @@
 -- What a word picks is found among the words that begin as it does and are as long.
-use Rattle.std.proofs.Common.{◌≡◌, ℕ, List, [], ◌∷◌, Bool, true, false, cond, ◌&&◌, ◌==◌, length, map, get_or, Some, None, refl, sym, ap, ◌∙◌, arith, eq-eqb}
+use Rattle.std.proofs.Common.{◌≡◌, ℕ, List, [], ◌∷◌, Bool, true, false, cond, ◌&&◌, ◌==◌, ◌<◌, nat_le, length, map, get_or, Some, None, refl, sym, ap, ◌∙◌, arith, eq-eqb}
+use Rattle.std.specs.List.{list_all}
 use Rattle.std.specs.Str.{bytes_eq}
 use Rattle.std.proofs.lemmas.Slice.Eq.{bytes_eq-Decides}
+use Rattle.std.proofs.lemmas.Bool.Decides.{nat_tests}
+use Rattle.cg_script.proofs.Ascii.{both}
 use Rattle.cg_script.specs.declared.form.Form.{Form}
 use Rattle.cg_script.specs.Tables.{named}
 use Rattle.cg_script.specs.Forms.{word_of, by_words}
@@ -43,8 +46,17 @@ pub none_alike : {A B : Type 0} (f : A → List ℕ × B) (rows : List A) (w : L
 none_alike f [] w e = refl
 none_alike f (row ∷ rows) w e = absurd (omega (arith, e))
 
--- no value has no bytes
-pub no_atom : (w : List ℕ) → length w ≡ 0 → None ≡ named atoms w
+-- no row has a word so short
+no_short_row : {A : Type 0} (rows : List (List ℕ × A)) (w : List ℕ) → length w < 2 → list_all (λ row. nat_le 2 (length row.0)) rows ≡ true → None ≡ named rows w
+no_short_row [] w short all = refl
+no_short_row (row ∷ rows) w short all = by (bytes_eq w row.0) refl (both (nat_le 2 (length row.0)) (list_all (λ row. nat_le 2 (length row.0)) rows) all) (no_short_row rows w short)
+  where
+    by : (b : Bool) → bytes_eq w row.0 ≡ b → (nat_le 2 (length row.0) ≡ true) × (list_all (λ row. nat_le 2 (length row.0)) rows ≡ true) → (list_all (λ row. nat_le 2 (length row.0)) rows ≡ true → None ≡ named rows w)
+        → None ≡ cond b (Some row.1) (named rows w)
+    by true e p later = let long = p.0 in let same : length w ≡ length row.0 = ap length ((bytes_eq-Decides w row.0).0 e) in absurd (grind (arith, nat_tests))
+    by false e p later = later p.1
+
+-- no value has a word so short
+pub short_no_atom : (w : List ℕ) → length w < 2 → None ≡ named atoms w
 unfolding atoms
-no_atom [] e = refl
-no_atom (b ∷ bs) e = absurd (omega (arith, e))
+short_no_atom w short = no_short_row atoms w short refl

@@ -1,10 +1,10 @@
 -- Printable bytes are text.
-use Rattle.std.proofs.Common.{◌≡◌, ℕ, zero, suc, ◌<◌, List, [], ◌∷◌, Bool, true, false, ◌&&◌, get_or, arith, refl}
+use Rattle.std.proofs.Common.{◌≡◌, ℕ, zero, suc, ◌<◌, List, [], ◌∷◌, Bool, true, false, ◌&&◌, ◌||◌, get_or, slice_index, drop, arith, refl, sym, ap}
 use Rattle.std.specs.List.{list_all}
 use Rattle.std.specs.Str.{IsUtf8}
 use Rattle.std.proofs.lemmas.Str.{IsUtf8-from_ascii}
 use Rattle.std.proofs.lemmas.Bool.Decides.{nat_tests}
-use Rattle.cg_script.specs.Words.{is_printable, is_name_byte, is_identifier}
+use Rattle.cg_script.specs.Words.{is_printable, is_digit, begins_name, is_name_byte, is_identifier}
 
 pub both : (a b : Bool) → (a && b) ≡ true → (a ≡ true) × (b ≡ true)
 both true b e = (refl, e)
@@ -34,3 +34,8 @@ names_are_printable (b ∷ bs) e = let h = both (is_name_byte b) _ e in joined (
 
 pub identifier_is_printable : (word : List ℕ) → is_identifier word ≡ true → list_all is_printable word ≡ true
 identifier_is_printable word e = names_are_printable word (both _ (list_all is_name_byte word) e).1
+
+-- the first byte of a name may stand in it
+pub name_behind : (word : List ℕ) → begins_name (slice_index word 0) ≡ true → list_all is_name_byte (drop 1 word) ≡ list_all is_name_byte word
+name_behind [] e = refl
+name_behind (b ∷ bs) e = sym (ap (λ t. (t || is_digit b) && list_all is_name_byte bs) e)

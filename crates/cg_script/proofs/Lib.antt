@@ -9,6 +9,7 @@ pub mod Split
 pub mod Grouped
 pub mod Says
 pub mod ReadWords
+pub mod Unknowns
 pub mod Walk
 pub mod Counts
 pub mod Lines

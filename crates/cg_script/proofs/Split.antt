@@ -1,8 +1,7 @@
 -- The words at the front of some bytes.
 use Rattle.std.proofs.Common.{◌≡◌, ◌≢◌, ℕ, zero, suc, ◌+◌, ◌-◌, ◌<◌, ◌≤◌, List, [], ◌∷◌, ◌++◌, length, take, drop, filter, get_or, Bool, true, false, cond, not, ◌&&◌, ◌||◌, ◌==◌, refl, sym, ap, ◌∙◌, arith, nat_lt, Some, None, position, length-append, length-drop, append_assoc, append-nil}
 use Rattle.std.proofs.lemmas.Bool.Decides.{nat_tests}
-use Rattle.std.proofs.lemmas.List.{take_all, take_more, take-append-drop, length-take-le, get_or-drop, take-append-le, get_or-take, length-take}
-use Rattle.std.proofs.lemmas.List.Quantifiers.{position-Some}
+use Rattle.std.proofs.lemmas.List.{take_all, take_more, length-take-le, get_or-drop, take-append-le, get_or-take, length-take}
 use Rattle.std.proofs.Math.Seq.{take-add}
 use Rattle.std.specs.List.{list_all, position_or_len}
 use Rattle.cg_script.specs.declared.limits.TheConstants.{MOST_FOUND, MOST_WORDS}
@@ -14,7 +13,7 @@ use Rattle.std.proofs.lemmas.List.{length-map, map-append}
 use Rattle.cg_script.proofs.Places.{texts_of}
 use Rattle.std.proofs.lemmas.List.Folds.{list_all-append}
 use Rattle.std.proofs.lemmas.List.Sums.{prefix_len_is}
-use Rattle.cg_script.proofs.Cuts.{odd, empty_piece, full_piece, all_taken, passes_before, all_pass}
+use Rattle.cg_script.proofs.Cuts.{odd, empty_piece, full_piece}
 
 is_below : (n m : ℕ) → n < m → nat_lt n m ≡ true
 is_below n m h = grind (arith, nat_tests)
@@ -32,7 +31,7 @@ plain b = not (ends b)
 plain_other : (b : ℕ) → plain b ≡ true → (b == 32) ≡ false
 plain_other b e = grind (arith, nat_tests)
 
-plain_printable : (b : ℕ) → plain b ≡ true → is_printable b ≡ true
+pub plain_printable : (b : ℕ) → plain b ≡ true → is_printable b ≡ true
 plain_printable b e = grind (arith, nat_tests)
 
 -- a word ends at its space
@@ -71,11 +70,6 @@ take_front (suc n) (x ∷ xs) ys = ap (λ l. x ∷ l) (take_front n xs ys)
 abbrev pub AreFirst : List (List ℕ) → List ℕ → Type 0
 AreFirst words done = (rest : List ℕ) → take MOST_FOUND (words ++ words_of rest) ≡ take MOST_FOUND (words_of (done ++ rest))
 
--- a piece that is found is found however it is written
-pub found_as : (words now : List (List ℕ)) (piece w : List ℕ) → now ≡ take MOST_FOUND (words ++ filter has_bytes (piece ∷ [])) → piece ≡ w
-    → now ≡ take MOST_FOUND (words ++ filter has_bytes (w ∷ []))
-found_as words now piece w e same = e ∙ ap (λ p. take MOST_FOUND (words ++ filter has_bytes (p ∷ []))) same
-
 -- with one word more and its space
 pub first_more : (words now : List (List ℕ)) (done w : List ℕ) → list_all plain w ≡ true → now ≡ take MOST_FOUND (words ++ filter has_bytes (w ∷ [])) → AreFirst words done
     → AreFirst now (done ++ (w ++ 32 ∷ []))
@@ -92,10 +86,6 @@ first_more words now done w h e inv rest =
 pub first_last : (words now : List (List ℕ)) (done w : List ℕ) → list_all plain w ≡ true → now ≡ take MOST_FOUND (words ++ filter has_bytes (w ∷ [])) → AreFirst words done
     → now ≡ take MOST_FOUND (words_of (done ++ w))
 first_last words now done w h e inv = e ∙ ap (λ ws. take MOST_FOUND (words ++ ws)) (sym (word_alone w h)) ∙ inv w
-
--- with nothing more
-pub first_all : (words : List (List ℕ)) (done : List ℕ) → length words ≤ MOST_FOUND → AreFirst words done → words ≡ take MOST_FOUND (words_of done)
-first_all words done few inv = sym (ap (take MOST_FOUND) (append-nil words) ∙ take_all MOST_FOUND words few) ∙ inv [] ∙ ap (λ bs. take MOST_FOUND (words_of bs)) (append-nil done)
 
 -- as many texts as words
 pub length-texts : (words : List (Bor (List ℕ))) → length (texts_of words) ≡ length words
@@ -123,14 +113,6 @@ module _ (words : List (Bor (List ℕ))) where
       ap texts_of e ∙ map-append (λ w. w.now) words (piece ∷ [])
       ∙ sym (ap (λ t. take MOST_FOUND (texts_of words ++ cond t (piece.now ∷ []) [])) (full_piece piece.now some) ∙ take_all MOST_FOUND (texts_of words ++ piece.now ∷ []) l)
 
--- the bytes before the first that ends a word
-word_at_end : (i : ℕ) (bytes : List ℕ) → position ends bytes ≡ Some i → list_all plain (take i bytes) ≡ true
-word_at_end = passes_before ends plain (λ b. refl)
-
--- all bytes, where none ends a word
-word_at_last : (bytes : List ℕ) → position ends bytes ≡ None → list_all plain bytes ≡ true
-word_at_last = all_pass ends plain (λ b. refl)
-
 printable_at : (bytes : List ℕ) (k : ℕ) → list_all is_printable bytes ≡ true → k < length bytes → not (odd (get_or bytes k 0)) ≡ true
 printable_at [] k h within = absurd (omega (arith, within))
 printable_at (b ∷ bs) zero h within = ap (λ t. not (not t)) (both (is_printable b) (list_all is_printable bs) h).0
@@ -152,64 +134,41 @@ place_none bytes h =
     let is : position_or_len odd bytes ≡ length bytes = prefix_len_is (λ b. not (odd b)) bytes (length bytes) 0 whole (λ k l. printable_at bytes k h l) (λ w. absurd (omega (arith, w))) in
     sym (ap (λ k. cond (nat_lt k (length bytes)) (Some k) None) is ∙ ap (λ t. cond t (Some (length bytes)) None) (is_not_below (length bytes)))
 
-ends_odd : (b : ℕ) → ends b ≡ true → b ≢ 32 → odd b ≡ true
-ends_odd b e other = grind (arith, nat_tests)
+-- a byte that may not stand in a word, and is no space
+pub stops : (b : ℕ) → plain b ≡ false → b ≢ 32 → odd b ≡ true
+stops b e other = grind (arith, nat_tests)
 
--- a walk over some bytes that has come to a place behind a space
-module _ (bytes : List ℕ) (at : ℕ) (within : at ≤ length bytes) (printable : list_all is_printable (take at bytes) ≡ true) where
-  front_printable : (w : List ℕ) (k : ℕ) → list_all plain w ≡ true → take k bytes ≡ take at bytes ++ w → list_all is_printable (take k bytes) ≡ true
-  front_printable w k h e =
-      ap (list_all is_printable) e ∙ list_all-append is_printable (take at bytes) w ∙ ap (λ t. t && list_all is_printable w) printable ∙ all_plain w h
+-- a walk over some bytes that has come to a place, with a word that began at another
+module _ (bytes : List ℕ) (start at : ℕ) (started : start ≤ at) where
+  -- the bytes so far are those before the word and its own
+  pub word_behind : take at bytes ≡ take start bytes ++ take (at - start) (drop start bytes)
+  word_behind = let n : start + (at - start) ≡ at = omega (arith, started) in sym (ap (λ k. take k bytes) n) ∙ take-add start (at - start) bytes
 
-  -- and finds a byte that ends a word
-  module _ (i : ℕ) (e : Some i ≡ position ends (take (length bytes - at) (drop at bytes))) where
-    at_end : position ends (drop at bytes) ≡ Some i
-    at_end = sym (e ∙ ap (position ends) (all_taken at bytes))
+  -- and one byte more
+  module _ (within : at < length bytes) where
+    word_longer : take (at + 1 - start) (drop start bytes) ≡ take (at - start) (drop start bytes) ++ get_or bytes at 0 ∷ []
+    word_longer =
+        let n : at + 1 - start ≡ at - start + 1 = omega (arith, started) in
+        let m : start + (at - start) ≡ at = omega (arith, started) in
+        let inside : at - start < length (drop start bytes) = omega (arith, length-drop start bytes, started, within) in
+        ap (λ k. take k (drop start bytes)) n ∙ take_more (drop start bytes) (at - start) 0 inside
+        ∙ ap (λ b. take (at - start) (drop start bytes) ++ b ∷ []) (get_or-drop start bytes (at - start) 0 ∙ ap (λ k. get_or bytes k 0) m)
 
-    pub word_here : list_all plain (take i (drop at bytes)) ≡ true
-    word_here = word_at_end i (drop at bytes) at_end
+    all_longer : (p : ℕ → Bool) (xs more : List ℕ) → more ≡ xs ++ get_or bytes at 0 ∷ [] → list_all p xs ≡ true → p (get_or bytes at 0) ≡ true → list_all p more ≡ true
+    all_longer p xs more e all here =
+        ap (list_all p) e ∙ list_all-append p xs (get_or bytes at 0 ∷ []) ∙ ap (λ t. t && (p (get_or bytes at 0) && true)) all ∙ ap (λ t. t && true) here
 
-    inside : i < length (drop at bytes)
-    inside = (position-Some ends (drop at bytes) i 0 at_end).0
+    pub printable_longer : list_all is_printable (take at bytes) ≡ true → is_printable (get_or bytes at 0) ≡ true → list_all is_printable (take (at + 1) bytes) ≡ true
+    printable_longer = all_longer is_printable (take at bytes) (take (at + 1) bytes) (take_more bytes at 0 within)
 
-    pub within_here : at + i < length bytes
-    within_here = omega (arith, inside, length-drop at bytes, within)
+    pub plain_longer : list_all plain (take (at - start) (drop start bytes)) ≡ true → plain (get_or bytes at 0) ≡ true → list_all plain (take (at + 1 - start) (drop start bytes)) ≡ true
+    plain_longer = all_longer plain (take (at - start) (drop start bytes)) (take (at + 1 - start) (drop start bytes)) word_longer
 
-    pub same_piece : take (at + i - at) (drop at bytes) ≡ take i (drop at bytes)
-    same_piece = let n : at + i - at ≡ i = omega arith in ap (λ k. take k (drop at bytes)) n
-
-    pub printable_here : list_all is_printable (take (at + i) bytes) ≡ true
-    printable_here = front_printable (take i (drop at bytes)) (at + i) word_here (take-add at i bytes)
-
-    pub place_here : get_or bytes (at + i) 0 ≢ 32 → Some (at + i) ≡ position odd bytes
-    place_here other =
-        place_some (at + i) bytes within_here printable_here
-        (ends_odd (get_or bytes (at + i) 0) (ap ends (sym (get_or-drop at bytes i 0)) ∙ (position-Some ends (drop at bytes) i 0 at_end).1) other)
-
-    -- a space
-    module _ (space : get_or bytes (at + i) 0 ≡ 32) where
-      pub done_behind : take (at + (i + 1)) bytes ≡ take at bytes ++ (take i (drop at bytes) ++ 32 ∷ [])
-      done_behind =
-          take-add at (i + 1) bytes
-          ∙ ap (λ l. take at bytes ++ l) (take_more (drop at bytes) i 0 inside ∙ ap (λ b. take i (drop at bytes) ++ b ∷ []) (get_or-drop at bytes i 0 ∙ space))
-
-      pub printable_behind : list_all is_printable (take (at + (i + 1)) bytes) ≡ true
-      printable_behind =
-          ap (list_all is_printable) done_behind
-          ∙ list_all-append is_printable (take at bytes) (take i (drop at bytes) ++ 32 ∷ [])
-          ∙ ap (λ t. t && list_all is_printable (take i (drop at bytes) ++ 32 ∷ [])) printable
-          ∙ list_all-append is_printable (take i (drop at bytes)) (32 ∷ [])
-          ∙ ap (λ t. t && true) (all_plain (take i (drop at bytes)) word_here)
-
-  -- and finds none
-  module _ (e : None ≡ position ends (take (length bytes - at) (drop at bytes))) where
-    pub word_last : list_all plain (drop at bytes) ≡ true
-    word_last = word_at_last (drop at bytes) (sym (e ∙ ap (position ends) (all_taken at bytes)))
-
-    pub printable_last : list_all is_printable bytes ≡ true
-    printable_last =
-        ap (list_all is_printable) (sym (take-append-drop at bytes)) ∙ list_all-append is_printable (take at bytes) (drop at bytes)
-        ∙ ap (λ t. t && list_all is_printable (drop at bytes)) printable ∙ all_plain (drop at bytes) word_last
+    -- which is a space
+    pub done_behind : get_or bytes at 0 ≡ 32 → take (at + 1) bytes ≡ take start bytes ++ (take (at - start) (drop start bytes) ++ 32 ∷ [])
+    done_behind space =
+        take_more bytes at 0 within ∙ ap (λ l. l ++ get_or bytes at 0 ∷ []) word_behind ∙ append_assoc (take start bytes) (take (at - start) (drop start bytes)) (get_or bytes at 0 ∷ [])
+        ∙ ap (λ b. take start bytes ++ (take (at - start) (drop start bytes) ++ b ∷ [])) space
 
 pub few_found : (words : List (Bor (List ℕ))) (all : List (List ℕ)) → texts_of words ≡ take MOST_FOUND all → length words ≤ MOST_FOUND
 few_found words all e = omega (arith, length-texts words, ap length e, length-take MOST_FOUND all)

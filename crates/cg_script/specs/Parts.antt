@@ -12,7 +12,7 @@ use Rattle.cg_script.specs.declared.part.Part.{Part}
 use Rattle.cg_script.specs.declared.part.Part.TheVariants as parts
 use Rattle.cg_script.specs.Tables.{named}
 use Rattle.cg_script.specs.Words.{begins_name, is_quoted, string_text, number_of, decimal_value, after_prefix, atoms, flags}
-use Rattle.cg_script.specs.Forms.{sort_at}
+use Rattle.cg_script.specs.Forms.{row, sort_at}
 
 -- What the lines before have brought: texts in the order in which they stand, names of procedures and of classes, whether a budget,
 -- whether a shutdown, whether a line that is not passed over, and whether a procedure is open.
@@ -122,3 +122,14 @@ is_unknown part = false
 -- a procedure or class is named that no earlier line defines
 abbrev pub has_unknown : List Part → Bool
 has_unknown line = list_any is_unknown line
+
+-- a place asks for a procedure or class of an earlier line
+abbrev pub asks_for_defined : Sort → Bool
+asks_for_defined Class = true
+asks_for_defined Proc = true
+asks_for_defined Finalizer = true
+asks_for_defined sort = false
+
+-- a place of a line of this form does
+abbrev pub names_defined : Form → Bool
+names_defined form = list_any asks_for_defined (row form).places

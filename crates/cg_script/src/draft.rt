@@ -125,6 +125,7 @@ fn define(draft: &mut Draft, form: Form, words: &[&[u8]]) -> Result<(), AllocErr
 }
 
 /// A command goes to the procedure that is begun, or else to the items.
+#[inline(always)]
 fn push_command(
     items: &mut Vec<Item>,
     begun: &mut Option<Begun>,
@@ -135,8 +136,14 @@ fn push_command(
     ensures few { length items.new.items ≤ length items.old.items + 1 }
 {
     match begun {
-        Some(procedure) => procedure.body.push(command)?,
-        None => items.push(Item::Run(command))?,
+        Some(procedure) => {
+            procedure.body.reserve(1)?;
+            procedure.body.push_reserved(command);
+        }
+        None => {
+            items.reserve(1)?;
+            items.push_reserved(Item::Run(command));
+        }
     }
     Ok(())
 }
@@ -161,6 +168,7 @@ fn close(items: &mut Vec<Item>, begun: &mut Option<Begun>) -> Result<(), AllocEr
 }
 
 /// What a line says goes to the items, or to the procedure that is begun.
+#[inline(always)]
 fn push(
     alloc: Global,
     items: &mut Vec<Item>,
@@ -231,7 +239,7 @@ pub(crate) fn take_words(
     if defines_again(draft, form, words) {
         return Ok(Some(DEFINED_TWICE));
     }
-    if names_unknown(parts.as_slice()) {
+    if names_unknown(form, parts.as_slice()) {
         return Ok(Some(NOT_DEFINED));
     }
     define(draft, form, words)?;

@@ -1,5 +1,5 @@
 //! What the words of a line stand for, and what a line says.
-ghost use Rattle.std.specs.Prelude.{◌≡◌, ◌+◌, ◌-◌, ◌^◌, ◌<◌, ◌≤◌, true, [], length, map, codes, if◌then◌else◌, slice_index, is_some, unwrap_or, Ok, Some, None, IfOk, OnOk};
+ghost use Rattle.std.specs.Prelude.{◌≡◌, ◌&&◌, ◌+◌, ◌-◌, ◌^◌, ◌<◌, ◌≤◌, true, [], length, map, codes, if◌then◌else◌, slice_index, is_some, unwrap_or, Ok, Some, None, IfOk, OnOk};
 ghost use Rattle.std.specs.List.{list_all};
 ghost use Rattle.cg_value.specs.Texts.{with_text, text_number};
 ghost use Rattle.cg_script.specs.declared.command.Operand.TheVariants.{Str, Name as NameOf, Int};
@@ -7,7 +7,7 @@ ghost use Rattle.cg_script.specs.declared.part.Part.TheVariants.{Text, Value as 
 ghost use Rattle.cg_script.specs.Tables.{named as named_in};
 ghost use Rattle.cg_script.specs.Words.{begins_name, is_value, is_variable, is_identifier, is_printable, is_quoted, string_text, is_number, number_of, are_digits, decimal_value, atoms, after_prefix, flags};
 ghost use Rattle.cg_script.specs.Meanings.{fits, repeats_finalizer, formed, code_of};
-ghost use Rattle.cg_script.specs.Parts.{text_in, with_text_if, value_text, operand_or, numbered, finalizer, legacy, defined_number, finalizer_of, part_of, parts_from, texts_from, has_unknown};
+ghost use Rattle.cg_script.specs.Parts.{text_in, with_text_if, value_text, operand_or, numbered, finalizer, legacy, defined_number, finalizer_of, part_of, parts_from, texts_from, has_unknown, names_defined};
 
 use crate::command::{Command, Operand};
 use crate::form::{Form, Sort, row_for, sort_in};
@@ -115,6 +115,7 @@ fn read_value(word: &[u8], names: &mut Names) -> Result<Option<Operand>, AllocEr
 }
 
 /// The number of a procedure or class, where the word may name one.
+#[inline(always)]
 fn read_defined(names: &Names, word: &[u8]) -> Option<Part>
     ensures { result ≡ (if is_identifier word.now then Some (numbered (defined_number names.now word.now)) else None) }
 {
@@ -307,9 +308,23 @@ pub(crate) fn read_parts(
     Ok(None)
 }
 
-/// Whether a procedure or class is named that no earlier line defines.
-pub(crate) fn names_unknown(parts: &[Part]) -> bool
+/// Whether a line of this form may name a procedure or class.
+fn may_name_defined(form: Form) -> bool
+    ensures { result ≡ names_defined form }
+{
+    matches!(form, Form::MakeInst | Form::MakeFunc | Form::Class)
+}
+
+fn has_unknown_part(parts: &[Part]) -> bool
     ensures { result ≡ has_unknown parts.now }
 {
     parts.iter().any(|part| matches!(part, Part::Unknown))
+}
+
+/// Whether a procedure or class is named that no earlier line defines. Most lines are of forms that name none: their parts are
+/// not looked at.
+pub(crate) fn names_unknown(form: Form, parts: &[Part]) -> bool
+    ensures { result ≡ (names_defined form && has_unknown parts.now) }
+{
+    may_name_defined(form) && has_unknown_part(parts)
 }

@@ -1,14 +1,13 @@
 //! Bytes between separators.
-ghost use Rattle.std.specs.Prelude.{◌≡◌, ◌<◌, ◌∷◌, ◌++◌, ◌==◌, ◌||◌, [], length, map, filter, position, not, take, unwrap_or, true};
+ghost use Rattle.std.specs.Prelude.{◌≡◌, ◌<◌, ◌∷◌, ◌++◌, ◌==◌, ◌||◌, [], ◌≤◌, length, map, filter, position, not, take, unwrap_or, true, vec_capacity};
 ghost use Rattle.std.specs.List.{list_all};
 ghost use Rattle.cg_script.specs.Pieces.{pieces, has_bytes, words_of, lines_of};
 ghost use Rattle.cg_script.specs.Words.{is_printable};
 
 use crate::limits::MOST_FOUND;
-use arrayvec::ArrayVec;
 
 /// The words of a line, each a part of it: all of them, unless there are too many.
-pub(crate) type Words<'a> = ArrayVec<&'a [u8], MOST_FOUND>;
+pub(crate) type Words<'a> = Vec<&'a [u8]>;
 
 /// The first place of a byte.
 fn place_of_byte(bytes: &[u8], byte: u8) -> Option<usize>
@@ -30,49 +29,54 @@ fn cut(bytes: &[u8], separator: u8) -> (&[u8], &[u8])
     }
 }
 
-/// The first place of a byte that is a space, or not printable, as a line feed is.
-fn place_of_end(bytes: &[u8]) -> Option<usize>
-    ensures place { result ≡ position (λ b. not (is_printable b) || b == 32) bytes.now }
+/// Whether a byte may stand in a word: it is printable, and no space.
+fn may_stand_in_word(byte: u8) -> bool
+    ensures { result ≡ not (not (is_printable byte) || byte == 32) }
 {
-    bytes.iter().position(|byte| !(33..=126).contains(byte))
+    (33..=126).contains(&byte)
 }
 
-/// Takes a piece of a line as a word, unless it is empty, or the list is full.
+/// Takes a piece of a line as a word, unless it is empty, or there are too many.
 fn push_word<'a>(words: &mut Words<'a>, piece: &'a [u8])
-    ensures { map (λ w. w.now) words.new.items
+    requires few { length words.old.items ≤ MOST_FOUND }
+    requires room { MOST_FOUND ≤ vec_capacity words.old }
+    ensures room { vec_capacity words.new ≡ vec_capacity words.old }
+    ensures words { map (λ w. w.now) words.new.items
         ≡ take MOST_FOUND (map (λ w. w.now) words.old.items ++ filter has_bytes (piece.now ∷ [])) }
 {
-    if words.is_full() {
+    if words.len() == MOST_FOUND {
         return;
     }
     if !piece.is_empty() {
-        words.push(piece);
+        words.push_reserved(piece);
     }
 }
 
 /// The first place of a byte that is not printable, as a line feed is. The words before it go into a list that is empty before.
 fn find_words<'a>(bytes: &'a [u8], words: &mut Words<'a>) -> Option<usize>
-    requires { words.old.items ≡ [] }
+    requires empty { words.old.items ≡ [] }
+    requires room { MOST_FOUND ≤ vec_capacity words.old }
+    ensures room { vec_capacity words.new ≡ vec_capacity words.old }
     ensures place { result ≡ position (λ b. not (is_printable b)) bytes.now }
     ensures words { map (λ w. w.now) words.new.items
         ≡ take MOST_FOUND (words_of (take (unwrap_or result (length bytes.now)) bytes.now)) }
 {
+    let mut start = 0;
     let mut at = 0;
-    'words: while at < bytes.len() {
-        match place_of_end(&bytes[at..]) {
-            Some(i) => {
-                push_word(words, &bytes[at..at + i]);
-                if bytes[at + i] != b' ' {
-                    return Some(at + i);
-                }
-                at += i + 1;
-            }
-            None => {
-                push_word(words, &bytes[at..]);
-                return None;
-            }
+    'bytes: while at < bytes.len() {
+        let byte = bytes[at];
+        if may_stand_in_word(byte) {
+            at += 1;
+            continue;
         }
+        push_word(words, &bytes[start..at]);
+        if byte != b' ' {
+            return Some(at);
+        }
+        at += 1;
+        start = at;
     }
+    push_word(words, &bytes[start..]);
     None
 }
 
@@ -81,6 +85,8 @@ fn find_words<'a>(bytes: &'a [u8], words: &mut Words<'a>) -> Option<usize>
 pub(crate) fn cut_line<'a>(bytes: &'a [u8], words: &mut Words<'a>) -> (&'a [u8], &'a [u8], bool)
     requires some { 0 < length bytes.now }
     requires empty { words.old.items ≡ [] }
+    requires room { MOST_FOUND ≤ vec_capacity words.old }
+    ensures room { vec_capacity words.new ≡ vec_capacity words.old }
     ensures lines { lines_of bytes.now ≡ result.0.now ∷ lines_of result.1.now }
     ensures shorter { length result.1.now < length bytes.now }
     ensures printable { result.2 ≡ list_all is_printable result.0.now }

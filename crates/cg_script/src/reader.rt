@@ -17,7 +17,6 @@ use crate::line::{Line, read_line};
 use crate::members::Items;
 use crate::part::Parts;
 use crate::pieces::cut_line;
-use arrayvec::ArrayVec;
 use std::alloc::Global;
 
 /// A procedure that is begun and not ended.
@@ -61,7 +60,10 @@ fn take_lines(draft: &mut Draft, bytes: &[u8]) -> Result<u32, ScriptFault>
 {
     let mut number: u32 = 1;
     let mut rest = bytes;
-    let mut words = ArrayVec::new();
+    // One list serves all lines: emptied, it keeps its room, which is enough for any line.
+    let Ok(mut words) = Vec::with_capacity(draft.alloc, MOST_FOUND) else {
+        return Err(ScriptFault::OutOfMemory);
+    };
     let mut parts = Vec::new(draft.alloc);
     'lines: while !rest.is_empty() {
         words.clear();

@@ -123,6 +123,7 @@ fn does(command: Command) -> Result<Said, AllocError>
 }
 
 /// What a line of a form says.
+#[inline(always)]
 pub(crate) fn said_of(alloc: Global, form: Form, parts: &[Part]) -> Result<Said, AllocError>
     requires { form ≡ Form.Profile → count_in parts.now 1 ≤ MOST_PROFILE }
     ensures { IfOk result (λ what. what ≡ said form parts.now) }

@@ -23,10 +23,18 @@ fn may_stand_in_name(byte: u8) -> bool
     may_begin_name(byte) || byte.is_ascii_digit()
 }
 
-fn has_name_bytes(word: &[u8]) -> bool
+fn has_name_bytes(bytes: &[u8]) -> bool
+    ensures { result ≡ list_all is_name_byte bytes.now }
+{
+    bytes.iter().all(|byte| may_stand_in_name(*byte))
+}
+
+/// Whether a word that begins as a name goes on as one. What begins a name may stand in it, and is not looked at twice.
+fn goes_on_as_name(word: &[u8]) -> bool
+    requires { begins_name (slice_index word.now 0) ≡ true }
     ensures { result ≡ list_all is_name_byte word.now }
 {
-    word.iter().all(|byte| may_stand_in_name(*byte))
+    has_name_bytes(&word[1..])
 }
 
 pub(crate) fn is_identifier_word(word: &[u8]) -> bool
@@ -35,7 +43,7 @@ pub(crate) fn is_identifier_word(word: &[u8]) -> bool
     match word.first() {
         Some(first) => word.len() <= MOST_NAME_BYTES
             && may_begin_name(*first)
-            && has_name_bytes(word),
+            && goes_on_as_name(word),
         None => false,
     }
 }
@@ -67,6 +75,7 @@ fn is_reserved_word(word: &[u8]) -> bool
 
 /// Whether a word may name a variable: 1 to 32 letters, digits and `_`, of which the first is no digit, and no word of the
 /// language. (Ours.)
+#[inline(always)]
 pub fn is_variable(word: &[u8]) -> bool
     ensures { result ≡ is_variable word.now }
 {
@@ -79,7 +88,7 @@ pub(crate) fn is_free_name(word: &[u8]) -> bool
     requires begins { begins_name (slice_index word.now 0) ≡ true }
     ensures { result ≡ is_variable word.now }
 {
-    word.len() <= MOST_NAME_BYTES && has_name_bytes(word) && !is_reserved_for_form(word)
+    word.len() <= MOST_NAME_BYTES && goes_on_as_name(word) && !is_reserved_for_form(word)
 }
 
 pub(crate) fn is_printable_text(bytes: &[u8]) -> bool
@@ -261,19 +270,32 @@ fn atoms_like(byte: u8, count: usize) -> &'static [(&'static [u8], Operand)]
     }
 }
 
-/// The value with a word of its own that a word is, if it is one.
+/// The value with a word of its own that a word with bytes is, if it is one. Only those that begin as it does and are as long are
+/// compared with it.
 #[inline(always)]
-pub(crate) fn atom(word: &[u8]) -> Option<Operand>
+fn atom_among_like(word: &[u8]) -> Option<Operand>
+    requires { 1 ≤ length word.now }
     ensures { result ≡ named_in atoms word.now }
 {
-    if word.is_empty() {
-        return None;
-    }
     let rows = atoms_like(word[0], word.len());
     if rows.is_empty() {
         return None;
     }
     named(rows, word)
+}
+
+/// The fewest bytes of a value's own word.
+const FEWEST_ATOM_BYTES: usize = 2;
+
+/// The value with a word of its own that a word is, if it is one. Most names are too short for it.
+#[inline(always)]
+pub(crate) fn atom(word: &[u8]) -> Option<Operand>
+    ensures { result ≡ named_in atoms word.now }
+{
+    if word.len() < FEWEST_ATOM_BYTES {
+        return None;
+    }
+    atom_among_like(word)
 }
 
 /// Whether a word stands for a value: `none`, `self`, `ref`, `garbage`, `c0` to `c7`, a string, a variable, or a whole number of

@@ -1,11 +1,12 @@
-use Rattle.std.proofs.Common.{ap, sym, subst, ◌∙◌, ◌∷◌, ◌≤◌, map, List, ℕ, is_some, false, Ok}
-use Rattle.cg_script.specs.Parts.{has_unknown}
+use Rattle.std.proofs.Common.{ap, sym, subst, ◌∙◌, ◌∷◌, ◌≤◌, ◌&&◌, map, List, ℕ, is_some, false, Ok}
+use Rattle.cg_script.specs.Parts.{has_unknown, names_defined}
 use Rattle.cg_script.specs.Commands.{count_at, said}
 use Rattle.cg_script.specs.Views.{known_of, grouped, inside_behind}
 use Rattle.cg_script.proofs.Grouped.{inside_said, known_so}
 use Rattle.cg_script.proofs.Profiles.{few_profiles}
 use Rattle.cg_script.proofs.Says.{formed_fits}
 use Rattle.cg_script.proofs.ReadWords.{formed_says, fault_so}
+use Rattle.cg_script.proofs.Unknowns.{unknown_where_asked}
 use Rattle.cg_script.proofs.draft.take_words.Goals as goal
 
 pub said_of-requires : goal.said_of-requires
@@ -20,7 +21,8 @@ returns-clause-fault c =
     let words : List (List ℕ) = map (λ w. w.now) c.args.words.now in
     fault_so (known_of c.args.draft.now) c.read_parts.new.names c.args.form words (sym c.in_default.is ∙ c.in_ok-code.ensures.fault) false false false
     (sym c.if-stands_wrong.false ∙ c.stands_wrong.ensures) (sym c.if-defines_again.false ∙ c.defines_again.ensures)
-    (sym c.if-names_unknown.false ∙ c.names_unknown.ensures ∙ ap has_unknown (c.as_slice.ensures.value ∙ c.in_ok-code.ensures.parts (ap Ok c.in_default.is)))
+    (sym c.if-names_unknown.false ∙ c.names_unknown.ensures ∙ ap (λ parts. names_defined c.args.form && has_unknown parts) (c.as_slice.ensures.value ∙ c.in_ok-code.ensures.parts (ap Ok c.in_default.is))
+    ∙ unknown_where_asked c.args.draft.now.procs c.args.draft.now.classes c.args.draft.now.names c.args.form words)
 
 pub returns-clause-takes : goal.returns-clause-takes
 returns-clause-takes c = λ e.

@@ -1,4 +1,4 @@
-use Rattle.std.proofs.Common.{sym, ap, subst, ◌∙◌}
+use Rattle.std.proofs.Common.{sym, ap, subst, ◌∙◌, arith}
 use Rattle.cg_script.specs.Pieces.{lines_of}
 use Rattle.cg_script.specs.Faults.{IsFault}
 use Rattle.cg_script.specs.Reading.{Reading}
@@ -8,10 +8,11 @@ use Rattle.cg_script.proofs.reader.take_lines.Goals as goal
 
 pub lines-preserved : goal.lines-preserved
 lines-preserved c = record {
-  same = c.in-Ok.ensures.ok (lines_of c.cut_line-printable.result.1.now)
+  same = c.in-Ok-take_line.ensures.ok (lines_of c.cut_line-printable.result.1.now)
       ∙ sym (ap (reading_after c.lines.draft c.lines.number) c.cut_line-printable.ensures.lines)
       ∙ c.lines.invariant.same;
-  small = c.in-Ok.ensures.small;
+  room = omega (arith, c.cut_line-printable.ensures.room, c.clear.ensures.capacity, c.lines.invariant.room);
+  small = c.in-Ok-take_line.ensures.small;
 }
 
 pub returns-in-Err-clause-fault : goal.returns-in-Err-clause-fault

@@ -1,18 +1,6 @@
-use Rattle.std.proofs.Common.{ℕ, List, Bor, ap, ◌∙◌, arith}
-use Rattle.std.proofs.lemmas.Bool.Decides.{nat_tests}
-use Rattle.cg_script.specs.declared.command.Operand.{Operand}
-use Rattle.cg_script.specs.Tables.{named}
-use Rattle.cg_script.specs.Words.{atoms}
-use Rattle.cg_script.proofs.Alike.{named_like, none_alike, no_atom}
+use Rattle.std.proofs.Common.{arith}
+use Rattle.cg_script.proofs.Alike.{short_no_atom}
 use Rattle.cg_script.proofs.word.atom.Goals as goal
 
-pub returns-then-is_empty : goal.returns-then-is_empty
-returns-then-is_empty c = no_atom c.args.word.now (grind (arith, nat_tests, c.if-is_empty.true, c.is_empty.ensures))
-
-pub returns-then-is_empty-2 : goal.returns-then-is_empty-2
-returns-then-is_empty-2 c =
-    none_alike (λ (row : Bor (List ℕ) × Operand). (row.0.now, row.1)) c.atoms_like-rows.result.now c.args.word.now (grind (arith, nat_tests, c.if-is_empty-2.true, c.is_empty-2.ensures))
-    ∙ ap (λ rows. named rows c.args.word.now) c.atoms_like-rows.ensures ∙ named_like c.args.word.now atoms
-
-pub returns : goal.returns
-returns c = c.named.ensures ∙ ap (λ rows. named rows c.args.word.now) c.atoms_like-rows.ensures ∙ named_like c.args.word.now atoms
+pub returns-then-word-lt-FEWEST_ATOM_BYTES : goal.returns-then-word-lt-FEWEST_ATOM_BYTES
+returns-then-word-lt-FEWEST_ATOM_BYTES c = short_no_atom c.args.word.now (omega (arith, c.if-word-lt-FEWEST_ATOM_BYTES.true))
