@@ -13,26 +13,6 @@ value_in (suc zero) number = Int (cast_signed w64 number)
 value_in (suc (suc zero)) number = Str number
 value_in (suc (suc (suc sort))) number = Ref number
 
--- the sort of a value
-abbrev pub sort_of : Val → ℕ
-sort_of Nothing = 0
-sort_of (Int number) = 1
-sort_of (Str name) = 2
-sort_of (Ref serial) = 3
-
--- the bits of a whole number, the number of a text, and the serial of a reference; of other values 0
-abbrev pub number_bits : Val → ℕ
-number_bits (Int number) = cast_unsigned w64 number
-number_bits val = 0
-
-abbrev pub text_bits : Val → ℕ
-text_bits (Str name) = name
-text_bits val = 0
-
-abbrev pub serial_bits : Val → ℕ
-serial_bits (Ref serial) = serial
-serial_bits val = 0
-
 -- the values in a column of sorts and one of numbers
 abbrev pub values_in : List ℕ → List ℕ → List Val
 values_in sorts numbers = map (λ words. value_in words.0 words.1) (zip sorts numbers)
