@@ -162,9 +162,40 @@ fn grow_slots(slots: &mut Vec<IndexOrGap>, counts: &mut Sums) -> Result<(), Allo
     slots.reserve_exact(more)
 }
 
-/// Makes room for one pair more, where it lacks.
+/// Closes the gaps.
 #[inline(never)]
-fn widen(
+fn close(slots: &mut Vec<IndexOrGap>, homes: &mut Vec<u32>, counts: &mut Sums)
+    requires homes { AreHomes slots.old.items homes.old.items }
+    requires counts { AreCounts slots.old.items counts.old }
+    ensures same { indexes slots.new.items ≡ indexes slots.old.items }
+    ensures homes { AreHomes slots.new.items homes.new.items }
+    ensures counts { AreCounts slots.new.items counts.new }
+    ensures blocks { length counts.new ≡ length counts.old }
+    ensures capacity { vec_capacity slots.new ≡ vec_capacity slots.old }
+{
+    close_gaps(slots);
+    settle(slots.as_slice(), homes.as_mut_slice());
+    counts.deal(slots.len());
+}
+
+/// Closes the gaps, where no slot is left and more than an eighth of them are gaps.
+fn close_full(slots: &mut Vec<IndexOrGap>, homes: &mut Vec<u32>, counts: &mut Sums)
+    requires homes { AreHomes slots.old.items homes.old.items }
+    requires counts { AreCounts slots.old.items counts.old }
+    ensures same { indexes slots.new.items ≡ indexes slots.old.items }
+    ensures homes { AreHomes slots.new.items homes.new.items }
+    ensures counts { AreCounts slots.new.items counts.new }
+    ensures blocks { length counts.new ≡ length counts.old }
+    ensures capacity { vec_capacity slots.new ≡ vec_capacity slots.old }
+{
+    let count = slots.len();
+    if count == slots.capacity() && homes.len() < count - count / 8 {
+        close(slots, homes, counts);
+    }
+}
+
+/// Makes more room for one pair, where the slots or the homes are full.
+fn grow_full(
     slots: &mut Vec<IndexOrGap>,
     homes: &mut Vec<u32>,
     counts: &mut Sums,
@@ -187,6 +218,27 @@ fn widen(
     Ok(())
 }
 
+/// Makes room for one pair more. Where the slots are full of many gaps, these are closed, and no more room is taken.
+#[inline(never)]
+fn widen(
+    slots: &mut Vec<IndexOrGap>,
+    homes: &mut Vec<u32>,
+    counts: &mut Sums,
+) -> Result<(), AllocError>
+    requires homes { AreHomes slots.old.items homes.old.items }
+    requires counts { AreCounts slots.old.items counts.old }
+    requires blocks { HasBlocks (vec_capacity slots.old) counts.old }
+    ensures same { indexes slots.new.items ≡ indexes slots.old.items }
+    ensures homes { AreHomes slots.new.items homes.new.items }
+    ensures counts { AreCounts slots.new.items counts.new }
+    ensures blocks { HasBlocks (vec_capacity slots.new) counts.new }
+    ensures room { OnOk result (vec_len slots.new < vec_capacity slots.new) }
+    ensures room_at_home { OnOk result (vec_len homes.new < vec_capacity homes.new) }
+{
+    close_full(slots, homes, counts);
+    grow_full(slots, homes, counts)
+}
+
 /// Makes room for one pair more. Each slot that there is room for has its block, and so no third test asks for that.
 #[inline(always)]
 fn make_room(
@@ -194,11 +246,12 @@ fn make_room(
     homes: &mut Vec<u32>,
     counts: &mut Sums,
 ) -> Result<(), AllocError>
+    requires homes { AreHomes slots.old.items homes.old.items }
     requires counts { AreCounts slots.old.items counts.old }
     requires blocks { HasBlocks (vec_capacity slots.old) counts.old }
-    ensures slots { slots.new.items ≡ slots.old.items }
-    ensures homes { homes.new.items ≡ homes.old.items }
-    ensures counts { AreCounts slots.old.items counts.new }
+    ensures same { indexes slots.new.items ≡ indexes slots.old.items }
+    ensures homes { AreHomes slots.new.items homes.new.items }
+    ensures counts { AreCounts slots.new.items counts.new }
     ensures blocks { HasBlocks (vec_capacity slots.new) counts.new }
     ensures room { OnOk result (vec_len slots.new < vec_capacity slots.new) }
     ensures room_at_home { OnOk result (vec_len homes.new < vec_capacity homes.new) }
@@ -229,16 +282,6 @@ impl Order {
     /// The next index goes last. Where the slots are full of many gaps, these are closed, and no more room is taken.
     #[inline(always)]
     pub fn push(&mut self) -> Result<(), AllocError>
-        ensures ok { OnOk result (self.new ≡ self.old ++ length self.old ∷ []) }
-        ensures err { OnErr result (self.new ≡ self.old) }
-    {
-        self.close_full();
-        self.append()
-    }
-
-    /// `push`, with more room where the slots are full.
-    #[inline(always)]
-    fn append(&mut self) -> Result<(), AllocError>
         ensures ok { OnOk result (self.new ≡ self.old ++ length self.old ∷ []) }
         ensures err { OnErr result (self.new ≡ self.old) }
     {
@@ -330,28 +373,7 @@ impl Order {
         ensures { self.new ≡ self.old }
     {
         if self.homes.len() < self.slots.len() / 2 {
-            self.close();
+            close(&mut self.slots, &mut self.homes, &mut self.counts);
         }
-    }
-
-    /// Closes the gaps, where no slot is left and more than an eighth of them are gaps.
-    #[inline(always)]
-    fn close_full(&mut self)
-        ensures { self.new ≡ self.old }
-    {
-        let count = self.slots.len();
-        if count == self.slots.capacity() && self.homes.len() < count - count / 8 {
-            self.close();
-        }
-    }
-
-    /// Closes the gaps.
-    #[inline(never)]
-    fn close(&mut self)
-        ensures { self.new ≡ self.old }
-    {
-        close_gaps(&mut self.slots);
-        settle(self.slots.as_slice(), self.homes.as_mut_slice());
-        self.counts.deal(self.slots.len());
     }
 }
