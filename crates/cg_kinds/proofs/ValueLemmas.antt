@@ -1,12 +1,9 @@
 -- Values in two columns of words: what a place of both holds, and what a change of both does to the values.
-use Rattle.std.proofs.Common.{◌≡◌, ℕ, zero, suc, ◌+◌, ◌-◌, ◌<◌, ◌≤◌, ◌^◌, List, [], ◌∷◌, ◌++◌, length, get_or, set, remove, drop, Some, Global, refl, sym, ap, subst, ◌∙◌, arith, length-append, length-drop, bit_or}
+use Rattle.std.proofs.Common.{◌≡◌, ℕ, zero, suc, ◌+◌, ◌-◌, ◌<◌, ◌≤◌, ◌^◌, List, [], ◌∷◌, ◌++◌, length, get_or, set, remove, drop, Some, Global, refl, sym, ap, subst, ◌∙◌, arith, length-append, length-drop}
 use Rattle.std.specs.Prelude.{Vec, vec_len, slice_get}
 use Rattle.std.specs.List.{AllZip}
 use Rattle.std.proofs.lemmas.List.{length-set, drop-append-le}
 use Rattle.std.proofs.lemmas.List.Edits.{length-remove}
-use Rattle.std.specs.Int.Bits.{or_zero_r}
-use Rattle.cg_value.specs.declared.Val.{Val}
-use Rattle.cg_value.specs.declared.Val.TheVariants.{None as Nothing, Int, Str, Ref}
 use Rattle.cg_kinds.specs.Values.{value_in, values_in, AreWords, AreColumns, Kept}
 
 -- the columns have a sort and a number for each value

@@ -1,4 +1,4 @@
-use Rattle.std.proofs.Common.{◌∙◌, ap, sym, length, arith, subst}
+use Rattle.std.proofs.Common.{ap, sym, length, arith, subst}
 use Rattle.std.proofs.lemmas.List.{with_items_is}
 use Rattle.cg_kinds.specs.Order.{indexes, AreHomes}
 use Rattle.cg_kinds.proofs.SlotLemmas.{few_pairs}

@@ -1,4 +1,4 @@
-use Rattle.std.proofs.Common.{◌≡◌, ◌+◌, ◌≤◌, ◌<◌, length}
+use Rattle.std.proofs.Common.{◌≤◌, length}
 use Rattle.cg_kinds.specs.Order.{AreCounts}
 use Rattle.cg_kinds.proofs.order.cover.Given as goal
 
