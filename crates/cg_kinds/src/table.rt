@@ -194,7 +194,7 @@ fn put_in(map: &mut Map, key: Val, val: Val) -> Result<Option<Val>, AllocError>
     ensures present { IsSome (value_at (pairs_of map.old.entries) key) → IsOk result }
     ensures err { OnErr result (map.new.entries ≡ map.old.entries) }
 {
-    // It is packed first: of what it is in two words less is kept during the search.
+    // It is packed before the search, during which its two words then take less to keep than a `Val`.
     let packed = Nine::new(val);
     match map.entry(Nine::new(key)) {
         Ok(MapEntry::Occupied(there)) => {
