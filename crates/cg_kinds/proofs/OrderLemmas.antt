@@ -10,7 +10,7 @@ use Rattle.std.proofs.lemmas.Bool.Decides.{nat_tests}
 use Rattle.std.proofs.lemmas.List.{length-set, get_or-set_same, get_or-set_other, get_or_append_left, get_or_push, get_or_past, get_or_default, length_push, length-map, length-take, length-drop, get_or-take, get_or-drop, take-append-le}
 use Rattle.std.proofs.lemmas.Grind.{flat_map-append}
 use Rattle.cg_kind.specs.declared.notes.TheConstants.{AT_ONCE}
-use Rattle.cg_kinds.specs.Order.{indexes, pairs_before, renamed, AreHomes, AreSums, AreCounts, AreClosed, IsSound}
+use Rattle.cg_kinds.specs.Order.{indexes, pairs_before, renamed, AreHomes, AreSums, AreCounts, AreClosed, HasBlocks, IsSound}
 use Rattle.cg_kinds.proofs.SumLemmas.{IsOneMore, raised, zero_last}
 use Rattle.cg_kinds.proofs.SlotLemmas.{pair_within, gap_later, before_all, few_pairs}
 
@@ -398,6 +398,13 @@ block_counts slots counts counts_now are counts_are =
       covered = omega (arith, a, are.covered);
       small = are.small;
     }
+
+-- as much room, and as many blocks
+pub blocks_kept : (room room_now : ℕ) (counts counts_now : List ℕ) → room_now ≡ room → length counts_now ≡ length counts → HasBlocks room counts → HasBlocks room_now counts_now
+blocks_kept room room_now counts counts_now same long has = record {
+  blocks = omega (arith, same, long, has.blocks);
+  small = omega (arith, same, has.small);
+}
 
 pub few_homes : (slots : List (Option ℕ)) (homes : List ℕ) → AreHomes slots homes → length homes ≤ length slots
 few_homes slots homes are = omega (arith, are.each, few_pairs slots)

@@ -1,20 +1,10 @@
 -- Values in two columns of words: what a place of both holds, and what a change of both does to the values.
-use Rattle.std.proofs.Common.{◌≡◌, ℕ, zero, suc, ◌+◌, ◌-◌, ◌<◌, ◌≤◌, ◌^◌, List, [], ◌∷◌, ◌++◌, length, get_or, set, remove, drop, Some, Global, refl, sym, ap, subst, ◌∙◌, arith, length-append, length-drop, bit_or}
+use Rattle.std.proofs.Common.{◌≡◌, ℕ, zero, suc, ◌+◌, ◌-◌, ◌<◌, ◌≤◌, ◌^◌, List, [], ◌∷◌, ◌++◌, length, get_or, set, remove, drop, Some, Global, refl, sym, ap, subst, ◌∙◌, arith, length-append, length-drop}
 use Rattle.std.specs.Prelude.{Vec, vec_len, slice_get}
 use Rattle.std.specs.List.{AllZip}
 use Rattle.std.proofs.lemmas.List.{length-set, drop-append-le}
 use Rattle.std.proofs.lemmas.List.Edits.{length-remove}
-use Rattle.std.specs.Int.Bits.{or_zero_r}
-use Rattle.cg_value.specs.declared.Val.{Val}
-use Rattle.cg_value.specs.declared.Val.TheVariants.{None as Nothing, Int, Str, Ref}
-use Rattle.cg_kinds.specs.Values.{value_in, values_in, sort_of, number_bits, text_bits, serial_bits, AreWords, AreColumns, Kept}
-
--- one of three numbers is a value's, and the others are 0
-pub value_joined : (val : Val) → (sort_of val ≡ 1 → value_in 1 (number_bits val) ≡ val) → value_in (sort_of val) (bit_or (bit_or (number_bits val) (text_bits val)) (serial_bits val)) ≡ val
-value_joined Nothing back = refl
-value_joined (Int number) back = ap (value_in 1) (or_zero_r (bit_or (number_bits (Int number)) 0) ∙ or_zero_r (number_bits (Int number))) ∙ back refl
-value_joined (Str name) back = ap (value_in 2) (or_zero_r name)
-value_joined (Ref serial) back = refl
+use Rattle.cg_kinds.specs.Values.{value_in, values_in, AreWords, AreColumns, Kept}
 
 -- the columns have a sort and a number for each value
 pub length-sorts : (sorts numbers : List ℕ) → AllZip AreWords sorts numbers → length sorts ≡ length (values_in sorts numbers)

@@ -54,6 +54,11 @@ pub record AreCounts (slots : List (Option ℕ)) (counts : List ℕ) : Type 0 wh
   pub covered : length slots ≤ 16 * length counts
   pub small : length slots < 2 ^ 32
 
+-- there is a block for each slot that there is room for
+pub record HasBlocks (room : ℕ) (counts : List ℕ) : Type 0 where
+  pub blocks : room ≤ 16 * length counts
+  pub small : room < 2 ^ 32
+
 -- the index of a pair after the pair at one index is gone, and the last has come to its place
 abbrev pub renamed : ℕ → ℕ → ℕ → ℕ
 renamed last gone index = if index == last then gone else index

@@ -1,6 +1,6 @@
 -- The values of a list, in two columns of words. (Ours.)
 use Rattle.std.specs.Prelude.{◌≡◌, ℕ, zero, suc, ◌+◌, ◌<◌, ◌≤◌, ◌^◌, List, length, map}
-use Rattle.std.specs.Int.{cast_signed, cast_unsigned, w64}
+use Rattle.std.specs.Int.{cast_signed, w64}
 use Rattle.std.specs.List.{zip, AllZip}
 use Rattle.cg_value.specs.declared.Val.{Val}
 use Rattle.cg_value.specs.declared.Val.TheVariants.{None as Nothing, Int, Str, Ref}
@@ -12,26 +12,6 @@ value_in zero number = Nothing
 value_in (suc zero) number = Int (cast_signed w64 number)
 value_in (suc (suc zero)) number = Str number
 value_in (suc (suc (suc sort))) number = Ref number
-
--- the sort of a value
-abbrev pub sort_of : Val → ℕ
-sort_of Nothing = 0
-sort_of (Int number) = 1
-sort_of (Str name) = 2
-sort_of (Ref serial) = 3
-
--- the bits of a whole number, the number of a text, and the serial of a reference; of other values 0
-abbrev pub number_bits : Val → ℕ
-number_bits (Int number) = cast_unsigned w64 number
-number_bits val = 0
-
-abbrev pub text_bits : Val → ℕ
-text_bits (Str name) = name
-text_bits val = 0
-
-abbrev pub serial_bits : Val → ℕ
-serial_bits (Ref serial) = serial
-serial_bits val = 0
 
 -- the values in a column of sorts and one of numbers
 abbrev pub values_in : List ℕ → List ℕ → List Val

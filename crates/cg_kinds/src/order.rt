@@ -1,8 +1,8 @@
 //! The order in which keys came, of a map that fills holes with its last pair.
-ghost use Rattle.std.specs.Prelude.{◌≡◌, ◌≢◌, ◌+◌, ◌*◌, ◌-◌, ◌<◌, ◌^◌, ◌++◌, ◌∷◌, ℕ, [], All, drop, length, map, take, None, Some, IfOk, IsSome, OnOk, OnErr, remove, slice_get, slice_index_or, slice_set};
+ghost use Rattle.std.specs.Prelude.{◌≡◌, ◌≢◌, ◌+◌, ◌*◌, ◌-◌, ◌<◌, ◌≤◌, ◌^◌, ◌++◌, ◌∷◌, ℕ, [], All, drop, length, map, take, None, Some, IfOk, IsSome, OnOk, OnErr, remove, slice_get, slice_index_or, slice_set};
 ghost use Rattle.std.specs.List.{range_with_len};
 ghost use Rattle.std.specs.Vec.{vec_len, vec_capacity};
-ghost use Rattle.cg_kinds.specs.Order.{indexes, pairs_before as before, renamed, AreHomes, AreCounts, AreClosed, IsSound};
+ghost use Rattle.cg_kinds.specs.Order.{indexes, pairs_before as before, renamed, AreHomes, AreCounts, AreClosed, HasBlocks, IsSound};
 
 use crate::gap::IndexOrGap;
 use crate::slots::{pairs_before, slot_of, some_indexes};
@@ -25,13 +25,14 @@ pub struct Order {
 
 impl Model for Order {
     ghost use Rattle.std.specs.Prelude.{List, ℕ};
-    ghost use Rattle.cg_kinds.specs.Order.{indexes, AreHomes, AreCounts};
+    ghost use Rattle.std.specs.Vec.{vec_capacity};
+    ghost use Rattle.cg_kinds.specs.Order.{indexes, AreHomes, AreCounts, HasBlocks};
 
     ghost Value = { List ℕ };
 
     ghost view = { λ o. indexes o.slots.items };
 
-    ghost invariant = { λ o. AreHomes o.slots.items o.homes.items × AreCounts o.slots.items o.counts };
+    ghost invariant = { λ o. AreHomes o.slots.items o.homes.items × AreCounts o.slots.items o.counts × HasBlocks (vec_capacity o.slots) o.counts };
 }
 
 /// Takes the index out of a slot. The last pair comes to that index.
@@ -75,6 +76,8 @@ fn take_slot(
     ensures counts { AreCounts slots.new.items counts.new }
     ensures rest { indexes slots.new.items ≡ map (renamed (length homes.old.items - 1) result)
         (remove (indexes slots.old.items) (before slots.old.items slot)) }
+    ensures blocks { length counts.new ≡ length counts.old }
+    ensures capacity { vec_capacity slots.new ≡ vec_capacity slots.old }
 {
     counts.lower(slot / PART);
     empty_slot(slots.as_mut_slice(), homes, slot)
@@ -82,7 +85,8 @@ fn take_slot(
 
 /// Closes the gaps between slots.
 fn close_gaps(slots: &mut Vec<IndexOrGap>)
-    ensures { slots.new.items ≡ map (λ index. Some index) (indexes slots.old.items) }
+    ensures items { slots.new.items ≡ map (λ index. Some index) (indexes slots.old.items) }
+    ensures capacity { vec_capacity slots.new ≡ vec_capacity slots.old }
 {
     slots.retain(|slot| slot.is_index());
 }
@@ -104,7 +108,6 @@ fn settle(slots: &[IndexOrGap], homes: &mut [u32])
 const MOST: usize = 0x7FFF_FFFF;
 
 /// Makes room for one more, and for an eighth of what is there.
-#[inline(never)]
 fn grow<T>(full: &mut Vec<T>) -> Result<(), AllocError>
     ensures items { full.new.items ≡ full.old.items }
     ensures room { OnOk result (vec_len full.new < vec_capacity full.new) }
@@ -113,7 +116,131 @@ fn grow<T>(full: &mut Vec<T>) -> Result<(), AllocError>
     full.reserve_exact(more)
 }
 
-/// Makes room for one pair more.
+/// Makes a block for each of so many slots.
+fn cover(slots: &Vec<IndexOrGap>, counts: &mut Sums, room: usize) -> Result<(), AllocError>
+    requires { AreCounts slots.now.items counts.old }
+    ensures counts { AreCounts slots.now.items counts.new }
+    ensures no_less { length counts.old ≤ length counts.new }
+    ensures blocks { OnOk result (room ≤ 16 * length counts.new) }
+{
+    'pushes: for _ in counts.len()..room / PART + 1 {
+        counts.push()?;
+    }
+    Ok(())
+}
+
+/// No slots, with room for so many and a block for each of these.
+fn empty_slots(alloc: Global, count: usize) -> Result<(Vec<IndexOrGap>, Sums), AllocError>
+    ensures slots { IfOk result (λ made. made.0.items ≡ []) }
+    ensures counts { IfOk result (λ made. AreCounts [] made.1) }
+    ensures blocks { IfOk result (λ made. HasBlocks (vec_capacity made.0) made.1) }
+{
+    if count > MOST {
+        return Err(AllocError);
+    }
+    let slots = Vec::with_capacity(alloc, count)?;
+    let mut counts = Sums::with_room(alloc, count / PART + 1)?;
+    cover(&slots, &mut counts, count)?;
+    Ok((slots, counts))
+}
+
+/// Makes room for one slot more, and for an eighth of what is there, with the blocks of all these.
+fn grow_slots(slots: &mut Vec<IndexOrGap>, counts: &mut Sums) -> Result<(), AllocError>
+    requires counts { AreCounts slots.old.items counts.old }
+    requires blocks { HasBlocks (vec_capacity slots.old) counts.old }
+    ensures items { slots.new.items ≡ slots.old.items }
+    ensures counts { AreCounts slots.old.items counts.new }
+    ensures blocks { HasBlocks (vec_capacity slots.new) counts.new }
+    ensures room { OnOk result (vec_len slots.new < vec_capacity slots.new) }
+{
+    let count = slots.len();
+    if count >= MOST {
+        return Err(AllocError);
+    }
+    let more = count / 8 + 1;
+    cover(slots, counts, count + more)?;
+    slots.reserve_exact(more)
+}
+
+/// Closes the gaps.
+#[inline(never)]
+fn close(slots: &mut Vec<IndexOrGap>, homes: &mut Vec<u32>, counts: &mut Sums)
+    requires homes { AreHomes slots.old.items homes.old.items }
+    requires counts { AreCounts slots.old.items counts.old }
+    ensures same { indexes slots.new.items ≡ indexes slots.old.items }
+    ensures homes { AreHomes slots.new.items homes.new.items }
+    ensures counts { AreCounts slots.new.items counts.new }
+    ensures blocks { length counts.new ≡ length counts.old }
+    ensures capacity { vec_capacity slots.new ≡ vec_capacity slots.old }
+{
+    close_gaps(slots);
+    settle(slots.as_slice(), homes.as_mut_slice());
+    counts.deal(slots.len());
+}
+
+/// Closes the gaps, where no slot is left and more than an eighth of them are gaps.
+fn close_full(slots: &mut Vec<IndexOrGap>, homes: &mut Vec<u32>, counts: &mut Sums)
+    requires homes { AreHomes slots.old.items homes.old.items }
+    requires counts { AreCounts slots.old.items counts.old }
+    ensures same { indexes slots.new.items ≡ indexes slots.old.items }
+    ensures homes { AreHomes slots.new.items homes.new.items }
+    ensures counts { AreCounts slots.new.items counts.new }
+    ensures blocks { length counts.new ≡ length counts.old }
+    ensures capacity { vec_capacity slots.new ≡ vec_capacity slots.old }
+{
+    let count = slots.len();
+    if count == slots.capacity() && homes.len() < count - count / 8 {
+        close(slots, homes, counts);
+    }
+}
+
+/// Makes more room for one pair, where the slots or the homes are full.
+fn grow_full(
+    slots: &mut Vec<IndexOrGap>,
+    homes: &mut Vec<u32>,
+    counts: &mut Sums,
+) -> Result<(), AllocError>
+    requires counts { AreCounts slots.old.items counts.old }
+    requires blocks { HasBlocks (vec_capacity slots.old) counts.old }
+    ensures slots { slots.new.items ≡ slots.old.items }
+    ensures homes { homes.new.items ≡ homes.old.items }
+    ensures counts { AreCounts slots.old.items counts.new }
+    ensures blocks { HasBlocks (vec_capacity slots.new) counts.new }
+    ensures room { OnOk result (vec_len slots.new < vec_capacity slots.new) }
+    ensures room_at_home { OnOk result (vec_len homes.new < vec_capacity homes.new) }
+{
+    if slots.len() == slots.capacity() {
+        grow_slots(slots, counts)?;
+    }
+    if homes.len() == homes.capacity() {
+        grow(homes)?;
+    }
+    Ok(())
+}
+
+/// Makes room for one pair more. Where the slots are full of many gaps, these are closed, and no more room is taken.
+#[inline(never)]
+fn widen(
+    slots: &mut Vec<IndexOrGap>,
+    homes: &mut Vec<u32>,
+    counts: &mut Sums,
+) -> Result<(), AllocError>
+    requires homes { AreHomes slots.old.items homes.old.items }
+    requires counts { AreCounts slots.old.items counts.old }
+    requires blocks { HasBlocks (vec_capacity slots.old) counts.old }
+    ensures same { indexes slots.new.items ≡ indexes slots.old.items }
+    ensures homes { AreHomes slots.new.items homes.new.items }
+    ensures counts { AreCounts slots.new.items counts.new }
+    ensures blocks { HasBlocks (vec_capacity slots.new) counts.new }
+    ensures room { OnOk result (vec_len slots.new < vec_capacity slots.new) }
+    ensures room_at_home { OnOk result (vec_len homes.new < vec_capacity homes.new) }
+{
+    close_full(slots, homes, counts);
+    grow_full(slots, homes, counts)
+}
+
+/// Makes room for one pair more. Each slot that there is room for has its block, and so no third test asks for that.
+#[inline(always)]
 fn make_room(
     slots: &mut Vec<IndexOrGap>,
     homes: &mut Vec<u32>,
@@ -121,30 +248,18 @@ fn make_room(
 ) -> Result<(), AllocError>
     requires homes { AreHomes slots.old.items homes.old.items }
     requires counts { AreCounts slots.old.items counts.old }
-    ensures slots { slots.new.items ≡ slots.old.items }
-    ensures homes { homes.new.items ≡ homes.old.items }
-    ensures counts { AreCounts slots.old.items counts.new }
+    requires blocks { HasBlocks (vec_capacity slots.old) counts.old }
+    ensures same { indexes slots.new.items ≡ indexes slots.old.items }
+    ensures homes { AreHomes slots.new.items homes.new.items }
+    ensures counts { AreCounts slots.new.items counts.new }
+    ensures blocks { HasBlocks (vec_capacity slots.new) counts.new }
     ensures room { OnOk result (vec_len slots.new < vec_capacity slots.new) }
     ensures room_at_home { OnOk result (vec_len homes.new < vec_capacity homes.new) }
-    ensures block { OnOk result (length slots.old.items < 16 * length counts.new) }
-    ensures small { OnOk result (length slots.old.items + 1 < 2 ^ 32) }
 {
-    let slot = slots.len();
-    if slot >= MOST {
-        return Err(AllocError);
+    if slots.len() == slots.capacity() || homes.len() == homes.capacity() {
+        widen(slots, homes, counts)?;
     }
-    if slots.len() == slots.capacity() {
-        grow(slots)?;
-    }
-    if homes.len() == homes.capacity() {
-        grow(homes)?;
-    }
-    if slot / PART == counts.len() {
-        counts.push()?;
-        Ok(())
-    } else {
-        Ok(())
-    }
+    Ok(())
 }
 
 impl Order {
@@ -152,10 +267,11 @@ impl Order {
     pub fn new(alloc: Global, count: usize) -> Result<Order, AllocError>
         ensures { IfOk result (λ order. order ≡ range_with_len 0 count) }
     {
+        let (slots, counts) = empty_slots(alloc, count)?;
         let mut order = Order {
-            slots: Vec::with_capacity(alloc, count)?,
+            slots,
             homes: Vec::with_capacity(alloc, count)?,
-            counts: Sums::with_room(alloc, count / PART + 1)?,
+            counts,
         };
         'indexes: for _ in 0..count {
             order.push()?;
@@ -169,22 +285,12 @@ impl Order {
         ensures ok { OnOk result (self.new ≡ self.old ++ length self.old ∷ []) }
         ensures err { OnErr result (self.new ≡ self.old) }
     {
-        self.close_full();
-        self.append()
-    }
-
-    /// `push`, with more room where the slots are full.
-    #[inline(always)]
-    fn append(&mut self) -> Result<(), AllocError>
-        ensures ok { OnOk result (self.new ≡ self.old ++ length self.old ∷ []) }
-        ensures err { OnErr result (self.new ≡ self.old) }
-    {
         make_room(&mut self.slots, &mut self.homes, &mut self.counts)?;
         let slot = self.slots.len();
         let index = self.homes.len();
-        self.counts.raise(slot / PART);
         self.slots.push_reserved(IndexOrGap::of(index as u32));
         self.homes.push_reserved(slot as u32);
+        self.counts.raise(slot / PART);
         Ok(())
     }
 
@@ -267,28 +373,7 @@ impl Order {
         ensures { self.new ≡ self.old }
     {
         if self.homes.len() < self.slots.len() / 2 {
-            self.close();
+            close(&mut self.slots, &mut self.homes, &mut self.counts);
         }
-    }
-
-    /// Closes the gaps, where no slot is left and more than an eighth of them are gaps.
-    #[inline(always)]
-    fn close_full(&mut self)
-        ensures { self.new ≡ self.old }
-    {
-        let count = self.slots.len();
-        if count == self.slots.capacity() && self.homes.len() < count - count / 8 {
-            self.close();
-        }
-    }
-
-    /// Closes the gaps.
-    #[inline(never)]
-    fn close(&mut self)
-        ensures { self.new ≡ self.old }
-    {
-        close_gaps(&mut self.slots);
-        settle(self.slots.as_slice(), self.homes.as_mut_slice());
-        self.counts.deal(self.slots.len());
     }
 }

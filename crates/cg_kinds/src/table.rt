@@ -28,8 +28,16 @@ pub struct Table {
     map: Map,
     /// In a box, since most tables have none.
     order: Option<Box<Order>>,
+    room: Room,
+}
+
+/// What is known of a map's room, in the eight bytes of one word.
+#[derive(Drop)]
+struct Room {
     /// For so many pairs the map has room, or had when it last grew: it tells that the map has grown again.
-    room: usize,
+    all: u32,
+    /// Before so many new keys have come, the map does not grow. It may be more, since each key that goes leaves room.
+    left: u32,
 }
 
 impl Model for Table {
@@ -186,29 +194,50 @@ fn put_in(map: &mut Map, key: Val, val: Val) -> Result<Option<Val>, AllocError>
     ensures present { IsSome (value_at (pairs_of map.old.entries) key) → IsOk result }
     ensures err { OnErr result (map.new.entries ≡ map.old.entries) }
 {
+    // It is packed before the search, during which its two words then take less to keep than a `Val`.
+    let packed = Nine::new(val);
     match map.entry(Nine::new(key)) {
         Ok(MapEntry::Occupied(there)) => {
             let value = there.into_mut();
             let was = value.val();
-            *value = Nine::new(val);
+            *value = packed;
             Ok(Some(was))
         }
         Ok(MapEntry::Vacant(place)) => {
-            let _ = place.insert_entry(Nine::new(val));
+            let _ = place.insert_entry(packed);
             Ok(None)
         }
         Err(_) => Err(AllocError),
     }
 }
 
-/// A map that has grown, and so doubled its room, keeps some of it.
+/// A new key has come. Only where the map may have grown for it is the map asked whether it has.
 #[inline(always)]
-fn fit(map: &mut Map, room: &mut usize)
+fn fit(map: &mut Map, room: &mut Room)
     ensures { map.new.entries ≡ map.old.entries }
 {
-    if map.capacity() > *room {
-        give_back(map, room);
+    if room.left == 0 {
+        fit_again(map, room);
+    } else {
+        room.left -= 1;
     }
+}
+
+/// A map that has grown, and so doubled its room, keeps some of it. It notes how many keys may come before the map grows again.
+#[inline(never)]
+fn fit_again(map: &mut Map, room: &mut Room)
+    ensures { map.new.entries ≡ map.old.entries }
+{
+    if map.capacity() > room.all as usize {
+        give_back(map);
+        room.all = few(map.capacity());
+    }
+    room.left = few(map.capacity() - map.len());
+}
+
+/// A number in 32 bits, or the highest of these.
+fn few(number: usize) -> u32 {
+    number.min(0xFFFF_FFFF) as u32
 }
 
 /// A map gives back all room but that of its pairs and some two fifths of them.
@@ -216,13 +245,11 @@ fn fit(map: &mut Map, room: &mut usize)
 /// Each growth leaves holes in the memory of the process, and so there may not be many. Of the parts that were tried this one alone
 /// kept each table that was measured, of 25 to 300 pairs as they were put and of some 90 sizes with an order, within 300 bytes and
 /// 64 a pair.
-#[inline(never)]
-fn give_back(map: &mut Map, room: &mut usize)
+fn give_back(map: &mut Map)
     ensures { map.new.entries ≡ map.old.entries }
 {
     let more = map.len().saturating_mul(25) / 64;
     map.shrink_to(map.len() + more + 1);
-    *room = map.capacity();
 }
 
 /// The indexes below a number, in their own order, in a box.
@@ -244,6 +271,14 @@ fn noted_order(map: &mut Map) -> Result<Box<Order>, AllocError>
     Ok(order)
 }
 
+/// The pair that a map got last goes out again. It is a call, since few puts come to it.
+#[inline(never)]
+fn lose_last(map: &mut Map)
+    ensures { map.new.entries ≡ take (length map.old.entries - 1) map.old.entries }
+{
+    let _ = map.pop();
+}
+
 /// The pair that a map got last goes last in the order, or out of the map again.
 #[inline(always)]
 fn order_last(map: &mut Map, order: &mut Option<Box<Order>>) -> Result<(), AllocError>
@@ -256,7 +291,7 @@ fn order_last(map: &mut Map, order: &mut Option<Box<Order>>) -> Result<(), Alloc
         Some(order) => match order.push() {
             Ok(()) => Ok(()),
             Err(error) => {
-                let _ = map.pop();
+                lose_last(map);
                 Err(error)
             }
         },
@@ -272,7 +307,7 @@ impl Table {
         Table {
             map: IndexMap::with_hasher(alloc, key_hashing()),
             order: None,
-            room: 0,
+            room: Room { all: 0, left: 0 },
         }
     }
 
@@ -283,11 +318,11 @@ impl Table {
         let mut map = IndexMap::with_capacity_and_hasher(alloc, count, key_hashing())?;
         // The map makes room for all that its groups can take.
         map.shrink_to(count);
-        let room = map.capacity();
+        let all = few(map.capacity());
         Ok(Table {
             map,
             order: None,
-            room,
+            room: Room { all, left: 0 },
         })
     }
 
@@ -392,6 +427,8 @@ impl Table {
             Some(_) => {}
             None => {
                 if count - i > CLOSE {
+                    // The map gives back its room first, also where no order is noted.
+                    self.room.left = 0;
                     if let Ok(order) = noted_order(&mut self.map) {
                         self.order = Some(order);
                     }

@@ -3,7 +3,7 @@ ghost use Rattle.std.specs.Prelude.{◌≡◌, ◌+◌, ◌-◌, ◌<◌, ◌≤
 ghost use Rattle.std.specs.List.{AllZip};
 ghost use Rattle.cg_graph.specs.Value.{item, references, reference_in};
 ghost use Rattle.cg_kind.specs.Calls.{AreItems, next_entries};
-ghost use Rattle.cg_kinds.specs.Values.{value_in, values_in, sort_of, number_bits, text_bits, serial_bits, AreWords, AreOnlyWords, AreColumns};
+ghost use Rattle.cg_kinds.specs.Values.{value_in, values_in, AreWords, AreOnlyWords, AreColumns};
 
 use cg_kind::{AT_ONCE, Noted, ROOM, note_reference};
 use cg_value::{Entry, Val};
@@ -35,64 +35,19 @@ impl Model for Values {
     ghost invariant = { λ v. AreColumns v.sorts.items v.numbers.items v.first v.room (vec_capacity v.sorts) (vec_capacity v.numbers) };
 }
 
-/// The sort of a value.
-#[inline(always)]
-fn sort_of(val: Val) -> u8
-    ensures { result ≡ sort_of val }
-{
-    match val {
-        Val::None => 0,
-        Val::Int(_) => 1,
-        Val::Str(_) => 2,
-        Val::Ref(_) => 3,
-    }
-}
-
-/// The bits of a whole number, else 0.
-#[inline(always)]
-fn number_bits(val: Val) -> u64
-    ensures bits { result ≡ number_bits val }
-    ensures back { sort_of val ≡ 1 → value_in 1 result ≡ val }
-{
-    match val {
-        Val::Int(number) => number.cast_unsigned(),
-        _ => 0,
-    }
-}
-
-/// The number of a text, else 0.
-#[inline(always)]
-fn text_bits(val: Val) -> u64
-    ensures { result ≡ text_bits val }
-{
-    match val {
-        Val::Str(name) => name as u64,
-        _ => 0,
-    }
-}
-
-/// The serial of a reference, else 0.
-#[inline(always)]
-fn serial_bits(val: Val) -> u64
-    ensures { result ≡ serial_bits val }
-{
-    match val {
-        Val::Ref(serial) => serial,
-        _ => 0,
-    }
-}
-
 /// The sort of a value, and its number.
-///
-/// At most one of the three numbers is not 0. One `match` for all sorts would become a jump by way of a table.
 #[inline(always)]
 pub(crate) fn words_of(val: Val) -> (u8, u64)
     ensures value { value_in result.0 result.1 ≡ val }
     ensures words { AreWords result.0 result.1 }
     ensures only { AreOnlyWords result.0 result.1 }
 {
-    let number = number_bits(val) | text_bits(val) | serial_bits(val);
-    (sort_of(val), number)
+    match val {
+        Val::Ref(serial) => (3, serial),
+        Val::Int(number) => (1, number.cast_unsigned()),
+        Val::Str(name) => (2, name as u64),
+        Val::None => (0, 0),
+    }
 }
 
 /// The value of a sort with a number.

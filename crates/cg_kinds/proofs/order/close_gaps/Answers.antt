@@ -3,5 +3,5 @@ use Rattle.std.proofs.lemmas.Fn.{filter_same}
 use Rattle.cg_kinds.proofs.OrderLemmas.{closed-filter}
 use Rattle.cg_kinds.proofs.order.close_gaps.Goals as goal
 
-pub returns : goal.returns
-returns c = filter_same _ _ _ (λ x b f' k. search rules) _ _ c.retain.ensures.filtered ∙ closed-filter c.args.slots.now.items
+pub returns-clause-items : goal.returns-clause-items
+returns-clause-items c = filter_same _ _ _ (λ x b f' k. search rules) _ _ c.retain.ensures.filtered ∙ closed-filter c.args.slots.now.items
