@@ -1,9 +1,12 @@
 -- Values in two columns of words: what a place of both holds, and what a change of both does to the values.
-use Rattle.std.proofs.Common.{◌≡◌, ℕ, zero, suc, ◌+◌, ◌-◌, ◌<◌, ◌≤◌, ◌^◌, List, [], ◌∷◌, ◌++◌, length, get_or, set, remove, drop, Some, Global, refl, sym, ap, subst, ◌∙◌, arith, length-append, length-drop}
+use Rattle.std.proofs.Common.{◌≡◌, ℕ, zero, suc, ◌+◌, ◌-◌, ◌<◌, ◌≤◌, ◌^◌, List, [], ◌∷◌, ◌++◌, length, get_or, map, set, remove, take, drop, Some, Global, refl, sym, ap, subst, ◌∙◌, arith, length-append, length-drop}
 use Rattle.std.specs.Prelude.{Vec, vec_len, slice_get}
-use Rattle.std.specs.List.{AllZip}
+use Rattle.std.specs.List.{All, AllZip}
 use Rattle.std.proofs.lemmas.List.{length-set, drop-append-le}
 use Rattle.std.proofs.lemmas.List.Edits.{length-remove}
+use Rattle.std.proofs.lemmas.List.Elements.{All-head, All-tail}
+use Rattle.cg_value.specs.declared.Val.TheVariants.{Ref}
+use Rattle.cg_graph.specs.Value.{item, references}
 use Rattle.cg_kinds.specs.Values.{value_in, values_in, AreWords, AreColumns, Kept}
 
 -- the columns have a sort and a number for each value
@@ -220,3 +223,21 @@ module _ (sorts numbers sorts' numbers' : List ℕ) (first room a b a' b' : ℕ)
     values-pop =
         ap (drop first) ((λ i. values_in (is_sorts i) (is_numbers i)) ∙ values-push sorts' numbers' s n popped.0)
         ∙ drop-append-le first (values_in sorts' numbers') (value_in s n ∷ []) (omega (arith, begins', length-sorts sorts' numbers' popped.0))
+
+-- where all sorts between two places are those of references, the references there are the numbers
+pub all-references : (sorts numbers : List ℕ) → length sorts ≡ length numbers → (from n : ℕ) → All (λ sort. 2 < sort) (take n (drop from sorts)) → references (take n (drop from (map item (values_in sorts numbers)))) ≡ take n (drop from numbers)
+all-references [] [] same zero zero all = refl
+all-references [] [] same zero (suc n) all = refl
+all-references [] [] same (suc from) zero all = refl
+all-references [] [] same (suc from) (suc n) all = refl
+all-references [] (m ∷ numbers) same from n all = absurd (omega (arith, same))
+all-references (s ∷ sorts) [] same from n all = absurd (omega (arith, same))
+all-references (s ∷ sorts) (m ∷ numbers) same (suc from) n all = all-references sorts numbers (omega (arith, same)) from n all
+all-references (s ∷ sorts) (m ∷ numbers) same zero zero all = refl
+all-references (s ∷ sorts) (m ∷ numbers) same zero (suc n) all = ap (λ v. references (item v ∷ take n (map item (values_in sorts numbers)))) (value_is s m (All-head (λ sort. 2 < sort) s (take n sorts) all)) ∙ ap (λ rest. m ∷ rest) (all-references sorts numbers (omega (arith, same)) zero n (All-tail (λ sort. 2 < sort) s (take n sorts) all))
+  where
+    value_is : (s m : ℕ) → 2 < s → value_in s m ≡ Ref m
+    value_is zero m above = absurd (omega (arith, above))
+    value_is (suc zero) m above = absurd (omega (arith, above))
+    value_is (suc (suc zero)) m above = absurd (omega (arith, above))
+    value_is (suc (suc (suc s))) m above = refl

@@ -1,6 +1,6 @@
 //! Values in two columns, as lists keep many of them.
-ghost use Rattle.std.specs.Prelude.{◌≡◌, ◌+◌, ◌-◌, ◌<◌, ◌≤◌, ◌++◌, ◌∷◌, [], length, map, Some, IfOk, OnOk, OnErr, OnSome, IfNone, IsNone, option_to_list, remove, slice_get, slice_set, take, drop, vec_len, vec_capacity};
-ghost use Rattle.std.specs.List.{AllZip};
+ghost use Rattle.std.specs.Prelude.{true, ◌≡◌, ◌+◌, ◌-◌, ◌<◌, ◌≤◌, ◌++◌, ◌∷◌, [], length, map, Some, IfOk, OnOk, OnErr, OnSome, IfNone, IsNone, option_to_list, remove, slice_get, slice_set, take, drop, vec_len, vec_capacity};
+ghost use Rattle.std.specs.List.{All, AllZip};
 ghost use Rattle.cg_graph.specs.Value.{item, references, reference_in};
 ghost use Rattle.cg_kind.specs.Calls.{AreItems, next_entries};
 ghost use Rattle.cg_kinds.specs.Values.{value_in, values_in, AreWords, AreOnlyWords, AreColumns};
@@ -35,6 +35,9 @@ impl Model for Values {
     ghost invariant = { λ v. AreColumns v.sorts.items v.numbers.items v.first v.room (vec_capacity v.sorts) (vec_capacity v.numbers) };
 }
 
+/// The sort of a reference. No other is as high.
+const REFERENCE: u8 = 3;
+
 /// The sort of a value, and its number.
 #[inline(always)]
 pub(crate) fn words_of(val: Val) -> (u8, u64)
@@ -43,7 +46,7 @@ pub(crate) fn words_of(val: Val) -> (u8, u64)
     ensures only { AreOnlyWords result.0 result.1 }
 {
     match val {
-        Val::Ref(serial) => (3, serial),
+        Val::Ref(serial) => (REFERENCE, serial),
         Val::Int(number) => (1, number.cast_unsigned()),
         Val::Str(name) => (2, name as u64),
         Val::None => (0, 0),
@@ -72,10 +75,52 @@ pub(crate) fn reference_of(sort: u64, number: u64) -> Option<u64>
     if sort > 2 { Some(number) } else { None }
 }
 
+/// Whether all of some sorts are those of references. The loop has no other way out, so that many of them are looked at at once.
+fn are_references(sorts: &[u8]) -> bool
+    ensures { result ≡ true → All (λ sort. 2 < sort) sorts.now }
+{
+    let mut least = REFERENCE;
+    'sorts: for sort in sorts {
+        least = least.min(*sort);
+    }
+    least == REFERENCE
+}
+
+/// Writes down some numbers, and answers how many there are.
+fn note_all(numbers: &[u64], found: &mut [u64]) -> usize
+    requires { length numbers.now ≤ length found.old }
+    ensures numbers { take result found.new ≡ numbers.now }
+    ensures count { result ≡ length numbers.now }
+    ensures room { length found.new ≡ length found.old }
+{
+    let count = numbers.len();
+    found[..count].copy_from_slice(numbers);
+    count
+}
+
 /// Writes down the references of the values from one place of both columns to another, which are at most `AT_ONCE`. It answers
-/// how many there are.
+/// how many there are. In most lists all values are references, and then their numbers are copied as they are.
 #[inline(always)]
 fn note_between(sorts: &[u8], numbers: &[u64], from: usize, next: usize, found: &mut [u64]) -> usize
+    requires words { AllZip AreWords sorts.now numbers.now }
+    requires order { from ≤ next }
+    requires within { next ≤ length numbers.now }
+    requires few { next ≤ from + AT_ONCE }
+    requires room { ROOM ≤ length found.old }
+    ensures references { take result found.new ≡
+        references (take (next - from) (drop from (map item (values_in sorts.now numbers.now)))) }
+    ensures few { result ≤ ROOM }
+    ensures room { length found.new ≡ length found.old }
+{
+    if are_references(&sorts[from..next]) {
+        note_all(&numbers[from..next], found)
+    } else {
+        note_each(sorts, numbers, from, next, found)
+    }
+}
+
+/// The same, where each value is looked at.
+fn note_each(sorts: &[u8], numbers: &[u64], from: usize, next: usize, found: &mut [u64]) -> usize
     requires words { AllZip AreWords sorts.now numbers.now }
     requires order { from ≤ next }
     requires within { next ≤ length numbers.now }

@@ -1,7 +1,7 @@
 use Rattle.std.proofs.Common.{◌≡◌, ◌≤◌, ◌-◌, length, map, take, drop}
 use Rattle.cg_graph.specs.Value.{item, references}
 use Rattle.cg_kinds.specs.Values.{values_in}
-use Rattle.cg_kinds.proofs.values.note_between.Given as goal
+use Rattle.cg_kinds.proofs.values.note_each.Given as goal
 
 abbrev pub invariant-places : goal.invariant-places
 invariant-places l = record {
