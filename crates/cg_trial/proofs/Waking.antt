@@ -1,5 +1,5 @@
 -- Taking back: a target with the number 0 gets one, and where it was set aside the last place in the list.
-use Rattle.std.proofs.Common.{◌≡◌, ◌≢◌, refl, sym, ◌∙◌, ap, subst, replicate, ℕ, ◌+◌, ◌-◌, ◌*◌, ◌≤◌, true, false, cond, ◌⊎◌, inl, inr, List, [], ◌∷◌, ◌++◌, length, take, drop, get_or, arith, append_assoc, length-append}
+use Rattle.std.proofs.Common.{◌≡◌, ◌≢◌, refl, sym, ◌∙◌, ap, subst, replicate, ℕ, ◌+◌, ◌*◌, ◌≤◌, true, false, cond, ◌⊎◌, inl, inr, List, [], ◌∷◌, ◌++◌, length, take, drop, get_or, arith, append_assoc, length-append, ◌<◌}
 use Rattle.std.proofs.lemmas.Bool.{eqb-true, eq-eqb}
 use Rattle.std.proofs.Math.Seq.{take-length, take-add}
 use Rattle.std.proofs.lemmas.List.{append-nil, take-append-drop, take_more, get_or-drop}
@@ -70,13 +70,13 @@ woken_more r s a b c first then = record {
   lighter = omega (arith, first.lighter, then.lighter, length-append first.more then.more);
 }
 
--- one that has a number, as often as it comes
-pub awake_run : (v : View) (xs : List ℕ) (at end o : ℕ) → take end xs ≡ take at xs ++ replicate (end - at) o → v.number o ≢ 0 → ((p : ℕ) → Includes (take at xs) p → v.number p ≢ 0)
-    → (p : ℕ) → Includes (take end xs) p → v.number p ≢ 0
-awake_run v xs at end o run awake before p h =
-    either (Includes-append_cases (take at xs) (replicate (end - at) o) p (subst (λ (l : List ℕ). Includes l p) run h))
+-- those that have numbers, and one more that has one
+pub awake_next : (v : View) (xs : List ℕ) (at : ℕ) → at < length xs → v.number (get_or xs at 0) ≢ 0 → ((p : ℕ) → Includes (take at xs) p → v.number p ≢ 0)
+    → (p : ℕ) → Includes (take (at + 1) xs) p → v.number p ≢ 0
+awake_next v xs at within awake before p h =
+    either (Includes-append_cases (take at xs) (replicate 1 (get_or xs at 0)) p (subst (λ (l : List ℕ). Includes l p) (take_more xs at 0 within) h))
     (λ i. before p i)
-    (λ i. subst (λ q. v.number q ≢ 0) (always_that (end - at) o p i) awake)
+    (λ i. subst (λ q. v.number q ≢ 0) (always_that 1 (get_or xs at 0) p i) awake)
 
 -- those that have numbers, and the one behind them
 pub woken_next : (xs : List ℕ) (from at : ℕ) (a b c : View) → Woken (take from xs) a b → IsFirstZero b (drop from xs) at → Woken (get_or xs (from + at) 0 ∷ []) b c → Woken (take (from + (at + 1)) xs) a c

@@ -37,23 +37,8 @@ fn copy<B: Kind>(heap: &mut Heap<B>)
 }
 
 /// Where the objects end that are in a row the same as the one at `from`, as in a list that holds one object many times.
-#[inline(always)]
-fn end_of_run(objects: &[u64], from: usize) -> usize
-    requires { from < length objects.now }
-    ensures run { take result objects.now ≡ take from objects.now ++ replicate (result - from) (slice_index objects.now from) }
-    ensures behind { from < result }
-    ensures within { result ≤ length objects.now }
-{
-    let next = from + 1;
-    if next < objects.len() && objects[next] == objects[from] {
-        return end_of_long_run(objects, from);
-    }
-    next
-}
-
-/// The same. Most runs are of one object, and end before a loop begins.
 #[inline(never)]
-fn end_of_long_run(objects: &[u64], from: usize) -> usize
+fn end_of_run(objects: &[u64], from: usize) -> usize
     requires { from < length objects.now }
     ensures run { take result objects.now ≡ take from objects.now ++ replicate (result - from) (slice_index objects.now from) }
     ensures behind { from < result }
@@ -79,7 +64,7 @@ fn lower_each<B: Kind>(heap: &mut Heap<B>, objects: &[u64])
     'runs: while next < objects.len() {
         let object = objects[next - 1];
         if object == objects[next] {
-            let end = end_of_long_run(objects, next - 1);
+            let end = end_of_run(objects, next - 1);
             lower_number_by(heap, object, end + 1 - next);
             next = end + 1;
         } else {
@@ -151,7 +136,7 @@ fn first_to_wake<B: Kind>(heap: &Heap<B>, objects: &[u64]) -> Option<(usize, Pla
         if head.number == 0 {
             return Some((at, head.place));
         }
-        at = end_of_run(objects, at);
+        at += 1;
     }
     None
 }
@@ -173,7 +158,7 @@ fn wake<B: Kind>(heap: &mut Heap<B>, object: u64, place: Place)
     }
 }
 
-/// Each of these objects is taken back. One that comes several times in a row is sought once.
+/// Each of these objects is taken back.
 #[inline(always)]
 fn take_back_each<B: Kind>(heap: &mut Heap<B>, objects: &[u64])
     requires { (o : ℕ) → Includes objects.now o → IsTrue ((view_of heap.old).live o) }

@@ -1,8 +1,8 @@
-use Rattle.std.proofs.Common.{◌∙◌}
+use Rattle.std.proofs.Common.{◌∙◌, arith}
 use Rattle.cg_trial.specs.View.{view_of}
 use Rattle.cg_trial.proofs.Entries.{one_of}
 use Rattle.cg_trial.proofs.Views.{number_told}
-use Rattle.cg_trial.proofs.Waking.{awake_run}
+use Rattle.cg_trial.proofs.Waking.{awake_next}
 use Rattle.cg_trial.proofs.subtraction.first_to_wake.Goals as goal
 
 pub head_of-head-requires : goal.head_of-head-requires
@@ -12,7 +12,7 @@ pub objects-preserved : goal.objects-preserved
 objects-preserved g c =
     let live = c.requires _ (one_of c.args.objects.now c.objects.at c.objects-test.true) in
     record {
-      before = awake_run (view_of c.args.heap.now) c.args.objects.now c.objects.at c.end_of_run-at.result _ c.end_of_run-at.ensures.run
+      before = awake_next (view_of c.args.heap.now) c.args.objects.now c.objects.at c.objects-test.true
           (λ z. c.if-head-eq0.false (number_told c.args.heap.now _ _ live c.head_of-head.ensures.number ∙ z)) c.objects.invariant.before;
-      within = c.end_of_run-at.ensures.within;
+      within = omega (arith, c.objects-test.true);
     }

@@ -1,6 +1,6 @@
 use Rattle.std.proofs.Common.{arith}
 use Rattle.cg_trial.proofs.Entries.{run_more}
-use Rattle.cg_trial.proofs.subtraction.end_of_long_run.Goals as goal
+use Rattle.cg_trial.proofs.subtraction.end_of_run.Goals as goal
 
 pub run-preserved : goal.run-preserved
 run-preserved c = record {

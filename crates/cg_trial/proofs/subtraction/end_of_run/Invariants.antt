@@ -1,5 +1,5 @@
 use Rattle.std.proofs.Common.{length, ◌-◌, ◌≡◌, ◌<◌, ◌≤◌, ◌++◌, replicate, slice_index, take}
-use Rattle.cg_trial.proofs.subtraction.end_of_long_run.Given as goal
+use Rattle.cg_trial.proofs.subtraction.end_of_run.Given as goal
 
 abbrev pub invariant-run : goal.invariant-run
 invariant-run l = record {
