@@ -241,8 +241,9 @@ impl Values {
         val_of(self.sorts[at], self.numbers[at])
     }
 
-    /// Goes over some items of the values from a position on, as `cg_kind::Kind::note_from` says it.
-    #[inline(always)]
+    /// Goes over some items of the values from a position on, as `cg_kind::Kind::note_from` says it. It is a call of its own, since
+    /// copying wants more registers than the few items of most lists do.
+    #[inline(never)]
     pub fn note_from(&self, from: usize, found: &mut [u64]) -> Noted
         requires within { from ≤ length self.now.items }
         requires room { ROOM ≤ length found.old }
