@@ -230,13 +230,13 @@ fn fit_again(map: &mut Map, room: &mut Room)
 {
     if map.capacity() > room.all as usize {
         give_back(map);
-        room.all = few(map.capacity());
+        room.all = in_32_bits(map.capacity());
     }
-    room.left = few(map.capacity() - map.len());
+    room.left = in_32_bits(map.capacity() - map.len());
 }
 
 /// A number in 32 bits, or the highest of these.
-fn few(number: usize) -> u32 {
+fn in_32_bits(number: usize) -> u32 {
     number.min(0xFFFF_FFFF) as u32
 }
 
@@ -318,7 +318,7 @@ impl Table {
         let mut map = IndexMap::with_capacity_and_hasher(alloc, count, key_hashing())?;
         // The map makes room for all that its groups can take.
         map.shrink_to(count);
-        let all = few(map.capacity());
+        let all = in_32_bits(map.capacity());
         Ok(Table {
             map,
             order: None,
