@@ -17,7 +17,7 @@ use Rattle.cg_graph.proofs.Members.{either, Includes-append_cases}
 use Rattle.cg_trial.proofs.Lists.{occurs, occurs_in, none_or_some, without-absent, without-append, without-cons_yes, once_before, IsAt, head_is, ahead, ahead_is}
 use Rattle.cg_trial.proofs.Passes.{same_itself, same_more, turn_of, turn_shorter, stands, at_end}
 use Rattle.cg_trial.proofs.Entries.{refs_same, length_same, live_same}
-use Rattle.cg_trial.proofs.Waking.{member_of, member_within}
+use Rattle.cg_trial.proofs.Waking.{member_of, member_within, all_awake, few_zeros}
 
 pub in_lists : (xs ys zs : List ℕ) (q : ℕ) → occurrences q xs + occurrences q ys ≡ occurrences q zs → Includes zs q → Includes ys q ⊎ Includes xs q
 in_lists xs ys zs q sum h = either (none_or_some (occurrences q ys)) (λ e. inr (occurs_in xs q (let k = occurs zs q h in omega arith))) (λ e. inl (occurs_in ys q e))
@@ -49,7 +49,8 @@ pub record Sifting (old now : View) (cursor : Option ℕ) (before steps : ℕ) :
   pub stays : (q : ℕ) → old.number q ≢ 0 → now.number q ≢ 0
   -- what a passed object leads to has a number
   pub closed : (q p : ℕ) → Includes front q → Includes (references (old.entries q)) p → Includes (old.listed Cand) p → now.number p ≢ 0
-  pub looks : steps ≡ before + entries_in old front
+  pub later : before ≤ steps
+  pub looks : steps ≤ before + entries_in old front
 
 pub sifting_at : (old now : View) (cursor : Option ℕ) (o before steps : ℕ) → Sifting old now cursor before steps → cursor ≡ Some o → Sifting old now (Some o) before steps
 sifting_at old now cursor o before steps so is = subst (λ (k : Option ℕ). Sifting old now k before steps) is so
@@ -67,6 +68,7 @@ sifting_first v cursor steps empty is = record {
   marked = λ q h k. starts k h;
   stays = λ q h. h;
   closed = λ q p h. absurd h;
+  later = omega arith;
   looks = omega arith;
 }
 
@@ -140,20 +142,23 @@ module _ (old now new : View) (o : ℕ) (cursor : Option ℕ) (before steps : �
     marked = λ q h k. so.marked q h (λ z. k (number_new q ∙ z));
     stays = λ q h k. so.stays q h (sym (number_new q) ∙ k);
     closed = λ q p h r k z. so.closed q p h r k (sym (number_new p) ∙ z);
+    later = so.later;
     looks = so.looks;
   }
 
+  pub aside_zeros : zeros new ≡ zeros now
+  aside_zeros = ap (λ (n : ℕ → ℕ). both (λ q. cond (n q == 0) 1 0) new) moved.numbers ∙ same_both (is_zero now)
+
   pub aside_lighter : ((q : Place) → q ≢ Cand → occurrences o (old.listed q) ≡ 0) → (was : Option ℕ) → was ≡ Some o → weight new cursor < weight now was
   aside_lighter alone was start =
-      let z : zeros new ≡ both (is_zero now) new = ap (λ (n : ℕ → ℕ). both (λ q. cond (n q == 0) 1 0) new) moved.numbers in
       let once_new = (sifting_ready old new cursor before steps (sifting_aside alone) ready).once in
       let a : length (ahead was (now.listed Cand)) ≡ length (o ∷ turn.0) = ap (λ (k : Option ℕ). length (ahead k (now.listed Cand))) start ∙ ap length (ahead_is (now.listed Cand) (Some o) so.front so.back once_now so.at ∙ turn.1) in
       let b : length (ahead cursor (new.listed Cand)) ≡ length turn.0 = ap length (ahead_is (new.listed Cand) cursor so.front turn.0 once_new (record { parts = cand_left; at = turn.3.at })) in
-      omega (arith, z, same_both (is_zero now), a, b)
+      omega (arith, aside_zeros, a, b)
 
 -- An object with a number is passed, once what it refers to is taken back.
 module _ (old now mid : View) (o : ℕ) (cursor : Option ℕ) (before steps later : ℕ) (ready : IsReadyView old) (so : Sifting old now (Some o) before steps) (has : now.number o ≢ 0)
-    (woken : Woken (references (now.entries o)) now mid) (next : IsNext mid o cursor) (looked : later ≡ steps + length (now.entries o)) where
+    (woken : Woken (references (now.entries o)) now mid) (next : IsNext mid o cursor) (gone_on : steps ≤ later) (looked : later ≤ steps + length (now.entries o)) where
   abbrev rest : List ℕ
   rest = (head_is so.back o so.at.at).0
 
@@ -195,6 +200,7 @@ module _ (old now mid : View) (o : ℕ) (cursor : Option ℕ) (before steps late
     stays = λ q h. woken.stays q (so.stays q h);
     closed = λ q p h r k. passed_cases q h (λ i. woken.stays p (so.closed q p i r k))
         (λ i. woken.woken p (refs_now p (subst (λ s. Includes (references (old.entries s)) p) (sym i) r)) (member_now old now (Some o) before steps so p k));
+    later = omega (arith, so.later, gone_on);
     looks = omega (arith, so.looks, looked, length_same old now o so.same, sum_by_push (λ q. length (old.entries q)) so.front o);
   }
 
@@ -235,44 +241,79 @@ module _ (old now : View) (before steps : ℕ) (so : Sifting old now None before
     all_reached = all_left;
   }
 
-  pub looks_few : steps ≤ before + entries_in old (old.listed Cand)
-  looks_few = omega (arith, so.looks, so.sums (λ q. length (old.entries q)), ap (entries_in old) all_passed)
-
 pub sifting_done : (old now : View) (cursor : Option ℕ) (before steps : ℕ) → Sifting old now cursor before steps → cursor ≡ None → Sifting old now None before steps
 sifting_done old now cursor before steps so is = subst (λ (k : Option ℕ). Sifting old now k before steps) is so
 
--- No candidate before the cursor has a number.
-pub record Looking (v : View) (cursor : Option ℕ) : Type 0 where
+-- Where none has the number 0 any more, all that were reached stay, whatever is still ahead.
+module _ (old now : View) (cursor : Option ℕ) (before steps : ℕ) (so : Sifting old now cursor before steps) (none : zeros now ≡ 0) where
+  numbered_now : (q : ℕ) → Includes (now.listed Cand) q → now.number q ≢ 0
+  numbered_now q h = all_awake now none q (inl h)
+
+  none_aside : (q : ℕ) → Includes (now.listed Back) q → ⊥
+  none_aside q h = all_awake now none q (inr h) (so.asleep q h)
+
+  stays_there : (q : ℕ) → Includes (old.listed Cand) q → Includes (now.listed Cand) q
+  stays_there q h = either (member_now old now cursor before steps so q h) (λ i. i) (λ i. absurd (none_aside q i))
+
+  all_stay : (q : ℕ) → Walk old (old.listed Cand) q → Includes (now.listed Cand) q
+  all_stay q (starts n h) = stays_there q h
+  all_stay q (goes w r h) = stays_there q h
+
+  pub sifting_over : IsParted old now
+  sifting_over = record {
+    same = so.same;
+    others = so.others;
+    sums = so.sums;
+    numbered = numbered_now;
+    asleep = so.asleep;
+    reached = λ q h. so.marked q (member_old old now cursor before steps so q (inl h)) (numbered_now q h);
+    all_reached = all_stay;
+  }
+
+-- what was passed is a part of the candidates
+pub looks_within : (old now : View) (cursor : Option ℕ) (before steps : ℕ) → Sifting old now cursor before steps → steps ≤ before + entries_in old (old.listed Cand)
+looks_within old now cursor before steps so =
+    let f : ℕ → ℕ = λ q. length (old.entries q) in
+    omega (arith, so.looks, so.sums f, ap (sum_by f) so.at.parts, sum_by-append f so.front so.back)
+
+-- So many of the candidates before the cursor have the number 0.
+pub record Counting (v : View) (cursor : Option ℕ) (count : ℕ) : Type 0 where
   pub front : List ℕ
   pub back : List ℕ
   pub at : IsAt (v.listed Cand) cursor front back
-  pub zero : (q : ℕ) → Includes front q → v.number q ≡ 0
+  pub counted : count ≡ sum_by (is_zero v) front
 
-pub looking_first : (v : View) (cursor : Option ℕ) → cursor ≡ head_of (v.listed Cand) → Looking v cursor
-looking_first v cursor is = record { front = []; back = v.listed Cand; at = record { parts = refl; at = is }; zero = λ q h. absurd h }
+pub counting_first : (v : View) (cursor : Option ℕ) → cursor ≡ head_of (v.listed Cand) → Counting v cursor 0
+counting_first v cursor is = record { front = []; back = v.listed Cand; at = record { parts = refl; at = is }; counted = refl }
 
-pub looking_at : (v : View) (cursor : Option ℕ) (o : ℕ) → Looking v cursor → cursor ≡ Some o → Looking v (Some o)
-looking_at v cursor o so is = subst (λ (k : Option ℕ). Looking v k) is so
+pub counting_at : (v : View) (cursor : Option ℕ) (o count : ℕ) → Counting v cursor count → cursor ≡ Some o → Counting v (Some o) count
+counting_at v cursor o count so is = subst (λ (k : Option ℕ). Counting v k count) is so
 
-pub looking_live : (v : View) (o : ℕ) → IsReadyView v → Looking v (Some o) → IsTrue (v.live o)
-looking_live v o ready so = ready.alive o (stands (v.listed Cand) o so.front so.back so.at)
+pub counting_live : (v : View) (o count : ℕ) → IsReadyView v → Counting v (Some o) count → IsTrue (v.live o)
+counting_live v o count ready so = ready.alive o (stands (v.listed Cand) o so.front so.back so.at)
 
-pub looking_more : (v : View) (o : ℕ) (cursor : Option ℕ) → Looking v (Some o) → v.number o ≡ 0 → IsNext v o cursor → Looking v cursor
-looking_more v o cursor so is next =
+-- fewer are counted than there are
+pub counting_few : (v : View) (o count : ℕ) → Counting v (Some o) count → count + 1 ≤ length (v.listed Cand)
+counting_few v o count so =
+    let head = head_is so.back o so.at.at in
+    omega (arith, so.counted, few_zeros v so.front, ap length so.at.parts, length-append so.front so.back, ap length head.1)
+
+pub counting_more : (v : View) (o count then : ℕ) (cursor : Option ℕ) → Counting v (Some o) count → then ≡ count + is_zero v o → IsNext v o cursor → Counting v cursor then
+counting_more v o count then cursor so is next =
     let turn = turn_of v (v.listed Cand) o cursor so.front so.back refl so.at next in
     record {
       front = so.front ++ o ∷ [];
       back = turn.0;
       at = turn.3;
-      zero = λ q h. either (Includes-append_cases so.front (o ∷ []) q h) (so.zero q) (λ k. either k (λ i. subst (λ p. v.number p ≡ 0) i is) (λ k. absurd k));
+      counted = omega (arith, is, so.counted, sum_by_push (is_zero v) so.front o);
     }
 
-pub looking_shorter : (v : View) (o : ℕ) (was cursor : Option ℕ) → IsReadyView v → Looking v (Some o) → was ≡ Some o → IsNext v o cursor → length (ahead cursor (v.listed Cand)) < length (ahead was (v.listed Cand))
-looking_shorter v o was cursor ready so is next =
+pub counting_shorter : (v : View) (o count : ℕ) (was cursor : Option ℕ) → IsReadyView v → Counting v (Some o) count → was ≡ Some o → IsNext v o cursor → length (ahead cursor (v.listed Cand)) < length (ahead was (v.listed Cand))
+counting_shorter v o count was cursor ready so is next =
     let turn = turn_of v (v.listed Cand) o cursor so.front so.back refl so.at next in
     rw is (turn_shorter (v.listed Cand) o cursor so.front so.back turn.0 ready.once so.at turn.1 turn.3)
 
-pub looking_end : (v : View) (cursor : Option ℕ) → Looking v cursor → cursor ≡ None → (o : ℕ) → Includes (v.listed Cand) o → v.number o ≡ 0
-looking_end v cursor so is o h =
+pub counting_end : (v : View) (cursor : Option ℕ) (count : ℕ) → Counting v cursor count → cursor ≡ None → v.listed Back ≡ [] → count ≡ zeros v
+counting_end v cursor count so is empty =
     let all = at_end (v.listed Cand) so.front so.back (subst (λ (k : Option ℕ). IsAt (v.listed Cand) k so.front so.back) is so.at) in
-    so.zero o (subst (λ (xs : List ℕ). Includes xs o) all h)
+    omega (arith, so.counted, ap (sum_by (is_zero v)) all, ap (sum_by (is_zero v)) empty)

@@ -3,7 +3,7 @@ use Rattle.std.proofs.Common.{◌≡◌, ◌≢◌, refl, sym, ◌∙◌, ap, su
 use Rattle.std.proofs.lemmas.Bool.{eqb-true, eq-eqb}
 use Rattle.std.proofs.Math.Seq.{take-length, take-add}
 use Rattle.std.proofs.lemmas.List.{append-nil, take-append-drop, take_more, get_or-drop}
-use Rattle.std.proofs.lemmas.List.Sums.{sum_by_push}
+use Rattle.std.proofs.lemmas.List.Sums.{sum_by_push, sum_by-cons, count_by-le-length}
 use Rattle.std.specs.Prelude.{◌==◌, sum_by}
 use Rattle.cg_value.specs.declared.Place.{Place}
 use Rattle.cg_value.specs.declared.Place.TheVariants.{Cand, Back}
@@ -18,7 +18,7 @@ use Rattle.cg_graph.proofs.Members.{either, cases_of, Includes-append_cases, Inc
 use Rattle.cg_trial.proofs.Lists.{occurs, occurs_in, always_that, none_or_some, sum_by-without, sum_by-parts, without-absent, Includes-without}
 use Rattle.cg_trial.proofs.Passes.{same_itself, same_more}
 use Rattle.cg_kind.specs.Calls.{next_entries}
-use Rattle.cg_kind.proofs.References.{next_within, references_next}
+use Rattle.cg_kind.proofs.References.{next_within, references_next, references-append}
 use Rattle.cg_trial.proofs.Entries.{next_same}
 
 -- A list with the same sums as two others has what these have.
@@ -37,6 +37,30 @@ member_within a b sums q h = occurs_in (a.listed Cand) q (omega (arith, sums (λ
 
 pub member_kept : (a b : View) → ((f : ℕ → ℕ) → both f b ≡ both f a) → (q : ℕ) → IsMember a q → IsMember b q
 member_kept a b sums q h = member_of b q (omega (arith, sums (λ x. cond (x == q) 1 0), member_counts a q h))
+
+-- with one that has the number 0 there is one at least
+pub zero_counts : (v : View) (xs : List ℕ) (q : ℕ) → Includes xs q → v.number q ≡ 0 → 1 ≤ sum_by (is_zero v) xs
+zero_counts v xs q here is =
+    let one : occurrences q xs * is_zero v q ≡ occurrences q xs * 1 = ap (λ n. occurrences q xs * cond (n == 0) 1 0) is in
+    omega (arith, sum_by-without (is_zero v) q xs, occurs xs q here, one)
+
+-- where none has the number 0, each member has another
+pub all_awake : (v : View) → zeros v ≡ 0 → (q : ℕ) → IsMember v q → v.number q ≢ 0
+all_awake v none q (inl h) is = absurd (omega (arith, none, zero_counts v (v.listed Cand) q h is))
+all_awake v none q (inr h) is = absurd (omega (arith, none, zero_counts v (v.listed Back) q h is))
+
+pub few_zeros : (v : View) (xs : List ℕ) → sum_by (is_zero v) xs ≤ length xs
+few_zeros v xs = count_by-le-length (λ q. v.number q == 0) xs
+
+-- where as many have the number 0 as there are, all have it
+pub all_zero : (v : View) (xs : List ℕ) → length xs ≤ sum_by (is_zero v) xs → (q : ℕ) → Includes xs q → v.number q ≡ 0
+all_zero v [] full q h = absurd h
+all_zero v (x ∷ xs) full q h = go (cases_of (v.number x == 0)) h (λ more k. all_zero v xs more q k)
+  where
+    go : (v.number x == 0 ≡ true) ⊎ (v.number x == 0 ≡ false) → (x ≡ q) ⊎ Includes xs q → (length xs ≤ sum_by (is_zero v) xs → Includes xs q → v.number q ≡ 0) → v.number q ≡ 0
+    go (inl e) (inl i) rec = ap v.number (sym i) ∙ eqb-true (v.number x) 0 e
+    go (inl e) (inr k) rec = let one : is_zero v x ≡ 1 = ap (λ b. cond b 1 0) e in rec (omega (arith, full, one, sum_by-cons (is_zero v) x xs)) k
+    go (inr e) h rec = let none : is_zero v x ≡ 0 = ap (λ b. cond b 1 0) e in absurd (omega (arith, full, none, sum_by-cons (is_zero v) x xs, few_zeros v xs))
 
 -- objects that have numbers
 pub woken_awake : (r : List ℕ) (v : View) → ((p : ℕ) → Includes r p → v.number p ≢ 0) → Woken r v v
@@ -90,6 +114,21 @@ woken_next xs from at a b c so first more =
 pub woken_rest : (xs : List ℕ) (from : ℕ) (a b : View) → Woken (take from xs) a b → ((p : ℕ) → Includes (drop from xs) p → b.number p ≢ 0) → Woken xs a b
 woken_rest xs from a b so awake = subst (λ (l : List ℕ). Woken l a b) (take-append-drop from xs) (woken_more _ _ a b b so (woken_awake (drop from xs) b awake))
 
+-- where none has the number 0 any more, the others are taken back too
+pub woken_over : (r s : List ℕ) (a b : View) → Woken r a b → zeros b ≡ 0 → ((p : ℕ) → Includes r p → Includes s p) → Woken s a b
+woken_over r s a b so none within = record {
+  same = so.same;
+  others = so.others;
+  sums = so.sums;
+  stays = so.stays;
+  woken = λ p h k. all_awake b none p (member_kept a b so.sums p k);
+  only = λ p h. either (so.only p h) (λ i. inl i) (λ i. inr (within p i));
+  asleep = so.asleep;
+  more = so.more;
+  longer = so.longer;
+  lighter = so.lighter;
+}
+
 -- One target: its number was 0 and becomes 1.
 module _ (p : ℕ) (a c : View) (zero_was : a.number p ≡ 0) (numbers : (q : ℕ) → c.number q ≡ cond (q == p) 1 (a.number q)) where
   number_here : c.number p ≡ 1
@@ -126,12 +165,18 @@ module _ (p : ℕ) (a c : View) (zero_was : a.number p ≡ 0) (numbers : (q : �
   fewer : both (is_zero c) a + both (λ q. cond (q == p) 1 0) a ≡ zeros a
   fewer = omega (arith, sum_by-parts (is_zero c) (λ q. cond (q == p) 1 0) (is_zero a) term (a.listed Cand), sum_by-parts (is_zero c) (λ q. cond (q == p) 1 0) (is_zero a) term (a.listed Back))
 
+  pub one_fewer : IsMember a p → ((f : ℕ → ℕ) → both f c ≡ both f a) → zeros c + 1 ≤ zeros a
+  one_fewer member sums = omega (arith, sums (is_zero c), fewer, member_counts a p member)
+
+sums_there : (p : ℕ) (a c : View) → Numbered p 1 a c → (f : ℕ → ℕ) → both f c ≡ both f a
+sums_there p a c numbered f = ap (λ (l : Place → List ℕ). sum_by f (l Cand) + sum_by f (l Back)) numbered.rest.places
+
 -- One that is not set aside.
 pub woken_there : (p : ℕ) (a c : View) → a.number p ≡ 0 → occurrences p (a.listed Back) ≡ 0 → Numbered p 1 a c → Woken (p ∷ []) a c
 woken_there p a c zero_was only_there numbered = record {
   same = numbered.rest.same;
   others = λ q h k. places q;
-  sums = sums;
+  sums = sums_there p a c numbered;
   stays = stay_marked p a c zero_was numbered.numbers;
   woken = λ q h k. is_woken p a c zero_was numbered.numbers q h;
   only = only_woken p a c zero_was numbered.numbers;
@@ -141,14 +186,11 @@ woken_there p a c zero_was only_there numbered = record {
       let some = occurs (a.listed Back) q was in let same : occurrences q (a.listed Back) ≡ occurrences p (a.listed Back) = ap (λ i. occurrences i (a.listed Back)) e in absurd (omega (arith, some, same, only_there)))) ∙ h q was;
   more = [];
   longer = places Cand ∙ sym (append-nil (a.listed Cand));
-  lighter = omega (arith, sums (is_zero c), fewer p a c zero_was numbered.numbers);
+  lighter = omega (arith, sums_there p a c numbered (is_zero c), fewer p a c zero_was numbered.numbers);
 }
   where
     places : (q : Place) → c.listed q ≡ a.listed q
     places q = ap (λ (l : Place → List ℕ). l q) numbered.rest.places
-
-    sums : (f : ℕ → ℕ) → both f c ≡ both f a
-    sums f = omega (arith, ap (sum_by f) (places Cand), ap (sum_by f) (places Back))
 
 -- One that was set aside: it stands last before its number becomes 1.
 module _ (p : ℕ) (a m c : View) (zero_was : a.number p ≡ 0) (once : occurrences p (a.listed Back) ≡ 1) (alone : (q : Place) → q ≢ Back → occurrences p (a.listed q) ≡ 0) (moved : Moved p Cand a m) (numbered : Numbered p 1 m c) where
@@ -184,6 +226,12 @@ module _ (p : ℕ) (a m c : View) (zero_was : a.number p ≡ 0) (once : occurren
     lighter = omega (arith, same_sums (is_zero c), fewer p a c zero_was numbers_then, once, alone Cand (λ e. absurd (cc)));
   }
 
+  pub back_fewer : zeros c + 1 ≤ zeros a
+  back_fewer = one_fewer p a c zero_was numbers_then (inr (occurs_in (a.listed Back) p (omega (arith, once)))) same_sums
+
+pub there_fewer : (p : ℕ) (a c : View) → a.number p ≡ 0 → Includes (a.listed Cand) p → Numbered p 1 a c → zeros c + 1 ≤ zeros a
+there_fewer p a c zero_was here numbered = one_fewer p a c zero_was numbered.numbers (inl here) (sums_there p a c numbered)
+
 -- Taking back has come to the entry `from`.
 pub record Waking (o : ℕ) (old now : View) (from : ℕ) : Type 0 where
   pub within : from ≤ length (old.entries o)
@@ -205,3 +253,9 @@ waking_more o old mid new from next so is more =
 
 pub waking_all : (o : ℕ) (old now : View) (i : ℕ) → i ≡ length (old.entries o) → Waking o old now i → Woken (references (old.entries o)) old now
 waking_all o old now i is so = subst (λ (es : List Entry). Woken (references es) old now) (ap (λ n. take n (old.entries o)) is ∙ take-length (old.entries o)) so.woken
+
+-- with none left to be taken back, all are
+pub waking_over : (o : ℕ) (old now : View) (i : ℕ) → zeros now ≡ 0 → Waking o old now i → Woken (references (old.entries o)) old now
+waking_over o old now i none so = woken_over (references (take i (old.entries o))) (references (old.entries o)) old now so.woken none
+    (λ p h. subst (λ (xs : List ℕ). Includes xs p) (sym (references-append (take i (old.entries o)) (drop i (old.entries o))) ∙ ap references (take-append-drop i (old.entries o)))
+    (Includes-append_left (references (take i (old.entries o))) (references (drop i (old.entries o))) p h))

@@ -9,7 +9,7 @@ ghost use Rattle.cg_arena.specs.Nodes.{IsPlace};
 ghost use Rattle.cg_heap.specs.Calls.{IsListed};
 ghost use Rattle.cg_trial.specs.View.{view_of, IsReadyView, IsSameButNumbers, Lowered, held_by};
 ghost use Rattle.cg_trial.specs.Paths.{entries_in};
-ghost use Rattle.cg_trial.specs.Sift.{Woken, IsFirstZero, IsNowhereElse, IsParted, IsTwofold, IsExchanged, IsSifted, IsSieved};
+ghost use Rattle.cg_trial.specs.Sift.{Woken, IsFirstZero, IsNowhereElse, IsParted, IsTwofold, IsExchanged, IsSifted, IsSieved, zeros};
 ghost use Rattle.cg_trial.specs.Split.{IsSplitPlace, kept_place, entry_number_at, IsSameButPlaces};
 
 use crate::candidates::{
@@ -142,54 +142,65 @@ fn first_to_wake<B: Kind>(heap: &Heap<B>, objects: &[u64]) -> Option<(usize, Pla
 }
 
 /// An object with the number 0 in this place gets the number 1, if it is a candidate, and where it was set aside, the last
-/// place in the list, so that the walk comes to it.
+/// place in the list, so that the walk comes to it. One less is then left of those with the number 0.
 #[inline(never)]
-fn wake<B: Kind>(heap: &mut Heap<B>, object: u64, place: Place)
+fn wake<B: Kind>(heap: &mut Heap<B>, object: u64, place: Place, left: &mut u64)
     requires live { IsTrue ((view_of heap.old).live object) }
     requires stands { place ≡ place_of heap.old object }
     requires zero { (view_of heap.old).number object ≡ 0 }
-    ensures { Woken (object ∷ []) (view_of heap.old) (view_of heap.new) }
+    requires left { zeros (view_of heap.old) ≤ left.old }
+    ensures woken { Woken (object ∷ []) (view_of heap.old) (view_of heap.new) }
+    ensures left { zeros (view_of heap.new) ≤ left.new }
 {
     if is_set_aside(heap, object, place) {
         move_last(heap, object, Near::default(), Place::Cand);
         set_number(heap, object, 1);
+        *left -= 1;
     } else if is_candidate(heap, object, place) {
         set_number(heap, object, 1);
+        *left -= 1;
     }
 }
 
 /// Each of these objects is taken back.
 #[inline(always)]
-fn take_back_each<B: Kind>(heap: &mut Heap<B>, objects: &[u64])
-    requires { (o : ℕ) → Includes objects.now o → IsTrue ((view_of heap.old).live o) }
-    ensures { Woken objects.now (view_of heap.old) (view_of heap.new) }
+fn take_back_each<B: Kind>(heap: &mut Heap<B>, objects: &[u64], left: &mut u64)
+    requires live { (o : ℕ) → Includes objects.now o → IsTrue ((view_of heap.old).live o) }
+    requires left { zeros (view_of heap.old) ≤ left.old }
+    ensures woken { Woken objects.now (view_of heap.old) (view_of heap.new) }
+    ensures left { zeros (view_of heap.new) ≤ left.new }
 {
     let mut from = 0;
     'zeros: while let Some((at, place)) = first_to_wake(heap, &objects[from..]) {
-        wake(heap, objects[from + at], place);
+        wake(heap, objects[from + at], place, left);
         from += at + 1;
     }
 }
 
-/// What the entries of an object that is near refer to is taken back. References are written to `found` on the way.
+/// What the entries of an object that is near refer to is taken back, as far as something is left to be taken back. References
+/// are written to `found` on the way.
 fn take_back_all<B: Kind, L: Ledger>(
     heap: &mut Heap<B>,
     object: u64,
     near: Near,
     found: &mut [u64],
+    left: &mut u64,
     steps: &mut Steps<L>,
 )
     requires ready { IsReadyView (view_of heap.old) }
     requires live { IsTrue ((view_of heap.old).live object) }
     requires space { ROOM ≤ length found.old }
+    requires left { zeros (view_of heap.old) ≤ left.old }
     ensures woken { Woken (references ((view_of heap.old).entries object)) (view_of heap.old) (view_of heap.new) }
-    ensures looks { steps.new ≡ steps.old + length ((view_of heap.old).entries object) }
+    ensures left { zeros (view_of heap.new) ≤ left.new }
+    ensures later { steps.old ≤ steps.new }
+    ensures looks { steps.new ≤ steps.old + length ((view_of heap.old).entries object) }
     ensures space { length found.new ≡ length found.old }
 {
     let mut from = 0;
-    'entries: loop {
+    'entries: while *left > 0 {
         let noted = heap.note_near(object, from, near, found, steps);
-        take_back_each(heap, &found[..noted.references]);
+        take_back_each(heap, &found[..noted.references], left);
         if noted.next - from < AT_ONCE {
             return;
         }
@@ -197,41 +208,49 @@ fn take_back_all<B: Kind, L: Ledger>(
     }
 }
 
-/// Whether a candidate has a number other than 0.
-fn is_any_held<B: Kind>(heap: &Heap<B>) -> bool
-    requires { IsReadyView (view_of heap.now) }
-    ensures { result ≡ false → (o : ℕ) → Includes ((view_of heap.now).listed Place.Cand) o → (view_of heap.now).number o ≡ 0 }
+/// How many candidates have the number 0, while none is set aside.
+fn count_zeros<B: Kind>(heap: &Heap<B>) -> u64
+    requires ready { IsReadyView (view_of heap.now) }
+    requires none { (view_of heap.now).listed Place.Back ≡ [] }
+    ensures { result ≡ zeros (view_of heap.now) }
 {
+    // There are no more than this number of 64 bits says.
+    let _all = heap.size(Place::Cand);
+    let mut zeros = 0;
     let mut near = Near::default();
     let mut cursor = heap.first_near(Place::Cand, &mut near);
     'objects: while let Some(object) = cursor {
-        if heap.head_near(object, near).number != 0 {
-            return true;
+        if heap.head_near(object, near).number == 0 {
+            zeros += 1;
         }
         cursor = following(heap, object, &mut near);
     }
-    false
+    zeros
 }
 
-/// The candidates that have a number, and what they lead to, stay; the others are set aside.
-fn set_aside<B: Kind, L: Ledger>(heap: &mut Heap<B>, steps: &mut Steps<L>)
+/// The candidates that have a number, and what they lead to, stay; the others are set aside. So many are left that have the
+/// number 0: once none is, all have been reached, and no more references are looked at.
+fn set_aside<B: Kind, L: Ledger>(heap: &mut Heap<B>, left: u64, steps: &mut Steps<L>)
     requires ready { IsReadyView (view_of heap.old) }
     requires alone { IsNowhereElse (view_of heap.old) }
     requires none { (view_of heap.old).listed Place.Back ≡ [] }
+    requires left { zeros (view_of heap.old) ≤ left }
     ensures parted { IsParted (view_of heap.old) (view_of heap.new) }
     ensures later { steps.old ≤ steps.new }
     ensures looks { steps.new ≤ steps.old + entries_in (view_of heap.old) ((view_of heap.old).listed Place.Cand) }
 {
+    let mut left = left;
     let mut found = [0; ROOM];
     let mut near = Near::default();
     let mut cursor = heap.first_near(Place::Cand, &mut near);
-    'objects: while let Some(object) = cursor {
+    'objects: while left > 0 {
+        let Some(object) = cursor else { return };
         let here = near;
         if heap.head_near(object, here).number == 0 {
             cursor = following(heap, object, &mut near);
             move_last(heap, object, here, Place::Back);
         } else {
-            take_back_all(heap, object, here, &mut found, steps);
+            take_back_all(heap, object, here, &mut found, &mut left, steps);
             cursor = following(heap, object, &mut near);
         }
     }
@@ -266,8 +285,9 @@ fn take_out<B: Kind, L: Ledger>(heap: &mut Heap<B>, kept: Place, steps: &mut Ste
     ensures later { steps.old ≤ steps.new }
     ensures looks { steps.new ≤ steps.old + entries_in (view_of heap.old) ((view_of heap.old).listed Place.Cand) }
 {
-    if is_any_held(heap) {
-        set_aside(heap, steps);
+    let zeros = count_zeros(heap);
+    if zeros < heap.size(Place::Cand) {
+        set_aside(heap, zeros, steps);
         match kept {
             Place::Back => exchange(heap),
             _ => {

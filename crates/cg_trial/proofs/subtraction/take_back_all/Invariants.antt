@@ -1,5 +1,6 @@
 use Rattle.cg_trial.specs.View.{view_of}
-use Rattle.std.proofs.Common.{◌≡◌, ◌+◌, ◌-◌, length}
+use Rattle.std.proofs.Common.{◌≡◌, ◌≤◌, ◌+◌, ◌-◌, length}
+use Rattle.cg_trial.specs.Sift.{zeros}
 use Rattle.cg_trial.proofs.Waking.{Waking}
 use Rattle.cg_trial.proofs.subtraction.take_back_all.Given as goal
 
@@ -7,6 +8,7 @@ abbrev pub invariant-entries : goal.invariant-entries
 invariant-entries g l = record {
   waking : Waking l.object (view_of l.fn.heap) (view_of l.heap) l.from;
   looks : l.steps ≡ l.fn.steps + l.from;
+  left : zeros (view_of l.heap) ≤ l.left;
   space : length l.found ≡ length l.fn.found;
 }
 

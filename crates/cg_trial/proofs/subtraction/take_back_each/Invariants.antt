@@ -1,12 +1,13 @@
 use Rattle.std.proofs.Common.{length, ◌-◌, ◌≤◌, take}
 use Rattle.cg_trial.specs.View.{view_of}
-use Rattle.cg_trial.specs.Sift.{Woken}
+use Rattle.cg_trial.specs.Sift.{Woken, zeros}
 use Rattle.cg_trial.proofs.subtraction.take_back_each.Given as goal
 
 abbrev pub invariant-zeros : goal.invariant-zeros
 invariant-zeros g l = record {
   woken : Woken (take l.from l.objects) (view_of l.fn.heap) (view_of l.heap);
   within : l.from ≤ length l.objects;
+  left : zeros (view_of l.heap) ≤ l.left;
 }
 
 abbrev pub decreases-zeros : goal.decreases-zeros

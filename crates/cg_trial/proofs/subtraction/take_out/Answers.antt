@@ -1,7 +1,10 @@
-use Rattle.std.proofs.Common.{sym, subst}
+use Rattle.std.proofs.Common.{sym, subst, ap, arith}
+use Rattle.std.specs.Prelude.{sum_by}
 use Rattle.cg_value.specs.declared.Place.{Place}
 use Rattle.cg_trial.specs.View.{view_of}
-use Rattle.cg_trial.specs.Sift.{IsSifted}
+use Rattle.cg_value.specs.declared.Place.TheVariants.{Cand}
+use Rattle.cg_trial.specs.Sift.{IsSifted, is_zero}
+use Rattle.cg_trial.proofs.Waking.{all_zero}
 use Rattle.cg_trial.proofs.Exchanges.{parted_twofold, sifted_exchanged, sifted_merged, sifted_none}
 use Rattle.cg_trial.proofs.subtraction.take_out.Goals as goal
 
@@ -21,5 +24,8 @@ returns-in_default g c = record {
   looks = c.set_aside.ensures.looks;
 }
 
-pub returns-else-is_any_held-clause-sifted : goal.returns-else-is_any_held-clause-sifted
-returns-else-is_any_held-clause-sifted g c = sifted_none c.args.kept (view_of c.args.heap.now) c.requires.empty (c.is_any_held.ensures c.if-is_any_held.false)
+pub returns-else-zeros-size-clause-sifted : goal.returns-else-zeros-size-clause-sifted
+returns-else-zeros-size-clause-sifted g c =
+    let v = view_of c.args.heap.now in
+    sifted_none c.args.kept v c.requires.empty
+    (all_zero v (v.listed Cand) (omega (arith, c.if-zeros-size.false, c.size.ensures, c.count_zeros-zeros.ensures, ap (sum_by (is_zero v)) c.requires.none)))

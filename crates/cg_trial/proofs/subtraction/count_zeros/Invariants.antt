@@ -2,11 +2,11 @@ use Rattle.cg_trial.specs.View.{view_of}
 use Rattle.std.proofs.Common.{length}
 use Rattle.cg_value.specs.declared.Place.TheVariants.{Cand}
 use Rattle.cg_trial.proofs.Lists.{ahead}
-use Rattle.cg_trial.proofs.Sifts.{Looking}
-use Rattle.cg_trial.proofs.subtraction.is_any_held.Given as goal
+use Rattle.cg_trial.proofs.Sifts.{Counting}
+use Rattle.cg_trial.proofs.subtraction.count_zeros.Given as goal
 
 abbrev pub invariant-objects : goal.invariant-objects
-invariant-objects g l = Looking (view_of l.fn.heap) l.cursor
+invariant-objects g l = Counting (view_of l.fn.heap) l.cursor l.zeros
 
 abbrev pub decreases-objects : goal.decreases-objects
 decreases-objects g l = length (ahead l.cursor ((view_of l.fn.heap).listed Cand))
