@@ -11,8 +11,8 @@ ghost use Rattle.cg_arena.specs.Index.{HasRow};
 use crate::ends::Ends;
 use crate::index::{SlotIndex, node_if};
 use crate::links::{
-    join, lower_candidate, mark_finalized, place_all, serial_at, set_after, set_count, set_number,
-    set_place, slot_at, unlink,
+    join, lower_candidate, mark_finalized, place_all, place_last, serial_at, set_count, set_number,
+    slot_at, unlink,
 };
 use crate::near::Near;
 use crate::slot::{Head, Slot};
@@ -218,7 +218,7 @@ impl Arena {
         self.index.note(&self.slots, serial, at);
         occupy(&mut self.slots, Slot::new(serial, code, class, body, place));
         let list = number_of(place);
-        self.ends[list] = join(&mut self.slots, self.ends[list], Ends::one(at));
+        join(&mut self.slots, &mut self.ends[list], Ends::one(at));
     }
 
     /// The node, whose count is 0, is gone, from its list too. Its serial may be added again.
@@ -244,7 +244,7 @@ impl Arena {
         self.index.remove(&self.slots, serial, at);
         let seat = (slot.code, slot.body);
         let from = number_of(slot.place);
-        self.ends[from] = unlink(&mut self.slots, self.ends[from], slot);
+        unlink(&mut self.slots, &mut self.ends[from], slot);
         self.slots.remove(at);
         seat
     }
@@ -505,11 +505,10 @@ impl Arena {
     {
         let (at, slot) = self.index.slot_near(&self.slots, serial, near);
         let from = number_of(slot.place);
-        self.ends[from] = unlink(&mut self.slots, self.ends[from], slot);
-        set_place(&mut self.slots, at, place);
-        set_after(&mut self.slots, Some(at), None);
+        unlink(&mut self.slots, &mut self.ends[from], slot);
+        place_last(&mut self.slots, at, place);
         let to = number_of(place);
-        self.ends[to] = join(&mut self.slots, self.ends[to], Ends::one(at));
+        join(&mut self.slots, &mut self.ends[to], Ends::one(at));
     }
 
     /// All nodes of one place go to the end of the list of another, in their order. (Developer guide, "Optimization:
@@ -524,7 +523,7 @@ impl Arena {
         let joined = number_of(to);
         let moved = self.ends[leaving];
         place_all(&mut self.slots, moved.first, moved.size, to);
-        self.ends[joined] = join(&mut self.slots, self.ends[joined], moved);
+        join(&mut self.slots, &mut self.ends[joined], moved);
         self.ends[leaving] = Ends::none();
     }
 

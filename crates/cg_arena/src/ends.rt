@@ -35,38 +35,32 @@ impl Ends {
     }
 
     /// The ends once a slot between these two is taken out.
-    pub fn without(self, before: Option<usize>, after: Option<usize>) -> Ends
-        requires { 0 < self.size }
-        ensures { result ≡ ends_without before after self }
+    #[inline(always)]
+    pub fn lose(&mut self, before: Option<usize>, after: Option<usize>)
+        requires { 0 < self.old.size }
+        ensures { self.new ≡ ends_without before after self.old }
     {
-        Ends {
-            first: match before {
-                None => after,
-                Some(_) => self.first,
-            },
-            last: match after {
-                None => before,
-                Some(_) => self.last,
-            },
-            size: self.size - 1,
+        if before.is_none() {
+            self.first = after;
         }
+        if after.is_none() {
+            self.last = before;
+        }
+        self.size -= 1;
     }
 
     /// The ends of this list with another appended.
-    pub fn joined(self, other: Ends) -> Ends
-        requires { self.size + other.size < 2 ^ 64 }
-        ensures { result ≡ ends_joined self other }
+    #[inline(always)]
+    pub fn gain(&mut self, other: Ends)
+        requires { self.old.size + other.size < 2 ^ 64 }
+        ensures { self.new ≡ ends_joined self.old other }
     {
-        Ends {
-            first: match self.first {
-                None => other.first,
-                Some(_) => self.first,
-            },
-            last: match other.last {
-                None => self.last,
-                Some(_) => other.last,
-            },
-            size: self.size + other.size,
+        if self.first.is_none() {
+            self.first = other.first;
         }
+        if other.last.is_some() {
+            self.last = other.last;
+        }
+        self.size += other.size;
     }
 }

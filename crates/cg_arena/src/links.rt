@@ -1,7 +1,7 @@
 //! Nodes in slots, and the links between them.
-ghost use Rattle.std.specs.Prelude.{◌≡◌, Some, option_and_then, option_map, ◌+◌, ◌<◌, ◌^◌};
+ghost use Rattle.std.specs.Prelude.{◌≡◌, Some, None, option_and_then, option_map, ◌+◌, ◌<◌, ◌^◌};
 ghost use Rattle.slab.specs.Slab.{get, ContainsKey};
-ghost use Rattle.cg_arena.specs.Slots.{with_place, with_count, with_mark, with_number, with_lowered, after_in, after_of};
+ghost use Rattle.cg_arena.specs.Slots.{with_place, with_count, with_mark, with_number, with_lowered, with_after, after_in, after_of};
 ghost use Rattle.cg_arena.specs.Links.{rewritten, after_set, before_set, tied, ends_without, ends_joined, place_set, all_placed, chain_from};
 
 use crate::ends::Ends;
@@ -71,17 +71,19 @@ pub fn lower_candidate(slots: &mut Slab<Slot>, at: usize)
     }
 }
 
-/// Gives a node another place.
-pub fn set_place(slots: &mut Slab<Slot>, at: usize, place: Place)
-    ensures { slots.new ≡ rewritten (with_place place) at slots.old }
+/// Gives a node another place, where nothing comes after it.
+#[inline(always)]
+pub fn place_last(slots: &mut Slab<Slot>, at: usize, place: Place)
+    ensures { slots.new ≡ rewritten (with_after None) at (rewritten (with_place place) at slots.old) }
 {
     if let Some(slot) = slots.get_mut(at) {
         slot.place = place;
+        slot.set_after(None);
     }
 }
 
 /// Names what comes after a slot, if there is one.
-pub fn set_after(slots: &mut Slab<Slot>, at: Option<usize>, after: Option<usize>)
+fn set_after(slots: &mut Slab<Slot>, at: Option<usize>, after: Option<usize>)
     ensures { slots.new ≡ after_set at after slots.old }
 {
     if let Some(at) = at {
@@ -92,7 +94,7 @@ pub fn set_after(slots: &mut Slab<Slot>, at: Option<usize>, after: Option<usize>
 }
 
 /// Names what comes before a slot, if there is one.
-pub fn set_before(slots: &mut Slab<Slot>, at: Option<usize>, before: Option<usize>)
+fn set_before(slots: &mut Slab<Slot>, at: Option<usize>, before: Option<usize>)
     ensures { slots.new ≡ before_set at before slots.old }
 {
     if let Some(at) = at {
@@ -110,26 +112,28 @@ fn tie(slots: &mut Slab<Slot>, before: Option<usize>, after: Option<usize>)
     set_before(slots, after, before);
 }
 
-/// Takes a slot out of its list, and answers the ends of the list then.
-pub fn unlink(slots: &mut Slab<Slot>, ends: Ends, slot: Slot) -> Ends
-    requires { 0 < ends.size }
+/// Takes a slot out of its list.
+#[inline(always)]
+pub fn unlink(slots: &mut Slab<Slot>, ends: &mut Ends, slot: Slot)
+    requires { 0 < ends.old.size }
     ensures slots { slots.new ≡ tied slot.word.before (after_of slot) slots.old }
-    ensures ends { result ≡ ends_without slot.word.before (after_of slot) ends }
+    ensures ends { ends.new ≡ ends_without slot.word.before (after_of slot) ends.old }
 {
     let before = slot.before();
     let after = slot.after();
     tie(slots, before, after);
-    ends.without(before, after)
+    ends.lose(before, after);
 }
 
-/// Appends one list to another, and answers the ends of the whole.
-pub fn join(slots: &mut Slab<Slot>, front: Ends, back: Ends) -> Ends
-    requires { front.size + back.size < 2 ^ 64 }
-    ensures slots { slots.new ≡ tied front.last back.first slots.old }
-    ensures ends { result ≡ ends_joined front back }
+/// Appends one list to another.
+#[inline(always)]
+pub fn join(slots: &mut Slab<Slot>, front: &mut Ends, back: Ends)
+    requires { front.old.size + back.size < 2 ^ 64 }
+    ensures slots { slots.new ≡ tied front.old.last back.first slots.old }
+    ensures ends { front.new ≡ ends_joined front.old back }
 {
     tie(slots, front.last, back.first);
-    front.joined(back)
+    front.gain(back);
 }
 
 /// Gives a node another place, and answers the slot after it.

@@ -25,11 +25,11 @@ remove-requires-2 c =
     left_there c.self.inside.slots c.unlink.new.slots c.self.inside.ends (rows_of c.self.inside.slots) c.self.invariant.sound c.args.serial c.slot_of-at.result.0 c.slot_of-at.result.1 c.slot_of-at.ensures.at c.slot_of-at.ensures.slot
     c.number_of-from.result c.number_of-from.ensures.number c.number_of-from.ensures.below c.unlink.ensures.slots
 
-done : (c : goal.After-remove-2) → StandsFor c.remove-2.new.self (slice_set c.self.inside.ends c.number_of-from.result c.unlink.result) c.remove.new.self (spare c.remove.new.self.rows) (without_node c.args.serial (record c.args.self.now { room = room_of (spare c.remove.new.self.rows) c.remove-2.new.self })) × (c.args.self.now.room ≤ room_of (spare c.remove.new.self.rows) c.remove-2.new.self)
+done : (c : goal.After-remove-2) → StandsFor c.remove-2.new.self (slice_set c.self.inside.ends c.number_of-from.result c.unlink.new.ends) c.remove.new.self (spare c.remove.new.self.rows) (without_node c.args.serial (record c.args.self.now { room = room_of (spare c.remove.new.self.rows) c.remove-2.new.self })) × (c.args.self.now.room ≤ room_of (spare c.remove.new.self.rows) c.remove-2.new.self)
 done c =
     dropped c.self.inside.slots c.unlink.new.slots c.remove-2.new.self c.self.inside.ends c.self.inside.index c.remove.new.self c.self.invariant (spare c.self.inside.index.rows) c.args.self.now c.self.view_is
     c.args.serial c.slot_of-at.result.0 c.slot_of-at.result.1 c.slot_of-at.ensures.at c.slot_of-at.ensures.slot
-    c.number_of-from.result c.number_of-from.ensures.number c.number_of-from.ensures.below c.unlink.ensures.slots c.unlink.result c.unlink.ensures.ends
+    c.number_of-from.result c.number_of-from.ensures.number c.number_of-from.ensures.below c.unlink.ensures.slots c.unlink.new.ends c.unlink.ensures.ends
     c.remove-2.ensures.updates c.remove-2.ensures.len c.remove.ensures.index
     (spare c.remove.new.self.rows) c.remove-2.ensures.capacity c.remove.ensures.room
 

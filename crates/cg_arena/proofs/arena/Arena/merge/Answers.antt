@@ -13,10 +13,10 @@ pub invariant_of-self : goal.invariant_of-self
 invariant_of-self c =
     merged_kept c.self.inside.slots c.place_all.new.slots c.join.new.slots c.self.inside.ends c.self.inside.index c.self.invariant (spare c.self.inside.index.rows) c.args.self.now c.self.view_is
     c.args.from c.args.to c.number_of-leaving.result c.number_of-joined.result c.number_of-leaving.ensures.number c.number_of-joined.ensures.number c.number_of-leaving.ensures.below c.number_of-joined.ensures.below c.requires.differ
-    c.place_all.ensures c.join.ensures.slots c.join.result c.join.ensures.ends c.none.result c.none.ensures
+    c.place_all.ensures c.join.ensures.slots c.join.new.front c.join.ensures.ends c.none.result c.none.ensures
 
 pub returns : goal.returns
 returns c =
     merged_view c.self.inside.slots c.place_all.new.slots c.join.new.slots c.self.inside.ends c.self.inside.index c.self.invariant (spare c.self.inside.index.rows) c.args.self.now c.self.view_is
     c.args.from c.args.to c.number_of-leaving.result c.number_of-joined.result c.number_of-leaving.ensures.number c.number_of-joined.ensures.number c.number_of-leaving.ensures.below c.number_of-joined.ensures.below c.requires.differ
-    c.place_all.ensures c.join.ensures.slots c.join.result c.join.ensures.ends c.none.result c.none.ensures
+    c.place_all.ensures c.join.ensures.slots c.join.new.front c.join.ensures.ends c.none.result c.none.ensures
