@@ -34,6 +34,7 @@ const NO_FINALIZERS: Finalizers = Finalizers {
 };
 
 /// The finalizers of the class with a number; none where there is no such class.
+#[inline(never)]
 fn finalizers_in(items: &Items, class: u32) -> Finalizers
     ensures del { result.del ≡ option_and_then (λ c. c.del) (slice_get (classes items.now) class) }
     ensures legacy { result.legacy ≡ option_and_then (λ c. c.legacy) (slice_get (classes items.now) class) }
@@ -48,6 +49,7 @@ fn finalizers_in(items: &Items, class: u32) -> Finalizers
 }
 
 /// The finalizers of an object's class. Instances alone have one.
+#[inline(always)]
 pub fn finalizers_of<B: Kind>(heap: &Heap<B>, script: &Script, object: u64) -> Finalizers
     requires { IsLive heap.now object }
     ensures del { result.del ≡

@@ -13,6 +13,7 @@ use cg_script::Script;
 
 /// Whether the class of an object has no finalizer and no legacy finalizer, and no weak reference is to lose the object. So its
 /// death comes to its contents at once, as most do.
+#[inline(always)]
 pub fn is_plain<B: Kind>(object: u64, heap: &Heap<B>, script: &Script) -> bool
     requires { IsLive heap.now object }
     ensures del { result ≡ true → option_and_then (finalizer_of script.now) (object_at (objects_of heap.now) object) ≡ None }

@@ -44,6 +44,7 @@ pub fn clear_one<B: Kind>(object: u64, heap: &mut Heap<B>) -> Turn
 }
 
 /// The newest weak reference to an object that may have some: to an instance or a function. (`weakref` manual.)
+#[inline(always)]
 pub(crate) fn newest_to_clear<B: Kind>(object: u64, heap: &Heap<B>) -> Option<u64>
     requires { IsLive heap.now object }
     ensures newest { result ≡
