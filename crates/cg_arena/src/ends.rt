@@ -34,7 +34,7 @@ impl Ends {
         }
     }
 
-    /// The ends once a slot between these two is taken out.
+    /// A slot between these two is taken out of the list.
     #[inline(always)]
     pub fn lose(&mut self, before: Option<usize>, after: Option<usize>)
         requires { 0 < self.old.size }
@@ -49,7 +49,7 @@ impl Ends {
         self.size -= 1;
     }
 
-    /// The ends of this list with another appended.
+    /// Another list is appended to this one.
     #[inline(always)]
     pub fn gain(&mut self, other: Ends)
         requires { self.old.size + other.size < 2 ^ 64 }

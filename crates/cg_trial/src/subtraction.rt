@@ -214,7 +214,7 @@ fn count_zeros<B: Kind>(heap: &Heap<B>) -> u64
     requires none { (view_of heap.now).listed Place.Back ≡ [] }
     ensures { result ≡ zeros (view_of heap.now) }
 {
-    // There are no more than this number of 64 bits says.
+    // They are no more than this, so that their number has 64 bits at most.
     let _all = heap.size(Place::Cand);
     let mut zeros = 0;
     let mut near = Near::default();
@@ -228,8 +228,8 @@ fn count_zeros<B: Kind>(heap: &Heap<B>) -> u64
     zeros
 }
 
-/// The candidates that have a number, and what they lead to, stay; the others are set aside. So many are left that have the
-/// number 0: once none is, all have been reached, and no more references are looked at.
+/// The candidates that have a number, and what they lead to, stay; the others are set aside. No more than `left` have the number
+/// 0: once none is left, all have been reached, and no more references are looked at.
 fn set_aside<B: Kind, L: Ledger>(heap: &mut Heap<B>, left: u64, steps: &mut Steps<L>)
     requires ready { IsReadyView (view_of heap.old) }
     requires alone { IsNowhereElse (view_of heap.old) }
