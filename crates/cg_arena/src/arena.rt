@@ -278,6 +278,32 @@ impl Arena {
         }
     }
 
+    /// `inc`, where the node is near.
+    #[inline(always)]
+    pub fn inc_near(&mut self, serial: u64, near: Near)
+        requires has { HasNode self.old serial }
+        requires room { count_at self.old serial < 2 ^ 32 - 1 }
+        ensures { self.new ≡ counted_up (serial ∷ []) self.old }
+    {
+        match node_if(&self.slots, near.slot, serial) {
+            Some(slot) => {
+                let count = slot.count + 1;
+                set_count(&mut self.slots, near.slot, count);
+            }
+            None => self.inc_far(serial),
+        }
+    }
+
+    /// `inc` of a node that was not where it was thought to be.
+    #[inline(never)]
+    fn inc_far(&mut self, serial: u64)
+        requires has { HasNode self.old serial }
+        requires room { count_at self.old serial < 2 ^ 32 - 1 }
+        ensures { self.new ≡ counted_up (serial ∷ []) self.old }
+    {
+        self.inc(serial);
+    }
+
     /// The count, which is above 0, falls by 1. It answers whether the count is now 0. (Developer guide: an object
     /// whose count reaches 0 is deallocated.)
     #[inline(always)]

@@ -1,7 +1,6 @@
-use Rattle.std.proofs.Common.{None, sym, ap, ◌∙◌}
+use Rattle.std.proofs.Common.{None, sym, ◌∙◌}
 use Rattle.cg_arena.specs.declared.slot.Slot.{Slot}
 use Rattle.cg_arena.specs.Slots.{with_place, with_after}
-use Rattle.cg_arena.specs.Links.{rewritten}
 use Rattle.cg_arena.proofs.Writes.{rewritten-occupied, rewritten-vacant, rewritten-rewritten}
 use Rattle.cg_arena.proofs.links.place_last.Goals as goal
 
