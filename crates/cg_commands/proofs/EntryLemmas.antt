@@ -1,6 +1,7 @@
 -- Commands that put entries in, take them out, and replace them.
 use Rattle.std.proofs.Common.{◌≡◌, ◌≢◌, refl, sym, ◌∙◌, ap, subst, ℕ, ◌<◌, ◌≤◌, Bool, true, false, not, List, [], ◌∷◌, ◌++◌, length, Option, Some, None, IsSome, Ok, Err, arith, remove}
-use Rattle.std.specs.Prelude.{◌==◌, slice_get, ◌↔◌, ℤ, pos}
+use Rattle.std.specs.Prelude.{◌==◌, slice_get, ◌↔◌, ℤ, pos, IfSome}
+use Rattle.std.specs.FinMap as fin
 use Rattle.cg_value.specs.declared.Val.TheVariants as val
 use Rattle.cg_kind.specs.Calls.{CanPut}
 use Rattle.std.proofs.lemmas.Bool.{eq-eqb}
@@ -10,7 +11,7 @@ use Rattle.cg_value.specs.declared.KindCode.{KindCode}
 use Rattle.cg_value.specs.declared.KindCode.TheVariants as kind
 use Rattle.cg_graph.specs.Value.{item, entry_at, without_key, entry_references}
 use Rattle.cg_graph.specs.Object.{Object, with_entries}
-use Rattle.cg_graph.specs.Store.{Store, Node, HasCode, object_from, entries_of}
+use Rattle.cg_graph.specs.Store.{Store, Node, IsLive, HasCode, object_from, entries_of}
 use Rattle.cg_graph.specs.Changes.{held, rewritten}
 use Rattle.cg_graph.proofs.Members.{true_and}
 use Rattle.cg_heap.specs.declared.fault.HeapFault.TheVariants as fault
@@ -25,7 +26,9 @@ use Rattle.cg_commands.specs.declared.done.Done.TheVariants.{Gives}
 use Rattle.cg_commands.specs.declared.locals.Locals.{Locals}
 use Rattle.cg_commands.specs.declared.operands.Wanted.{Wanted}
 use Rattle.cg_commands.specs.declared.operands.Wanted.TheVariants as wanted
-use Rattle.cg_commands.specs.Objects.{RefersTo, test_of}
+use Rattle.cg_commands.specs.Refusals.{number_of}
+use Rattle.cg_commands.specs.Objects.{RefersTo, HasNoObject, test_of, refusal_of, bare}
+use Rattle.cg_commands.proofs.Reading.{test-bare, object-other}
 use Rattle.cg_commands.specs.Answers.{PerformsOnHeap, HasChanged}
 use Rattle.cg_commands.proofs.Bridges.{gives_up, gives_nothing, refilled}
 use Rattle.cg_commands.proofs.Limits.{room, one_fits}
@@ -176,10 +179,10 @@ can_put_item store v o there z i at within =
     let can = can_take store wanted.ScriptList tt v o there in
     (can.0, can.1, subst (λ c. CanPut c (entries_of store o) (val.Int z)) (sym (code-here store o kind.List (has_code store wanted.ScriptList tt v o there))) (i, ap val.Int at, within))
 
-pub can_put_key : (store : Store) (what : Wanted) → IsKeyedTest what → (v : Val) (o : ℕ) → RefersTo store (test_of what) v o → (key : Val) → CanPutIn store o key
-can_put_key store what is v o there key =
-    let can = can_take store what (changing what is) v o there in
-    (can.0, can.1, subst (λ c. CanPut c (entries_of store o) key) (sym (code-here store o (kind_of what) (has_code store what (changing what is) v o there))) (any what is))
+pub can_put_code : (store : Store) (what : Wanted) → IsKeyedTest what → (o : ℕ) → HasCode store o (kind_of what) → (key : Val) → CanPutIn store o key
+can_put_code store what is o has key =
+    let code = sym (code-here store o (kind_of what) has) in
+    (subst IsSome (sym has.1) refl, subst IsMutable code (mutable what (changing what is)), subst (λ c. CanPut c (entries_of store o) key) code (any what is))
   where
     any : (what : Wanted) → IsKeyedTest what → CanPut (kind_of what) (entries_of store o) key
     any wanted.Dict is = tt
@@ -191,6 +194,58 @@ can_put_key store what is v o there key =
     any wanted.Func is = absurd is
     any wanted.Referable is = absurd is
     any wanted.Weak is = absurd is
+
+-- A call that asks for the kind tells by it whether the object passes.
+passes_by_code : (what : Wanted) → IsKeyedTest what → (c : KindCode) → c ≡ kind_of what → (o : ℕ) → test_of what (bare c o) ≡ true
+passes_by_code what is c same o = ap (λ c. test_of what (bare c o)) same ∙ of what is
+  where
+    of : (what : Wanted) → IsKeyedTest what → test_of what (bare (kind_of what) o) ≡ true
+    of wanted.Dict is = refl
+    of wanted.Inst is = refl
+    of wanted.Any is = absurd is
+    of wanted.List is = absurd is
+    of wanted.ScriptList is = absurd is
+    of wanted.Sequence is = absurd is
+    of wanted.Func is = absurd is
+    of wanted.Referable is = absurd is
+    of wanted.Weak is = absurd is
+
+pub refers_by_code : (store : Store) (what : Wanted) → IsKeyedTest what → (v : Val) (o : ℕ) → v ≡ val.Ref o → HasCode store o (kind_of what) → RefersTo store (test_of what) v o
+refers_by_code store what is v o refers has = record {
+  node = has.0;
+  refers = refers;
+  found = has.1;
+  passes = test-bare what (object_from store.rows o has.0) ∙ passes_by_code what is has.0.code has.2 o;
+}
+
+pub other_by_code : (store : Store) (what : Wanted) → IsKeyedTest what → (v : Val) (o : ℕ) → v ≡ val.Ref o → IsLive store o → ¬ (HasCode store o (kind_of what)) → HasNoObject store (test_of what) (number_of (refusal_of what)) v (refusal_of what)
+other_by_code store what is v o refers live no =
+    subst (λ v. HasNoObject store (test_of what) (number_of (refusal_of what)) v (refusal_of what)) (sym refers) (known (fin.get store.nodes o) refl live)
+  where
+    fails : (what : Wanted) → IsKeyedTest what → (c : KindCode) → (c ≡ kind_of what → ⊥) → test_of what (bare c o) ≡ false
+    fails wanted.Dict is kind.List no = refl
+    fails wanted.Dict is kind.Tuple no = refl
+    fails wanted.Dict is kind.Dict no = absurd (no refl)
+    fails wanted.Dict is kind.Inst no = refl
+    fails wanted.Dict is kind.Func no = refl
+    fails wanted.Dict is kind.Weak no = refl
+    fails wanted.Inst is kind.List no = refl
+    fails wanted.Inst is kind.Tuple no = refl
+    fails wanted.Inst is kind.Dict no = refl
+    fails wanted.Inst is kind.Inst no = absurd (no refl)
+    fails wanted.Inst is kind.Func no = refl
+    fails wanted.Inst is kind.Weak no = refl
+    fails wanted.Any is c no = absurd is
+    fails wanted.List is c no = absurd is
+    fails wanted.ScriptList is c no = absurd is
+    fails wanted.Sequence is c no = absurd is
+    fails wanted.Func is c no = absurd is
+    fails wanted.Referable is c no = absurd is
+    fails wanted.Weak is c no = absurd is
+
+    known : (x : Option Node) → fin.get store.nodes o ≡ x → IsSome x → HasNoObject store (test_of what) (number_of (refusal_of what)) (val.Ref o) (refusal_of what)
+    known None at live = absurd (cc)
+    known (Some n) at there = object-other store what o n.code live (subst (λ x. IfSome x (λ m. n.code ≡ m.code)) (sym at) refl) (fails what is n.code (λ e. no (n, at, e)))
 
 -- a list is no dictionary and no instance
 pub keyed_other : (store : Store) → IsSound store → (o : ℕ) (c : KindCode) → HasCode store o c → (c ≡ kind.List → ⊥) → o ≢ 1

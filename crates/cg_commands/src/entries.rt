@@ -13,12 +13,12 @@ use crate::bindings::given_up;
 use crate::done::{Refusal, refusal_by};
 use crate::locals::Locals;
 use crate::lookups::{index_in, is_hashable};
-use crate::operands::{Wanted, object_near, value, value_near};
+use crate::operands::{Wanted, object, object_near, value, value_located, value_near};
 use cg_arena::Near;
 use cg_heap::Heap;
 use cg_kind::Kind;
 use cg_script::Operand;
-use cg_value::{Entry, Val};
+use cg_value::{Entry, KindCode, Val};
 
 /// `append L v`: the value goes last.
 #[tactic(auto, using(crate::proofs::Reading::refers_live))]
@@ -61,13 +61,15 @@ pub(crate) fn set_item<B: Kind>(
 {
     let mut near = Near::default();
     let list = value_near(heap, locals, list, &mut near)?;
-    let val = value(heap, locals, operand)?;
+    let mut val_near = Near::default();
+    let val = value_located(heap, locals, operand, &mut val_near)?;
     let target = object_near(heap, list, Wanted::ScriptList, &mut near)?;
     let _i = index_in(heap, target, near, index)?;
     heap.sound();
-    match heap.put_near(target, near, Val::Int(index), val) {
-        Ok(old) => Ok(given_up(old)),
-        Err(fault) => Err(refusal_by(fault)),
+    match heap.put_if(KindCode::List, target, near, Val::Int(index), val, val_near) {
+        Some(Ok(old)) => Ok(given_up(old)),
+        Some(Err(fault)) => Err(refusal_by(fault)),
+        None => unreachable!(),
     }
 }
 
@@ -113,15 +115,20 @@ pub(crate) fn put<B: Kind>(
     let mut near = Near::default();
     let dict = value_near(heap, locals, dict, &mut near)?;
     let key = value(heap, locals, key)?;
-    let val = value(heap, locals, operand)?;
-    let target = object_near(heap, dict, Wanted::Dict, &mut near)?;
+    let mut val_near = Near::default();
+    let val = value_located(heap, locals, operand, &mut val_near)?;
     if !is_hashable(heap, key) {
+        let _target = object(heap, dict, Wanted::Dict)?;
         return Err(Refusal::Unhashable);
     }
+    let Val::Ref(target) = dict else {
+        return Err(Refusal::WrongKind);
+    };
     heap.sound();
-    match heap.put_near(target, near, key, val) {
-        Ok(old) => Ok(given_up(old)),
-        Err(fault) => Err(refusal_by(fault)),
+    match heap.put_if(KindCode::Dict, target, near, key, val, val_near) {
+        Some(Ok(old)) => Ok(given_up(old)),
+        Some(Err(fault)) => Err(refusal_by(fault)),
+        None => Err(Refusal::WrongKind),
     }
 }
 
@@ -142,14 +149,18 @@ pub(crate) fn remove<B: Kind>(
     let mut near = Near::default();
     let dict = value_near(heap, locals, dict, &mut near)?;
     let key = value(heap, locals, key)?;
-    let target = object_near(heap, dict, Wanted::Dict, &mut near)?;
     if !is_hashable(heap, key) {
+        let _target = object(heap, dict, Wanted::Dict)?;
         return Err(Refusal::Unhashable);
     }
+    let Val::Ref(target) = dict else {
+        return Err(Refusal::WrongKind);
+    };
     heap.sound();
-    match heap.take_key_near(target, near, key) {
-        Some(entry) => Ok(references_of(entry)),
-        None => Err(Refusal::NoKey),
+    match heap.take_key_if(KindCode::Dict, target, near, key) {
+        Some(Some(entry)) => Ok(references_of(entry)),
+        Some(None) => Err(Refusal::NoKey),
+        None => Err(Refusal::WrongKind),
     }
 }
 
@@ -170,12 +181,16 @@ pub(crate) fn set_attr<B: Kind>(
 {
     let mut near = Near::default();
     let instance = value_near(heap, locals, instance, &mut near)?;
-    let val = value(heap, locals, operand)?;
-    let target = object_near(heap, instance, Wanted::Inst, &mut near)?;
+    let mut val_near = Near::default();
+    let val = value_located(heap, locals, operand, &mut val_near)?;
+    let Val::Ref(target) = instance else {
+        return Err(Refusal::WrongKind);
+    };
     heap.sound();
-    match heap.put_near(target, near, Val::Str(attr), val) {
-        Ok(old) => Ok(given_up(old)),
-        Err(fault) => Err(refusal_by(fault)),
+    match heap.put_if(KindCode::Inst, target, near, Val::Str(attr), val, val_near) {
+        Some(Ok(old)) => Ok(given_up(old)),
+        Some(Err(fault)) => Err(refusal_by(fault)),
+        None => Err(Refusal::WrongKind),
     }
 }
 
@@ -195,11 +210,14 @@ pub(crate) fn del_attr<B: Kind>(
 {
     let mut near = Near::default();
     let instance = value_near(heap, locals, instance, &mut near)?;
-    let target = object_near(heap, instance, Wanted::Inst, &mut near)?;
+    let Val::Ref(target) = instance else {
+        return Err(Refusal::WrongKind);
+    };
     heap.sound();
-    match heap.take_key_near(target, near, Val::Str(attr)) {
-        Some(entry) => Ok(references_of(entry)),
-        None => Err(Refusal::NoAttribute),
+    match heap.take_key_if(KindCode::Inst, target, near, Val::Str(attr)) {
+        Some(Some(entry)) => Ok(references_of(entry)),
+        Some(None) => Err(Refusal::NoAttribute),
+        None => Err(Refusal::WrongKind),
     }
 }
 

@@ -15,12 +15,12 @@ ghost use Rattle.cg_commands.specs.Stands.{LocalsLive};
 use crate::bindings::bind_to;
 use crate::done::Refusal;
 use crate::locals::Locals;
-use crate::operands::{Wanted, object_near, value, value_near};
+use crate::operands::{Wanted, object, object_near, value, value_near};
 use cg_arena::Near;
 use cg_heap::Heap;
 use cg_kind::Kind;
 use cg_script::Operand;
-use cg_value::{Entry, Val};
+use cg_value::{Entry, KindCode, Val};
 
 /// `x = item L i`: the name is bound to an item of a list or a tuple.
 #[tactic(auto, using(crate::proofs::Reading::refers_live))]
@@ -63,14 +63,18 @@ pub(crate) fn get<B: Kind>(
     let mut near = Near::default();
     let val = value_near(heap, locals, dict, &mut near)?;
     let key = value(heap, locals, key)?;
-    let target = object_near(heap, val, Wanted::Dict, &mut near)?;
     if !is_hashable(heap, key) {
+        let _target = object(heap, val, Wanted::Dict)?;
         return Err(Refusal::Unhashable);
     }
+    let Val::Ref(target) = val else {
+        return Err(Refusal::WrongKind);
+    };
     heap.sound();
-    match heap.value_near(target, near, key) {
-        Some(found) => bind_to(heap, locals, name, found),
-        None => Err(Refusal::NoKey),
+    match heap.value_if(KindCode::Dict, target, near, key) {
+        Some(Some(found)) => bind_to(heap, locals, name, found),
+        Some(None) => Err(Refusal::NoKey),
+        None => Err(Refusal::WrongKind),
     }
 }
 
@@ -91,11 +95,14 @@ pub(crate) fn attr<B: Kind>(
 {
     let mut near = Near::default();
     let val = value_near(heap, locals, instance, &mut near)?;
-    let target = object_near(heap, val, Wanted::Inst, &mut near)?;
+    let Val::Ref(target) = val else {
+        return Err(Refusal::WrongKind);
+    };
     heap.sound();
-    match heap.value_near(target, near, Val::Str(attr)) {
-        Some(found) => bind_to(heap, locals, name, found),
-        None => Err(Refusal::NoAttribute),
+    match heap.value_if(KindCode::Inst, target, near, Val::Str(attr)) {
+        Some(Some(found)) => bind_to(heap, locals, name, found),
+        Some(None) => Err(Refusal::NoAttribute),
+        None => Err(Refusal::WrongKind),
     }
 }
 

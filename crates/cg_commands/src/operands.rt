@@ -109,11 +109,26 @@ pub(crate) fn value<B: Kind>(
     ensures live { IfOk result (λ v. IsLiveValue heap.now v) }
     ensures err { IfErr result (λ r. IsRefused heap.now locals.now (λ w. machine.value w operand.now) r) }
 {
+    let mut near = Near::default();
+    value_located(heap, locals, operand, &mut near)
+}
+
+/// The same, and where the object may lie to which a name refers.
+#[inline(always)]
+pub(crate) fn value_located<B: Kind>(
+    heap: &Heap<B>,
+    locals: &Option<Locals>,
+    operand: &Operand,
+    near: &mut Near,
+) -> Result<Val, Refusal>
+    requires known { All (λ n. n < length heap.now.names) (operand_texts operand.now) }
+    requires locals { LocalsLive heap.now locals.now }
+    ensures ok { IfOk result (λ v. Reads heap.now locals.now (λ w. machine.value w operand.now) v) }
+    ensures live { IfOk result (λ v. IsLiveValue heap.now v) }
+    ensures err { IfErr result (λ r. IsRefused heap.now locals.now (λ w. machine.value w operand.now) r) }
+{
     match operand {
-        Operand::Name(_) => {
-            let mut near = Near::default();
-            value_near(heap, locals, operand, &mut near)
-        }
+        Operand::Name(_) => value_near(heap, locals, operand, near),
         _ => match number_or_other(heap, locals, operand) {
             Some(value) => Ok(value),
             None => Err(Refusal::NoName),
@@ -121,7 +136,7 @@ pub(crate) fn value<B: Kind>(
     }
 }
 
-/// The same, and where the object may lie to which a name refers. It is for operands that are names nearly always.
+/// `value_located`, for operands that are names nearly always.
 #[inline(always)]
 pub(crate) fn value_near<B: Kind>(
     heap: &Heap<B>,

@@ -24,6 +24,18 @@ code_index-below Inst = omega arith
 code_index-below Func = omega arith
 code_index-below Weak = omega arith
 
+at_index : (c : KindCode) → get_or six_kinds (code_index c) ListKind ≡ c
+at_index ListKind = refl
+at_index Tuple = refl
+at_index Dict = refl
+at_index Inst = refl
+at_index Func = refl
+at_index Weak = refl
+
+-- kinds stand at different indexes
+pub one_index : (c d : KindCode) → code_index c ≡ code_index d → c ≡ d
+one_index c d same = sym (at_index c) ∙ ap (λ i. get_or six_kinds i ListKind) same ∙ at_index d
+
 six_kinds-at : (c : KindCode) → get_or six_kinds (code_index c) c ≡ c
 six_kinds-at ListKind = refl
 six_kinds-at Tuple = refl

@@ -66,6 +66,13 @@ module _ {all : List Bodies} {v : Nodes} {names : List (Option Val)} {last : ℕ
     pub code_is : code ≡ code_of old o
     code_is = sym object_there.2 ∙ sym (ap code_in object_there.1)
 
+    -- the kind, and no other
+    pub has_code : HasCode old o code
+    has_code = (object_there.0, object_there.1, object_there.2)
+
+    pub no_other : (c : KindCode) → code ≢ c → HasCode old o c → ⊥
+    no_other c differs has = differs (sym object_there.2 ∙ ap code_in (sym object_there.1 ∙ has.1) ∙ has.2)
+
     well_there : (x : Node) → fin.get old.nodes o ≡ Some x → IsWellMade x
     well_there x at = subst IsWellMadeAt (ap (λ (s : Store). fin.get s.nodes o) h.is ∙ at) (h.keeps.0.well o)
 

@@ -19,6 +19,17 @@ pub struct Seat {
     pub body: usize,
 }
 
+impl Seat {
+    /// Whether the object is of this kind.
+    #[tactic(auto, using(crate::proofs::BoxLemmas::one_index))]
+    #[inline(always)]
+    pub fn is_of(self, code: KindCode) -> bool
+        ensures { IsTrue result ↔ (self.code ≡ code) }
+    {
+        index_of(self.code) == index_of(code)
+    }
+}
+
 /// The kinds, in the order of `KindCode`.
 #[derive(Drop)]
 pub struct Boxes<B: Kind> {

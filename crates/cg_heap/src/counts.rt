@@ -83,6 +83,18 @@ pub fn count_in_located(arena: &mut Arena, val: Val) -> Near
     near
 }
 
+/// `count_in`, where the object is near to which the value refers, if it refers to one.
+#[inline(always)]
+pub fn count_near(arena: &mut Arena, val: Val, near: Near)
+    requires live { (s : ℕ) → val ≡ val_of.Ref s → HasNode arena.old s }
+    requires room { (s : ℕ) → val ≡ val_of.Ref s → count_at arena.old s < 2 ^ 32 - 1 }
+    ensures { arena.new ≡ counted_up (references_of_value (Some val)) arena.old }
+{
+    if let Val::Ref(serial) = val {
+        arena.inc_near(serial, near);
+    }
+}
+
 /// Counts the references of entries.
 pub fn count_all(arena: &mut Arena, parts: &[Entry])
     requires live { (s : ℕ) → 0 < occurrences s (references parts.now) → HasNode arena.old s }

@@ -1,9 +1,9 @@
 //! The heap: what it is, a new one, and what it answers.
-ghost use Rattle.std.specs.Prelude.{◌≡◌, ◌<◌, IfOk, IfSome, IsTrue, ◌↔◌, Some, None, map, replicate, length, position, slice_get};
+ghost use Rattle.std.specs.Prelude.{◌≡◌, ◌<◌, IfOk, IfSome, IfNone, OnSome, IsTrue, ◌↔◌, Some, None, map, replicate, length, position, slice_get};
 ghost use Rattle.std.specs.FinMap as fin;
 ghost use Rattle.cg_kind.specs.Calls.{has_key};
 ghost use Rattle.cg_graph.specs.Value.{value_at};
-ghost use Rattle.cg_graph.specs.Store.{IsLive, entries_of, count_of as in_degree, list_at, place_of as place_at};
+ghost use Rattle.cg_graph.specs.Store.{IsLive, HasCode, entries_of, count_of as in_degree, list_at, place_of as place_at};
 ghost use Rattle.cg_graph.specs.Changes.{opening_store};
 ghost use Rattle.cg_arena.specs.Nodes.{following, IsPlace};
 ghost use Rattle.cg_heap.specs.Boxes.{six_kinds};
@@ -225,17 +225,23 @@ impl<B: Kind> Heap<B> {
         requires { IsLive self.now object }
         ensures { result ≡ value_at (entries_of self.now object) key }
     {
-        self.value_near(object, Near::default(), key)
+        let seat = seat_of(&self.arena, object);
+        self.boxes.value_of(seat, key)
     }
 
-    /// `value_of`, where the object is near.
+    /// `value_of`, where the object is near and of this kind. `None` comes exactly where it is of another.
     #[inline(always)]
-    pub fn value_near(&self, object: u64, near: Near, key: Val) -> Option<Val>
+    pub fn value_if(&self, code: KindCode, object: u64, near: Near, key: Val) -> Option<Option<Val>>
         requires { IsLive self.now object }
-        ensures { result ≡ value_at (entries_of self.now object) key }
+        ensures kind { OnSome result (HasCode self.now object code) }
+        ensures other { IfNone result (¬ (HasCode self.now object code)) }
+        ensures value { IfSome result (λ found. found ≡ value_at (entries_of self.now object) key) }
     {
         let seat = seat_near(&self.arena, object, near);
-        self.boxes.value_of(seat, key)
+        if !seat.is_of(code) {
+            return None;
+        }
+        Some(self.boxes.value_of(seat, key))
     }
 
     /// The value of a name, `None` where it is unbound.

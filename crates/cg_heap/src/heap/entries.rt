@@ -1,5 +1,5 @@
 //! Entries that come and go.
-ghost use Rattle.std.specs.Prelude.{◌≡◌, ◌≢◌, ◌<◌, ◌≤◌, ◌+◌, ◌++◌, ◌∷◌, ◌↔◌, ◌&&◌, ◌||◌, [], IsTrue, IsOk, IsNone, IsSome, IfOk, IfSome, IfNone, OnOk, OnErr, Ok, Err, Some, None, length, remove, slice_get};
+ghost use Rattle.std.specs.Prelude.{◌≡◌, ◌≢◌, ◌<◌, ◌≤◌, ◌+◌, ◌++◌, ◌∷◌, ◌↔◌, ◌&&◌, ◌||◌, [], IsTrue, IsOk, IsNone, IsSome, IfOk, IfSome, IfNone, OnSome, OnOk, OnErr, Ok, Err, Some, None, length, remove, slice_get};
 ghost use Rattle.std.specs.FinMap as fin;
 ghost use Rattle.cg_value.specs.declared.KindCode.TheVariants as code;
 ghost use Rattle.cg_value.specs.declared.Place.TheVariants as where_it_is;
@@ -14,7 +14,7 @@ ghost use Rattle.cg_heap.specs.Calls.{HasFewHolds, IsLiveValue, IsMutable, CanTa
 
 use super::Heap;
 use crate::boxes::{Boxes, Seat};
-use crate::counts::{count_in, fewer, seat_and_place_near, seat_near, seat_of};
+use crate::counts::{count_in, count_near, fewer, seat_and_place_near, seat_near, seat_of};
 use crate::fault::HeapFault;
 use cg_arena::Near;
 use cg_graph::MOST_ENTRIES;
@@ -63,25 +63,41 @@ impl<B: Kind> Heap<B> {
             (rewritten object (without_key (entries_of self.old object) key) self.old)) }
         ensures none { IfNone result (self.new ≡ self.old) }
     {
-        self.take_key_near(object, Near::default(), key)
+        match self.take_key_if(self.kind_of(object), object, Near::default(), key) {
+            Some(taken) => taken,
+            None => unreachable!(),
+        }
     }
 
-    /// `take_key`, where the object is near.
+    /// `take_key`, where the object is near and of this kind. `None` comes exactly where it is of another, and nothing has
+    /// changed then.
     #[inline(always)]
-    pub fn take_key_near(&mut self, object: u64, near: Near, key: Val) -> Option<Entry>
-        requires can { CanTake self.old object }
+    pub fn take_key_if(
+        &mut self,
+        code: KindCode,
+        object: u64,
+        near: Near,
+        key: Val,
+    ) -> Option<Option<Entry>>
+        requires live { IsLive self.old object }
+        requires mutable { IsMutable code }
         requires few { HasFewHolds self.old }
-        ensures entry { result ≡ entry_at (entries_of self.old object) key }
-        ensures rest { IfSome result (λ e. self.new ≡ held (entry_references e)
-            (rewritten object (without_key (entries_of self.old object) key) self.old)) }
-        ensures none { IfNone result (self.new ≡ self.old) }
+        ensures kind { OnSome result (HasCode self.old object code) }
+        ensures other { IfNone result (¬ (HasCode self.old object code) × (self.new ≡ self.old)) }
+        ensures entry { IfSome result (λ taken. taken ≡ entry_at (entries_of self.old object) key) }
+        ensures rest { IfSome result (λ taken. IfSome taken (λ e. self.new ≡ held (entry_references e)
+            (rewritten object (without_key (entries_of self.old object) key) self.old))) }
+        ensures none { IfSome result (λ taken. IfNone taken (self.new ≡ self.old)) }
     {
         let seat = seat_near(&self.arena, object, near);
+        if !seat.is_of(code) {
+            return None;
+        }
         let taken = self.boxes.take_key(seat, key);
         if taken.is_some() {
             fewer(&mut self.entries, object);
         }
-        taken
+        Some(taken)
     }
 
     /// Takes the last entry off, whatever the kind. `None` comes exactly where there is none. The references of the
@@ -175,52 +191,65 @@ impl<B: Kind> Heap<B> {
         ensures objects { result ≢ Err fault.ObjectLimit }
         ensures err { OnErr result (self.new ≡ self.old) }
     {
-        self.put_near(object, Near::default(), key, val)
+        let nowhere = Near::default();
+        match self.put_if(self.kind_of(object), object, nowhere, key, val, nowhere) {
+            Some(put) => put,
+            None => unreachable!(),
+        }
     }
 
-    /// `put`, where the object is near. Below the limit of entries the key is looked for once, and the node of the object
-    /// is read once.
+    /// `put`, where the object is near and of this kind, and so is what the value refers to, if it refers to something. `None`
+    /// comes exactly where the object is of another kind, and nothing has changed then. Below the limit of entries the key is
+    /// looked for once, and the node of the object is read once.
     #[inline(always)]
-    pub fn put_near(
+    pub fn put_if(
         &mut self,
+        code: KindCode,
         object: u64,
         near: Near,
         key: Val,
         val: Val,
-    ) -> Result<Option<Val>, HeapFault>
-        requires other { object ≢ 1 }
-        requires can { CanPutIn self.old object key }
+        val_near: Near,
+    ) -> Option<Result<Option<Val>, HeapFault>>
+        requires live { IsLive self.old object }
+        requires other { HasCode self.old object code → object ≢ 1 }
+        requires can { HasCode self.old object code → CanPutIn self.old object key }
         requires live_key { IsLiveValue self.old key }
         requires live_val { IsLiveValue self.old val }
         requires few { HasFewHolds self.old }
-        ensures ok { OnOk result (self.new ≡
-            tracked_if (becomes_tracked self.old object key val) object (with_put self.old object key val)) }
-        ensures replaced { IfOk result (λ was. was ≡ value_in self.old object key) }
-        ensures present { IsSome (value_in self.old object key) → IsOk result }
-        ensures limit { (result ≡ Err fault.EntryLimit)
-            ↔ ((value_in self.old object key ≡ None) × (MOST_ENTRIES ≤ entry_number self.old)) }
-        ensures objects { result ≢ Err fault.ObjectLimit }
-        ensures err { OnErr result (self.new ≡ self.old) }
+        ensures kind { OnSome result (HasCode self.old object code) }
+        ensures other { IfNone result (¬ (HasCode self.old object code) × (self.new ≡ self.old)) }
+        ensures ok { IfSome result (λ put. OnOk put (self.new ≡
+            tracked_if (becomes_tracked self.old object key val) object (with_put self.old object key val))) }
+        ensures replaced { IfSome result (λ put. IfOk put (λ was. was ≡ value_in self.old object key)) }
+        ensures present { IfSome result (λ put. IsSome (value_in self.old object key) → IsOk put) }
+        ensures limit { IfSome result (λ put. (put ≡ Err fault.EntryLimit)
+            ↔ ((value_in self.old object key ≡ None) × (MOST_ENTRIES ≤ entry_number self.old))) }
+        ensures objects { IfSome result (λ put. put ≢ Err fault.ObjectLimit) }
+        ensures err { IfSome result (λ put. OnErr put (self.new ≡ self.old)) }
     {
         let (seat, place) = seat_and_place_near(&self.arena, object, near);
+        if !seat.is_of(code) {
+            return None;
+        }
         if is_past_limit(&self.boxes, self.entries, seat, &key) {
-            return Err(HeapFault::EntryLimit);
+            return Some(Err(HeapFault::EntryLimit));
         }
         let tracks = self.makes_tracked(seat.code, place, key, val);
         match self.boxes.put(seat, key, val) {
             Ok(Some(was)) => {
-                count_in(&mut self.arena, val);
+                count_near(&mut self.arena, val, val_near);
                 self.track_if(tracks, object);
-                Ok(Some(was))
+                Some(Ok(Some(was)))
             }
             Ok(None) => {
-                count_in(&mut self.arena, val);
+                count_near(&mut self.arena, val, val_near);
                 count_in(&mut self.arena, key);
                 self.entries += 1;
                 self.track_if(tracks, object);
-                Ok(None)
+                Some(Ok(None))
             }
-            Err(_) => Err(HeapFault::OutOfMemory),
+            Err(_) => Some(Err(HeapFault::OutOfMemory)),
         }
     }
 

@@ -16,7 +16,8 @@ use Rattle.cg_commands.specs.Answers.{PerformsOnHeap}
 use Rattle.cg_script.specs.declared.command.Command.TheVariants as command
 use Rattle.cg_machine.specs.Commands.{effect}
 use Rattle.cg_commands.proofs.PutLemmas.{puts-performs, puts-refused}
-use Rattle.cg_commands.proofs.EntryLemmas.{can_put_key, keyed_other}
+use Rattle.cg_commands.proofs.EntryLemmas.{can_put_code, keyed_other, refers_by_code, other_by_code}
+use Rattle.cg_commands.proofs.Reading.{object-none}
 use Rattle.cg_commands.specs.Refusals.{refusal_by}
 use Rattle.std.proofs.Common.{inl}
 use Rattle.cg_commands.proofs.EntryLemmas.{code_passes}
@@ -42,22 +43,6 @@ returns-in_err-val g c =
     (goes_on c.args.heap.now c.args.heap.now c.args.locals.now (λ w. value w c.args.key.now) c.in_ok-key.key _ (Err c.in_err-val.field-0.0) c.in_ok-key.ensures.ok
     (stops c.args.heap.now c.args.locals.now (λ w. value w c.args.operand.now) _ c.in_err-val.field-0.0 c.in_err-val.ensures.err)))
 
-pub returns-in_err-target : goal.returns-in_err-target
-returns-in_err-target g c =
-    let p = err_from_is_err_and c.from_residual-in_err-target.result c.from_residual-in_err-target.ensures.1 in rw (p.1, p.2)
-    (goes_on c.args.heap.now c.args.heap.now c.args.locals.now (λ w. value w c.args.dict.now) c.in_ok-dict.dict _ (Err c.in_err-target.field-0.0) c.in_ok-dict.ensures.ok
-    (goes_on c.args.heap.now c.args.heap.now c.args.locals.now (λ w. value w c.args.key.now) c.in_ok-key.key _ (Err c.in_err-target.field-0.0) c.in_ok-key.ensures.ok
-    (goes_on c.args.heap.now c.args.heap.now c.args.locals.now (λ w. value w c.args.operand.now) c.in_ok-val.val _ (Err c.in_err-target.field-0.0) c.in_ok-val.ensures.ok
-    (stops c.args.heap.now c.args.locals.now (λ w. object w (test_of wanted.Dict) (number_of (refusal_of wanted.Dict)) c.in_ok-dict.dict) _ c.in_err-target.field-0.0 (λ w s. c.in_err-target.ensures.err w s.represents)))))
-
-pub returns-then-not-is_hashable : goal.returns-then-not-is_hashable
-returns-then-not-is_hashable g c =
-    (goes_on c.args.heap.now c.args.heap.now c.args.locals.now (λ w. value w c.args.dict.now) c.in_ok-dict.dict _ (Err refusal.Unhashable) c.in_ok-dict.ensures.ok
-    (goes_on c.args.heap.now c.args.heap.now c.args.locals.now (λ w. value w c.args.key.now) c.in_ok-key.key _ (Err refusal.Unhashable) c.in_ok-key.ensures.ok
-    (goes_on c.args.heap.now c.args.heap.now c.args.locals.now (λ w. value w c.args.operand.now) c.in_ok-val.val _ (Err refusal.Unhashable) c.in_ok-val.ensures.ok
-    (goes_on c.args.heap.now c.args.heap.now c.args.locals.now (λ w. object w (test_of wanted.Dict) (number_of (refusal_of wanted.Dict)) c.in_ok-dict.dict) (object_from c.args.heap.now.rows c.in_ok-target.target c.in_ok-target.ensures.ok.node) _ (Err refusal.Unhashable) (reads-object c.args.heap.now c.args.locals.now (test_of wanted.Dict) c.in_ok-dict.dict c.in_ok-target.target c.in_ok-target.ensures.ok (number_of (refusal_of wanted.Dict)))
-    (stops c.args.heap.now c.args.locals.now (λ w. unless (is_hashable w c.in_ok-key.key) unhashable) _ refusal.Unhashable (no-hash c.args.heap.now c.args.locals.now c.in_ok-key.key c.is_hashable.result c.is_hashable.ensures c.if-not-is_hashable.true))))))
-
 pub value_near-requires-clause-known : goal.value_near-requires-clause-known
 value_near-requires-clause-known g c =
     all_left (λ n. n < length c.args.heap.now.names) (operand_texts c.args.dict.now) (operand_texts c.args.key.now) (all_left (λ n. n < length c.args.heap.now.names) (operand_texts c.args.dict.now ++ operand_texts c.args.key.now) (operand_texts c.args.operand.now) c.requires.known)
@@ -70,29 +55,64 @@ pub value-requires-2-clause-known : goal.value-requires-2-clause-known
 value-requires-2-clause-known g c =
     all_right (λ n. n < length c.args.heap.now.names) (operand_texts c.args.dict.now ++ operand_texts c.args.key.now) (operand_texts c.args.operand.now) c.requires.known
 
-pub put_near-requires-clause-other : goal.put_near-requires-clause-other
-put_near-requires-clause-other g c =
-    keyed_other c.args.heap.now c.sound.ensures c.in_ok-target.target _ (has_code c.args.heap.now wanted.Dict tt c.in_ok-dict.dict c.in_ok-target.target c.in_ok-target.ensures.ok) (λ e. cc)
+pub returns-in_err-_target : goal.returns-in_err-_target
+returns-in_err-_target g c =
+    let p = err_from_is_err_and c.from_residual-in_err-_target.result c.from_residual-in_err-_target.ensures.1 in rw (p.1, p.2)
+    (goes_on c.args.heap.now c.args.heap.now c.args.locals.now (λ w. value w c.args.dict.now) c.in_ok-dict.dict _ (Err c.in_err-_target.field-0.0) c.in_ok-dict.ensures.ok
+    (goes_on c.args.heap.now c.args.heap.now c.args.locals.now (λ w. value w c.args.key.now) c.in_ok-key.key _ (Err c.in_err-_target.field-0.0) c.in_ok-key.ensures.ok
+    (goes_on c.args.heap.now c.args.heap.now c.args.locals.now (λ w. value w c.args.operand.now) c.in_ok-val.val _ (Err c.in_err-_target.field-0.0) c.in_ok-val.ensures.ok
+    (stops c.args.heap.now c.args.locals.now (λ w. object w (test_of wanted.Dict) (number_of (refusal_of wanted.Dict)) c.in_ok-dict.dict) _ c.in_err-_target.field-0.0 (λ w s. c.in_err-_target.ensures.err w s.represents)))))
 
-pub put_near-requires-clause-can : goal.put_near-requires-clause-can
-put_near-requires-clause-can g c =
-    can_put_key c.args.heap.now wanted.Dict tt c.in_ok-dict.dict c.in_ok-target.target c.in_ok-target.ensures.ok c.in_ok-key.key
+pub returns-in_ok-_target : goal.returns-in_ok-_target
+returns-in_ok-_target g c =
+    (goes_on c.args.heap.now c.args.heap.now c.args.locals.now (λ w. value w c.args.dict.now) c.in_ok-dict.dict _ (Err refusal.Unhashable) c.in_ok-dict.ensures.ok
+    (goes_on c.args.heap.now c.args.heap.now c.args.locals.now (λ w. value w c.args.key.now) c.in_ok-key.key _ (Err refusal.Unhashable) c.in_ok-key.ensures.ok
+    (goes_on c.args.heap.now c.args.heap.now c.args.locals.now (λ w. value w c.args.operand.now) c.in_ok-val.val _ (Err refusal.Unhashable) c.in_ok-val.ensures.ok
+    (goes_on c.args.heap.now c.args.heap.now c.args.locals.now (λ w. object w (test_of wanted.Dict) (number_of (refusal_of wanted.Dict)) c.in_ok-dict.dict) (object_from c.args.heap.now.rows c.in_ok-_target._target c.in_ok-_target.ensures.ok.node) _ (Err refusal.Unhashable) (reads-object c.args.heap.now c.args.locals.now (test_of wanted.Dict) c.in_ok-dict.dict c.in_ok-_target._target c.in_ok-_target.ensures.ok (number_of (refusal_of wanted.Dict)))
+    (stops c.args.heap.now c.args.locals.now (λ w. unless (is_hashable w c.in_ok-key.key) unhashable) _ refusal.Unhashable (no-hash c.args.heap.now c.args.locals.now c.in_ok-key.key c.is_hashable.result c.is_hashable.ensures c.if-not-is_hashable.true))))))
 
-pub returns-in-Ok : goal.returns-in-Ok
-returns-in-Ok g c =
-    (goes_on c.args.heap.now c.put_near.new.self c.args.locals.now (λ w. value w c.args.dict.now) c.in_ok-dict.dict _ (Ok (done.Gives c.given_up.result)) c.in_ok-dict.ensures.ok
-    (goes_on c.args.heap.now c.put_near.new.self c.args.locals.now (λ w. value w c.args.key.now) c.in_ok-key.key _ (Ok (done.Gives c.given_up.result)) c.in_ok-key.ensures.ok
-    (goes_on c.args.heap.now c.put_near.new.self c.args.locals.now (λ w. value w c.args.operand.now) c.in_ok-val.val _ (Ok (done.Gives c.given_up.result)) c.in_ok-val.ensures.ok
-    (goes_on c.args.heap.now c.put_near.new.self c.args.locals.now (λ w. object w (test_of wanted.Dict) (number_of (refusal_of wanted.Dict)) c.in_ok-dict.dict) (object_from c.args.heap.now.rows c.in_ok-target.target c.in_ok-target.ensures.ok.node) _ (Ok (done.Gives c.given_up.result)) (reads-object c.args.heap.now c.args.locals.now (test_of wanted.Dict) c.in_ok-dict.dict c.in_ok-target.target c.in_ok-target.ensures.ok (number_of (refusal_of wanted.Dict)))
-    (goes_on c.args.heap.now c.put_near.new.self c.args.locals.now (λ w. unless (is_hashable w c.in_ok-key.key) unhashable) tt _ (Ok (done.Gives c.given_up.result)) (reads-key c.args.heap.now c.args.locals.now c.in_ok-key.key c.is_hashable.result c.is_hashable.ensures c.if-not-is_hashable.false)
-    (puts-performs c.args.heap.now c.sound.ensures c.args.locals.now (test_of wanted.Dict) c.in_ok-dict.dict c.in_ok-target.target c.in_ok-target.ensures.ok (inl (code_passes c.args.heap.now wanted.Dict tt c.in_ok-dict.dict c.in_ok-target.target c.in_ok-target.ensures.ok)) c.in_ok-key.key c.in_ok-val.val c.in-Ok.old c.given_up.result c.put_near.new.self c.in-Ok.ensures.ok c.in-Ok.ensures.replaced c.given_up.ensures c.in-Ok.ensures.limit))))))
+pub returns-in_default : goal.returns-in_default
+returns-in_default g c =
+    (goes_on c.args.heap.now c.args.heap.now c.args.locals.now (λ w. value w c.args.dict.now) c.in_ok-dict.dict _ (Err refusal.WrongKind) c.in_ok-dict.ensures.ok
+    (goes_on c.args.heap.now c.args.heap.now c.args.locals.now (λ w. value w c.args.key.now) c.in_ok-key.key _ (Err refusal.WrongKind) c.in_ok-key.ensures.ok
+    (goes_on c.args.heap.now c.args.heap.now c.args.locals.now (λ w. value w c.args.operand.now) c.in_ok-val.val _ (Err refusal.WrongKind) c.in_ok-val.ensures.ok
+    (stops c.args.heap.now c.args.locals.now (λ w. object w (test_of wanted.Dict) (number_of (refusal_of wanted.Dict)) c.in_ok-dict.dict) _ refusal.WrongKind (λ w s. object-none c.args.heap.now wanted.Dict c.in_ok-dict.dict c.in_default.not-Ref w s.represents)))))
 
-pub returns-in-Err : goal.returns-in-Err
-returns-in-Err g c =
-    subst (λ r. PerformsOnHeap c.args.heap.now c.args.locals.now (λ w. effect w (command.Put c.args.dict.now c.args.key.now c.args.operand.now)) c.put_near.new.self (Err r)) (sym c.refusal_by.ensures)
-    (goes_on c.args.heap.now c.put_near.new.self c.args.locals.now (λ w. value w c.args.dict.now) c.in_ok-dict.dict _ (Err (refusal_by c.in-Err.fault)) c.in_ok-dict.ensures.ok
-    (goes_on c.args.heap.now c.put_near.new.self c.args.locals.now (λ w. value w c.args.key.now) c.in_ok-key.key _ (Err (refusal_by c.in-Err.fault)) c.in_ok-key.ensures.ok
-    (goes_on c.args.heap.now c.put_near.new.self c.args.locals.now (λ w. value w c.args.operand.now) c.in_ok-val.val _ (Err (refusal_by c.in-Err.fault)) c.in_ok-val.ensures.ok
-    (goes_on c.args.heap.now c.put_near.new.self c.args.locals.now (λ w. object w (test_of wanted.Dict) (number_of (refusal_of wanted.Dict)) c.in_ok-dict.dict) (object_from c.args.heap.now.rows c.in_ok-target.target c.in_ok-target.ensures.ok.node) _ (Err (refusal_by c.in-Err.fault)) (reads-object c.args.heap.now c.args.locals.now (test_of wanted.Dict) c.in_ok-dict.dict c.in_ok-target.target c.in_ok-target.ensures.ok (number_of (refusal_of wanted.Dict)))
-    (goes_on c.args.heap.now c.put_near.new.self c.args.locals.now (λ w. unless (is_hashable w c.in_ok-key.key) unhashable) tt _ (Err (refusal_by c.in-Err.fault)) (reads-key c.args.heap.now c.args.locals.now c.in_ok-key.key c.is_hashable.result c.is_hashable.ensures c.if-not-is_hashable.false)
-    (puts-refused c.args.heap.now c.sound.ensures c.args.locals.now (test_of wanted.Dict) c.in_ok-dict.dict c.in_ok-target.target c.in_ok-target.ensures.ok (inl (code_passes c.args.heap.now wanted.Dict tt c.in_ok-dict.dict c.in_ok-target.target c.in_ok-target.ensures.ok)) c.in_ok-key.key c.in_ok-val.val c.in-Err.fault (Err c.in-Err.fault) refl c.in-Err.ensures.limit c.in-Err.ensures.objects c.in-Err.ensures.present c.put_near.new.self c.in-Err.ensures.err))))))
+pub put_if-requires-clause-live : goal.put_if-requires-clause-live
+put_if-requires-clause-live g c =
+    c.in_ok-dict.ensures.live c.in-Ref.target c.in-Ref.is
+
+pub put_if-requires-clause-other : goal.put_if-requires-clause-other
+put_if-requires-clause-other g c =
+    λ has. keyed_other c.args.heap.now c.sound.ensures c.in-Ref.target _ has (λ e. cc)
+
+pub put_if-requires-clause-can : goal.put_if-requires-clause-can
+put_if-requires-clause-can g c =
+    λ has. can_put_code c.args.heap.now wanted.Dict tt c.in-Ref.target has c.in_ok-key.key
+
+pub returns-in-Some-Ok : goal.returns-in-Some-Ok
+returns-in-Some-Ok g c =
+    (goes_on c.args.heap.now c.put_if.new.self c.args.locals.now (λ w. value w c.args.dict.now) c.in_ok-dict.dict _ (Ok (done.Gives c.given_up.result)) c.in_ok-dict.ensures.ok
+    (goes_on c.args.heap.now c.put_if.new.self c.args.locals.now (λ w. value w c.args.key.now) c.in_ok-key.key _ (Ok (done.Gives c.given_up.result)) c.in_ok-key.ensures.ok
+    (goes_on c.args.heap.now c.put_if.new.self c.args.locals.now (λ w. value w c.args.operand.now) c.in_ok-val.val _ (Ok (done.Gives c.given_up.result)) c.in_ok-val.ensures.ok
+    (goes_on c.args.heap.now c.put_if.new.self c.args.locals.now (λ w. object w (test_of wanted.Dict) (number_of (refusal_of wanted.Dict)) c.in_ok-dict.dict) (object_from c.args.heap.now.rows c.in-Ref.target (refers_by_code c.args.heap.now wanted.Dict tt c.in_ok-dict.dict c.in-Ref.target c.in-Ref.is c.in-Some-Ok.ensures.kind).node) _ (Ok (done.Gives c.given_up.result)) (reads-object c.args.heap.now c.args.locals.now (test_of wanted.Dict) c.in_ok-dict.dict c.in-Ref.target (refers_by_code c.args.heap.now wanted.Dict tt c.in_ok-dict.dict c.in-Ref.target c.in-Ref.is c.in-Some-Ok.ensures.kind) (number_of (refusal_of wanted.Dict)))
+    (goes_on c.args.heap.now c.put_if.new.self c.args.locals.now (λ w. unless (is_hashable w c.in_ok-key.key) unhashable) tt _ (Ok (done.Gives c.given_up.result)) (reads-key c.args.heap.now c.args.locals.now c.in_ok-key.key c.is_hashable.result c.is_hashable.ensures c.if-not-is_hashable.false)
+    (puts-performs c.args.heap.now c.sound.ensures c.args.locals.now (test_of wanted.Dict) c.in_ok-dict.dict c.in-Ref.target (refers_by_code c.args.heap.now wanted.Dict tt c.in_ok-dict.dict c.in-Ref.target c.in-Ref.is c.in-Some-Ok.ensures.kind) (inl (code_passes c.args.heap.now wanted.Dict tt c.in_ok-dict.dict c.in-Ref.target (refers_by_code c.args.heap.now wanted.Dict tt c.in_ok-dict.dict c.in-Ref.target c.in-Ref.is c.in-Some-Ok.ensures.kind))) c.in_ok-key.key c.in_ok-val.val c.in-Some-Ok.old c.given_up.result c.put_if.new.self c.in-Some-Ok.ensures.ok c.in-Some-Ok.ensures.replaced c.given_up.ensures c.in-Some-Ok.ensures.limit))))))
+
+pub returns-in-Some-Err : goal.returns-in-Some-Err
+returns-in-Some-Err g c =
+    subst (λ r. PerformsOnHeap c.args.heap.now c.args.locals.now (λ w. effect w (command.Put c.args.dict.now c.args.key.now c.args.operand.now)) c.put_if.new.self (Err r)) (sym c.refusal_by.ensures)
+    (goes_on c.args.heap.now c.put_if.new.self c.args.locals.now (λ w. value w c.args.dict.now) c.in_ok-dict.dict _ (Err (refusal_by c.in-Some-Err.fault)) c.in_ok-dict.ensures.ok
+    (goes_on c.args.heap.now c.put_if.new.self c.args.locals.now (λ w. value w c.args.key.now) c.in_ok-key.key _ (Err (refusal_by c.in-Some-Err.fault)) c.in_ok-key.ensures.ok
+    (goes_on c.args.heap.now c.put_if.new.self c.args.locals.now (λ w. value w c.args.operand.now) c.in_ok-val.val _ (Err (refusal_by c.in-Some-Err.fault)) c.in_ok-val.ensures.ok
+    (goes_on c.args.heap.now c.put_if.new.self c.args.locals.now (λ w. object w (test_of wanted.Dict) (number_of (refusal_of wanted.Dict)) c.in_ok-dict.dict) (object_from c.args.heap.now.rows c.in-Ref.target (refers_by_code c.args.heap.now wanted.Dict tt c.in_ok-dict.dict c.in-Ref.target c.in-Ref.is c.in-Some-Err.ensures.kind).node) _ (Err (refusal_by c.in-Some-Err.fault)) (reads-object c.args.heap.now c.args.locals.now (test_of wanted.Dict) c.in_ok-dict.dict c.in-Ref.target (refers_by_code c.args.heap.now wanted.Dict tt c.in_ok-dict.dict c.in-Ref.target c.in-Ref.is c.in-Some-Err.ensures.kind) (number_of (refusal_of wanted.Dict)))
+    (goes_on c.args.heap.now c.put_if.new.self c.args.locals.now (λ w. unless (is_hashable w c.in_ok-key.key) unhashable) tt _ (Err (refusal_by c.in-Some-Err.fault)) (reads-key c.args.heap.now c.args.locals.now c.in_ok-key.key c.is_hashable.result c.is_hashable.ensures c.if-not-is_hashable.false)
+    (puts-refused c.args.heap.now c.sound.ensures c.args.locals.now (test_of wanted.Dict) c.in_ok-dict.dict c.in-Ref.target (refers_by_code c.args.heap.now wanted.Dict tt c.in_ok-dict.dict c.in-Ref.target c.in-Ref.is c.in-Some-Err.ensures.kind) (inl (code_passes c.args.heap.now wanted.Dict tt c.in_ok-dict.dict c.in-Ref.target (refers_by_code c.args.heap.now wanted.Dict tt c.in_ok-dict.dict c.in-Ref.target c.in-Ref.is c.in-Some-Err.ensures.kind))) c.in_ok-key.key c.in_ok-val.val c.in-Some-Err.fault (Err c.in-Some-Err.fault) refl c.in-Some-Err.ensures.limit c.in-Some-Err.ensures.objects c.in-Some-Err.ensures.present c.put_if.new.self c.in-Some-Err.ensures.err))))))
+
+pub returns-in-None : goal.returns-in-None
+returns-in-None g c =
+    rw (c.in-None.ensures.other.1)
+    (goes_on c.args.heap.now c.args.heap.now c.args.locals.now (λ w. value w c.args.dict.now) c.in_ok-dict.dict _ (Err refusal.WrongKind) c.in_ok-dict.ensures.ok
+    (goes_on c.args.heap.now c.args.heap.now c.args.locals.now (λ w. value w c.args.key.now) c.in_ok-key.key _ (Err refusal.WrongKind) c.in_ok-key.ensures.ok
+    (goes_on c.args.heap.now c.args.heap.now c.args.locals.now (λ w. value w c.args.operand.now) c.in_ok-val.val _ (Err refusal.WrongKind) c.in_ok-val.ensures.ok
+    (stops c.args.heap.now c.args.locals.now (λ w. object w (test_of wanted.Dict) (number_of (refusal_of wanted.Dict)) c.in_ok-dict.dict) _ refusal.WrongKind (λ w s. other_by_code c.args.heap.now wanted.Dict tt c.in_ok-dict.dict c.in-Ref.target c.in-Ref.is (c.in_ok-dict.ensures.live c.in-Ref.target c.in-Ref.is) c.in-None.ensures.other.0 w s.represents)))))

@@ -1,4 +1,4 @@
-use Rattle.std.proofs.Common.{length, Ok, Err}
+use Rattle.std.proofs.Common.{refl, length, Ok, Err}
 use Rattle.std.proofs.Common.{w64}
 use mir.Val.{to_z, of_z}
 use Rattle.std.proofs.Math.Facts.{to_z-of_z}
@@ -49,23 +49,23 @@ returns-in_err-_i g c =
     (goes_on c.args.heap.now c.args.heap.now c.args.locals.now (λ w. object w (test_of wanted.ScriptList) (number_of (refusal_of wanted.ScriptList)) c.in_ok-list.list) (object_from c.args.heap.now.rows c.in_ok-target.target c.in_ok-target.ensures.ok.node) _ (Err c.in_err-_i.field-0.0) (reads-object c.args.heap.now c.args.locals.now (test_of wanted.ScriptList) c.in_ok-list.list c.in_ok-target.target c.in_ok-target.ensures.ok (number_of (refusal_of wanted.ScriptList)))
     (stops c.args.heap.now c.args.locals.now (λ w. ok_or (valid_index c.args.index (length c.in_ok-target.ensures.ok.node.entries)) no_index) _ c.in_err-_i.field-0.0 (no-index c.args.heap.now c.args.locals.now (test_of wanted.ScriptList) c.in_ok-list.list c.in_ok-target.target c.in_ok-target.ensures.ok c.args.index (to_z w64 (of_z w64 c.args.index)) (to_z-of_z c.ranges.index) c.in_err-_i.field-0.0 c.in_err-_i.ensures.err c.in_err-_i.ensures.none)))))
 
-pub put_near-requires-clause-other : goal.put_near-requires-clause-other
-put_near-requires-clause-other g c =
-    not_garbage c.args.heap.now c.in_ok-list.list c.in_ok-target.target c.in_ok-target.ensures.ok
+pub put_if-requires-clause-other : goal.put_if-requires-clause-other
+put_if-requires-clause-other g c =
+    λ has. not_garbage c.args.heap.now c.in_ok-list.list c.in_ok-target.target c.in_ok-target.ensures.ok
 
-pub put_near-requires-clause-can : goal.put_near-requires-clause-can
-put_near-requires-clause-can g c =
-    can_put_item c.args.heap.now c.in_ok-list.list c.in_ok-target.target c.in_ok-target.ensures.ok (to_z w64 (of_z w64 c.args.index)) c.in_ok-_i._i ((index_is (to_z w64 (of_z w64 c.args.index)) (length (entries_of c.args.heap.now c.in_ok-target.target)) c.in_ok-_i._i c.in_ok-_i.ensures.ok).0) c.in_ok-_i.ensures.below
+pub put_if-requires-clause-can : goal.put_if-requires-clause-can
+put_if-requires-clause-can g c =
+    λ has. can_put_item c.args.heap.now c.in_ok-list.list c.in_ok-target.target c.in_ok-target.ensures.ok (to_z w64 (of_z w64 c.args.index)) c.in_ok-_i._i ((index_is (to_z w64 (of_z w64 c.args.index)) (length (entries_of c.args.heap.now c.in_ok-target.target)) c.in_ok-_i._i c.in_ok-_i.ensures.ok).0) c.in_ok-_i.ensures.below
 
-pub returns-in-Ok : goal.returns-in-Ok
-returns-in-Ok g c =
-    (goes_on c.args.heap.now c.put_near.new.self c.args.locals.now (λ w. value w c.args.list.now) c.in_ok-list.list _ (Ok (done.Gives c.given_up.result)) c.in_ok-list.ensures.ok
-    (goes_on c.args.heap.now c.put_near.new.self c.args.locals.now (λ w. value w c.args.operand.now) c.in_ok-val.val _ (Ok (done.Gives c.given_up.result)) c.in_ok-val.ensures.ok
-    (goes_on c.args.heap.now c.put_near.new.self c.args.locals.now (λ w. object w (test_of wanted.ScriptList) (number_of (refusal_of wanted.ScriptList)) c.in_ok-list.list) (object_from c.args.heap.now.rows c.in_ok-target.target c.in_ok-target.ensures.ok.node) _ (Ok (done.Gives c.given_up.result)) (reads-object c.args.heap.now c.args.locals.now (test_of wanted.ScriptList) c.in_ok-list.list c.in_ok-target.target c.in_ok-target.ensures.ok (number_of (refusal_of wanted.ScriptList)))
-    (goes_on c.args.heap.now c.put_near.new.self c.args.locals.now (λ w. ok_or (valid_index c.args.index (length c.in_ok-target.ensures.ok.node.entries)) no_index) c.in_ok-_i._i _ (Ok (done.Gives c.given_up.result)) (reads-index c.args.heap.now c.args.locals.now (test_of wanted.ScriptList) c.in_ok-list.list c.in_ok-target.target c.in_ok-target.ensures.ok c.args.index (to_z w64 (of_z w64 c.args.index)) (to_z-of_z c.ranges.index) c.in_ok-_i._i c.in_ok-_i.ensures.ok)
-    (goes_on c.args.heap.now c.put_near.new.self c.args.locals.now (λ w. ok_or (slice_get c.in_ok-target.ensures.ok.node.entries c.in_ok-_i._i) no_index) (get_or (entries_of c.args.heap.now c.in_ok-target.target) c.in_ok-_i._i (item c.in_ok-val.val)) _ (Ok (done.Gives c.given_up.result)) (reads-entry c.args.heap.now c.args.locals.now (test_of wanted.ScriptList) c.in_ok-list.list c.in_ok-target.target c.in_ok-target.ensures.ok c.in_ok-_i._i (get_or (entries_of c.args.heap.now c.in_ok-target.target) c.in_ok-_i._i (item c.in_ok-val.val)) (slice_get-get_or (entries_of c.args.heap.now c.in_ok-target.target) c.in_ok-_i._i (item c.in_ok-val.val) c.in_ok-_i.ensures.below) no_index)
-    (sets c.args.heap.now c.sound.ensures c.args.locals.now (test_of wanted.ScriptList) c.in_ok-list.list c.in_ok-target.target c.in_ok-target.ensures.ok (code_passes c.args.heap.now wanted.ScriptList tt c.in_ok-list.list c.in_ok-target.target c.in_ok-target.ensures.ok) (to_z w64 (of_z w64 c.args.index)) c.in_ok-_i._i (get_or (entries_of c.args.heap.now c.in_ok-target.target) c.in_ok-_i._i (item c.in_ok-val.val)) c.in_ok-val.val c.in-Ok.old c.given_up.result c.put_near.new.self ((index_is (to_z w64 (of_z w64 c.args.index)) (length (entries_of c.args.heap.now c.in_ok-target.target)) c.in_ok-_i._i c.in_ok-_i.ensures.ok).0) c.in_ok-_i.ensures.below (slice_get-get_or (entries_of c.args.heap.now c.in_ok-target.target) c.in_ok-_i._i (item c.in_ok-val.val) c.in_ok-_i.ensures.below) c.in-Ok.ensures.ok c.in-Ok.ensures.replaced c.given_up.ensures))))))
+pub returns-in-Some-Ok : goal.returns-in-Some-Ok
+returns-in-Some-Ok g c =
+    (goes_on c.args.heap.now c.put_if.new.self c.args.locals.now (λ w. value w c.args.list.now) c.in_ok-list.list _ (Ok (done.Gives c.given_up.result)) c.in_ok-list.ensures.ok
+    (goes_on c.args.heap.now c.put_if.new.self c.args.locals.now (λ w. value w c.args.operand.now) c.in_ok-val.val _ (Ok (done.Gives c.given_up.result)) c.in_ok-val.ensures.ok
+    (goes_on c.args.heap.now c.put_if.new.self c.args.locals.now (λ w. object w (test_of wanted.ScriptList) (number_of (refusal_of wanted.ScriptList)) c.in_ok-list.list) (object_from c.args.heap.now.rows c.in_ok-target.target c.in_ok-target.ensures.ok.node) _ (Ok (done.Gives c.given_up.result)) (reads-object c.args.heap.now c.args.locals.now (test_of wanted.ScriptList) c.in_ok-list.list c.in_ok-target.target c.in_ok-target.ensures.ok (number_of (refusal_of wanted.ScriptList)))
+    (goes_on c.args.heap.now c.put_if.new.self c.args.locals.now (λ w. ok_or (valid_index c.args.index (length c.in_ok-target.ensures.ok.node.entries)) no_index) c.in_ok-_i._i _ (Ok (done.Gives c.given_up.result)) (reads-index c.args.heap.now c.args.locals.now (test_of wanted.ScriptList) c.in_ok-list.list c.in_ok-target.target c.in_ok-target.ensures.ok c.args.index (to_z w64 (of_z w64 c.args.index)) (to_z-of_z c.ranges.index) c.in_ok-_i._i c.in_ok-_i.ensures.ok)
+    (goes_on c.args.heap.now c.put_if.new.self c.args.locals.now (λ w. ok_or (slice_get c.in_ok-target.ensures.ok.node.entries c.in_ok-_i._i) no_index) (get_or (entries_of c.args.heap.now c.in_ok-target.target) c.in_ok-_i._i (item c.in_ok-val.val)) _ (Ok (done.Gives c.given_up.result)) (reads-entry c.args.heap.now c.args.locals.now (test_of wanted.ScriptList) c.in_ok-list.list c.in_ok-target.target c.in_ok-target.ensures.ok c.in_ok-_i._i (get_or (entries_of c.args.heap.now c.in_ok-target.target) c.in_ok-_i._i (item c.in_ok-val.val)) (slice_get-get_or (entries_of c.args.heap.now c.in_ok-target.target) c.in_ok-_i._i (item c.in_ok-val.val) c.in_ok-_i.ensures.below) no_index)
+    (sets c.args.heap.now c.sound.ensures c.args.locals.now (test_of wanted.ScriptList) c.in_ok-list.list c.in_ok-target.target c.in_ok-target.ensures.ok (code_passes c.args.heap.now wanted.ScriptList tt c.in_ok-list.list c.in_ok-target.target c.in_ok-target.ensures.ok) (to_z w64 (of_z w64 c.args.index)) c.in_ok-_i._i (get_or (entries_of c.args.heap.now c.in_ok-target.target) c.in_ok-_i._i (item c.in_ok-val.val)) c.in_ok-val.val c.in-Some-Ok.old c.given_up.result c.put_if.new.self ((index_is (to_z w64 (of_z w64 c.args.index)) (length (entries_of c.args.heap.now c.in_ok-target.target)) c.in_ok-_i._i c.in_ok-_i.ensures.ok).0) c.in_ok-_i.ensures.below (slice_get-get_or (entries_of c.args.heap.now c.in_ok-target.target) c.in_ok-_i._i (item c.in_ok-val.val) c.in_ok-_i.ensures.below) c.in-Some-Ok.ensures.ok c.in-Some-Ok.ensures.replaced c.given_up.ensures))))))
 
-pub returns-in-Err : goal.returns-in-Err
-returns-in-Err g c =
-    absurd (never_ok c.put_near.result c.in-Err.fault c.in-Err.is (c.put_near.ensures.present (sets-there c.args.heap.now c.sound.ensures c.args.locals.now (test_of wanted.ScriptList) c.in_ok-list.list c.in_ok-target.target c.in_ok-target.ensures.ok (code_passes c.args.heap.now wanted.ScriptList tt c.in_ok-list.list c.in_ok-target.target c.in_ok-target.ensures.ok) (to_z w64 (of_z w64 c.args.index)) c.in_ok-_i._i (get_or (entries_of c.args.heap.now c.in_ok-target.target) c.in_ok-_i._i (item c.in_ok-val.val)) ((index_is (to_z w64 (of_z w64 c.args.index)) (length (entries_of c.args.heap.now c.in_ok-target.target)) c.in_ok-_i._i c.in_ok-_i.ensures.ok).0) (slice_get-get_or (entries_of c.args.heap.now c.in_ok-target.target) c.in_ok-_i._i (item c.in_ok-val.val) c.in_ok-_i.ensures.below))))
+pub returns-in-Some-Err : goal.returns-in-Some-Err
+returns-in-Some-Err g c =
+    absurd (never_ok _ c.in-Some-Err.fault refl (c.in-Some-Err.ensures.present (sets-there c.args.heap.now c.sound.ensures c.args.locals.now (test_of wanted.ScriptList) c.in_ok-list.list c.in_ok-target.target c.in_ok-target.ensures.ok (code_passes c.args.heap.now wanted.ScriptList tt c.in_ok-list.list c.in_ok-target.target c.in_ok-target.ensures.ok) (to_z w64 (of_z w64 c.args.index)) c.in_ok-_i._i (get_or (entries_of c.args.heap.now c.in_ok-target.target) c.in_ok-_i._i (item c.in_ok-val.val)) ((index_is (to_z w64 (of_z w64 c.args.index)) (length (entries_of c.args.heap.now c.in_ok-target.target)) c.in_ok-_i._i c.in_ok-_i.ensures.ok).0) (slice_get-get_or (entries_of c.args.heap.now c.in_ok-target.target) c.in_ok-_i._i (item c.in_ok-val.val) c.in_ok-_i.ensures.below))))
