@@ -1,5 +1,6 @@
 -- A command asks for one thing after the other: what comes first decides, where it is refused.
-use Rattle.std.proofs.Common.{◌≡◌, refl, sym, ap, subst, ℕ, Option, Result, Ok, Err}
+use Rattle.std.proofs.Common.{◌≡◌, refl, sym, ap, subst, ℕ, Option, Some, None, Result, Ok, Err}
+use Rattle.std.specs.Prelude.{IfSome, IfNone, OnOk, IfOk, OnErr}
 use Rattle.cg_graph.specs.Store.{Store}
 use Rattle.cg_machine.specs.World.{World}
 use Rattle.cg_machine.specs.Effects.{Effect}
@@ -60,3 +61,19 @@ stops store locals read k refusal is w s = refused refusal (read w) (k w) store 
 -- and the rest does where it is there.
 pub goes_on : {A : Type 0} (store new : Store) (locals : Option Locals) (read : World → Result A ℕ) (x : A) (k : World → A → Result Effect ℕ) (answer : Result Done Refusal) → Reads store locals read x → PerformsOnHeap store locals (λ w. k w x) new answer → PerformsOnHeap store locals (λ w. read w >>= k w) new answer
 goes_on store new locals read x k answer is rest w s = next (read w) x (k w) store new answer (is w s) (rest w s)
+
+-- what is said of an answer that stands in another one, once it is known
+pub of_some : {X : Type 0} (P : X → Type 0) (r : Option X) (x : X) → r ≡ Some x → IfSome r P → P x
+of_some P r x is said = subst (λ q. IfSome q P) is said
+
+pub of_none : {X P : Type 0} (r : Option X) → r ≡ None → IfNone r P → P
+of_none {X} {P} r is said = subst (λ q. IfNone q P) is said
+
+pub of_ok : {T E P : Type 0} (r : Result T E) (t : T) → r ≡ Ok t → OnOk r P → P
+of_ok {T} {E} {P} r t is said = subst (λ q. OnOk q P) is said
+
+pub of_value : {T E : Type 0} (P : T → Type 0) (r : Result T E) (t : T) → r ≡ Ok t → IfOk r P → P t
+of_value P r t is said = subst (λ q. IfOk q P) is said
+
+pub of_err : {T E P : Type 0} (r : Result T E) (e : E) → r ≡ Err e → OnErr r P → P
+of_err {T} {E} {P} r e is said = subst (λ q. OnErr q P) is said

@@ -219,33 +219,33 @@ refers_by_code store what is v o refers has = record {
 }
 
 pub other_by_code : (store : Store) (what : Wanted) → IsKeyedTest what → (v : Val) (o : ℕ) → v ≡ val.Ref o → IsLive store o → ¬ (HasCode store o (kind_of what)) → HasNoObject store (test_of what) (number_of (refusal_of what)) v (refusal_of what)
-other_by_code store what is v o refers live no =
+other_by_code store what is v o refers live differs =
     subst (λ v. HasNoObject store (test_of what) (number_of (refusal_of what)) v (refusal_of what)) (sym refers) (known (fin.get store.nodes o) refl live)
   where
     fails : (what : Wanted) → IsKeyedTest what → (c : KindCode) → (c ≡ kind_of what → ⊥) → test_of what (bare c o) ≡ false
-    fails wanted.Dict is kind.List no = refl
-    fails wanted.Dict is kind.Tuple no = refl
-    fails wanted.Dict is kind.Dict no = absurd (no refl)
-    fails wanted.Dict is kind.Inst no = refl
-    fails wanted.Dict is kind.Func no = refl
-    fails wanted.Dict is kind.Weak no = refl
-    fails wanted.Inst is kind.List no = refl
-    fails wanted.Inst is kind.Tuple no = refl
-    fails wanted.Inst is kind.Dict no = refl
-    fails wanted.Inst is kind.Inst no = absurd (no refl)
-    fails wanted.Inst is kind.Func no = refl
-    fails wanted.Inst is kind.Weak no = refl
-    fails wanted.Any is c no = absurd is
-    fails wanted.List is c no = absurd is
-    fails wanted.ScriptList is c no = absurd is
-    fails wanted.Sequence is c no = absurd is
-    fails wanted.Func is c no = absurd is
-    fails wanted.Referable is c no = absurd is
-    fails wanted.Weak is c no = absurd is
+    fails wanted.Dict is kind.List differs = refl
+    fails wanted.Dict is kind.Tuple differs = refl
+    fails wanted.Dict is kind.Dict differs = absurd (differs refl)
+    fails wanted.Dict is kind.Inst differs = refl
+    fails wanted.Dict is kind.Func differs = refl
+    fails wanted.Dict is kind.Weak differs = refl
+    fails wanted.Inst is kind.List differs = refl
+    fails wanted.Inst is kind.Tuple differs = refl
+    fails wanted.Inst is kind.Dict differs = refl
+    fails wanted.Inst is kind.Inst differs = absurd (differs refl)
+    fails wanted.Inst is kind.Func differs = refl
+    fails wanted.Inst is kind.Weak differs = refl
+    fails wanted.Any is c differs = absurd is
+    fails wanted.List is c differs = absurd is
+    fails wanted.ScriptList is c differs = absurd is
+    fails wanted.Sequence is c differs = absurd is
+    fails wanted.Func is c differs = absurd is
+    fails wanted.Referable is c differs = absurd is
+    fails wanted.Weak is c differs = absurd is
 
     known : (x : Option Node) → fin.get store.nodes o ≡ x → IsSome x → HasNoObject store (test_of what) (number_of (refusal_of what)) (val.Ref o) (refusal_of what)
     known None at live = absurd (cc)
-    known (Some n) at there = object-other store what o n.code live (subst (λ x. IfSome x (λ m. n.code ≡ m.code)) (sym at) refl) (fails what is n.code (λ e. no (n, at, e)))
+    known (Some n) at there = object-other store what o n.code live (subst (λ x. IfSome x (λ m. n.code ≡ m.code)) (sym at) refl) (fails what is n.code (λ e. differs (n, at, e)))
 
 -- a list is no dictionary and no instance
 pub keyed_other : (store : Store) → IsSound store → (o : ℕ) (c : KindCode) → HasCode store o c → (c ≡ kind.List → ⊥) → o ≢ 1

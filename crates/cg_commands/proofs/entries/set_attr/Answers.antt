@@ -1,4 +1,5 @@
-use Rattle.std.proofs.Common.{refl, sym, subst, Ok, Err}
+use Rattle.std.proofs.Common.{◌≡◌, sym, subst, ◌≤◌, None, Ok, Err}
+use Rattle.std.specs.Prelude.{◌↔◌}
 use Rattle.std.proofs.lemmas.Result.{err_from_is_err_and}
 use Rattle.cg_value.specs.declared.Val.TheVariants as val
 use Rattle.cg_graph.specs.Store.{object_from}
@@ -6,9 +7,10 @@ use Rattle.cg_machine.specs.Operands.{value, object}
 use Rattle.cg_commands.specs.declared.operands.Wanted.TheVariants as wanted
 use Rattle.cg_commands.specs.Refusals.{number_of}
 use Rattle.cg_commands.specs.Objects.{test_of, refusal_of}
-use Rattle.cg_commands.proofs.Chains.{stops, goes_on}
+use Rattle.cg_commands.proofs.Chains.{stops, goes_on, of_ok, of_value, of_err}
+use Rattle.cg_heap.specs.declared.fault.HeapFault.TheVariants as fault
+use Rattle.cg_heap.specs.Calls.{value_in, entry_number}
 use Rattle.cg_commands.proofs.Steps.{reads-object}
-use Rattle.cg_commands.proofs.EntryLemmas.{has_code}
 use Rattle.cg_commands.specs.Answers.{PerformsOnHeap}
 use Rattle.cg_script.specs.declared.command.Command.TheVariants as command
 use Rattle.cg_machine.specs.Commands.{effect}
@@ -56,7 +58,7 @@ returns-in-Some-Ok g c =
     (goes_on c.args.heap.now c.put_if.new.self c.args.locals.now (λ w. value w c.args.instance.now) c.in_ok-instance.instance _ (Ok (done.Gives c.given_up.result)) c.in_ok-instance.ensures.ok
     (goes_on c.args.heap.now c.put_if.new.self c.args.locals.now (λ w. value w c.args.operand.now) c.in_ok-val.val _ (Ok (done.Gives c.given_up.result)) c.in_ok-val.ensures.ok
     (goes_on c.args.heap.now c.put_if.new.self c.args.locals.now (λ w. object w (test_of wanted.Inst) (number_of (refusal_of wanted.Inst)) c.in_ok-instance.instance) (object_from c.args.heap.now.rows c.in-Ref.target (refers_by_code c.args.heap.now wanted.Inst tt c.in_ok-instance.instance c.in-Ref.target c.in-Ref.is c.in-Some-Ok.ensures.kind).node) _ (Ok (done.Gives c.given_up.result)) (reads-object c.args.heap.now c.args.locals.now (test_of wanted.Inst) c.in_ok-instance.instance c.in-Ref.target (refers_by_code c.args.heap.now wanted.Inst tt c.in_ok-instance.instance c.in-Ref.target c.in-Ref.is c.in-Some-Ok.ensures.kind) (number_of (refusal_of wanted.Inst)))
-    (puts-performs c.args.heap.now c.sound.ensures c.args.locals.now (test_of wanted.Inst) c.in_ok-instance.instance c.in-Ref.target (refers_by_code c.args.heap.now wanted.Inst tt c.in_ok-instance.instance c.in-Ref.target c.in-Ref.is c.in-Some-Ok.ensures.kind) (inr (code_passes c.args.heap.now wanted.Inst tt c.in_ok-instance.instance c.in-Ref.target (refers_by_code c.args.heap.now wanted.Inst tt c.in_ok-instance.instance c.in-Ref.target c.in-Ref.is c.in-Some-Ok.ensures.kind))) (val.Str c.args.attr) c.in_ok-val.val c.in-Some-Ok.old c.given_up.result c.put_if.new.self c.in-Some-Ok.ensures.ok c.in-Some-Ok.ensures.replaced c.given_up.ensures c.in-Some-Ok.ensures.limit))))
+    (puts-performs c.args.heap.now c.sound.ensures c.args.locals.now (test_of wanted.Inst) c.in_ok-instance.instance c.in-Ref.target (refers_by_code c.args.heap.now wanted.Inst tt c.in_ok-instance.instance c.in-Ref.target c.in-Ref.is c.in-Some-Ok.ensures.kind) (inr (code_passes c.args.heap.now wanted.Inst tt c.in_ok-instance.instance c.in-Ref.target (refers_by_code c.args.heap.now wanted.Inst tt c.in_ok-instance.instance c.in-Ref.target c.in-Ref.is c.in-Some-Ok.ensures.kind))) (val.Str c.args.attr) c.in_ok-val.val c.in-Some-Ok.old c.given_up.result c.put_if.new.self (of_ok c.in-Some-Ok.field-0 _ c.in-Some-Ok.field-0-is c.in-Some-Ok.ensures.ok) (of_value _ c.in-Some-Ok.field-0 _ c.in-Some-Ok.field-0-is c.in-Some-Ok.ensures.replaced) c.given_up.ensures (subst (λ r. (r ≡ Err fault.EntryLimit) ↔ ((value_in c.args.heap.now c.in-Ref.target (val.Str c.args.attr) ≡ None) × (4000000 ≤ entry_number c.args.heap.now))) c.in-Some-Ok.field-0-is c.in-Some-Ok.ensures.limit)))))
 
 pub returns-in-Some-Err : goal.returns-in-Some-Err
 returns-in-Some-Err g c =
@@ -64,7 +66,7 @@ returns-in-Some-Err g c =
     (goes_on c.args.heap.now c.put_if.new.self c.args.locals.now (λ w. value w c.args.instance.now) c.in_ok-instance.instance _ (Err (refusal_by c.in-Some-Err.fault)) c.in_ok-instance.ensures.ok
     (goes_on c.args.heap.now c.put_if.new.self c.args.locals.now (λ w. value w c.args.operand.now) c.in_ok-val.val _ (Err (refusal_by c.in-Some-Err.fault)) c.in_ok-val.ensures.ok
     (goes_on c.args.heap.now c.put_if.new.self c.args.locals.now (λ w. object w (test_of wanted.Inst) (number_of (refusal_of wanted.Inst)) c.in_ok-instance.instance) (object_from c.args.heap.now.rows c.in-Ref.target (refers_by_code c.args.heap.now wanted.Inst tt c.in_ok-instance.instance c.in-Ref.target c.in-Ref.is c.in-Some-Err.ensures.kind).node) _ (Err (refusal_by c.in-Some-Err.fault)) (reads-object c.args.heap.now c.args.locals.now (test_of wanted.Inst) c.in_ok-instance.instance c.in-Ref.target (refers_by_code c.args.heap.now wanted.Inst tt c.in_ok-instance.instance c.in-Ref.target c.in-Ref.is c.in-Some-Err.ensures.kind) (number_of (refusal_of wanted.Inst)))
-    (puts-refused c.args.heap.now c.sound.ensures c.args.locals.now (test_of wanted.Inst) c.in_ok-instance.instance c.in-Ref.target (refers_by_code c.args.heap.now wanted.Inst tt c.in_ok-instance.instance c.in-Ref.target c.in-Ref.is c.in-Some-Err.ensures.kind) (inr (code_passes c.args.heap.now wanted.Inst tt c.in_ok-instance.instance c.in-Ref.target (refers_by_code c.args.heap.now wanted.Inst tt c.in_ok-instance.instance c.in-Ref.target c.in-Ref.is c.in-Some-Err.ensures.kind))) (val.Str c.args.attr) c.in_ok-val.val c.in-Some-Err.fault (Err c.in-Some-Err.fault) refl c.in-Some-Err.ensures.limit c.in-Some-Err.ensures.objects c.in-Some-Err.ensures.present c.put_if.new.self c.in-Some-Err.ensures.err))))
+    (puts-refused c.args.heap.now c.sound.ensures c.args.locals.now (test_of wanted.Inst) c.in_ok-instance.instance c.in-Ref.target (refers_by_code c.args.heap.now wanted.Inst tt c.in_ok-instance.instance c.in-Ref.target c.in-Ref.is c.in-Some-Err.ensures.kind) (inr (code_passes c.args.heap.now wanted.Inst tt c.in_ok-instance.instance c.in-Ref.target (refers_by_code c.args.heap.now wanted.Inst tt c.in_ok-instance.instance c.in-Ref.target c.in-Ref.is c.in-Some-Err.ensures.kind))) (val.Str c.args.attr) c.in_ok-val.val c.in-Some-Err.fault c.in-Some-Err.field-0 c.in-Some-Err.field-0-is c.in-Some-Err.ensures.limit c.in-Some-Err.ensures.objects c.in-Some-Err.ensures.present c.put_if.new.self (of_err c.in-Some-Err.field-0 _ c.in-Some-Err.field-0-is c.in-Some-Err.ensures.err)))))
 
 pub returns-in-None : goal.returns-in-None
 returns-in-None g c =

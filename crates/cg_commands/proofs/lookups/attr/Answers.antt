@@ -1,4 +1,4 @@
-use Rattle.std.proofs.Common.{Err}
+use Rattle.std.proofs.Common.{sym, ◌∙◌, Err}
 use Rattle.std.specs.Prelude.{ok_or}
 use Rattle.std.proofs.lemmas.Result.{err_from_is_err_and}
 use Rattle.cg_value.specs.declared.Val.TheVariants as val
@@ -33,22 +33,22 @@ value_if-requires g c =
 
 pub bind_to-requires-clause-live : goal.bind_to-requires-clause-live
 bind_to-requires-clause-live g c =
-    live-value_at c.args.heap.now c.sound.ensures c.in-Ref.target (val.Str c.args.attr) c.in-Some-Some.found c.in-Some-Some.ensures.value
+    live-value_at c.args.heap.now c.sound.ensures c.in-Ref.target (val.Str c.args.attr) c.in-Some-Some.found (sym c.in-Some-Some.field-0-is ∙ c.in-Some-Some.ensures.value)
 
 pub returns-in-Some-Some : goal.returns-in-Some-Some
 returns-in-Some-Some g c =
     (goes_on c.args.heap.now c.bind_to.new.heap c.args.locals.now (λ w. value w c.args.instance.now) c.in_ok-val.val _ (gives c.bind_to.result) c.in_ok-val.ensures.ok
     (goes_on c.args.heap.now c.bind_to.new.heap c.args.locals.now (λ w. object w (test_of wanted.Inst) (number_of (refusal_of wanted.Inst)) c.in_ok-val.val) (object_from c.args.heap.now.rows c.in-Ref.target (refers_by_code c.args.heap.now wanted.Inst tt c.in_ok-val.val c.in-Ref.target c.in-Ref.is c.in-Some-Some.ensures.kind).node) _ (gives c.bind_to.result) (reads-object c.args.heap.now c.args.locals.now (test_of wanted.Inst) c.in_ok-val.val c.in-Ref.target (refers_by_code c.args.heap.now wanted.Inst tt c.in_ok-val.val c.in-Ref.target c.in-Ref.is c.in-Some-Some.ensures.kind) (number_of (refusal_of wanted.Inst)))
-    (goes_on c.args.heap.now c.bind_to.new.heap c.args.locals.now (λ w. ok_or (value_at (refers_by_code c.args.heap.now wanted.Inst tt c.in_ok-val.val c.in-Ref.target c.in-Ref.is c.in-Some-Some.ensures.kind).node.entries (val.Str c.args.attr)) no_attribute) c.in-Some-Some.found _ (gives c.bind_to.result) (reads-value_at c.args.heap.now c.args.locals.now (test_of wanted.Inst) c.in_ok-val.val c.in-Ref.target (refers_by_code c.args.heap.now wanted.Inst tt c.in_ok-val.val c.in-Ref.target c.in-Ref.is c.in-Some-Some.ensures.kind) (val.Str c.args.attr) c.in-Some-Some.found c.in-Some-Some.ensures.value no_attribute)
+    (goes_on c.args.heap.now c.bind_to.new.heap c.args.locals.now (λ w. ok_or (value_at (refers_by_code c.args.heap.now wanted.Inst tt c.in_ok-val.val c.in-Ref.target c.in-Ref.is c.in-Some-Some.ensures.kind).node.entries (val.Str c.args.attr)) no_attribute) c.in-Some-Some.found _ (gives c.bind_to.result) (reads-value_at c.args.heap.now c.args.locals.now (test_of wanted.Inst) c.in_ok-val.val c.in-Ref.target (refers_by_code c.args.heap.now wanted.Inst tt c.in_ok-val.val c.in-Ref.target c.in-Ref.is c.in-Some-Some.ensures.kind) (val.Str c.args.attr) c.in-Some-Some.found (sym c.in-Some-Some.field-0-is ∙ c.in-Some-Some.ensures.value) no_attribute)
     c.bind_to.ensures)))
 
 pub returns-in-Some-None : goal.returns-in-Some-None
 returns-in-Some-None g c =
     (goes_on c.args.heap.now c.args.heap.now c.args.locals.now (λ w. value w c.args.instance.now) c.in_ok-val.val _ (Err refusal.NoAttribute) c.in_ok-val.ensures.ok
     (goes_on c.args.heap.now c.args.heap.now c.args.locals.now (λ w. object w (test_of wanted.Inst) (number_of (refusal_of wanted.Inst)) c.in_ok-val.val) (object_from c.args.heap.now.rows c.in-Ref.target (refers_by_code c.args.heap.now wanted.Inst tt c.in_ok-val.val c.in-Ref.target c.in-Ref.is c.in-Some-None.ensures.kind).node) _ (Err refusal.NoAttribute) (reads-object c.args.heap.now c.args.locals.now (test_of wanted.Inst) c.in_ok-val.val c.in-Ref.target (refers_by_code c.args.heap.now wanted.Inst tt c.in_ok-val.val c.in-Ref.target c.in-Ref.is c.in-Some-None.ensures.kind) (number_of (refusal_of wanted.Inst)))
-    (stops c.args.heap.now c.args.locals.now (λ w. ok_or (value_at (refers_by_code c.args.heap.now wanted.Inst tt c.in_ok-val.val c.in-Ref.target c.in-Ref.is c.in-Some-None.ensures.kind).node.entries (val.Str c.args.attr)) no_attribute) _ refusal.NoAttribute (no-value_at c.args.heap.now c.args.locals.now (test_of wanted.Inst) c.in_ok-val.val c.in-Ref.target (refers_by_code c.args.heap.now wanted.Inst tt c.in_ok-val.val c.in-Ref.target c.in-Ref.is c.in-Some-None.ensures.kind) (val.Str c.args.attr) c.in-Some-None.ensures.value no_attribute))))
+    (stops c.args.heap.now c.args.locals.now (λ w. ok_or (value_at (refers_by_code c.args.heap.now wanted.Inst tt c.in_ok-val.val c.in-Ref.target c.in-Ref.is c.in-Some-None.ensures.kind).node.entries (val.Str c.args.attr)) no_attribute) _ refusal.NoAttribute (no-value_at c.args.heap.now c.args.locals.now (test_of wanted.Inst) c.in_ok-val.val c.in-Ref.target (refers_by_code c.args.heap.now wanted.Inst tt c.in_ok-val.val c.in-Ref.target c.in-Ref.is c.in-Some-None.ensures.kind) (val.Str c.args.attr) (sym c.in-Some-None.field-0-is ∙ c.in-Some-None.ensures.value) no_attribute))))
 
 pub returns-in-None : goal.returns-in-None
 returns-in-None g c =
     (goes_on c.args.heap.now c.args.heap.now c.args.locals.now (λ w. value w c.args.instance.now) c.in_ok-val.val _ (Err refusal.WrongKind) c.in_ok-val.ensures.ok
-    (stops c.args.heap.now c.args.locals.now (λ w. object w (test_of wanted.Inst) (number_of (refusal_of wanted.Inst)) c.in_ok-val.val) _ refusal.WrongKind (λ w s. other_by_code c.args.heap.now wanted.Inst tt c.in_ok-val.val c.in-Ref.target c.in-Ref.is (c.in_ok-val.ensures.live c.in-Ref.target c.in-Ref.is) c.in-None.ensures w s.represents)))
+    (stops c.args.heap.now c.args.locals.now (λ w. object w (test_of wanted.Inst) (number_of (refusal_of wanted.Inst)) c.in_ok-val.val) _ refusal.WrongKind (λ w s. other_by_code c.args.heap.now wanted.Inst tt c.in_ok-val.val c.in-Ref.target c.in-Ref.is (c.in_ok-val.ensures.live c.in-Ref.target c.in-Ref.is) c.in-None.ensures.other w s.represents)))

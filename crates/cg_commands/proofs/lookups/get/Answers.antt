@@ -1,4 +1,4 @@
-use Rattle.std.proofs.Common.{◌<◌, ◌++◌, length, Err}
+use Rattle.std.proofs.Common.{sym, ◌∙◌, ◌<◌, ◌++◌, length, Err}
 use Rattle.std.proofs.lemmas.List.Elements.{All-head, All-tail}
 use Rattle.cg_script.specs.Texts.{operand_texts}
 use Rattle.std.specs.Prelude.{ok_or}
@@ -47,8 +47,8 @@ returns-in_err-_target g c =
     (goes_on c.args.heap.now c.args.heap.now c.args.locals.now (λ w. value w c.args.key.now) c.in_ok-key.key _ (Err c.in_err-_target.field-0.0) c.in_ok-key.ensures.ok
     (stops c.args.heap.now c.args.locals.now (λ w. object w (test_of wanted.Dict) (number_of (refusal_of wanted.Dict)) c.in_ok-val.val) _ c.in_err-_target.field-0.0 (λ w s. c.in_err-_target.ensures.err w s.represents))))
 
-pub returns-in_ok-_target : goal.returns-in_ok-_target
-returns-in_ok-_target g c =
+pub returns-then-not-is_hashable : goal.returns-then-not-is_hashable
+returns-then-not-is_hashable g c =
     (goes_on c.args.heap.now c.args.heap.now c.args.locals.now (λ w. value w c.args.dict.now) c.in_ok-val.val _ (Err refusal.Unhashable) c.in_ok-val.ensures.ok
     (goes_on c.args.heap.now c.args.heap.now c.args.locals.now (λ w. value w c.args.key.now) c.in_ok-key.key _ (Err refusal.Unhashable) c.in_ok-key.ensures.ok
     (goes_on c.args.heap.now c.args.heap.now c.args.locals.now (λ w. object w (test_of wanted.Dict) (number_of (refusal_of wanted.Dict)) c.in_ok-val.val) (object_from c.args.heap.now.rows c.in_ok-_target._target c.in_ok-_target.ensures.ok.node) _ (Err refusal.Unhashable) (reads-object c.args.heap.now c.args.locals.now (test_of wanted.Dict) c.in_ok-val.val c.in_ok-_target._target c.in_ok-_target.ensures.ok (number_of (refusal_of wanted.Dict)))
@@ -66,7 +66,7 @@ value_if-requires g c =
 
 pub bind_to-requires-clause-live : goal.bind_to-requires-clause-live
 bind_to-requires-clause-live g c =
-    live-value_at c.args.heap.now c.sound.ensures c.in-Ref.target c.in_ok-key.key c.in-Some-Some.found c.in-Some-Some.ensures.value
+    live-value_at c.args.heap.now c.sound.ensures c.in-Ref.target c.in_ok-key.key c.in-Some-Some.found (sym c.in-Some-Some.field-0-is ∙ c.in-Some-Some.ensures.value)
 
 pub returns-in-Some-Some : goal.returns-in-Some-Some
 returns-in-Some-Some g c =
@@ -74,7 +74,7 @@ returns-in-Some-Some g c =
     (goes_on c.args.heap.now c.bind_to.new.heap c.args.locals.now (λ w. value w c.args.key.now) c.in_ok-key.key _ (gives c.bind_to.result) c.in_ok-key.ensures.ok
     (goes_on c.args.heap.now c.bind_to.new.heap c.args.locals.now (λ w. object w (test_of wanted.Dict) (number_of (refusal_of wanted.Dict)) c.in_ok-val.val) (object_from c.args.heap.now.rows c.in-Ref.target (refers_by_code c.args.heap.now wanted.Dict tt c.in_ok-val.val c.in-Ref.target c.in-Ref.is c.in-Some-Some.ensures.kind).node) _ (gives c.bind_to.result) (reads-object c.args.heap.now c.args.locals.now (test_of wanted.Dict) c.in_ok-val.val c.in-Ref.target (refers_by_code c.args.heap.now wanted.Dict tt c.in_ok-val.val c.in-Ref.target c.in-Ref.is c.in-Some-Some.ensures.kind) (number_of (refusal_of wanted.Dict)))
     (goes_on c.args.heap.now c.bind_to.new.heap c.args.locals.now (λ w. unless (is_hashable w c.in_ok-key.key) unhashable) tt _ (gives c.bind_to.result) (reads-key c.args.heap.now c.args.locals.now c.in_ok-key.key c.is_hashable.result c.is_hashable.ensures c.if-not-is_hashable.false)
-    (goes_on c.args.heap.now c.bind_to.new.heap c.args.locals.now (λ w. ok_or (value_at (refers_by_code c.args.heap.now wanted.Dict tt c.in_ok-val.val c.in-Ref.target c.in-Ref.is c.in-Some-Some.ensures.kind).node.entries c.in_ok-key.key) no_key) c.in-Some-Some.found _ (gives c.bind_to.result) (reads-value_at c.args.heap.now c.args.locals.now (test_of wanted.Dict) c.in_ok-val.val c.in-Ref.target (refers_by_code c.args.heap.now wanted.Dict tt c.in_ok-val.val c.in-Ref.target c.in-Ref.is c.in-Some-Some.ensures.kind) c.in_ok-key.key c.in-Some-Some.found c.in-Some-Some.ensures.value no_key)
+    (goes_on c.args.heap.now c.bind_to.new.heap c.args.locals.now (λ w. ok_or (value_at (refers_by_code c.args.heap.now wanted.Dict tt c.in_ok-val.val c.in-Ref.target c.in-Ref.is c.in-Some-Some.ensures.kind).node.entries c.in_ok-key.key) no_key) c.in-Some-Some.found _ (gives c.bind_to.result) (reads-value_at c.args.heap.now c.args.locals.now (test_of wanted.Dict) c.in_ok-val.val c.in-Ref.target (refers_by_code c.args.heap.now wanted.Dict tt c.in_ok-val.val c.in-Ref.target c.in-Ref.is c.in-Some-Some.ensures.kind) c.in_ok-key.key c.in-Some-Some.found (sym c.in-Some-Some.field-0-is ∙ c.in-Some-Some.ensures.value) no_key)
     c.bind_to.ensures)))))
 
 pub returns-in-Some-None : goal.returns-in-Some-None
@@ -83,10 +83,10 @@ returns-in-Some-None g c =
     (goes_on c.args.heap.now c.args.heap.now c.args.locals.now (λ w. value w c.args.key.now) c.in_ok-key.key _ (Err refusal.NoKey) c.in_ok-key.ensures.ok
     (goes_on c.args.heap.now c.args.heap.now c.args.locals.now (λ w. object w (test_of wanted.Dict) (number_of (refusal_of wanted.Dict)) c.in_ok-val.val) (object_from c.args.heap.now.rows c.in-Ref.target (refers_by_code c.args.heap.now wanted.Dict tt c.in_ok-val.val c.in-Ref.target c.in-Ref.is c.in-Some-None.ensures.kind).node) _ (Err refusal.NoKey) (reads-object c.args.heap.now c.args.locals.now (test_of wanted.Dict) c.in_ok-val.val c.in-Ref.target (refers_by_code c.args.heap.now wanted.Dict tt c.in_ok-val.val c.in-Ref.target c.in-Ref.is c.in-Some-None.ensures.kind) (number_of (refusal_of wanted.Dict)))
     (goes_on c.args.heap.now c.args.heap.now c.args.locals.now (λ w. unless (is_hashable w c.in_ok-key.key) unhashable) tt _ (Err refusal.NoKey) (reads-key c.args.heap.now c.args.locals.now c.in_ok-key.key c.is_hashable.result c.is_hashable.ensures c.if-not-is_hashable.false)
-    (stops c.args.heap.now c.args.locals.now (λ w. ok_or (value_at (refers_by_code c.args.heap.now wanted.Dict tt c.in_ok-val.val c.in-Ref.target c.in-Ref.is c.in-Some-None.ensures.kind).node.entries c.in_ok-key.key) no_key) _ refusal.NoKey (no-value_at c.args.heap.now c.args.locals.now (test_of wanted.Dict) c.in_ok-val.val c.in-Ref.target (refers_by_code c.args.heap.now wanted.Dict tt c.in_ok-val.val c.in-Ref.target c.in-Ref.is c.in-Some-None.ensures.kind) c.in_ok-key.key c.in-Some-None.ensures.value no_key))))))
+    (stops c.args.heap.now c.args.locals.now (λ w. ok_or (value_at (refers_by_code c.args.heap.now wanted.Dict tt c.in_ok-val.val c.in-Ref.target c.in-Ref.is c.in-Some-None.ensures.kind).node.entries c.in_ok-key.key) no_key) _ refusal.NoKey (no-value_at c.args.heap.now c.args.locals.now (test_of wanted.Dict) c.in_ok-val.val c.in-Ref.target (refers_by_code c.args.heap.now wanted.Dict tt c.in_ok-val.val c.in-Ref.target c.in-Ref.is c.in-Some-None.ensures.kind) c.in_ok-key.key (sym c.in-Some-None.field-0-is ∙ c.in-Some-None.ensures.value) no_key))))))
 
 pub returns-in-None : goal.returns-in-None
 returns-in-None g c =
     (goes_on c.args.heap.now c.args.heap.now c.args.locals.now (λ w. value w c.args.dict.now) c.in_ok-val.val _ (Err refusal.WrongKind) c.in_ok-val.ensures.ok
     (goes_on c.args.heap.now c.args.heap.now c.args.locals.now (λ w. value w c.args.key.now) c.in_ok-key.key _ (Err refusal.WrongKind) c.in_ok-key.ensures.ok
-    (stops c.args.heap.now c.args.locals.now (λ w. object w (test_of wanted.Dict) (number_of (refusal_of wanted.Dict)) c.in_ok-val.val) _ refusal.WrongKind (λ w s. other_by_code c.args.heap.now wanted.Dict tt c.in_ok-val.val c.in-Ref.target c.in-Ref.is (c.in_ok-val.ensures.live c.in-Ref.target c.in-Ref.is) c.in-None.ensures w s.represents))))
+    (stops c.args.heap.now c.args.locals.now (λ w. object w (test_of wanted.Dict) (number_of (refusal_of wanted.Dict)) c.in_ok-val.val) _ refusal.WrongKind (λ w s. other_by_code c.args.heap.now wanted.Dict tt c.in_ok-val.val c.in-Ref.target c.in-Ref.is (c.in_ok-val.ensures.live c.in-Ref.target c.in-Ref.is) c.in-None.ensures.other w s.represents))))
