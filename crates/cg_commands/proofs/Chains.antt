@@ -62,6 +62,16 @@ stops store locals read k refusal is w s = refused refusal (read w) (k w) store 
 pub goes_on : {A : Type 0} (store new : Store) (locals : Option Locals) (read : World → Result A ℕ) (x : A) (k : World → A → Result Effect ℕ) (answer : Result Done Refusal) → Reads store locals read x → PerformsOnHeap store locals (λ w. k w x) new answer → PerformsOnHeap store locals (λ w. read w >>= k w) new answer
 goes_on store new locals read x k answer is rest w s = next (read w) x (k w) store new answer (is w s) (rest w s)
 
+-- A second thing is asked for whatever the first one is: where the two are refused, so is what comes after them.
+pub stops_second : {A B : Type 0} (store : Store) (locals : Option Locals) (first : World → Result A ℕ) (second : World → Result B ℕ) (k : World → A → B → Result Effect ℕ) (refusal : Refusal) → IsRefused store locals (λ w. first w >>= (λ x. second w)) refusal
+    → PerformsOnHeap store locals (λ w. first w >>= (λ x. second w >>= k w x)) store (Err refusal)
+unfolding ◌>>=◌
+stops_second {A} {B} store locals first second k refusal is w s = by (first w) (is w s)
+  where
+    by : (r : Result A ℕ) → Declines refusal (r >>= (λ x. second w)) → AnswersOnHeap (Err refusal) (r >>= (λ x. second w >>= k w x)) store store
+    by (Ok x) is = refused refusal (second w) (k w x) store is
+    by (Err e) is = refused refusal (Err e) (λ (y : B). Err e) store is
+
 -- what is said of an answer that stands in another one, once it is known
 pub of_some : {X : Type 0} (P : X → Type 0) (r : Option X) (x : X) → r ≡ Some x → IfSome r P → P x
 of_some P r x is said = subst (λ q. IfSome q P) is said

@@ -14,7 +14,8 @@ use Rattle.cg_graph.specs.Store.{Store, Node, IsLive, object_from, entries_of, e
 use Rattle.cg_machine.specs.World.{World}
 use Rattle.cg_machine.specs.Effects.{valid_index, is_hashable}
 use Rattle.cg_machine.specs.Operands.{object}
-use Rattle.cg_machine.specs.Refusals.{no_index, unhashable, unless}
+use Rattle.cg_machine.specs.Refusals.{◌>>=◌, no_index, unhashable, unless}
+use Rattle.cg_machine.specs.Represents.{Represents}
 use Rattle.cg_commands.specs.declared.done.Refusal.{Refusal}
 use Rattle.cg_commands.specs.declared.done.Refusal.TheVariants.{NoIndex, Unhashable}
 use Rattle.cg_commands.specs.declared.locals.Locals.{Locals}
@@ -63,6 +64,10 @@ reads-key store locals v b is yes' w s = ap (λ x. unless x unhashable) (is w s.
 
 pub no-hash : (store : Store) (locals : Option Locals) (v : Val) (b : Bool) → IsKey store v b → b ≡ false → IsRefused store locals (λ w. unless (is_hashable w v) unhashable) Unhashable
 no-hash store locals v b is no' w s = ap (λ x. unless x unhashable) (is w s.represents ∙ no')
+
+pub no-key : (store : Store) (test : Object → Bool) (k : ℕ) (v : Val) (o : ℕ) → RefersTo store test v o → (key : Val) (b : Bool) → IsKey store key b → b ≡ false → (w : World) → Represents store w → (object w test k v >>= (λ x. unless (is_hashable w key) unhashable)) ≡ Err unhashable
+unfolding ◌>>=◌
+no-key store test k v o there key b is no' w r = ap (λ q. q >>= (λ x. unless (is_hashable w key) unhashable)) (object-found store w r test k v o there) ∙ ap (λ x. unless x unhashable) (is w r ∙ no')
 
 -- what is asked of an object
 pub tells-object : (store : Store) (question : Object → Bool) (o : ℕ) (b : Bool) → IsLive store o → IfSome (fin.get store.nodes o) (λ n. b ≡ question (object_from store.rows o n)) → Tells store question (val.Ref o) b

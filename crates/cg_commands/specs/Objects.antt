@@ -10,6 +10,7 @@ use Rattle.cg_graph.specs.Store.{Store, Node, object_from}
 use Rattle.cg_machine.specs.World.{World}
 use Rattle.cg_machine.specs.Represents.{Represents}
 use Rattle.cg_machine.specs.Effects.{is_hashable}
+use Rattle.cg_machine.specs.Refusals.{◌>>=◌, unless, unhashable, wrong_kind}
 use Rattle.cg_machine.specs.Operands.{object, object_of, any_object, is_list, is_script_list, is_sequence, is_dict, is_weak}
 use Rattle.cg_machine.specs.Weak.{is_instance, is_function, has_weak_references}
 use Rattle.cg_commands.specs.declared.done.Refusal.{Refusal}
@@ -59,3 +60,7 @@ Tells store question v answer = (w : World) → Represents store w → elim (obj
 -- whether the value may be a key, in every such world
 abbrev pub IsKey : Store → Val → Bool → Type 0
 IsKey store v answer = (w : World) → Represents store w → is_hashable w v ≡ answer
+
+-- Why a value with a key is refused, in every such world: it refers to no dictionary, or else the key may not be one.
+abbrev pub DeclinesKey : Store → Val → Val → Refusal → Type 0
+DeclinesKey store v key refusal = (w : World) → Represents store w → Declines refusal (object w is_dict wrong_kind v >>= (λ x. unless (is_hashable w key) unhashable))

@@ -12,8 +12,8 @@ ghost use Rattle.cg_commands.specs.Stands.{LocalsLive};
 use crate::bindings::given_up;
 use crate::done::{Refusal, refusal_by};
 use crate::locals::Locals;
-use crate::lookups::{index_in, is_hashable};
-use crate::operands::{Wanted, object, object_near, value, value_located, value_near};
+use crate::lookups::{index_in, target_under_key};
+use crate::operands::{Wanted, object_near, value, value_located, value_near};
 use cg_arena::Near;
 use cg_heap::Heap;
 use cg_kind::Kind;
@@ -117,13 +117,7 @@ pub(crate) fn put<B: Kind>(
     let key = value(heap, locals, key)?;
     let mut val_near = Near::default();
     let val = value_located(heap, locals, operand, &mut val_near)?;
-    if !is_hashable(heap, key) {
-        let _target = object(heap, dict, Wanted::Dict)?;
-        return Err(Refusal::Unhashable);
-    }
-    let Val::Ref(target) = dict else {
-        return Err(Refusal::WrongKind);
-    };
+    let target = target_under_key(heap, dict, key)?;
     heap.sound();
     match heap.put_if(KindCode::Dict, target, near, key, val, val_near) {
         Some(Ok(old)) => Ok(given_up(old)),
@@ -149,13 +143,7 @@ pub(crate) fn remove<B: Kind>(
     let mut near = Near::default();
     let dict = value_near(heap, locals, dict, &mut near)?;
     let key = value(heap, locals, key)?;
-    if !is_hashable(heap, key) {
-        let _target = object(heap, dict, Wanted::Dict)?;
-        return Err(Refusal::Unhashable);
-    }
-    let Val::Ref(target) = dict else {
-        return Err(Refusal::WrongKind);
-    };
+    let target = target_under_key(heap, dict, key)?;
     heap.sound();
     match heap.take_key_if(KindCode::Dict, target, near, key) {
         Some(Some(entry)) => Ok(references_of(entry)),

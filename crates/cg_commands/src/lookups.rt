@@ -1,6 +1,7 @@
 //! Names that are bound to what an object holds. Each command answers the entry that is then to be given up.
-ghost use Rattle.std.specs.Prelude.{◌≡◌, ◌<◌, ◌∷◌, ◌++◌, [], IfOk, IfErr, length, slice_get, Some, None};
+ghost use Rattle.std.specs.Prelude.{◌≡◌, ◌<◌, ◌∷◌, ◌++◌, [], true, IfOk, IfErr, OnOk, length, slice_get, Some, None};
 ghost use Rattle.std.specs.List.{All};
+ghost use Rattle.cg_value.specs.declared.Val.TheVariants as val_of;
 ghost use Rattle.cg_graph.specs.Store.{IsLive, entries_of};
 ghost use Rattle.cg_script.specs.Texts.{operand_texts};
 ghost use Rattle.cg_script.specs.declared.command.Command.TheVariants as command;
@@ -9,7 +10,7 @@ ghost use Rattle.cg_machine.specs.Commands.{effect};
 ghost use Rattle.cg_machine.specs.Effects.{valid_index};
 ghost use Rattle.cg_commands.specs.declared.done.Refusal.TheVariants as refusal;
 ghost use Rattle.cg_commands.specs.Answers.{PerformsOnHeap, gives};
-ghost use Rattle.cg_commands.specs.Objects.{IsKey};
+ghost use Rattle.cg_commands.specs.Objects.{IsKey, DeclinesKey};
 ghost use Rattle.cg_commands.specs.Stands.{LocalsLive};
 
 use crate::bindings::bind_to;
@@ -63,13 +64,7 @@ pub(crate) fn get<B: Kind>(
     let mut near = Near::default();
     let val = value_near(heap, locals, dict, &mut near)?;
     let key = value(heap, locals, key)?;
-    if !is_hashable(heap, key) {
-        let _target = object(heap, val, Wanted::Dict)?;
-        return Err(Refusal::Unhashable);
-    }
-    let Val::Ref(target) = val else {
-        return Err(Refusal::WrongKind);
-    };
+    let target = target_under_key(heap, val, key)?;
     heap.sound();
     match heap.value_if(KindCode::Dict, target, near, key) {
         Some(Some(found)) => bind_to(heap, locals, name, found),
@@ -181,9 +176,29 @@ pub(crate) fn index_in<B: Kind>(
     }
 }
 
+/// The object that a value refers to, of whatever kind, where the key may be one. Where it may not, the value is first refused if
+/// it is no dictionary.
+#[inline(always)]
+pub(crate) fn target_under_key<B: Kind>(heap: &Heap<B>, val: Val, key: Val) -> Result<u64, Refusal>
+    requires val { IsLiveValue heap.now val }
+    requires key { IsLiveValue heap.now key }
+    ensures ok { IfOk result (λ o. val ≡ val_of.Ref o) }
+    ensures key { OnOk result (IsKey heap.now key true) }
+    ensures err { IfErr result (λ r. DeclinesKey heap.now val key r) }
+{
+    if !is_hashable(heap, key) {
+        let _dict = object(heap, val, Wanted::Dict)?;
+        return Err(Refusal::Unhashable);
+    }
+    match val {
+        Val::Ref(target) => Ok(target),
+        _ => Err(Refusal::WrongKind),
+    }
+}
+
 /// Whether a value may be a key: an atom, an instance or a function.
 #[inline(always)]
-pub(crate) fn is_hashable<B: Kind>(heap: &Heap<B>, key: Val) -> bool
+fn is_hashable<B: Kind>(heap: &Heap<B>, key: Val) -> bool
     requires { IsLiveValue heap.now key }
     ensures { IsKey heap.now key result }
 {
