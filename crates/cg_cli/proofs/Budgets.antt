@@ -13,13 +13,11 @@ use Rattle.cg_script.specs.declared.Item.TheVariants.{Budget, Profile, Shutdown,
 use Rattle.cg_script.specs.Spelled.{IsSpelled, IsSpelledItem}
 use Rattle.cg_script.specs.Words.{is_digit, are_digits, decimal_value, decimal_after}
 use Rattle.cg_script.proofs.Ascii.{both}
-use Rattle.cg_cli.specs.Statuses.{budget_in, budget_of}
+use Rattle.cg_script.specs.Items.{declared_budget}
+use Rattle.cg_cli.specs.Statuses.{budget_of}
 
--- the next line sets it
-pub set_here : (lines : List Item) (i : ℕ) (line : Item) (budget : ℕ) → i < length lines → line ≡ get_or lines i line → line ≡ Budget budget → budget_in (drop i lines) ≡ Some budget
-set_here lines i line budget within here is = ap budget_in (drop_more lines i line within) ∙ ap (λ l. budget_in (l ∷ drop (i + 1) lines)) (sym here ∙ is)
-
-set_at_most : (names : ℕ) (lines : List Item) → All (IsSpelledItem names) lines → IfSome (budget_in lines) (λ n. n ≤ 100000)
+-- what a script declares is small
+set_at_most : (names : ℕ) (lines : List Item) → All (IsSpelledItem names) lines → IfSome (declared_budget lines) (λ n. n ≤ 100000)
 set_at_most names [] all = tt
 set_at_most names (Budget n ∷ later) all = All-head (IsSpelledItem names) (Budget n) later all
 set_at_most names (Profile n ∷ later) all = set_at_most names later (All-tail (IsSpelledItem names) (Profile n) later all)
@@ -37,5 +35,5 @@ few_frames given script budget small spelled is = subst (λ n. n ≤ 100000) (sy
     else_few (Some n) s = s
 
     few : (o : Option ℕ) → IfSome o (λ n. n ≤ 100000) → budget_of o script ≤ 100000
-    few None s = else_few (budget_in script.items) (set_at_most (length script.names) script.items spelled.lines)
+    few None s = else_few (declared_budget script.items) (set_at_most (length script.names) script.items spelled.lines)
     few (Some n) s = s

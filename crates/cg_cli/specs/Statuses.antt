@@ -3,8 +3,7 @@ use Rattle.std.specs.Prelude.{◌≡◌, ◌<◌, ◌≤◌, ◌⊎◌, ℕ, Lis
 use Rattle.std.specs.Io.KnownBytes.{Appends, Consumes}
 use Rattle.cg_io.specs.Causes.{AppendsFront}
 use Rattle.cg_script.specs.declared.Script.{Script}
-use Rattle.cg_script.specs.declared.Item.{Item}
-use Rattle.cg_script.specs.declared.Item.TheVariants as items
+use Rattle.cg_script.specs.Items.{declared_budget}
 use Rattle.cg_machine.specs.declared.event.Event.{Event}
 use Rattle.cg_machine.specs.World.{Outcome}
 use Rattle.cg_machine.specs.Run.{StepTaken, IsWholeRun}
@@ -16,19 +15,9 @@ use Rattle.cg_cli.specs.declared.status.Status.{Status}
 use Rattle.cg_cli.specs.declared.status.Status.TheVariants.{Done, BadScript, TooLarge, ReadFault, WriteFault, OutOfMemory, Budget}
 use Rattle.cg_cli.specs.declared.input.TheConstants.{LIMIT}
 
--- the budget that a script sets
-abbrev pub budget_in : List Item → Option ℕ
-budget_in [] = None
-budget_in (items.Budget n ∷ later) = Some n
-budget_in (items.Profile n ∷ later) = budget_in later
-budget_in (items.Shutdown ∷ later) = budget_in later
-budget_in (items.Class c ∷ later) = budget_in later
-budget_in (items.Def p ∷ later) = budget_in later
-budget_in (items.Run c ∷ later) = budget_in later
-
 -- the budget of a run: the one given with the words, else that of the script, else 10,000
 abbrev pub budget_of : Option ℕ → Script → ℕ
-budget_of given script = unwrap_or given (unwrap_or (budget_in script.items) 10000)
+budget_of given script = unwrap_or given (unwrap_or (declared_budget script.items) 10000)
 
 -- some bytes spell a script
 abbrev pub Spells : List ℕ → Script → Type 0

@@ -40,7 +40,7 @@ module _ (draft : Draft) (number : ℕ) (line : List ℕ) where
   pub line_wrong : (m : Meaning) (code : ℕ) → m ≡ meaning number line → Some code ≡ code_of (checked (known_of draft) m) → (lines : List (List ℕ)) → reading_after draft number (line ∷ lines) ≡ faulty number code
   line_wrong m code e f lines = first m e lines ∙ wrong (checked (known_of draft) m) code f lines
 
-  said_all : (new : Draft) (s : Said) → ((later : List Said) → grouped new.items.items new.begun later ≡ grouped draft.items.items draft.begun (s ∷ later)) → (all : Lines)
+  said_all : (new : Draft) (s : Said) → ((later : List Said) → grouped new.items new.begun later ≡ grouped draft.items draft.begun (s ∷ later)) → (all : Lines)
       → script_after new all ≡ script_after draft (also_said s all)
   said_all new s g (good texts later) = ap (spells texts) (g later)
   said_all new s g (spoilt n c) = refl
@@ -80,22 +80,22 @@ unfolding is_good
 says_before_last number line form words e below = good_before_last number line (ap is_good (sym e)) below
 
 -- no line is left, and no procedure is open
-pub all_read : (draft : Draft) (number : ℕ) → draft.begun ≡ None → reading_after draft number [] ≡ spells draft.names draft.items.items
+pub all_read : (draft : Draft) (number : ℕ) → draft.begun ≡ None → reading_after draft number [] ≡ spells draft.names draft.items
 all_read draft number e =
     ap (λ b. script_after draft (cond (is_some b) (spoilt number 7) (good draft.names []))) e
-    ∙ ap (λ b. spells draft.names (grouped draft.items.items b [])) e
-    ∙ ap (spells draft.names) (append-nil draft.items.items)
+    ∙ ap (λ b. spells draft.names (grouped draft.items b [])) e
+    ∙ ap (spells draft.names) (append-nil draft.items)
 
 pub not_ended : (draft : Draft) (number : ℕ) → is_some draft.begun ≡ true → reading_after draft number [] ≡ faulty number 7
 not_ended draft number e = ap (λ b. script_after draft (cond b (spoilt number 7) (good draft.names []))) e
 
-script_of_all : (draft : Draft) → draft.items.items ≡ [] → draft.begun ≡ None → (all : Lines) → script_after draft all ≡ script_of all
+script_of_all : (draft : Draft) → draft.items ≡ [] → draft.begun ≡ None → (all : Lines) → script_after draft all ≡ script_of all
 script_of_all draft none closed (good texts later) =
-    ap (λ b. spells texts (grouped draft.items.items b later)) closed ∙ ap (λ is. spells texts (is ++ items_of false later)) none
+    ap (λ b. spells texts (grouped draft.items b later)) closed ∙ ap (λ is. spells texts (is ++ items_of false later)) none
 script_of_all draft none closed (spoilt n c) = refl
 
 -- the reading behind no line
-pub reads_all : (draft : Draft) (lines : List (List ℕ)) → known_of draft ≡ nothing_known → draft.items.items ≡ [] → draft.begun ≡ None
+pub reads_all : (draft : Draft) (lines : List (List ℕ)) → known_of draft ≡ nothing_known → draft.items ≡ [] → draft.begun ≡ None
     → reading_after draft 1 lines ≡ script_of (lines_from nothing_known 1 lines)
 reads_all draft lines known none closed = ap (λ k. script_after draft (lines_from k 1 lines)) known ∙ script_of_all draft none closed (lines_from nothing_known 1 lines)
 

@@ -1,12 +1,12 @@
 -- The classes of lines, the positions of their procedures and commands, and what they declare: one line on, and how one is found by its number.
-use Rattle.std.proofs.Common.{◌≡◌, false, ◌||◌, refl, sym, ◌∙◌, ap, ℕ, ◌+◌, ◌<◌, ◌≤◌, Bool, List, [], ◌∷◌, ◌++◌, length, map, take, get_or, Option, Some, None}
+use Rattle.std.proofs.Common.{◌≡◌, ◌||◌, refl, sym, ◌∙◌, ap, ℕ, zero, suc, List, [], ◌∷◌, ◌++◌, length, map, Option, Some, None}
 use Rattle.std.specs.Prelude.{slice_get, option_map}
-use Rattle.std.proofs.lemmas.Option.{slice_get-map, slice_get_read}
-use Rattle.std.proofs.lemmas.List.{map-append, take_more, take_all}
-use Rattle.cg_script.specs.declared.item.ClassDef.{ClassDef}
+use Rattle.std.proofs.lemmas.Option.{slice_get-map}
+use Rattle.std.proofs.lemmas.List.{map-append}
+use Rattle.cg_script.specs.declared.index.Index.{Index}
 use Rattle.cg_script.specs.declared.item.Item.{Item}
 use Rattle.cg_script.specs.declared.item.Item.TheVariants.{Profile, Shutdown, Budget, Class, Def, Run}
-use Rattle.cg_script.specs.Items.{commands_of, procedures, classes, declared_profile, declares_shutdown, StandAt, IsIndexOf}
+use Rattle.cg_script.specs.Items.{commands_of, procedures, classes, declared_profile, declared_budget, declares_shutdown, StandAt, IsIndexOf}
 use Rattle.std.specs.Option.{option_or}
 
 -- What is read off lines one by one.
@@ -59,6 +59,15 @@ profile_append (Class c ∷ xs) ys = profile_append xs ys
 profile_append (Def p ∷ xs) ys = profile_append xs ys
 profile_append (Run c ∷ xs) ys = profile_append xs ys
 
+budget_append : (xs ys : List Item) → declared_budget (xs ++ ys) ≡ option_or (declared_budget xs) (declared_budget ys)
+budget_append [] ys = refl
+budget_append (Profile n ∷ xs) ys = budget_append xs ys
+budget_append (Shutdown ∷ xs) ys = budget_append xs ys
+budget_append (Budget n ∷ xs) ys = refl
+budget_append (Class c ∷ xs) ys = budget_append xs ys
+budget_append (Def p ∷ xs) ys = budget_append xs ys
+budget_append (Run c ∷ xs) ys = budget_append xs ys
+
 shutdown_append : (xs ys : List Item) → declares_shutdown (xs ++ ys) ≡ (declares_shutdown xs || declares_shutdown ys)
 shutdown_append [] ys = refl
 shutdown_append (Profile n ∷ xs) ys = shutdown_append xs ys
@@ -87,66 +96,60 @@ own_command items at (Class c) e = refl
 own_command items at (Def p) e = refl
 own_command items at (Run c) e = ap (λ o. o ∷ []) e
 
--- the index of the lines before a position, in the list of all
-pub record IsIndexUpTo (items : List Item) (at : ℕ) (defs : List ClassDef) (procs runs : List ℕ) (chosen : Option ℕ) (declared : Bool) : Type 0 where
-  pub classes : defs ≡ classes (take at items)
-  pub procedures : StandAt Def items procs (procedures (take at items))
-  pub commands : StandAt Run items runs (commands_of (take at items))
-  pub profile : chosen ≡ declared_profile (take at items)
-  pub shutdown : declared ≡ declares_shutdown (take at items)
+-- a list with one more at its end
+module _ {X : Type 0} where
+  snoc_old : (xs : List X) (x : X) (i : ℕ) (y : X) → slice_get xs i ≡ Some y → slice_get (xs ++ x ∷ []) i ≡ Some y
+  snoc_old [] x i y e = absurd (cc)
+  snoc_old (z ∷ xs) x zero y e = e
+  snoc_old (z ∷ xs) x (suc i) y e = snoc_old xs x i y e
 
-module _ (items : List Item) (at : ℕ) (item : Item) (within : at < length items) (is : item ≡ get_or items at item) where
-  found : slice_get items at ≡ Some item
-  found = slice_get_read items (length items) at item refl within is
+  snoc_new : (xs : List X) (x : X) → slice_get (xs ++ x ∷ []) (length xs) ≡ Some x
+  snoc_new [] x = refl
+  snoc_new (z ∷ xs) x = snoc_new xs x
 
-  front_more : take (at + 1) items ≡ take at items ++ item ∷ []
-  front_more = take_more items at item within ∙ ap (λ x. take at items ++ x ∷ []) (sym is)
+-- What stands somewhere stands there also with one line more.
+stand_longer : {A : Type 0} (line : A → Item) (items : List Item) (item : Item) (positions : List ℕ) (those : List A)
+    → StandAt line items positions those → StandAt line (items ++ item ∷ []) positions those
+stand_longer line items item [] [] stand = refl
+stand_longer line items item [] (x ∷ xs) stand = absurd (cc)
+stand_longer line items item (p ∷ ps) [] stand = absurd (cc)
+stand_longer line items item (p ∷ ps) (x ∷ xs) stand =
+    let first : slice_get items p ≡ Some (line x) = cc in
+    let rest : map (slice_get items) ps ≡ map (λ y. Some (line y)) xs = cc in
+    (λ j. snoc_old items item p (line x) first j ∷ stand_longer line items item ps xs rest j)
 
-  one_more : {A : Type 0} (read : List Item → List A) → IsByLines read → read (take (at + 1) items) ≡ read (take at items) ++ read (item ∷ [])
-  one_more read by = ap read front_more ∙ by.append (take at items) (item ∷ [])
+module _ (items : List Item) (item : Item) where
+  -- one line more, of which this is read
+  stand_more : {A : Type 0} (line : A → Item) (read : List Item → List A) → IsByLines read → (positions : List ℕ)
+      → map (slice_get (items ++ item ∷ [])) (map (λ x. length items) (read (item ∷ []))) ≡ map (λ x. Some (line x)) (read (item ∷ []))
+      → StandAt line items positions (read items) → StandAt line (items ++ item ∷ []) (positions ++ map (λ x. length items) (read (item ∷ []))) (read (items ++ item ∷ []))
+  stand_more line read by positions own before =
+      map-append (slice_get (items ++ item ∷ [])) positions (map (λ x. length items) (read (item ∷ [])))
+      ∙ (λ j. stand_longer line items item positions (read items) before j ++ own j)
+      ∙ sym (map-append (λ x. Some (line x)) (read items) (read (item ∷ [])))
+      ∙ ap (map (λ x. Some (line x))) (sym (by.append items (item ∷ [])))
 
-  stand_more : {A : Type 0} (line : A → Item) (read : List Item → List A) (ps : List ℕ) → IsByLines read
-      → map (slice_get items) (map (λ x. at) (read (item ∷ []))) ≡ map (λ x. Some (line x)) (read (item ∷ []))
-      → StandAt line items ps (read (take at items)) → StandAt line items (ps ++ map (λ x. at) (read (item ∷ []))) (read (take (at + 1) items))
-  stand_more line read ps by own so_far =
-      map-append (slice_get items) ps (map (λ x. at) (read (item ∷ [])))
-      ∙ (λ j. so_far j ++ own j)
-      ∙ sym (map-append (λ x. Some (line x)) (read (take at items)) (read (item ∷ [])))
-      ∙ ap (map (λ x. Some (line x))) (sym (one_more read by))
-
-  -- one line more
-  pub index_more : (defs new_defs : List ClassDef) (procs new_procs commands new_commands : List ℕ) (chosen new_chosen : Option ℕ) (declared new_declared : Bool)
-      → new_defs ≡ defs ++ classes (item ∷ []) → new_procs ≡ procs ++ map (λ p. at) (procedures (item ∷ [])) → new_commands ≡ commands ++ map (λ c. at) (commands_of (item ∷ []))
-      → new_chosen ≡ option_or chosen (declared_profile (item ∷ [])) → new_declared ≡ (declared || declares_shutdown (item ∷ []))
-      → IsIndexUpTo items at defs procs commands chosen declared → IsIndexUpTo items (at + 1) new_defs new_procs new_commands new_chosen new_declared
-  index_more defs new_defs procs new_procs commands new_commands chosen new_chosen declared new_declared ds ps cs which ends before = record {
-    classes = ds ∙ ap (λ l. l ++ classes (item ∷ [])) before.classes ∙ sym (one_more classes classes_by_lines);
-    procedures = ap (map (slice_get items)) ps ∙ stand_more Def procedures procs procedures_by_lines (own_procedure items at item found) before.procedures;
-    commands = ap (map (slice_get items)) cs ∙ stand_more Run commands_of commands commands_by_lines (own_command items at item found) before.commands;
-    profile = which ∙ ap (λ p. option_or p (declared_profile (item ∷ []))) before.profile ∙ sym (ap declared_profile front_more ∙ profile_append (take at items) (item ∷ []));
-    shutdown = ends ∙ ap (λ b. b || declares_shutdown (item ∷ [])) before.shutdown ∙ sym (ap declares_shutdown front_more ∙ shutdown_append (take at items) (item ∷ []));
+  -- the index with one line more
+  pub index_more : (at : ℕ) (old new : Index) → at ≡ length items
+      → new.classes.items ≡ old.classes.items ++ classes (item ∷ [])
+      → new.procedures.items ≡ old.procedures.items ++ map (λ p. at) (procedures (item ∷ []))
+      → new.commands.items ≡ old.commands.items ++ map (λ c. at) (commands_of (item ∷ []))
+      → new.profile ≡ option_or old.profile (declared_profile (item ∷ []))
+      → new.budget ≡ option_or old.budget (declared_budget (item ∷ []))
+      → new.shutdown ≡ (old.shutdown || declares_shutdown (item ∷ []))
+      → IsIndexOf items old → IsIndexOf (items ++ item ∷ []) new
+  index_more at old new last ds ps cs profile budget shutdown before = record {
+    classes = ds ∙ ap (λ l. l ++ classes (item ∷ [])) before.classes ∙ sym (classes_by_lines.append items (item ∷ []));
+    procedures =
+        ap (map (slice_get (items ++ item ∷ []))) (ps ∙ ap (λ n. old.procedures.items ++ map (λ p. n) (procedures (item ∷ []))) last)
+        ∙ stand_more Def procedures procedures_by_lines old.procedures.items (own_procedure (items ++ item ∷ []) (length items) item (snoc_new items item)) before.procedures;
+    commands =
+        ap (map (slice_get (items ++ item ∷ []))) (cs ∙ ap (λ n. old.commands.items ++ map (λ c. n) (commands_of (item ∷ []))) last)
+        ∙ stand_more Run commands_of commands_by_lines old.commands.items (own_command (items ++ item ∷ []) (length items) item (snoc_new items item)) before.commands;
+    profile = profile ∙ ap (λ p. option_or p (declared_profile (item ∷ []))) before.profile ∙ sym (profile_append items (item ∷ []));
+    budget = budget ∙ ap (λ b. option_or b (declared_budget (item ∷ []))) before.budget ∙ sym (budget_append items (item ∷ []));
+    shutdown = shutdown ∙ ap (λ b. b || declares_shutdown (item ∷ [])) before.shutdown ∙ sym (shutdown_append items (item ∷ []));
   }
-
--- before the first line
-pub index_of_none : (items : List Item) (defs : List ClassDef) (procs commands : List ℕ) (chosen : Option ℕ) (declared : Bool) → defs ≡ [] → procs ≡ [] → commands ≡ [] → chosen ≡ None → declared ≡ false
-    → IsIndexUpTo items 0 defs procs commands chosen declared
-index_of_none items defs procs commands chosen declared d p c which ends = record {
-  classes = d;
-  procedures = ap (map (slice_get items)) p;
-  commands = ap (map (slice_get items)) c;
-  profile = which;
-  shutdown = ends;
-}
-
--- at the end all lines were looked at
-pub index_of_all : (items : List Item) (at : ℕ) (defs : List ClassDef) (procs commands : List ℕ) (chosen : Option ℕ) (declared : Bool) → length items ≤ at → IsIndexUpTo items at defs procs commands chosen declared → IsIndexOf items defs procs commands chosen declared
-index_of_all items at defs procs commands chosen declared past upto = record {
-  classes = upto.classes ∙ ap classes (take_all at items past);
-  procedures = upto.procedures ∙ ap (λ l. map (λ p. Some (Def p)) (procedures l)) (take_all at items past);
-  commands = upto.commands ∙ ap (λ l. map (λ c. Some (Run c)) (commands_of l)) (take_all at items past);
-  profile = upto.profile ∙ ap declared_profile (take_all at items past);
-  shutdown = upto.shutdown ∙ ap declares_shutdown (take_all at items past);
-}
 
 -- What stands at a number of one list stands there in the other.
 some_of : {A B C : Type 0} (f : A → C) (g : B → C) (x : Option A) (y : Option B) (a : A) → x ≡ Some a → option_map f x ≡ option_map g y → (b : B) × (y ≡ Some b) × (f a ≡ g b)

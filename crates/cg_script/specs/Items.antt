@@ -6,6 +6,7 @@ use Rattle.cg_script.specs.declared.item.ClassDef.{ClassDef}
 use Rattle.cg_script.specs.declared.item.Proc.{Proc}
 use Rattle.cg_script.specs.declared.item.Item.{Item}
 use Rattle.cg_script.specs.declared.item.Item.TheVariants.{Profile, Shutdown, Budget, Class, Def, Run}
+use Rattle.cg_script.specs.declared.index.Index.{Index}
 
 -- the commands outside procedures
 abbrev pub commands_of : List Item → List Command
@@ -47,6 +48,12 @@ declared_profile (item ∷ items) = declared_profile items
 abbrev pub profile_of : List Item → ℕ
 profile_of items = unwrap_or (declared_profile items) 1
 
+-- the budget that is declared first, if one is
+abbrev pub declared_budget : List Item → Option ℕ
+declared_budget [] = None
+declared_budget (Budget n ∷ items) = Some n
+declared_budget (item ∷ items) = declared_budget items
+
 -- whether a shutdown is declared
 abbrev pub declares_shutdown : List Item → Bool
 declares_shutdown [] = false
@@ -57,11 +64,12 @@ declares_shutdown (item ∷ items) = declares_shutdown items
 abbrev pub StandAt : {A : Type 0} → (A → Item) → List Item → List ℕ → List A → Type 0
 StandAt line items positions those = map (slice_get items) positions ≡ map (λ x. Some (line x)) those
 
--- These are the classes of some lines, the positions of their procedures and of their commands outside procedures, the profile
--- that they declare, and whether they declare a shutdown.
-pub record IsIndexOf (items : List Item) (defs : List ClassDef) (procs runs : List ℕ) (chosen : Option ℕ) (declared : Bool) : Type 0 where
-  pub classes : defs ≡ classes items
-  pub procedures : StandAt Def items procs (procedures items)
-  pub commands : StandAt Run items runs (commands_of items)
-  pub profile : chosen ≡ declared_profile items
-  pub shutdown : declared ≡ declares_shutdown items
+-- It has the classes of some lines, the positions of their procedures and of their commands outside procedures, the profile and
+-- the budget that they declare, and whether they declare a shutdown.
+pub record IsIndexOf (items : List Item) (index : Index) : Type 0 where
+  pub classes : index.classes.items ≡ classes items
+  pub procedures : StandAt Def items index.procedures.items (procedures items)
+  pub commands : StandAt Run items index.commands.items (commands_of items)
+  pub profile : index.profile ≡ declared_profile items
+  pub budget : index.budget ≡ declared_budget items
+  pub shutdown : index.shutdown ≡ declares_shutdown items

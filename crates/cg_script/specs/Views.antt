@@ -47,10 +47,10 @@ inside_behind (Does command) inside = inside
 -- The draft has taken a line that says this.
 pub record Takes (old : Draft) (form : Form) (words : List (List ℕ)) (new : Draft) : Type 0 where
   pub known : known_of new ≡ known_after (known_of old) form words
-  pub items : (later : List Said) → grouped new.items.items new.begun later ≡ grouped old.items.items old.begun (said form (parts_of (known_of old) form words) ∷ later)
+  pub items : (later : List Said) → grouped new.items new.begun later ≡ grouped old.items old.begun (said form (parts_of (known_of old) form words) ∷ later)
 
 abbrev pub script_after : Draft → Lines → Reading
-script_after draft (good texts later) = spells texts (grouped draft.items.items draft.begun later)
+script_after draft (good texts later) = spells texts (grouped draft.items draft.begun later)
 script_after draft (spoilt number code) = faulty number code
 
 -- the reading of these lines behind a draft
@@ -63,4 +63,4 @@ pub record IsSmall (draft : Draft) (number : ℕ) : Type 0 where
   pub texts : length draft.names + MOST_WORDS ≤ MOST_WORDS * number
   pub procs : length draft.procs + 1 ≤ number
   pub classes : length draft.classes + 1 ≤ number
-  pub items : length draft.items.items + 1 ≤ number
+  pub items : length draft.items + 1 ≤ number

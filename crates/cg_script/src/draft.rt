@@ -11,7 +11,7 @@ use crate::command::Command;
 use crate::form::Form;
 use crate::item::{Item, Proc};
 use crate::limits::MOST_WORDS;
-use crate::members::Commands;
+use crate::members::{Commands, Items};
 use crate::part::{Parts, Said, names_unknown, read_parts};
 use crate::said::said_of;
 use crate::word::text_of_identifier;
@@ -36,14 +36,14 @@ pub(crate) struct Draft {
     pub shutdown: bool,
     /// Whether a line was not passed over.
     pub started: bool,
-    pub items: Vec<Item>,
+    pub items: Items,
     pub begun: Option<Begun>,
 }
 
 /// No line yet.
 pub(crate) fn empty(alloc: Global) -> Draft
     ensures known { known_of result ≡ nothing_known }
-    ensures items { result.items.items ≡ [] }
+    ensures items { result.items ≡ [] }
     ensures begun { result.begun ≡ None }
 {
     Draft {
@@ -54,7 +54,7 @@ pub(crate) fn empty(alloc: Global) -> Draft
         budget: false,
         shutdown: false,
         started: false,
-        items: Vec::new(alloc),
+        items: Items::empty(alloc),
         begun: None,
     }
 }
@@ -127,41 +127,37 @@ fn define(draft: &mut Draft, form: Form, words: &[&[u8]]) -> Result<(), AllocErr
 /// A command goes to the procedure that is begun, or else to the items.
 #[inline(always)]
 fn push_command(
-    items: &mut Vec<Item>,
+    items: &mut Items,
     begun: &mut Option<Begun>,
     command: Command,
 ) -> Result<(), AllocError>
-    ensures grouped { OnOk result ((later : List AnySaid) → grouped items.new.items begun.new later ≡ grouped items.old.items begun.old (Does command ∷ later)) }
+    ensures grouped { OnOk result ((later : List AnySaid) → grouped items.new begun.new later ≡ grouped items.old begun.old (Does command ∷ later)) }
     ensures inside { is_some begun.new ≡ is_some begun.old }
-    ensures few { length items.new.items ≤ length items.old.items + 1 }
+    ensures few { length items.new ≤ length items.old + 1 }
 {
     match begun {
         Some(procedure) => {
             procedure.body.reserve(1)?;
             procedure.body.push_reserved(command);
         }
-        None => {
-            items.reserve(1)?;
-            items.push_reserved(Item::Run(command));
-        }
+        None => items.push(Item::Run(command))?,
     }
     Ok(())
 }
 
 /// The procedure that is begun goes to the items.
-fn close(items: &mut Vec<Item>, begun: &mut Option<Begun>) -> Result<(), AllocError>
+fn close(items: &mut Items, begun: &mut Option<Begun>) -> Result<(), AllocError>
     requires { is_some begun.old ≡ true }
-    ensures grouped { OnOk result ((later : List AnySaid) → grouped items.new.items begun.new later ≡ grouped items.old.items begun.old (Ends ∷ later)) }
+    ensures grouped { OnOk result ((later : List AnySaid) → grouped items.new begun.new later ≡ grouped items.old begun.old (Ends ∷ later)) }
     ensures outside { OnOk result (begun.new ≡ None) }
-    ensures few { length items.new.items ≤ length items.old.items + 1 }
+    ensures few { length items.new ≤ length items.old + 1 }
 {
     match begun.take() {
         Some(procedure) => {
             items.push(Item::Def(Proc {
                 name: procedure.name,
                 body: Commands::new(procedure.body),
-            }))?;
-            Ok(())
+            }))
         }
         None => unreachable!(),
     }
@@ -171,20 +167,17 @@ fn close(items: &mut Vec<Item>, begun: &mut Option<Begun>) -> Result<(), AllocEr
 #[inline(always)]
 fn push(
     alloc: Global,
-    items: &mut Vec<Item>,
+    items: &mut Items,
     begun: &mut Option<Begun>,
     what: Said,
 ) -> Result<(), AllocError>
     requires { is_placed what (is_some begun.old) ≡ true }
-    ensures grouped { OnOk result ((later : List AnySaid) → grouped items.new.items begun.new later ≡ grouped items.old.items begun.old (what ∷ later)) }
+    ensures grouped { OnOk result ((later : List AnySaid) → grouped items.new begun.new later ≡ grouped items.old begun.old (what ∷ later)) }
     ensures inside { OnOk result (is_some begun.new ≡ inside_behind what (is_some begun.old)) }
-    ensures few { length items.new.items ≤ length items.old.items + 1 }
+    ensures few { length items.new ≤ length items.old + 1 }
 {
     match what {
-        Said::Declares(item) => {
-            items.push(item)?;
-            Ok(())
-        }
+        Said::Declares(item) => items.push(item),
         Said::Begins(name) => {
             *begun = Some(Begun {
                 name,
@@ -220,7 +213,7 @@ pub(crate) fn take_words(
     ensures fault { IfOk result (λ code. code ≡ code_of (checked (known_of draft.old) (formed form (map (λ w. w.now) words.now)))) }
     ensures takes { result ≡ Ok None → Takes draft.old form (map (λ w. w.now) words.now) draft.new }
     ensures few_names { result ≡ Ok None → length draft.new.names ≤ length draft.old.names + MOST_WORDS }
-    ensures few_items { result ≡ Ok None → length draft.new.items.items ≤ length draft.old.items.items + 1 }
+    ensures few_items { result ≡ Ok None → length draft.new.items ≤ length draft.old.items + 1 }
 {
     // The texts of a line that is bad need not be forgotten: no line behind it is read.
     if let Some(code) = read_parts(

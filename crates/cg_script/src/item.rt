@@ -1,6 +1,6 @@
 //! Declarations, and a whole script.
 ghost use Rattle.std.specs.Prelude.{◌≡◌};
-ghost use Rattle.cg_script.specs.Items.{profile_of, declares_shutdown};
+ghost use Rattle.cg_script.specs.Items.{profile_of, declared_budget, declares_shutdown};
 
 use crate::command::Command;
 use crate::members::{Commands, Items};
@@ -53,6 +53,13 @@ impl Script {
         ensures { result ≡ profile_of self.now.items }
     {
         self.items.profile()
+    }
+
+    /// How many frames may start, if a line says so: 0 to 100,000. It takes no memory, and constant time.
+    pub fn budget(&self) -> Option<u32>
+        ensures { result ≡ declared_budget self.now.items }
+    {
+        self.items.budget()
     }
 
     /// Whether all names are given up at the end, and what is left is collected and counted. It takes no memory, and constant

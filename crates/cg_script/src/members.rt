@@ -1,6 +1,6 @@
 //! Lists of operands, commands and items, which contracts see as lists.
-ghost use Rattle.std.specs.Prelude.{◌≡◌, ◌<◌, ◌+◌, ◌^◌, IfOk, OnSome, Some, slice_get, option_copied};
-ghost use Rattle.cg_script.specs.Items.{classes, procedures, commands_of, profile_of, declares_shutdown};
+ghost use Rattle.std.specs.Prelude.{◌≡◌, ◌<◌, ◌+◌, ◌^◌, ◌++◌, ◌∷◌, [], IfOk, OnOk, OnErr, OnSome, Some, slice_get, option_copied};
+ghost use Rattle.cg_script.specs.Items.{classes, procedures, commands_of, profile_of, declared_budget, declares_shutdown};
 ghost use Rattle.cg_script.specs.declared.command.Command.{Command as AnyCommand};
 ghost use Rattle.cg_script.specs.declared.item.Proc.{Proc as AnyProc};
 ghost use Rattle.cg_script.specs.declared.item.Item.TheVariants.{Run, Def};
@@ -100,9 +100,7 @@ impl Model for Items {
 
     ghost view = { λ m. m.members.items };
 
-    ghost invariant = { λ m. IsIndexOf m.members.items
-        m.index.classes.items m.index.procedures.items m.index.commands.items
-        m.index.profile m.index.shutdown };
+    ghost invariant = { λ m. IsIndexOf m.members.items m.index };
 }
 
 /// The position at a number, if there is one.
@@ -138,8 +136,34 @@ impl Items {
     pub fn new(alloc: Global, members: Vec<Item>) -> Result<Items, AllocError>
         ensures { IfOk result (λ items. items ≡ members.items) }
     {
-        let index = Index::new(alloc, members.as_slice())?;
+        let mut index = Index::new(alloc);
+        'members: for at in 0..members.len() {
+            index.add(at, &members[at])?;
+        }
         Ok(Items { members, index })
+    }
+
+    /// No member. It takes no memory yet.
+    pub(crate) fn empty(alloc: Global) -> Items
+        ensures { result ≡ [] }
+    {
+        Items {
+            members: Vec::new(alloc),
+            index: Index::new(alloc),
+        }
+    }
+
+    /// Adds a member behind the others, and to the index while it is at hand. It answers `AllocError` for want of memory alone,
+    /// and then nothing has changed.
+    #[inline(always)]
+    pub(crate) fn push(&mut self, item: Item) -> Result<(), AllocError>
+        ensures ok { OnOk result (self.new ≡ self.old ++ item ∷ []) }
+        ensures err { OnErr result (self.new ≡ self.old) }
+    {
+        self.members.reserve(1)?;
+        self.index.add(self.members.len(), &item)?;
+        self.members.push_reserved(item);
+        Ok(())
     }
 
     /// The members in order.
@@ -154,6 +178,13 @@ impl Items {
         ensures { result ≡ profile_of self.now }
     {
         self.index.profile.unwrap_or(1)
+    }
+
+    /// The budget that they declare, if they declare one. It takes constant time.
+    pub fn budget(&self) -> Option<u32>
+        ensures { result ≡ declared_budget self.now }
+    {
+        self.index.budget
     }
 
     /// Whether they declare a shutdown. It takes constant time.

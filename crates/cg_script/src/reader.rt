@@ -14,7 +14,6 @@ use crate::fault::ScriptFault;
 use crate::item::Script;
 use crate::limits::{MOST_FOUND, MOST_LINES, MOST_TEXTS};
 use crate::line::{Line, read_line};
-use crate::members::Items;
 use crate::part::Parts;
 use crate::pieces::cut_line;
 use std::alloc::Global;
@@ -93,13 +92,10 @@ fn finish(draft: Draft, number: u32) -> Result<Script, ScriptFault>
             code: NO_END,
         });
     }
-    match Items::new(draft.alloc, draft.items) {
-        Ok(items) => Ok(Script {
-            names: draft.names,
-            items,
-        }),
-        Err(_) => Err(ScriptFault::OutOfMemory),
-    }
+    Ok(Script {
+        names: draft.names,
+        items: draft.items,
+    })
 }
 
 /// The script that the bytes spell. Lines end with line feeds, and are counted from 1.

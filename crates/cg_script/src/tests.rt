@@ -35,6 +35,9 @@ fn members_in_order(rt: HostRuntime) -> Result<(), Fail> {
             [Item::Budget(3), Item::Run(Command::Count)]
         )
     );
+    assert_eq!(rt; items.budget(), Some(3));
+    assert!(rt; matches!(items.command(0), Some(Command::Count)));
+    assert!(rt; items.command(1).is_none());
     Ok(())
 }
 
@@ -58,18 +61,23 @@ fn what_has_a_number_is_found_by_it(rt: HostRuntime) -> Result<(), Fail> {
 
 #[test]
 fn what_a_script_declares(rt: HostRuntime) -> Result<(), Fail> {
-    for (script, profile, shutdown) in [
-        ("", 1, false),
-        ("a = list\nclass C\nprofile = a", 1, false),
-        ("profile 1\nbudget 2", 1, false),
-        ("profile 2\nbudget 1", 2, false),
-        ("shutdown", 1, true),
-        ("profile 2\ndef p\ndel a\nend\nshutdown\ndel a", 2, true),
+    for (script, profile, budget, shutdown) in [
+        ("", 1, None, false),
+        ("a = list\nclass C\nprofile = a", 1, None, false),
+        ("profile 1\nbudget 2", 1, Some(2), false),
+        ("profile 2\nbudget 0", 2, Some(0), false),
+        ("shutdown", 1, None, true),
+        (
+            "profile 2\ndef p\ndel a\nend\nshutdown\ndel a\nbudget 100000",
+            2,
+            Some(100_000),
+            true,
+        ),
     ] {
         let read = parse(rt.alloc(), script.as_bytes())?;
         assert_eq!(rt;
-            (read.profile(), read.shutdown()),
-            (profile, shutdown),
+            (read.profile(), read.budget(), read.shutdown()),
+            (profile, budget, shutdown),
             "at {script:?}"
         );
     }

@@ -32,5 +32,5 @@ returns-clause-takes c = λ e.
     let inside = c.in_ok-push-in-Ok.ensures.inside ∙ (λ j. inside_behind (what j) (is_some (d.begun j))) ∙ inside_said c.args.form _ (is_some c.args.draft.now.begun) in
     record {
       known = known_so (known_of c.args.draft.now) c.args.form (map (λ w. w.now) c.args.words.now) _ _ _ _ _ _ _ (d.names ∙ c.in_ok-code.ensures.texts read) d.procs d.classes d.budget d.shutdown d.started inside;
-      items = λ later. c.in_ok-push-in-Ok.ensures.grouped later ∙ (λ j. grouped (d.items j).items (d.begun j) (what j ∷ later));
+      items = λ later. c.in_ok-push-in-Ok.ensures.grouped later ∙ (λ j. grouped (d.items j) (d.begun j) (what j ∷ later));
     }
