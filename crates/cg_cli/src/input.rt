@@ -1,12 +1,17 @@
-//! What a source gives, up to a limit.
+//! What a source gives, up to a limit, and the script that it spells.
 ghost use Rattle.std.specs.Prelude.{◌≡◌, ◌≤◌, ◌<◌, ◌⊎◌, length, IfOk, IfErr, IfSome, Err, codes};
 ghost use Rattle.std.specs.Io.KnownBytes.{Appends, Keeps, IsAtEnd};
 ghost use Rattle.cg_io.specs.Causes.{AppendsFront, Rose};
-ghost use Rattle.cg_cli.specs.Statuses.{TookTooMany, IsCutShort};
+ghost use Rattle.cg_script.specs.Faults.{IsFault};
+ghost use Rattle.cg_script.specs.Reading.{reading};
+ghost use Rattle.cg_script.specs.Spelled.{IsSpelled};
+ghost use Rattle.cg_script.specs.Texts.{TextsAreKnown};
+ghost use Rattle.cg_cli.specs.Statuses.{Spells, TookTooMany, IsCutShort};
 
 use crate::status::Status;
 use crate::tell::tell_large;
 use cg_io::{InputFault, Sink, Source, read_up_to};
+use cg_script::{Script, ScriptFault, parse};
 use std::alloc::Global;
 
 /// One more byte than a script may have.
@@ -44,4 +49,15 @@ pub fn read_whole<S: Source, K: Sink>(
         Err(InputFault::ReadFault) => Err(Status::ReadFault),
         Err(InputFault::OutOfMemory) => Err(Status::OutOfMemory),
     }
+}
+
+/// The script that some bytes spell, or what is wrong with them. The bytes are given back: nothing looks at them again, and a run
+/// may take long.
+pub fn script_of(alloc: Global, bytes: Vec<u8>) -> Result<Script, ScriptFault>
+    ensures ok { IfOk result (λ script. Spells bytes.items script) }
+    ensures fault { IfErr result (λ fault. IsFault fault (reading bytes.items)) }
+    ensures known { IfOk result TextsAreKnown }
+    ensures spelled { IfOk result IsSpelled }
+{
+    parse(alloc, bytes.as_slice())
 }

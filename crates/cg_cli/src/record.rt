@@ -14,14 +14,14 @@ ghost use Rattle.cg_cli.specs.Statuses.{RanBad, TookTooMany, AnswersScript, Answ
 ghost use Rattle.cg_cli.specs.Recordings.{RecordedWhole, RecordedPart, RecordedFront, RecordedSome};
 
 use crate::budget::budget_for;
-use crate::input::{LIMIT, read_whole};
+use crate::input::{LIMIT, read_whole, script_of};
 use crate::status::Status;
 use crate::tell::tell_bad_script;
 use cg_heap::Heap;
 use cg_interp::{RunEnd, run_recorded};
 use cg_io::{Sink, Source};
 use cg_kind::Kind;
-use cg_script::{Script, ScriptFault, parse};
+use cg_script::{Script, ScriptFault};
 use std::alloc::Global;
 
 /// Runs a script that was read, with its budget, and writes the records of the run.
@@ -58,22 +58,22 @@ fn record_parsed<K: Sink, B: Kind>(
 /// Records a run of what some bytes spell.
 fn record_in_hand<K: Sink, B: Kind>(
     alloc: Global,
-    bytes: &[u8],
+    bytes: Vec<u8>,
     sink: &mut K,
     kinds: Vec<B>,
 ) -> Status
-    requires few { length bytes.now < LIMIT }
+    requires few { length bytes.items < LIMIT }
     requires kinds { map B.kind kinds.items ≡ six_kinds }
     requires empty { map B.bodies kinds.items ≡ replicate 6 fin.empty }
-    ensures done { result ≡ Status.Done → RecordedWhole Ended bytes.now (K.written sink.old) (K.written sink.new) }
-    ensures spent { result ≡ Status.Budget → RecordedWhole BudgetIsSpent bytes.now (K.written sink.old) (K.written sink.new) }
-    ensures bad_script { result ≡ Status.BadScript → RanBad bytes.now (K.written sink.old) (K.written sink.new) }
-    ensures write { result ≡ Status.WriteFault → RecordedFront bytes.now (K.written sink.old) (K.written sink.new) }
+    ensures done { result ≡ Status.Done → RecordedWhole Ended bytes.items (K.written sink.old) (K.written sink.new) }
+    ensures spent { result ≡ Status.Budget → RecordedWhole BudgetIsSpent bytes.items (K.written sink.old) (K.written sink.new) }
+    ensures bad_script { result ≡ Status.BadScript → RanBad bytes.items (K.written sink.old) (K.written sink.new) }
+    ensures write { result ≡ Status.WriteFault → RecordedFront bytes.items (K.written sink.old) (K.written sink.new) }
     ensures cause { result ≡ Status.WriteFault → Rose (K.faults sink.old) (K.faults sink.new) }
-    ensures memory { result ≡ Status.OutOfMemory → RecordedSome bytes.now (K.written sink.old) (K.written sink.new) }
-    ensures only { AnswersReading (reading bytes.now) result ⊎ (result ≡ Status.WriteFault) ⊎ (result ≡ Status.OutOfMemory) }
+    ensures memory { result ≡ Status.OutOfMemory → RecordedSome bytes.items (K.written sink.old) (K.written sink.new) }
+    ensures only { AnswersReading (reading bytes.items) result ⊎ (result ≡ Status.WriteFault) ⊎ (result ≡ Status.OutOfMemory) }
 {
-    match parse(alloc, bytes) {
+    match script_of(alloc, bytes) {
         Ok(script) => record_parsed(alloc, &script, sink, kinds),
         Err(ScriptFault::Bad { line, code }) => tell_bad_script(line, code, sink),
         Err(ScriptFault::OutOfMemory) => Status::OutOfMemory,
@@ -105,7 +105,7 @@ pub fn record_job<S: Source, K: Sink, B: Kind>(
     ensures words { result ≢ Status.BadWords }
 {
     match read_whole(alloc, source, sink) {
-        Ok(bytes) => record_in_hand(alloc, bytes.as_slice(), sink, kinds),
+        Ok(bytes) => record_in_hand(alloc, bytes, sink, kinds),
         Err(status) => status,
     }
 }

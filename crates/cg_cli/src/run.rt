@@ -13,14 +13,14 @@ ghost use Rattle.cg_interp.specs.Written.{WroteRun, WrotePart};
 ghost use Rattle.cg_cli.specs.Statuses.{RanWhole, RanBad, TookTooMany, WroteFront, AnswersScript, AnswersReading, IsCutShort, budget_of};
 
 use crate::budget::budget_for;
-use crate::input::{LIMIT, read_whole};
+use crate::input::{LIMIT, read_whole, script_of};
 use crate::status::Status;
 use crate::tell::tell_bad_script;
 use cg_heap::Heap;
 use cg_interp::{RunEnd, run_script};
 use cg_io::{Sink, Source};
 use cg_kind::Kind;
-use cg_script::{Script, ScriptFault, parse};
+use cg_script::{Script, ScriptFault};
 use std::alloc::Global;
 
 /// Runs a script that was read.
@@ -59,23 +59,23 @@ fn run_parsed<K: Sink, B: Kind>(
 fn run_in_hand<K: Sink, B: Kind>(
     alloc: Global,
     given: Option<u32>,
-    bytes: &[u8],
+    bytes: Vec<u8>,
     sink: &mut K,
     kinds: Vec<B>,
 ) -> Status
-    requires few { length bytes.now < LIMIT }
+    requires few { length bytes.items < LIMIT }
     requires given { IfSome given (λ n. n ≤ MOST_BUDGET) }
     requires kinds { map B.kind kinds.items ≡ six_kinds }
     requires empty { map B.bodies kinds.items ≡ replicate 6 fin.empty }
-    ensures done { result ≡ Status.Done → RanWhole given Ended bytes.now (K.written sink.old) (K.written sink.new) }
-    ensures spent { result ≡ Status.Budget → RanWhole given BudgetIsSpent bytes.now (K.written sink.old) (K.written sink.new) }
-    ensures bad_script { result ≡ Status.BadScript → RanBad bytes.now (K.written sink.old) (K.written sink.new) }
-    ensures write { result ≡ Status.WriteFault → WroteFront given bytes.now (K.written sink.old) (K.written sink.new) }
+    ensures done { result ≡ Status.Done → RanWhole given Ended bytes.items (K.written sink.old) (K.written sink.new) }
+    ensures spent { result ≡ Status.Budget → RanWhole given BudgetIsSpent bytes.items (K.written sink.old) (K.written sink.new) }
+    ensures bad_script { result ≡ Status.BadScript → RanBad bytes.items (K.written sink.old) (K.written sink.new) }
+    ensures write { result ≡ Status.WriteFault → WroteFront given bytes.items (K.written sink.old) (K.written sink.new) }
     ensures cause { result ≡ Status.WriteFault → Rose (K.faults sink.old) (K.faults sink.new) }
     ensures memory { result ≡ Status.OutOfMemory → Keeps (K.written sink.old) (K.written sink.new) }
-    ensures only { AnswersReading (reading bytes.now) result ⊎ (result ≡ Status.WriteFault) ⊎ (result ≡ Status.OutOfMemory) }
+    ensures only { AnswersReading (reading bytes.items) result ⊎ (result ≡ Status.WriteFault) ⊎ (result ≡ Status.OutOfMemory) }
 {
-    match parse(alloc, bytes) {
+    match script_of(alloc, bytes) {
         Ok(script) => run_parsed(alloc, given, &script, sink, kinds),
         Err(ScriptFault::Bad { line, code }) => tell_bad_script(line, code, sink),
         Err(ScriptFault::OutOfMemory) => Status::OutOfMemory,
@@ -108,7 +108,7 @@ pub fn run_job<S: Source, K: Sink, B: Kind>(
     ensures words { result ≢ Status.BadWords }
 {
     match read_whole(alloc, source, sink) {
-        Ok(bytes) => run_in_hand(alloc, given, bytes.as_slice(), sink, kinds),
+        Ok(bytes) => run_in_hand(alloc, given, bytes, sink, kinds),
         Err(status) => status,
     }
 }

@@ -17,7 +17,7 @@ use Rattle.cg_machine.specs.Operands.{object}
 use Rattle.cg_machine.specs.Refusals.{◌>>=◌, no_index, unhashable, unless}
 use Rattle.cg_machine.specs.Represents.{Represents}
 use Rattle.cg_commands.specs.declared.done.Refusal.{Refusal}
-use Rattle.cg_commands.specs.declared.done.Refusal.TheVariants.{NoIndex, Unhashable}
+use Rattle.cg_commands.specs.declared.done.Refusal.TheVariants.{NoIndex}
 use Rattle.cg_commands.specs.declared.locals.Locals.{Locals}
 use Rattle.cg_commands.specs.declared.operands.Wanted.TheVariants as wanted
 use Rattle.cg_commands.specs.Refusals.{Declines}
@@ -61,9 +61,6 @@ module _ (store : Store) (locals : Option Locals) (test : Object → Bool) (v : 
 -- whether a value may be a key
 pub reads-key : (store : Store) (locals : Option Locals) (v : Val) (b : Bool) → IsKey store v b → b ≡ true → Reads store locals (λ w. unless (is_hashable w v) unhashable) tt
 reads-key store locals v b is yes' w s = ap (λ x. unless x unhashable) (is w s.represents ∙ yes')
-
-pub no-hash : (store : Store) (locals : Option Locals) (v : Val) (b : Bool) → IsKey store v b → b ≡ false → IsRefused store locals (λ w. unless (is_hashable w v) unhashable) Unhashable
-no-hash store locals v b is no' w s = ap (λ x. unless x unhashable) (is w s.represents ∙ no')
 
 pub no-key : (store : Store) (test : Object → Bool) (k : ℕ) (v : Val) (o : ℕ) → RefersTo store test v o → (key : Val) (b : Bool) → IsKey store key b → b ≡ false → (w : World) → Represents store w → (object w test k v >>= (λ x. unless (is_hashable w key) unhashable)) ≡ Err unhashable
 unfolding ◌>>=◌

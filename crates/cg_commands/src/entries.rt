@@ -13,7 +13,7 @@ use crate::bindings::given_up;
 use crate::done::{Refusal, refusal_by};
 use crate::locals::Locals;
 use crate::lookups::{index_in, target_under_key};
-use crate::operands::{Wanted, object_near, value, value_located, value_near};
+use crate::operands::{Wanted, object_near, reference, value, value_located, value_near};
 use cg_arena::Near;
 use cg_heap::Heap;
 use cg_kind::Kind;
@@ -171,9 +171,7 @@ pub(crate) fn set_attr<B: Kind>(
     let instance = value_near(heap, locals, instance, &mut near)?;
     let mut val_near = Near::default();
     let val = value_located(heap, locals, operand, &mut val_near)?;
-    let Val::Ref(target) = instance else {
-        return Err(Refusal::WrongKind);
-    };
+    let target = reference(instance, Wanted::Inst)?;
     heap.sound();
     match heap.put_if(KindCode::Inst, target, near, Val::Str(attr), val, val_near) {
         Some(Ok(old)) => Ok(given_up(old)),
@@ -198,9 +196,7 @@ pub(crate) fn del_attr<B: Kind>(
 {
     let mut near = Near::default();
     let instance = value_near(heap, locals, instance, &mut near)?;
-    let Val::Ref(target) = instance else {
-        return Err(Refusal::WrongKind);
-    };
+    let target = reference(instance, Wanted::Inst)?;
     heap.sound();
     match heap.take_key_if(KindCode::Inst, target, near, Val::Str(attr)) {
         Some(Some(entry)) => Ok(references_of(entry)),

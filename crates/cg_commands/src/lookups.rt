@@ -16,7 +16,7 @@ ghost use Rattle.cg_commands.specs.Stands.{LocalsLive};
 use crate::bindings::bind_to;
 use crate::done::Refusal;
 use crate::locals::Locals;
-use crate::operands::{Wanted, object, object_near, value, value_near};
+use crate::operands::{Wanted, object, object_near, reference, value, value_near};
 use cg_arena::Near;
 use cg_heap::Heap;
 use cg_kind::Kind;
@@ -90,9 +90,7 @@ pub(crate) fn attr<B: Kind>(
 {
     let mut near = Near::default();
     let val = value_near(heap, locals, instance, &mut near)?;
-    let Val::Ref(target) = val else {
-        return Err(Refusal::WrongKind);
-    };
+    let target = reference(val, Wanted::Inst)?;
     heap.sound();
     match heap.value_if(KindCode::Inst, target, near, Val::Str(attr)) {
         Some(Some(found)) => bind_to(heap, locals, name, found),
@@ -190,10 +188,7 @@ pub(crate) fn target_under_key<B: Kind>(heap: &Heap<B>, val: Val, key: Val) -> R
         let _dict = object(heap, val, Wanted::Dict)?;
         return Err(Refusal::Unhashable);
     }
-    match val {
-        Val::Ref(target) => Ok(target),
-        _ => Err(Refusal::WrongKind),
-    }
+    reference(val, Wanted::Dict)
 }
 
 /// Whether a value may be a key: an atom, an instance or a function.

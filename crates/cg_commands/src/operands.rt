@@ -4,7 +4,7 @@ ghost use Rattle.std.specs.List.{All};
 ghost use Rattle.cg_value.specs.declared.KindCode.TheVariants as code;
 ghost use Rattle.cg_value.specs.declared.Val.TheVariants as val_of;
 ghost use Rattle.cg_script.specs.Texts.{operand_texts};
-ghost use Rattle.cg_graph.specs.Store.{entries_of};
+ghost use Rattle.cg_graph.specs.Store.{Store as AnyStore, entries_of};
 ghost use Rattle.cg_heap.specs.Calls.{IsLiveValue};
 ghost use Rattle.cg_machine.specs.Operands as machine;
 ghost use Rattle.cg_commands.specs.Refusals.{number_of};
@@ -273,6 +273,18 @@ fn cell_in<B: Kind>(heap: &Heap<B>, locals: &Option<Locals>, i: u8) -> Option<Va
     }
 }
 
+/// The object that a value refers to, of whatever kind. What refers to none is refused as an object of another kind than this.
+#[inline(always)]
+pub(crate) fn reference(val: Val, wanted: Wanted) -> Result<u64, Refusal>
+    ensures ok { IfOk result (λ o. val ≡ val_of.Ref o) }
+    ensures err { IfErr result (λ r. (store : AnyStore) → HasNoObject store (test_of wanted) (number_of (refusal_of wanted)) val r) }
+{
+    match val {
+        Val::Ref(object) => Ok(object),
+        _ => Err(wanted.refusal()),
+    }
+}
+
 /// The object that a value refers to, if it is of the kind.
 #[inline(always)]
 pub(crate) fn object<B: Kind>(heap: &Heap<B>, val: Val, wanted: Wanted) -> Result<u64, Refusal>
@@ -296,9 +308,7 @@ pub(crate) fn object_near<B: Kind>(
     ensures ok { IfOk result (λ o. RefersTo heap.now (test_of wanted) val o) }
     ensures err { IfErr result (λ r. HasNoObject heap.now (test_of wanted) (number_of (refusal_of wanted)) val r) }
 {
-    let Val::Ref(object) = val else {
-        return Err(wanted.refusal());
-    };
+    let object = reference(val, wanted)?;
     if wanted.admits(heap.locate(object, near), object) {
         Ok(object)
     } else {

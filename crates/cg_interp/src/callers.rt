@@ -34,14 +34,16 @@ impl<B: Kind> Engine<B> {
         ensures fit { StaysFit self.old self.new }
     {
         let mut next = next;
+        // It is put together once: for each command it would be copied, field by field.
+        let mut caller = Caller {
+            runner: Runner::Script,
+            next,
+        };
         'commands: loop {
             match next_in(&script.items, next) {
                 Some((command, after)) => {
-                    let gone_on = Caller {
-                        runner: Runner::Script,
-                        next: Some(after),
-                    };
-                    match self.step(&gone_on, &None, next, command) {
+                    caller.go_on_from(after);
+                    match self.step(&caller, &None, next, command) {
                         Some(answer) => return answer,
                         None => next = Some(after),
                     }

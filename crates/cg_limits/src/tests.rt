@@ -226,12 +226,8 @@ fn fill<B: Kind>(
 }
 
 /// A million lists of four numbers: one object more is refused until one is let go.
-fn check_objects<B: Kind>(rt: &impl Abort, alloc: Global, kinds: Vec<B>) -> Result<(), Fail>
-    requires kinds { map B.kind kinds.items ≡ six_kinds }
-    requires empty { map B.bodies kinds.items ≡ replicate 6 fin.empty }
-{
-    let mut holder = Holder::new(alloc, kinds)?;
-    fill(rt, &mut holder, 1_000_000, 4)?;
+fn reach_objects<B: Kind>(rt: &impl Abort, holder: &mut Holder<B>) -> Result<(), Fail> {
+    fill(rt, holder, 1_000_000, 4)?;
     assert_eq!(rt; holder.heap.live(), 1_000_000);
     assert_eq!(rt; holder.heap.entries(), 4_000_000);
     assert_eq!(rt;
@@ -256,12 +252,8 @@ fn check_objects<B: Kind>(rt: &impl Abort, alloc: Global, kinds: Vec<B>) -> Resu
 }
 
 /// A thousand lists of four thousand numbers: one entry more is refused, an object without entries is not.
-fn check_entries<B: Kind>(rt: &impl Abort, alloc: Global, kinds: Vec<B>) -> Result<(), Fail>
-    requires kinds { map B.kind kinds.items ≡ six_kinds }
-    requires empty { map B.bodies kinds.items ≡ replicate 6 fin.empty }
-{
-    let mut holder = Holder::new(alloc, kinds)?;
-    fill(rt, &mut holder, 1000, 4000)?;
+fn reach_entries<B: Kind>(rt: &impl Abort, holder: &mut Holder<B>) -> Result<(), Fail> {
+    fill(rt, holder, 1000, 4000)?;
     assert_eq!(rt; holder.heap.entries(), 4_000_000);
     assert_eq!(rt; holder.append(rt, 1), Err(HeapFault::EntryLimit));
     assert_eq!(rt; holder.make_of_one(rt), Err(HeapFault::EntryLimit));
@@ -274,11 +266,7 @@ fn check_entries<B: Kind>(rt: &impl Abort, alloc: Global, kinds: Vec<B>) -> Resu
 }
 
 /// Lists of which each holds the one before, given up from the last on.
-fn check_chain<B: Kind>(rt: &impl Abort, alloc: Global, kinds: Vec<B>) -> Result<(), Fail>
-    requires kinds { map B.kind kinds.items ≡ six_kinds }
-    requires empty { map B.bodies kinds.items ≡ replicate 6 fin.empty }
-{
-    let mut holder = Holder::new(alloc, kinds)?;
+fn give_up_chain<B: Kind>(rt: &impl Abort, holder: &mut Holder<B>) -> Result<(), Fail> {
     holder.make(rt, KindCode::List)?;
     'links: for _ in 1..300_000u32 {
         holder.link(rt)?;
@@ -298,11 +286,7 @@ fn check_chain<B: Kind>(rt: &impl Abort, alloc: Global, kinds: Vec<B>) -> Result
 }
 
 /// Each call that may be refused succeeds where there is memory.
-fn check_calls<B: Kind>(rt: &impl Abort, alloc: Global, kinds: Vec<B>) -> Result<(), Fail>
-    requires kinds { map B.kind kinds.items ≡ six_kinds }
-    requires empty { map B.bodies kinds.items ≡ replicate 6 fin.empty }
-{
-    let mut holder = Holder::new(alloc, kinds)?;
+fn call_each<B: Kind>(rt: &impl Abort, holder: &mut Holder<B>) {
     assert_eq!(rt; holder.heap.live(), 0);
     assert_eq!(rt; holder.make(rt, KindCode::List), Ok(2));
     assert_eq!(rt; holder.append(rt, 5), Ok(()));
@@ -312,29 +296,63 @@ fn check_calls<B: Kind>(rt: &impl Abort, alloc: Global, kinds: Vec<B>) -> Result
     assert_eq!(rt; holder.put(rt, 1, 3), Ok(Some(Val::Int(2))));
     assert_eq!(rt; holder.heap.live(), 3);
     assert_eq!(rt; holder.heap.entries(), 3);
-    Ok(())
+}
+
+/// What is tried on a heap.
+#[derive(Clone, Copy)]
+enum Trial {
+    Objects,
+    Entries,
+    Chain,
+    Calls,
+}
+
+fn attempt<B: Kind>(rt: &impl Abort, holder: &mut Holder<B>, trial: Trial) -> Result<(), Fail> {
+    match trial {
+        Trial::Objects => reach_objects(rt, holder),
+        Trial::Entries => reach_entries(rt, holder),
+        Trial::Chain => give_up_chain(rt, holder),
+        Trial::Calls => {
+            call_each(rt, holder);
+            Ok(())
+        }
+    }
+}
+
+/// Tries it on a new heap, which it is lent: a function that owned the heap beside all it asks of it would be proved for minutes.
+fn check<B: Kind>(
+    rt: &impl Abort,
+    alloc: Global,
+    kinds: Vec<B>,
+    trial: Trial,
+) -> Result<(), Fail>
+    requires kinds { map B.kind kinds.items ≡ six_kinds }
+    requires empty { map B.bodies kinds.items ≡ replicate 6 fin.empty }
+{
+    let mut holder = Holder::new(alloc, kinds)?;
+    attempt(rt, &mut holder, trial)
 }
 
 #[test]
 fn a_million_objects_are_the_most(rt: HostRuntime) -> Result<(), Fail> {
     let alloc = rt.alloc();
-    check_objects(&rt, alloc, six(alloc)?)
+    check(&rt, alloc, six(alloc)?, Trial::Objects)
 }
 
 #[test]
 fn four_million_entries_are_the_most(rt: HostRuntime) -> Result<(), Fail> {
     let alloc = rt.alloc();
-    check_entries(&rt, alloc, six(alloc)?)
+    check(&rt, alloc, six(alloc)?, Trial::Entries)
 }
 
 #[test]
 fn a_long_chain_is_given_up(rt: HostRuntime) -> Result<(), Fail> {
     let alloc = rt.alloc();
-    check_chain(&rt, alloc, six(alloc)?)
+    check(&rt, alloc, six(alloc)?, Trial::Chain)
 }
 
 #[test]
 fn with_memory_each_call_succeeds(rt: HostRuntime) -> Result<(), Fail> {
     let alloc = rt.alloc();
-    check_calls(&rt, alloc, six(alloc)?)
+    check(&rt, alloc, six(alloc)?, Trial::Calls)
 }

@@ -334,7 +334,57 @@ fn split_place<B: Kind, L: Ledger>(
     Ok((left, kept, reached))
 }
 
+/// A graph of which some objects are held, and no other. Functions that own a heap stand apart from those that ask much of one:
+/// together they would be proved for minutes.
+fn scene_of<B: Kind>(
+    rt: &impl Abort,
+    alloc: Global,
+    kinds: Vec<B>,
+    graph: Graph,
+    held: &[u64],
+) -> Result<Scene<B>, Fail>
+    requires kinds { map B.kind kinds.items ≡ six_kinds }
+    requires empty { map B.bodies kinds.items ≡ replicate 6 fin.empty }
+{
+    let mut scene = Scene::new(alloc, kinds)?;
+    set(rt, alloc, &mut scene, graph, held)?;
+    Ok(scene)
+}
+
+/// Builds a graph, and gives all holds up but some.
+fn set<B: Kind>(
+    rt: &impl Abort,
+    alloc: Global,
+    scene: &mut Scene<B>,
+    graph: Graph,
+    held: &[u64],
+) -> Result<(), Fail> {
+    build(scene, rt, graph)?;
+    release_others(scene, rt, alloc, held)?;
+    Ok(())
+}
+
 /// Splits the place of a row, and compares what is kept with the plain search, and what is left with the row.
+fn split_as_row<B: Kind, L: Ledger>(
+    rt: &impl Abort,
+    alloc: Global,
+    heap: &mut Heap<B>,
+    steps: &mut Steps<L>,
+    row: Row,
+) -> Result<(), Fail> {
+    let from = if row.among_candidates {
+        heap.merge(Place::Gen(0), Place::Cand);
+        Place::Cand
+    } else {
+        Place::Gen(0)
+    };
+    let (left, kept, reached) = split_place(rt, alloc, heap, from, steps)?;
+    assert_eq!(rt; kept.as_slice(), reached.as_slice(), "{:?}", row.graph);
+    assert_eq!(rt; left.as_slice(), row.left, "{:?}", row.graph);
+    Ok(())
+}
+
+/// The same in a heap of its own.
 fn check_row<B: Kind, L: Ledger>(
     rt: &impl Abort,
     alloc: Global,
@@ -348,21 +398,9 @@ fn check_row<B: Kind, L: Ledger>(
     requires parts { blank.parts ≡ L.parts }
     requires some { 0 < blank.parts }
 {
-    let mut scene = Scene::new(alloc, kinds)?;
-    build(&mut scene, rt, row.graph)?;
-    release_others(&mut scene, rt, alloc, row.held)?;
+    let Scene { mut heap, .. } = scene_of(rt, alloc, kinds, row.graph, row.held)?;
     let mut steps = Steps::<L>::new(blank);
-    let Scene { mut heap, .. } = scene;
-    let from = if row.among_candidates {
-        heap.merge(Place::Gen(0), Place::Cand);
-        Place::Cand
-    } else {
-        Place::Gen(0)
-    };
-    let (left, kept, reached) = split_place(rt, alloc, &mut heap, from, &mut steps)?;
-    assert_eq!(rt; kept.as_slice(), reached.as_slice(), "{:?}", row.graph);
-    assert_eq!(rt; left.as_slice(), row.left, "{:?}", row.graph);
-    Ok(())
+    split_as_row(rt, alloc, &mut heap, &mut steps, row)
 }
 
 /// Splits generation 0, where one object with three entries stands, and nothing among the candidates. It stops where that
@@ -382,7 +420,20 @@ fn split_one_of_three<B: Kind, L: Ledger>(rt: &impl Abort, heap: &mut Heap<B>, s
     split(heap, Place::Gen(0), steps);
 }
 
-/// Splits a list that holds itself three times: each of its entries is looked at, and none more than twice.
+/// Splits a list that holds itself three times, which is left.
+fn look_at_three_in<B: Kind, L: Ledger>(
+    rt: &impl Abort,
+    alloc: Global,
+    heap: &mut Heap<B>,
+    steps: &mut Steps<L>,
+) -> Result<(), Fail> {
+    split_one_of_three(rt, heap, steps);
+    let left = serials_in(alloc, heap, Place::Cand)?;
+    assert_eq!(rt; left.as_slice(), [2u64].as_slice());
+    Ok(())
+}
+
+/// The same in a heap of its own: each of its entries is looked at, and none more than twice.
 fn look_at_three<B: Kind, L: Ledger>(
     rt: &impl Abort,
     alloc: Global,
@@ -395,15 +446,9 @@ fn look_at_three<B: Kind, L: Ledger>(
     requires parts { blank.parts ≡ L.parts }
     requires some { 0 < blank.parts }
 {
-    let mut scene = Scene::new(alloc, kinds)?;
-    build(&mut scene, rt, Graph::HoldsItselfThrice)?;
-    release_others(&mut scene, rt, alloc, &[])?;
+    let Scene { mut heap, .. } = scene_of(rt, alloc, kinds, Graph::HoldsItselfThrice, &[])?;
     let mut steps = Steps::<L>::new(blank);
-    let Scene { mut heap, .. } = scene;
-    split_one_of_three(rt, &mut heap, &mut steps);
-    let left = serials_in(alloc, &heap, Place::Cand)?;
-    assert_eq!(rt; left.as_slice(), [2u64].as_slice());
-    Ok(())
+    look_at_three_in(rt, alloc, &mut heap, &mut steps)
 }
 
 fn table_row(graph: Graph, held: &'static [u64], left: &'static [u64]) -> Row {

@@ -3,12 +3,10 @@ use Rattle.std.proofs.lemmas.Result.{err_from_is_err_and}
 use Rattle.cg_machine.specs.Effects.{is_hashable}
 use Rattle.cg_machine.specs.Operands.{object}
 use Rattle.cg_machine.specs.Refusals.{unhashable, unless}
-use Rattle.cg_commands.specs.declared.done.Refusal.TheVariants as refusal
 use Rattle.cg_commands.specs.declared.operands.Wanted.TheVariants as wanted
 use Rattle.cg_commands.specs.Refusals.{number_of}
 use Rattle.cg_commands.specs.Objects.{test_of, refusal_of}
 use Rattle.cg_commands.proofs.Chains.{declines_then}
-use Rattle.cg_commands.proofs.Reading.{object-none}
 use Rattle.cg_commands.proofs.Steps.{no-key}
 use Rattle.cg_commands.proofs.lookups.target_under_key.Goals as goal
 
@@ -21,8 +19,8 @@ pub returns-then-not-is_hashable-clause-err : goal.returns-then-not-is_hashable-
 returns-then-not-is_hashable-clause-err g c =
     no-key c.args.heap.now (test_of wanted.Dict) (number_of (refusal_of wanted.Dict)) c.args.val c.in_ok-_dict._dict c.in_ok-_dict.ensures.ok c.args.key c.is_hashable.result c.is_hashable.ensures c.if-not-is_hashable.true
 
-pub returns-in-Ref-clause-key : goal.returns-in-Ref-clause-key
-returns-in-Ref-clause-key g c = λ w r. c.is_hashable.ensures w r ∙ c.if-not-is_hashable.false
+pub returns-else-not-is_hashable-clause-key : goal.returns-else-not-is_hashable-clause-key
+returns-else-not-is_hashable-clause-key g c = ?
 
-pub returns-in_default-clause-err : goal.returns-in_default-clause-err
-returns-in_default-clause-err g c = λ w r. declines_then refusal.WrongKind (object w (test_of wanted.Dict) (number_of (refusal_of wanted.Dict)) c.args.val) (λ x. unless (is_hashable w c.args.key) unhashable) (object-none c.args.heap.now wanted.Dict c.args.val c.in_default.not-Ref w r)
+pub returns-else-not-is_hashable-clause-err : goal.returns-else-not-is_hashable-clause-err
+returns-else-not-is_hashable-clause-err g c = ?

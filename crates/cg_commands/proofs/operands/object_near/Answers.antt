@@ -1,18 +1,14 @@
 use Rattle.std.proofs.Common.{sym, ◌∙◌, subst}
 use Rattle.cg_commands.specs.Refusals.{number_of}
 use Rattle.cg_commands.specs.Objects.{test_of, refusal_of, HasNoObject}
-use Rattle.cg_commands.proofs.Reading.{object-none, object-other}
+use Rattle.cg_commands.proofs.Reading.{object-other}
 use Rattle.cg_commands.proofs.operands.object_near.Goals as goal
 
-pub returns-in_default : goal.returns-in_default
-returns-in_default g c = record {
-  ok = tt;
-  err = subst (λ r. HasNoObject c.args.heap.now (test_of c.args.wanted) (number_of (refusal_of c.args.wanted)) c.args.val r) (sym c.refusal.ensures)
-      (object-none c.args.heap.now c.args.wanted c.args.val c.in_default.not-Ref);
-}
+pub returns-in_err-object : goal.returns-in_err-object
+returns-in_err-object g c = ?
 
 pub returns-else-admits-clause-err : goal.returns-else-admits-clause-err
 returns-else-admits-clause-err g c =
     subst (λ r. HasNoObject c.args.heap.now (test_of c.args.wanted) (number_of (refusal_of c.args.wanted)) c.args.val r) (sym c.refusal-else-admits.ensures)
-    (subst (λ v. HasNoObject c.args.heap.now (test_of c.args.wanted) (number_of (refusal_of c.args.wanted)) v (refusal_of c.args.wanted)) (sym c.in-Ref.is)
-    (object-other c.args.heap.now c.args.wanted c.in-Ref.object c.locate.result (c.requires c.in-Ref.object c.in-Ref.is) c.locate.ensures (sym c.admits.ensures ∙ c.if-admits.false)))
+    (subst (λ v. HasNoObject c.args.heap.now (test_of c.args.wanted) (number_of (refusal_of c.args.wanted)) v (refusal_of c.args.wanted)) (sym c.in_ok-object.ensures.ok)
+    (object-other c.args.heap.now c.args.wanted c.in_ok-object.object c.locate.result (c.requires c.in_ok-object.object c.in_ok-object.ensures.ok) c.locate.ensures (sym c.admits.ensures ∙ c.if-admits.false)))
