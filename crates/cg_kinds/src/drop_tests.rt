@@ -243,19 +243,23 @@ fn assert_keys(rt: &impl Abort, table: &Table, keys: &[u32]) -> Result<(), Fail>
     Ok(())
 }
 
-#[test]
-fn keys_that_come_again_go_last(rt: HostRuntime) -> Result<(), Fail> {
-    let mut table = tenfold(rt.alloc(), 48)?;
+/// Takes some keys of 48, puts two again, and takes one more.
+fn take_and_put_again(rt: &impl Abort, table: &mut Table) -> Result<(), Fail> {
     // The newest goes while the map keeps the order, the others from an order that the oldest brought.
     'gone: for key in [47, 0, 12, 1, 46] {
-        assert_eq!(&rt; table.take_key(Val::Int(key as i64)), Some(pair_of(key)));
-        assert_eq!(&rt; table.take_key(Val::Int(key as i64)), None);
+        assert_eq!(rt; table.take_key(Val::Int(key as i64)), Some(pair_of(key)));
+        assert_eq!(rt; table.take_key(Val::Int(key as i64)), None);
     }
     'again: for key in [12, 0] {
         let _ = table.put(Val::Int(key as i64), Val::Int(key as i64 * 10))?;
     }
-    assert_eq!(&rt; table.take_key(Val::Int(44)), Some(pair_of(44)));
-    let mut keys = Vec::new(rt.alloc());
+    assert_eq!(rt; table.take_key(Val::Int(44)), Some(pair_of(44)));
+    Ok(())
+}
+
+/// The keys that are left then, in order.
+fn keys_left(alloc: Global) -> Result<Vec<u32>, AllocError> {
+    let mut keys = Vec::new(alloc);
     'left: for key in 2..46 {
         if key != 12 && key != 44 {
             keys.push(key)?;
@@ -263,5 +267,13 @@ fn keys_that_come_again_go_last(rt: HostRuntime) -> Result<(), Fail> {
     }
     keys.push(12)?;
     keys.push(0)?;
+    Ok(keys)
+}
+
+#[test]
+fn keys_that_come_again_go_last(rt: HostRuntime) -> Result<(), Fail> {
+    let mut table = tenfold(rt.alloc(), 48)?;
+    take_and_put_again(&rt, &mut table)?;
+    let keys = keys_left(rt.alloc())?;
     assert_keys(&rt, &table, keys.as_slice())
 }

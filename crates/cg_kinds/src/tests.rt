@@ -160,6 +160,21 @@ pub fn entries<K: Kind>(alloc: Global, kind: &K, at: usize) -> Result<Vec<Entry>
     Ok(entries)
 }
 
+/// It stops where the entries of an object are not these.
+fn assert_entries<K: Kind>(
+    rt: &impl Abort,
+    alloc: Global,
+    kind: &K,
+    at: usize,
+    expected: &[Entry],
+) -> Result<(), AllocError>
+    requires { Holds (K.bodies kind.now) at }
+{
+    let now = entries(alloc, kind, at)?;
+    assert_eq!(rt; now.as_slice(), expected);
+    Ok(())
+}
+
 fn items(alloc: Global, values: &[i64]) -> Result<Vec<Entry>, AllocError>
     ensures items { IfOk result (λ entries. AreItems entries.items) }
     ensures len { IfOk result (λ entries. length entries.items ≡ length values.now) }
@@ -529,8 +544,8 @@ fn pass_through<K: Kind>(
     'appends: for part in parts {
         append(kind, at, part.val)?;
     }
-    assert_eq!(rt; entries(alloc, kind, made)?.as_slice(), parts);
-    assert_eq!(rt; entries(alloc, kind, at)?.as_slice(), parts);
+    assert_entries(rt, alloc, kind, made, parts)?;
+    assert_entries(rt, alloc, kind, at, parts)?;
     'takes: for part in parts {
         assert_eq!(rt; take_first(kind, at), Some(part.val));
     }
@@ -621,25 +636,61 @@ fn last_of(entries: &mut Vec<Entry>) -> Answer {
     }
 }
 
-/// Appends 200 numbers one by one, puts one over the 70th, takes the 100th, and takes all off.
-fn grow_and_shrink<K: Kind>(rt: &impl Abort, alloc: Global, kind: &mut K) -> Result<(), Fail>
-    requires { IsParts (K.kind kind.old) [] }
+/// Appends the numbers below 200 one by one, and looks at all after each.
+fn append_numbers<K: Kind>(
+    rt: &impl Abort,
+    alloc: Global,
+    kind: &mut K,
+    at: usize,
+) -> Result<(), Fail>
+    requires { Holds (K.bodies kind.old) at }
+    ensures { Holds (K.bodies kind.new) at }
 {
-    let at = make(kind, &[])?;
     'appends: for number in 0..200 {
         append(kind, at, Val::Int(number))?;
         let expected = numbers(alloc, number + 1)?;
-        assert_eq!(rt; entries(alloc, kind, at)?.as_slice(), expected.as_slice());
+        assert_entries(rt, alloc, kind, at, expected.as_slice())?;
     }
+    Ok(())
+}
+
+/// Takes 200 times the last entry off, which is the last of these as long as one is left.
+fn detach_all<K: Kind>(rt: &impl Abort, kind: &mut K, at: usize, left: &mut Vec<Entry>)
+    requires { Holds (K.bodies kind.old) at }
+    ensures { Holds (K.bodies kind.new) at }
+{
+    'detaches: for _ in 0..200 {
+        assert_eq!(rt; detach(kind, at), last_of(left));
+    }
+}
+
+/// Puts a number over the 70th of 200, takes the 100th, and takes all off.
+fn change_numbers<K: Kind>(
+    rt: &impl Abort,
+    alloc: Global,
+    kind: &mut K,
+    at: usize,
+) -> Result<(), Fail>
+    requires { Holds (K.bodies kind.old) at }
+    ensures { Holds (K.bodies kind.new) at }
+{
     let replaced = put(kind, at, Val::Int(70), -70)?;
     assert_eq!(rt; replaced, Answer::Replaced(Some(Val::Int(70))));
     assert_eq!(rt; take(kind, at, 100), Answer::Entry(NO, 100));
     let mut left = numbers_changed(alloc)?;
     assert_eq!(rt; left.len(), 199);
-    assert_eq!(rt; entries(alloc, kind, at)?.as_slice(), left.as_slice());
-    'detaches: for _ in 0..200 {
-        assert_eq!(rt; detach(kind, at), last_of(&mut left));
-    }
+    assert_entries(rt, alloc, kind, at, left.as_slice())?;
+    detach_all(rt, kind, at, &mut left);
+    Ok(())
+}
+
+/// An object of items that gets 200 numbers, loses all, and gets one again.
+fn grow_and_shrink<K: Kind>(rt: &impl Abort, alloc: Global, kind: &mut K) -> Result<(), Fail>
+    requires { IsParts (K.kind kind.old) [] }
+{
+    let at = make(kind, &[])?;
+    append_numbers(rt, alloc, kind, at)?;
+    change_numbers(rt, alloc, kind, at)?;
     assert_eq!(rt; kind.len(at), 0);
     append(kind, at, Val::Int(7))?;
     assert_eq!(rt; detach(kind, at), Answer::Entry(NO, 7));

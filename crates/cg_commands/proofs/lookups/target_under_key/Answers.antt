@@ -1,5 +1,4 @@
-use Rattle.std.proofs.Common.{◌∙◌}
-use Rattle.std.proofs.lemmas.Result.{err_from_is_err_and}
+use Rattle.std.proofs.lemmas.Result.{err_from_is_err_and, IfErr-weaker}
 use Rattle.cg_machine.specs.Effects.{is_hashable}
 use Rattle.cg_machine.specs.Operands.{object}
 use Rattle.cg_machine.specs.Refusals.{unhashable, unless}
@@ -19,8 +18,7 @@ pub returns-then-not-is_hashable-clause-err : goal.returns-then-not-is_hashable-
 returns-then-not-is_hashable-clause-err g c =
     no-key c.args.heap.now (test_of wanted.Dict) (number_of (refusal_of wanted.Dict)) c.args.val c.in_ok-_dict._dict c.in_ok-_dict.ensures.ok c.args.key c.is_hashable.result c.is_hashable.ensures c.if-not-is_hashable.true
 
-pub returns-else-not-is_hashable-clause-key : goal.returns-else-not-is_hashable-clause-key
-returns-else-not-is_hashable-clause-key g c = ?
-
-pub returns-else-not-is_hashable-clause-err : goal.returns-else-not-is_hashable-clause-err
-returns-else-not-is_hashable-clause-err g c = ?
+pub returns-clause-err : goal.returns-clause-err
+returns-clause-err g c = IfErr-weaker c.reference.result _ _
+    (λ r declines w stands. declines_then r (object w (test_of wanted.Dict) (number_of (refusal_of wanted.Dict)) c.args.val) (λ x. unless (is_hashable w c.args.key) unhashable) (declines c.args.heap.now w stands))
+    c.reference.ensures.err
