@@ -89,45 +89,55 @@ fn assert_lists(
     Ok(())
 }
 
+/// Moves some of six. What owns an arena stands apart: with all that is asked of it, it would be proved for minutes.
+fn move_some(rt: &impl Abort, alloc: Global, arena: &mut Arena) -> Result<(), Fail> {
+    assert_lists(rt, alloc, arena, &[1, 2, 3, 4], &[5, 6], &[])?;
+    // From the middle, the front and the end of a list, and from an end to the same end.
+    shift(arena, 2, Place::Cand);
+    assert_lists(rt, alloc, arena, &[1, 3, 4], &[5, 6, 2], &[])?;
+    shift(arena, 1, Place::Gen(2));
+    assert_lists(rt, alloc, arena, &[3, 4], &[5, 6, 2], &[1])?;
+    shift(arena, 4, Place::Gen(2));
+    assert_lists(rt, alloc, arena, &[3], &[5, 6, 2], &[1, 4])?;
+    shift(arena, 2, Place::Cand);
+    assert_lists(rt, alloc, arena, &[3], &[5, 6, 2], &[1, 4])?;
+    shift(arena, 5, Place::Cand);
+    assert_lists(rt, alloc, arena, &[3], &[6, 2, 5], &[1, 4])?;
+    // The only one of a list.
+    shift(arena, 3, Place::Gen(0));
+    shift(arena, 3, Place::Cand);
+    assert_lists(rt, alloc, arena, &[], &[6, 2, 5, 3], &[1, 4])?;
+    Ok(())
+}
+
 #[test]
 fn nodes_move_to_the_end(rt: HostRuntime) -> Result<(), Fail> {
     let mut arena = six(rt.alloc())?;
-    assert_lists(&rt, rt.alloc(), &arena, &[1, 2, 3, 4], &[5, 6], &[])?;
-    // From the middle, the front and the end of a list, and from an end to the same end.
-    shift(&mut arena, 2, Place::Cand);
-    assert_lists(&rt, rt.alloc(), &arena, &[1, 3, 4], &[5, 6, 2], &[])?;
-    shift(&mut arena, 1, Place::Gen(2));
-    assert_lists(&rt, rt.alloc(), &arena, &[3, 4], &[5, 6, 2], &[1])?;
-    shift(&mut arena, 4, Place::Gen(2));
-    assert_lists(&rt, rt.alloc(), &arena, &[3], &[5, 6, 2], &[1, 4])?;
-    shift(&mut arena, 2, Place::Cand);
-    assert_lists(&rt, rt.alloc(), &arena, &[3], &[5, 6, 2], &[1, 4])?;
-    shift(&mut arena, 5, Place::Cand);
-    assert_lists(&rt, rt.alloc(), &arena, &[3], &[6, 2, 5], &[1, 4])?;
-    // The only one of a list.
-    shift(&mut arena, 3, Place::Gen(0));
-    shift(&mut arena, 3, Place::Cand);
-    assert_lists(&rt, rt.alloc(), &arena, &[], &[6, 2, 5, 3], &[1, 4])?;
+    move_some(&rt, rt.alloc(), &mut arena)
+}
+
+/// Merges the lists of six.
+fn merge_some(rt: &impl Abort, alloc: Global, arena: &mut Arena) -> Result<(), Fail> {
+    arena.merge(Place::Gen(0), Place::Cand);
+    assert_lists(rt, alloc, arena, &[], &[5, 6, 1, 2, 3, 4], &[])?;
+    // An empty list is appended, and one is appended to an empty list.
+    arena.merge(Place::Gen(0), Place::Cand);
+    arena.merge(Place::Cand, Place::Gen(2));
+    assert_lists(rt, alloc, arena, &[], &[], &[5, 6, 1, 2, 3, 4])?;
+    discard(arena, 1);
+    discard(arena, 5);
+    discard(arena, 4);
+    assert_lists(rt, alloc, arena, &[], &[], &[6, 2, 3])?;
+    // Each node of the merged list knows its place.
+    shift(arena, 3, Place::Gen(0));
+    assert_lists(rt, alloc, arena, &[3], &[], &[6, 2])?;
     Ok(())
 }
 
 #[test]
 fn lists_are_merged_in_order(rt: HostRuntime) -> Result<(), Fail> {
     let mut arena = six(rt.alloc())?;
-    arena.merge(Place::Gen(0), Place::Cand);
-    assert_lists(&rt, rt.alloc(), &arena, &[], &[5, 6, 1, 2, 3, 4], &[])?;
-    // An empty list is appended, and one is appended to an empty list.
-    arena.merge(Place::Gen(0), Place::Cand);
-    arena.merge(Place::Cand, Place::Gen(2));
-    assert_lists(&rt, rt.alloc(), &arena, &[], &[], &[5, 6, 1, 2, 3, 4])?;
-    discard(&mut arena, 1);
-    discard(&mut arena, 5);
-    discard(&mut arena, 4);
-    assert_lists(&rt, rt.alloc(), &arena, &[], &[], &[6, 2, 3])?;
-    // Each node of the merged list knows its place.
-    shift(&mut arena, 3, Place::Gen(0));
-    assert_lists(&rt, rt.alloc(), &arena, &[3], &[], &[6, 2])?;
-    Ok(())
+    merge_some(&rt, rt.alloc(), &mut arena)
 }
 
 fn put_reserved(arena: &mut Arena, serial: u64, place: Place) -> Result<(), AllocError>
@@ -230,26 +240,37 @@ fn counts_come_down_to_zero(rt: HostRuntime) -> Result<(), Fail> {
 /// These four choose the same one of the first 64 guesses, so that all but the one added last are looked up by their rows.
 const SHARING: [u64; 4] = [5, 68, 135, 198];
 
+/// Marks some of those that share a guess.
+fn mark_sharing(rt: &impl Abort, arena: &mut Arena) -> Result<(), AllocError> {
+    for serial in SHARING {
+        put(arena, serial, Place::Gen(0))?;
+    }
+    hold(arena, 68);
+    finalize(arena, 135);
+    renumber(arena, 198, 9);
+    assert_eq!(rt; marks_of(arena, 5), Some((0, 0, false)));
+    assert_eq!(rt; marks_of(arena, 68), Some((1, 0, false)));
+    assert_eq!(rt; marks_of(arena, 135), Some((0, 0, true)));
+    assert_eq!(rt; marks_of(arena, 198), Some((0, 9, false)));
+    Ok(())
+}
+
+/// The slot of a node that is gone is another's.
+fn replace_sharing(rt: &impl Abort, arena: &mut Arena) -> Result<(), AllocError> {
+    discard(arena, 198);
+    put(arena, 7, Place::Gen(0))?;
+    assert_eq!(rt; marks_of(arena, 198), None);
+    assert_eq!(rt; marks_of(arena, 68), Some((1, 0, false)));
+    assert_eq!(rt; parts_of(arena, 7), Some((None, 7, Place::Gen(0))));
+    assert_eq!(rt; parts_of(arena, 135), Some((None, 135, Place::Gen(0))));
+    Ok(())
+}
+
 #[test]
 fn serials_that_share_a_guess_keep_their_nodes(rt: HostRuntime) -> Result<(), Fail> {
     let mut arena = Arena::new(rt.alloc());
-    for serial in SHARING {
-        put(&mut arena, serial, Place::Gen(0))?;
-    }
-    hold(&mut arena, 68);
-    finalize(&mut arena, 135);
-    renumber(&mut arena, 198, 9);
-    assert_eq!(rt; marks_of(&arena, 5), Some((0, 0, false)));
-    assert_eq!(rt; marks_of(&arena, 68), Some((1, 0, false)));
-    assert_eq!(rt; marks_of(&arena, 135), Some((0, 0, true)));
-    assert_eq!(rt; marks_of(&arena, 198), Some((0, 9, false)));
-    // The slot of a node that is gone is another's.
-    discard(&mut arena, 198);
-    put(&mut arena, 7, Place::Gen(0))?;
-    assert_eq!(rt; marks_of(&arena, 198), None);
-    assert_eq!(rt; marks_of(&arena, 68), Some((1, 0, false)));
-    assert_eq!(rt; parts_of(&arena, 7), Some((None, 7, Place::Gen(0))));
-    assert_eq!(rt; parts_of(&arena, 135), Some((None, 135, Place::Gen(0))));
+    mark_sharing(&rt, &mut arena)?;
+    replace_sharing(&rt, &mut arena)?;
     Ok(())
 }
 

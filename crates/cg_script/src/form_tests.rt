@@ -287,7 +287,7 @@ macro_rules! assert_last {
 }
 
 #[test]
-fn values(rt: HostRuntime) -> Result<(), Fail> {
+fn texts(rt: HostRuntime) -> Result<(), Fail> {
     assert_last!(
         rt,
         "x = 'x",
@@ -304,6 +304,11 @@ fn values(rt: HostRuntime) -> Result<(), Fail> {
             value: Operand::Str(1)
         })
     );
+    Ok(())
+}
+
+#[test]
+fn numbers_and_locals(rt: HostRuntime) -> Result<(), Fail> {
     assert_last!(
         rt,
         "x = -9223372036854775808",
@@ -353,13 +358,18 @@ fn names(rt: HostRuntime) -> Result<(), Fail> {
 }
 
 #[test]
-fn words_that_may_be_absent(rt: HostRuntime) -> Result<(), Fail> {
+fn generations(rt: HostRuntime) -> Result<(), Fail> {
     assert_last!(rt, "collect", Item::Run(Command::Collect { generation: 2 }));
     assert_last!(
         rt,
         "collect -03",
         Item::Run(Command::Collect { generation: -3 })
     );
+    Ok(())
+}
+
+#[test]
+fn thresholds_and_flags(rt: HostRuntime) -> Result<(), Fail> {
     assert_last!(
         rt,
         "threshold 5 006",
@@ -423,10 +433,15 @@ fn finalizers_in_either_order(rt: HostRuntime) -> Result<(), Fail> {
 }
 
 #[test]
-fn declarations_and_inspections(rt: HostRuntime) -> Result<(), Fail> {
+fn declarations(rt: HostRuntime) -> Result<(), Fail> {
     assert_last!(rt, "profile 1", Item::Profile(1));
     assert_last!(rt, "#\nprofile 02", Item::Profile(2));
     assert_last!(rt, "shutdown", Item::Shutdown);
+    Ok(())
+}
+
+#[test]
+fn inspections(rt: HostRuntime) -> Result<(), Fail> {
     assert_last!(
         rt,
         "del a\nreferents b",
