@@ -287,7 +287,7 @@ macro_rules! assert_last {
 }
 
 #[test]
-fn texts(rt: HostRuntime) -> Result<(), Fail> {
+fn values(rt: HostRuntime) -> Result<(), Fail> {
     assert_last!(
         rt,
         "x = 'x",
@@ -304,11 +304,6 @@ fn texts(rt: HostRuntime) -> Result<(), Fail> {
             value: Operand::Str(1)
         })
     );
-    Ok(())
-}
-
-#[test]
-fn numbers_and_locals(rt: HostRuntime) -> Result<(), Fail> {
     assert_last!(
         rt,
         "x = -9223372036854775808",
@@ -358,18 +353,13 @@ fn names(rt: HostRuntime) -> Result<(), Fail> {
 }
 
 #[test]
-fn generations(rt: HostRuntime) -> Result<(), Fail> {
+fn words_that_may_be_absent(rt: HostRuntime) -> Result<(), Fail> {
     assert_last!(rt, "collect", Item::Run(Command::Collect { generation: 2 }));
     assert_last!(
         rt,
         "collect -03",
         Item::Run(Command::Collect { generation: -3 })
     );
-    Ok(())
-}
-
-#[test]
-fn thresholds_and_flags(rt: HostRuntime) -> Result<(), Fail> {
     assert_last!(
         rt,
         "threshold 5 006",
@@ -433,15 +423,10 @@ fn finalizers_in_either_order(rt: HostRuntime) -> Result<(), Fail> {
 }
 
 #[test]
-fn declarations(rt: HostRuntime) -> Result<(), Fail> {
+fn declarations_and_inspections(rt: HostRuntime) -> Result<(), Fail> {
     assert_last!(rt, "profile 1", Item::Profile(1));
     assert_last!(rt, "#\nprofile 02", Item::Profile(2));
     assert_last!(rt, "shutdown", Item::Shutdown);
-    Ok(())
-}
-
-#[test]
-fn inspections(rt: HostRuntime) -> Result<(), Fail> {
     assert_last!(
         rt,
         "del a\nreferents b",
