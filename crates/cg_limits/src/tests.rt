@@ -320,12 +320,7 @@ fn attempt<B: Kind>(rt: &impl Abort, holder: &mut Holder<B>, trial: Trial) -> Re
 }
 
 /// Tries it on a new heap, which it is lent: a function that owned the heap beside all it asks of it would be proved for minutes.
-fn check<B: Kind>(
-    rt: &impl Abort,
-    alloc: Global,
-    kinds: Vec<B>,
-    trial: Trial,
-) -> Result<(), Fail>
+fn check<B: Kind>(rt: &impl Abort, alloc: Global, kinds: Vec<B>, trial: Trial) -> Result<(), Fail>
     requires kinds { map B.kind kinds.items ≡ six_kinds }
     requires empty { map B.bodies kinds.items ≡ replicate 6 fin.empty }
 {
