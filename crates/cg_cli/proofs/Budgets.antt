@@ -1,18 +1,13 @@
 -- Budgets: in the lines of a script, and in a word.
-use Rattle.std.proofs.Common.{◌≡◌, ◌↔◌, ℕ, ◌+◌, ◌<◌, ◌≤◌, true, ◌&&◌, List, [], ◌∷◌, length, drop, get_or, Option, None, Some, IfSome, Result, Ok, refl, sym, ap, subst, ◌∙◌, arith, rules}
-use Rattle.std.specs.Prelude.{unwrap_or, nat_le}
-use Rattle.std.specs.List.{All, list_all}
-use Rattle.std.specs.Str.Parse.{ParsesUnsigned}
+use Rattle.std.proofs.Common.{◌≡◌, ℕ, ◌≤◌, List, [], ◌∷◌, length, Option, None, Some, IfSome, sym, subst, arith, rules}
+use Rattle.std.specs.Prelude.{unwrap_or}
+use Rattle.std.specs.List.{All}
 use Rattle.std.proofs.lemmas.Bool.Decides.{nat_tests}
-use Rattle.std.proofs.lemmas.List.{drop_more}
 use Rattle.std.proofs.lemmas.List.Elements.{All-head, All-tail}
-use Rattle.std.proofs.lemmas.Str.Parse.{IsDigitsTest, IsNumeralModel, numerals_by_fold, digits_value_short, parse_gives}
 use Rattle.cg_script.specs.declared.Script.{Script}
 use Rattle.cg_script.specs.declared.Item.{Item}
 use Rattle.cg_script.specs.declared.Item.TheVariants.{Budget, Profile, Shutdown, Class, Def, Run}
 use Rattle.cg_script.specs.Spelled.{IsSpelled, IsSpelledItem}
-use Rattle.cg_script.specs.Words.{is_digit, are_digits, decimal_value, decimal_after}
-use Rattle.cg_script.proofs.Ascii.{both}
 use Rattle.cg_script.specs.Items.{declared_budget}
 use Rattle.cg_cli.specs.Statuses.{budget_of}
 

@@ -1,6 +1,6 @@
 -- The lines of a run that was written keep the promises of every run.
-use Rattle.std.proofs.Common.{◌≡◌, ◌⊎◌, inl, inr, ℕ, List, Option, None, Some, IfSome}
-use Rattle.cg_machine.specs.World.{Outcome, Ended, BudgetIsSpent}
+use Rattle.std.proofs.Common.{ℕ, List, Option, None, Some, IfSome}
+use Rattle.cg_machine.specs.World.{Outcome}
 use Rattle.cg_machine.specs.Run.{events_of}
 use Rattle.cg_machine.specs.Laws.{OneFinalizerEach}
 use Rattle.cg_promises.specs.Lines.{NoDeadLines}

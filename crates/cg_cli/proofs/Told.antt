@@ -1,5 +1,5 @@
 -- Facts of a run job where the source tells its bytes.
-use Rattle.std.proofs.Common.{◌≡◌, ◌⊎◌, inl, inr, refl, ◌<◌, ℕ, ◌≤◌, List, length, Option, None, Some, IfSome, sym, subst, arith, codes}
+use Rattle.std.proofs.Common.{◌≡◌, ◌⊎◌, inl, inr, ◌<◌, ℕ, ◌≤◌, List, length, Option, None, Some, IfSome, sym, subst, arith, codes}
 use Rattle.cg_io.specs.Causes.{AppendsFront}
 use Rattle.cg_script.specs.Reading.{reading}
 use Rattle.cg_machine.specs.World.{Outcome}

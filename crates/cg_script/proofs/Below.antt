@@ -34,7 +34,7 @@ below_step : (b any : Bool) (n m : ℕ) → (b || any) ≡ true → (any ≡ tru
 below_step true any n m e r = omega arith
 below_step false any n m e r = let h : n < m = r e in omega arith
 
-any_below : {A : Type 0} (p : A → Bool) (xs : List A) → list_any p xs ≡ true → position_or_len p xs < length xs
+pub any_below : {A : Type 0} (p : A → Bool) (xs : List A) → list_any p xs ≡ true → position_or_len p xs < length xs
 any_below p [] e = absurd (cc)
 any_below p (x ∷ xs) e = below_step (p x) (list_any p xs) _ _ e (any_below p xs)
 

@@ -29,3 +29,4 @@ pub mod ClassRows
 pub mod ReadBack
 pub mod Profiles
 pub mod Found
+pub mod Lexicons

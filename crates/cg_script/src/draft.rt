@@ -10,6 +10,7 @@ ghost use Rattle.cg_script.specs.Views.{known_of, grouped, is_placed, inside_beh
 use crate::command::Command;
 use crate::form::Form;
 use crate::item::{Item, Proc};
+use crate::lexicon::Lexicon;
 use crate::limits::MOST_WORDS;
 use crate::members::{Commands, Items};
 use crate::part::{Parts, Said, names_unknown, read_parts};
@@ -29,7 +30,7 @@ pub(crate) struct Begun {
 #[derive(Drop)]
 pub(crate) struct Draft {
     pub alloc: Global,
-    pub names: Names,
+    pub names: Lexicon,
     pub procs: Names,
     pub classes: Names,
     pub budget: bool,
@@ -48,7 +49,7 @@ pub(crate) fn empty(alloc: Global) -> Draft
 {
     Draft {
         alloc,
-        names: Names::new(alloc),
+        names: Lexicon::new(alloc),
         procs: Names::new(alloc),
         classes: Names::new(alloc),
         budget: false,

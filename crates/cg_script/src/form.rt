@@ -203,7 +203,7 @@ pub(crate) fn word_of(form: Form) -> &'static [u8]
 }
 
 /// The form among these that has a word.
-#[inline(never)]
+#[inline(always)]
 fn form_with(forms: &[Form], word: &[u8]) -> Option<Form>
     ensures { result ≡ named_in (by_words forms.now) word.now }
 {

@@ -287,7 +287,7 @@ macro_rules! assert_last {
 }
 
 #[test]
-fn values(rt: HostRuntime) -> Result<(), Fail> {
+fn strings(rt: HostRuntime) -> Result<(), Fail> {
     assert_last!(
         rt,
         "x = 'x",
@@ -304,6 +304,11 @@ fn values(rt: HostRuntime) -> Result<(), Fail> {
             value: Operand::Str(1)
         })
     );
+    Ok(())
+}
+
+#[test]
+fn numbers_and_locals(rt: HostRuntime) -> Result<(), Fail> {
     assert_last!(
         rt,
         "x = -9223372036854775808",
@@ -325,12 +330,17 @@ fn values(rt: HostRuntime) -> Result<(), Fail> {
 }
 
 #[test]
-fn names(rt: HostRuntime) -> Result<(), Fail> {
+fn classes_by_number(rt: HostRuntime) -> Result<(), Fail> {
     assert_last!(
         rt,
         "class D\nclass C\nx = new C",
         Item::Run(Command::MakeInst { name: 2, class: 1 })
     );
+    Ok(())
+}
+
+#[test]
+fn names_and_callbacks(rt: HostRuntime) -> Result<(), Fail> {
     assert_last!(
         rt,
         "setattr x n 'n",
@@ -353,13 +363,18 @@ fn names(rt: HostRuntime) -> Result<(), Fail> {
 }
 
 #[test]
-fn words_that_may_be_absent(rt: HostRuntime) -> Result<(), Fail> {
+fn generations(rt: HostRuntime) -> Result<(), Fail> {
     assert_last!(rt, "collect", Item::Run(Command::Collect { generation: 2 }));
     assert_last!(
         rt,
         "collect -03",
         Item::Run(Command::Collect { generation: -3 })
     );
+    Ok(())
+}
+
+#[test]
+fn words_that_may_be_absent(rt: HostRuntime) -> Result<(), Fail> {
     assert_last!(
         rt,
         "threshold 5 006",
@@ -423,10 +438,21 @@ fn finalizers_in_either_order(rt: HostRuntime) -> Result<(), Fail> {
 }
 
 #[test]
-fn declarations_and_inspections(rt: HostRuntime) -> Result<(), Fail> {
+fn profiles(rt: HostRuntime) -> Result<(), Fail> {
     assert_last!(rt, "profile 1", Item::Profile(1));
     assert_last!(rt, "#\nprofile 02", Item::Profile(2));
+    Ok(())
+}
+
+#[test]
+fn shutdown_and_why(rt: HostRuntime) -> Result<(), Fail> {
     assert_last!(rt, "shutdown", Item::Shutdown);
+    assert_last!(rt, "del a\nwhy b", Item::Run(Command::Why { name: 1 }));
+    Ok(())
+}
+
+#[test]
+fn inspections(rt: HostRuntime) -> Result<(), Fail> {
     assert_last!(
         rt,
         "del a\nreferents b",
@@ -441,7 +467,6 @@ fn declarations_and_inspections(rt: HostRuntime) -> Result<(), Fail> {
             value: Operand::Garbage
         })
     );
-    assert_last!(rt, "del a\nwhy b", Item::Run(Command::Why { name: 1 }));
     Ok(())
 }
 

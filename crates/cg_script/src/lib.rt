@@ -12,6 +12,7 @@ mod form;
 mod index;
 mod item;
 mod laws;
+mod lexicon;
 mod limits;
 mod line;
 mod members;

@@ -12,6 +12,7 @@ ghost use Rattle.cg_script.specs.Parts.{text_in, with_text_if, value_text, opera
 use crate::command::{Command, Operand};
 use crate::form::{Form, Sort, row_for, sort_in};
 use crate::item::Item;
+use crate::lexicon::Lexicon;
 use crate::limits::{MOST_BUDGET, MOST_COUNT, MOST_WORDS};
 use crate::line::WORD_COUNT;
 use crate::word::{
@@ -61,7 +62,7 @@ pub enum Said {
 pub(crate) type Parts = Vec<Part>;
 
 /// What a string stands for, unless it is not printable.
-fn read_string(word: &[u8], names: &mut Names) -> Result<Option<Operand>, AllocError>
+fn read_string(word: &[u8], names: &mut Lexicon) -> Result<Option<Operand>, AllocError>
     requires quoted { is_quoted word.now ≡ true }
     requires room { length names.old < 2 ^ 32 - 1 }
     ensures operand { IfOk result (λ operand. operand ≡ (if list_all is_printable word.now then Some (Str (text_number names.old (string_text word.now))) else None)) }
@@ -74,7 +75,7 @@ fn read_string(word: &[u8], names: &mut Names) -> Result<Option<Operand>, AllocE
 }
 
 /// What a word that is no value of its own and begins as a name stands for where it is a variable.
-fn read_name(word: &[u8], names: &mut Names) -> Result<Option<Operand>, AllocError>
+fn read_name(word: &[u8], names: &mut Lexicon) -> Result<Option<Operand>, AllocError>
     requires other { named_in atoms word.now ≡ None }
     requires begins { begins_name (slice_index word.now 0) ≡ true }
     requires room { length names.old < 2 ^ 32 - 1 }
@@ -84,7 +85,7 @@ fn read_name(word: &[u8], names: &mut Names) -> Result<Option<Operand>, AllocErr
     if !is_free_name(word) {
         return Ok(None);
     }
-    Ok(Some(Operand::Name(names.intern(text_of_identifier(word))?)))
+    Ok(Some(Operand::Name(names.learn(word)?)))
 }
 
 fn read_whole(word: &[u8]) -> Option<Operand>
@@ -97,11 +98,14 @@ fn read_whole(word: &[u8]) -> Option<Operand>
 }
 
 /// What a word stands for where it is a value; its text goes to the names.
-fn read_value(word: &[u8], names: &mut Names) -> Result<Option<Operand>, AllocError>
+fn read_value(word: &[u8], names: &mut Lexicon) -> Result<Option<Operand>, AllocError>
     requires room { length names.old < 2 ^ 32 - 1 }
     ensures operand { IfOk result (λ operand. operand ≡ (if is_value word.now then Some (operand_or (named_in atoms word.now) names.old word.now) else None)) }
     ensures texts { OnOk result (is_value word.now ≡ true → names.new ≡ with_text_if names.old (value_text (named_in atoms word.now) word.now)) }
 {
+    if let Some(number) = names.remembered(word) {
+        return Ok(Some(Operand::Name(number)));
+    }
     if let Some(operand) = atom(word) {
         return Ok(Some(operand));
     }
@@ -172,14 +176,35 @@ fn read_finalizer(procs: &Names, word: &[u8]) -> Option<Part>
     Some(finalizer_in(procs, word))
 }
 
-/// What a word stands for where it may name a variable, an attribute, a procedure or a class; its text goes to the names.
-fn read_text(fits: bool, word: &[u8], names: &mut Names) -> Result<Option<Part>, AllocError>
-    requires name { fits ≡ true → is_identifier word.now ≡ true }
+/// What a word stands for where it may name a variable; its text goes to the names.
+#[inline(always)]
+fn read_variable(word: &[u8], names: &mut Lexicon) -> Result<Option<Part>, AllocError>
     requires room { length names.old < 2 ^ 32 - 1 }
-    ensures part { IfOk result (λ part. part ≡ (if fits then Some (Text (text_number names.old word.now)) else None)) }
-    ensures texts { OnOk result (fits ≡ true → names.new ≡ with_text names.old word.now) }
+    ensures part { IfOk result (λ part. part ≡ (if is_variable word.now then Some (Text (text_number names.old word.now)) else None)) }
+    ensures texts { OnOk result (is_variable word.now ≡ true → names.new ≡ with_text names.old word.now) }
 {
-    if !fits {
+    if let Some(number) = names.remembered(word) {
+        return Ok(Some(Part::Text(number)));
+    }
+    if !is_variable(word) {
+        return Ok(None);
+    }
+    Ok(Some(Part::Text(names.learn(word)?)))
+}
+
+/// What a word stands for where it may name an attribute, a procedure or a class; its text goes to the names.
+fn read_identifier(word: &[u8], names: &mut Lexicon) -> Result<Option<Part>, AllocError>
+    requires room { length names.old < 2 ^ 32 - 1 }
+    ensures part { IfOk result (λ part. part ≡ (if is_identifier word.now then Some (Text (text_number names.old word.now)) else None)) }
+    ensures texts { OnOk result (is_identifier word.now ≡ true → names.new ≡ with_text names.old word.now) }
+{
+    if let Some(number) = names.remembered(word) {
+        return Ok(Some(Part::Text(number)));
+    }
+    if is_variable(word) {
+        return Ok(Some(Part::Text(names.learn(word)?)));
+    }
+    if !is_identifier_word(word) {
         return Ok(None);
     }
     Ok(Some(Part::Text(names.intern(text_of_identifier(word))?)))
@@ -198,7 +223,7 @@ fn read_count(fits: bool, word: &[u8]) -> Option<Part>
 }
 
 /// What a word stands for where it is a value.
-fn read_value_part(word: &[u8], names: &mut Names) -> Result<Option<Part>, AllocError>
+fn read_value_part(word: &[u8], names: &mut Lexicon) -> Result<Option<Part>, AllocError>
     requires room { length names.old < 2 ^ 32 - 1 }
     ensures part { IfOk result (λ part. part ≡ (if is_value word.now then Some (ValueOf (operand_or (named_in atoms word.now) names.old word.now)) else None)) }
     ensures texts { OnOk result (is_value word.now ≡ true → names.new ≡ with_text_if names.old (value_text (named_in atoms word.now) word.now)) }
@@ -231,7 +256,7 @@ fn read_flag(word: &[u8]) -> Option<Part>
 fn read_part(
     sort: Sort,
     word: &[u8],
-    names: &mut Names,
+    names: &mut Lexicon,
     procs: &Names,
     classes: &Names,
 ) -> Result<Option<Part>, AllocError>
@@ -241,8 +266,8 @@ fn read_part(
 {
     match sort {
         Sort::Key => Ok(Some(Part::Bare)),
-        Sort::Variable => read_text(is_variable(word), word, names),
-        Sort::Name => read_text(is_identifier_word(word), word, names),
+        Sort::Variable => read_variable(word, names),
+        Sort::Name => read_identifier(word, names),
         Sort::Class => Ok(read_defined(classes, word)),
         Sort::Proc => Ok(read_defined(procs, word)),
         Sort::Finalizer => Ok(read_finalizer(procs, word)),
@@ -275,7 +300,7 @@ pub(crate) fn read_parts(
     parts: &mut Parts,
     form: Form,
     words: &[&[u8]],
-    names: &mut Names,
+    names: &mut Lexicon,
     procs: &Names,
     classes: &Names,
 ) -> Result<Option<u8>, AllocError>

@@ -93,7 +93,7 @@ fn finish(draft: Draft, number: u32) -> Result<Script, ScriptFault>
         });
     }
     Ok(Script {
-        names: draft.names,
+        names: draft.names.into_names(),
         items: draft.items,
     })
 }

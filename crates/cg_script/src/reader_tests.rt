@@ -51,6 +51,15 @@ fn good_scripts(rt: HostRuntime) -> Result<(), Fail> {
             "a234567890123456789012345678901_ = list",
             "make a234567890123456789012345678901_ 0; ",
         ),
+        // Names whose last bytes are the same.
+        (
+            "aabc = list\nbabc = list\naabc = list\ndel babc\ndel aabc",
+            "make aabc 0; make babc 1; make aabc 0; del babc 1; del aabc 0; ",
+        ),
+        (
+            "ab = list\nab = list\ndel ab",
+            "make ab 0; make ab 0; del ab 0; ",
+        ),
     ] {
         assert_eq!(rt;
             told(rt.alloc(), script.as_bytes())?.as_str(),
@@ -87,6 +96,8 @@ fn bad_lines(rt: HostRuntime) -> Result<(), Fail> {
         ("del c7", "bad 1 4"),
         ("9a = list", "bad 1 4"),
         ("a-b = list", "bad 1 4"),
+        ("mist = list\nlist = list", "bad 2 4"),
+        ("ab1 = list\n1ab1 = list", "bad 2 4"),
         ("a2345678901234567890123456789012x = list", "bad 1 4"),
         ("9 = dict", "bad 1 4"),
         ("9 = list 1", "bad 1 4"),

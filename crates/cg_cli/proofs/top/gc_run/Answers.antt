@@ -1,4 +1,4 @@
-use Rattle.std.proofs.Common.{◌≡◌, ◌∙◌, sym, inl, inr, Option, Some}
+use Rattle.std.proofs.Common.{◌≡◌, ◌∙◌, sym, inl, inr, Some}
 use Rattle.cg_machine.specs.World.{Ended, BudgetIsSpent}
 use Rattle.cg_words.specs.declared.words.Job.TheVariants.{Run, Generate, Expand, Record}
 use Rattle.cg_cli.proofs.KeptLines.{told_kept}

@@ -1,4 +1,4 @@
-use Rattle.std.proofs.Common.{sym, subst, inl, [], None, Ok}
+use Rattle.std.proofs.Common.{sym, subst, inl, None, Ok}
 use Rattle.std.specs.Prelude.{option_to_list}
 use Rattle.cg_value.specs.declared.Val.TheVariants as val_of
 use Rattle.cg_graph.specs.Value.{item}
