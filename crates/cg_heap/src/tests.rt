@@ -460,6 +460,18 @@ fn look<B: Kind>(rt: &impl Abort, holder: &Holder<B>, step: Step) -> Answer {
     }
 }
 
+/// Takes a heap through the steps.
+fn follow<B: Kind>(
+    rt: &impl Abort,
+    holder: &mut Holder<B>,
+    rows: &[(Step, Answer)],
+) -> Result<(), Fail> {
+    'rows: for (step, answer) in rows {
+        assert_eq!(rt; change(rt, holder, *step)?, *answer, "at {step:?}");
+    }
+    Ok(())
+}
+
 /// Takes a new heap through the steps.
 fn drive<B: Kind>(
     rt: &impl Abort,
@@ -471,10 +483,7 @@ fn drive<B: Kind>(
     requires empty { map B.bodies kinds.items ≡ replicate 6 fin.empty }
 {
     let mut holder = Holder::new(alloc, kinds, 0)?;
-    'rows: for (step, answer) in rows {
-        assert_eq!(rt; change(rt, &mut holder, *step)?, *answer, "at {step:?}");
-    }
-    Ok(())
+    follow(rt, &mut holder, rows)
 }
 
 const LIST: Val = Val::Ref(2);

@@ -5,9 +5,8 @@ use crate::{
 use std::test::Fail;
 
 #[test]
-fn members_in_order(rt: HostRuntime) -> Result<(), Fail> {
-    let alloc = rt.alloc();
-    let mut words = Vec::new(alloc);
+fn operands_in_order(rt: HostRuntime) -> Result<(), Fail> {
+    let mut words = Vec::new(rt.alloc());
     words.push(Operand::Int(-1))?;
     words.push(Operand::Garbage)?;
     let operands = Operands::new(words);
@@ -15,7 +14,12 @@ fn members_in_order(rt: HostRuntime) -> Result<(), Fail> {
         operands.as_slice(),
         [Operand::Int(-1), Operand::Garbage].as_slice()
     );
-    let mut body = Vec::new(alloc);
+    Ok(())
+}
+
+#[test]
+fn commands_in_order(rt: HostRuntime) -> Result<(), Fail> {
+    let mut body = Vec::new(rt.alloc());
     body.push(Command::Del { name: 7 })?;
     body.push(Command::Freeze)?;
     let commands = Commands::new(body);
@@ -25,6 +29,12 @@ fn members_in_order(rt: HostRuntime) -> Result<(), Fail> {
             [Command::Del { name: 7 }, Command::Freeze]
         )
     );
+    Ok(())
+}
+
+#[test]
+fn items_in_order(rt: HostRuntime) -> Result<(), Fail> {
+    let alloc = rt.alloc();
     let mut lines = Vec::new(alloc);
     lines.push(Item::Budget(3))?;
     lines.push(Item::Run(Command::Count))?;
