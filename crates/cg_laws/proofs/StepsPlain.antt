@@ -65,17 +65,17 @@ module _ (script : Script) (below : List Activity) (v : World) (top : Activity) 
   list_place x y (IsRevived f e) i p = absurd (finalizes_other script below v top x.serial f c i)
   list_place x y (IsPlaced d is k) i p = absurd (no_collection_here (ap is_collection is))
 
-  changed_list : (before after : List Object) → HasChanged top before after → KeepsList before after
-  changed_list before after (NothingChanges objects) = same_list objects
-  changed_list before after (ChangesEach f test objects aside) = λ y m e.
-      let x = asides top f test objects aside y m in
+  changed_list : (tops : List Activity) (lines : List Event) (before after : List Object) → HasChanged top tops lines before after → KeepsList before after
+  changed_list tops lines before after (NothingChanges objects) = same_list objects
+  changed_list tops lines before after (ChangesEach f test objects aside) = λ y m e.
+      let x = asides top tops lines f test objects aside y m in
       let i : x.0.serial ≡ 1 = sym x.2.later.serial ∙ e in
       record { was = x.0; member = x.1; serial = i; code = x.2.later.code; place = list_place x.0 y x.2.moved i; names = λ o h. subst (λ es. ¬ Includes (references es) o) (sym x.2.entries) (h x.0 x.1 i) }
-  changed_list before after (LosesEntries es s objects owns fewer) = list_kept (with_entries es) s objects (λ x. refl) (λ x m i e.
+  changed_list tops lines before after (LosesEntries es s objects owns fewer) = list_kept (with_entries es) s objects (λ x. refl) (λ x m i e.
       record { was = x; member = m; serial = e; code = refl; place = λ p. p; names = λ o h k. entries_name_not objects o h (subst (λ n. Includes (references (entries_of objects n)) o) (sym i ∙ e) (fewer_references es (entries_of objects s) fewer o k)) })
-  changed_list before after (GetsEntry o objects is) = absurd (no_collection_here is)
-  changed_list before after (LosesObject o objects owns) = without_kept o objects
-  changed_list before after (Followed first now last h k) = list_trans first now last (changed_list first now h) (changed_list now last k)
+  changed_list tops lines before after (GetsEntry o objects is) = absurd (no_collection_here is)
+  changed_list tops lines before after (LosesObject o objects owns line) = without_kept o objects
+  changed_list tops lines before after (Followed first now last h k) = list_trans first now last (changed_list tops lines first now h) (changed_list tops lines now last k)
 
 -- what goes on is no collection where the top is none
 continues_alone : (before after : List Object) (top a : Activity) → Continues before after top a → is_collection a ≡ is_collection top
@@ -92,9 +92,9 @@ tops_alone before after top tops below (TopGoesOn t a c held) none = with_alone 
 tops_alone before after top tops below (GivesReferences t a references few c held) none = with_alone (Releasing references) below (a ∷ below) refl (with_alone a below below (continues_alone before after t a c ∙ none) (below_alone below))
 
 advance_plain : (script : Script) (below : List Activity) (v : World) (top : Activity) → Calm script (on top below v) → (lines : List Event) (after : World) → Advance script v top below lines after → is_collection top ≡ false → IsPlain v.objects below after
-advance_plain script below v top c lines after (Plainly tops objects numbers ls t h n shown) none = record { stack = tops_alone v.objects objects top tops below t none; list = changed_list script below v top none c v.objects objects h }
+advance_plain script below v top c lines after (Plainly tops objects numbers ls t h n shown) none = record { stack = tops_alone v.objects objects top tops below t none; list = changed_list script below v top none c tops ls v.objects objects h }
 advance_plain script below v top c lines after (WithFrame spec a objects s g held h) none =
-    starts_plain script spec v.objects below (record v { objects = objects; stack = a ∷ below }) (record { stack = tops_alone v.objects objects top (a ∷ []) below (TopGoesOn top a g held) none; list = changed_list script below v top none c v.objects objects h })
+    starts_plain script spec v.objects below (record v { objects = objects; stack = a ∷ below }) (record { stack = tops_alone v.objects objects top (a ∷ []) below (TopGoesOn top a g held) none; list = changed_list script below v top none c [] [] v.objects objects h })
 
 -- commands are no collection
 no_collection : (a : Activity) → HasCommands a → is_collection a ≡ false

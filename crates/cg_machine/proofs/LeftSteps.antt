@@ -52,15 +52,15 @@ module _ (script : Script) (below : List Activity) (v : World) where
   owner_may_change top s (OfTurn g o e) c h = held_may_change (on top below v) top below o refl (subst (λ p. Includes (collect_holds p) o) (sym e) (inl refl)) (λ k. (h.turns g (inl refl) o e).0 (Includes-append_right (collection_waits g.phase) (all_waits below) o k))
 
   module _ (top : Activity) (c : Calm script (on top below v)) (h : HasOrder (on top below v)) where
-    changed_from : (before after : List Object) → HasChanged top before after → AreFrom (on top below v) below before after
-    changed_from before after (NothingChanges objects) = from_refl (on top below v) below objects
-    changed_from before after (ChangesEach f test objects aside) = λ y m. let x = asides top f test objects aside y m in record { was = x.0; member = x.1; later = x.2.later; entries = inl x.2.entries; place = moved_place top below x.0 y x.2.moved }
-    changed_from before after (LosesEntries es s objects owns fewer) = from_entries (on top below v) below es s (owner_may_change top s owns c h) objects
-    changed_from before after (GetsEntry o objects is) = from_saved (on top below v) below o (garbage_may_change (on top below v) top below refl h) objects
-    changed_from before after (LosesObject o objects owns) = from_without (on top below v) below o objects
-    changed_from before after (Followed first now last a b) = from_trans (on top below v) below first now last (changed_from first now a) (changed_from now last b)
+    changed_from : (tops : List Activity) (lines : List Event) (before after : List Object) → HasChanged top tops lines before after → AreFrom (on top below v) below before after
+    changed_from tops lines before after (NothingChanges objects) = from_refl (on top below v) below objects
+    changed_from tops lines before after (ChangesEach f test objects aside) = λ y m. let x = asides top tops lines f test objects aside y m in record { was = x.0; member = x.1; later = x.2.later; entries = inl x.2.entries; place = moved_place top below x.0 y x.2.moved }
+    changed_from tops lines before after (LosesEntries es s objects owns fewer) = from_entries (on top below v) below es s (owner_may_change top s owns c h) objects
+    changed_from tops lines before after (GetsEntry o objects is) = from_saved (on top below v) below o (garbage_may_change (on top below v) top below refl h) objects
+    changed_from tops lines before after (LosesObject o objects owns line) = from_without (on top below v) below o objects
+    changed_from tops lines before after (Followed first now last a b) = from_trans (on top below v) below first now last (changed_from tops lines first now a) (changed_from tops lines now last b)
 
     pub advance_leaves : (lines : List Event) (after : World) → Advance script v top below lines after → LeavesIt (on top below v) below after
-    advance_leaves lines after (Plainly tops objects numbers ls t a n none) = leaves_from (on top below v) below (record v { objects = objects; numbers = numbers; stack = tops ++ below }) tops refl (changed_from v.objects objects a)
+    advance_leaves lines after (Plainly tops objects numbers ls t a n none) = leaves_from (on top below v) below (record v { objects = objects; numbers = numbers; stack = tops ++ below }) tops refl (changed_from tops ls v.objects objects a)
     advance_leaves lines after (WithFrame spec a objects s g held m) = starts_leaves script spec (on top below v) below (record v { objects = objects; stack = a ∷ below })
-        (leaves_from (on top below v) below (record v { objects = objects; stack = a ∷ below }) (a ∷ []) refl (changed_from v.objects objects m))
+        (leaves_from (on top below v) below (record v { objects = objects; stack = a ∷ below }) (a ∷ []) refl (changed_from [] [] v.objects objects m))

@@ -36,6 +36,8 @@ pub mod RunsOrderly
 pub mod Left
 pub mod LeftSteps
 pub mod LeftRuns
+pub mod Pointwise
+pub mod There
 pub mod Advances
 pub mod Advancing
 pub mod Rooms

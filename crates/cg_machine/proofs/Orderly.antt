@@ -282,7 +282,7 @@ turns_more a b s objects names below h held death more new is apart turn clearin
         omega (arith, all, sum weak, one, count_cons weak s [], occurrences-append weak (waits_of a) (all_waits below))
 
 -- what waits is held
-waits_are_held : (a : Activity) (weak : ℕ) → Includes (waits_of a) weak → Includes (holds a) weak
+pub waits_are_held : (a : Activity) (weak : ℕ) → Includes (waits_of a) weak → Includes (holds a) weak
 waits_are_held (TopLevel commands) weak m = absurd m
 waits_are_held (Framed f) weak m = absurd m
 waits_are_held (Releasing references) weak m = absurd m

@@ -139,15 +139,15 @@ module _ (script : Script) (below : List Activity) (v : World) (rises : Rises 1 
   tops_known after top tops (TopGoesOn b a c held) k r = continues_known after b a c k r
   tops_known after top tops (GivesReferences b a references few c held) k r = (tt, continues_known after b a c k r)
 
-  frame_known : (after : List Object) (top a : Activity) (spec : FrameSpec) → FrameOf v.objects after top a spec → HasChanged top v.objects after → HasOrder (on top below v) → KnowsFunction after spec.sort spec.subject spec.func (a ∷ below)
-  frame_known after top a spec (OfFinalizer o p) c h = refl
-  frame_known after top a spec (OfLegacy o p) c h = refl
+  frame_known : (after : List Object) (top a : Activity) (spec : FrameSpec) → FrameOf script v.objects after top a spec → HasChanged top [] [] v.objects after → HasOrder (on top below v) → KnowsFunction after spec.sort spec.subject spec.func (a ∷ below)
+  frame_known after top a spec (OfFinalizer o p e marks) c h = refl
+  frame_known after top a spec (OfLegacy o p e) c h = refl
   frame_known after top a spec (OfCallback weak p waits held) c h = (
     called,
     refl,
     record {
       functions = λ y m e.
-          let x = changed_origin top v.objects after c y m in
+          let x = changed_origin top [] [] v.objects after c y m in
           let code : y.code ≡ x.0.code = x.2.code in
           let same : is_function y ≡ is_function x.0 = cc in
           same ∙ callback_functions (on top below v) rises h weak waits_there x.0 x.1 (sym x.2.serial ∙ e);

@@ -26,7 +26,7 @@ use Rattle.cg_promises.proofs.MindedRuns.{minded_after, opening_minded}
 use Rattle.cg_promises.proofs.Sealed.{Clears, Excused, IsOutOf}
 use Rattle.cg_promises.proofs.SealedRuns.{IsSealedWorld, sealed_after, step_keeps_on}
 use Rattle.cg_promises.proofs.Sealing.{starts_sealed_world}
-use Rattle.cg_promises.proofs.ToldCollections.{filter_lives}
+use Rattle.cg_machine.proofs.There.{filter_lives}
 use Rattle.cg_promises.proofs.ToldRuns.{Fit, opening_fit, run_back, run_front, run_fit, step_fit, step_goes}
 
 -- a death on a stack

@@ -9,13 +9,13 @@ use Rattle.cg_graph.specs.Value.{item, references}
 use Rattle.cg_graph.specs.Object.{Object, is_at, with_entries, with_place}
 use Rattle.cg_graph.proofs.Members.{either, Includes-map}
 use Rattle.cg_machine.specs.declared.event.Event.{Event}
-use Rattle.cg_machine.specs.declared.event.Event.TheVariants.{BudgetSpent, Enter, GcStop}
+use Rattle.cg_machine.specs.declared.event.Event.TheVariants.{BudgetSpent, Enter, Free, GcStop}
 use Rattle.cg_machine.specs.World.{World, Activity, TopLevel, Framed, Releasing, Dying, Collecting, Collection, CollectPhase, Start, Ending, with_stack, ShuttingDown}
 use Rattle.cg_machine.specs.Holdings.{collect_holds}
 use Rattle.cg_machine.specs.Collect.{all_saved, older, saved, EndStep, PhaseStep}
 use Rattle.cg_machine.specs.Run.{StepOf}
 use Rattle.cg_machine.specs.Laws.{is_stop}
-use Rattle.cg_machine.proofs.Advances.{Advance, Plainly, WithFrame, IsEnding, IsLineOf}
+use Rattle.cg_machine.proofs.Advances.{Advance, Plainly, WithFrame, IsEnding, IsLineOf, AreLinesOf, Shows, Frees}
 use Rattle.cg_machine.proofs.Starting.{starts_either}
 use Rattle.cg_machine.proofs.Advancing.{released_advances, dying_advances, phase_advances}
 use Rattle.cg_promises.proofs.FullRuns.{IsRoot, reached_lasts, root_down}
@@ -27,15 +27,19 @@ abbrev pub NoStop : List Event → Type 0
 NoStop events = (event : Event) → Includes events event → is_stop event ≡ false
 
 -- A step of an activity without commands stops none, but for the end of a collection.
-quiet_line : (top : Activity) (event : Event) → (IsEnding top → ⊥) → IsLineOf top event → is_stop event ≡ false
-quiet_line top (GcStop g collected found) on h = absurd (on h)
-quiet_line top event on h = refl
+quiet_line : (after : List Object) (top : Activity) (event : Event) → (IsEnding top → ⊥) → IsLineOf after top event → is_stop event ≡ false
+quiet_line after top (GcStop g collected found) on h = absurd (on h)
+quiet_line after top event on h = refl
 
 one_event : (event : Event) → is_stop event ≡ false → NoStop (event ∷ [])
 one_event event e x m = either m (λ i. subst (λ z. is_stop z ≡ false) i e) (λ k. absurd k)
 
+quiet_lines : (before after : List Object) (top : Activity) (lines : List Event) → (IsEnding top → ⊥) → AreLinesOf before after top lines → NoStop lines
+quiet_lines before after top lines on (Shows ls h) = λ event m. quiet_line after top event on (h event m).0
+quiet_lines before after top lines on (Frees o dies gone) = one_event (Free o) refl
+
 advance_quiet : (script : Script) (v : World) (top : Activity) (below : List Activity) (lines : List Event) (after : World) → (IsEnding top → ⊥) → Advance script v top below lines after → NoStop lines
-advance_quiet script v top below lines after on (Plainly tops objects numbers ls t c n shown) = λ event m. quiet_line top event on (shown event m)
+advance_quiet script v top below lines after on (Plainly tops objects numbers ls t c n shown) = quiet_lines v.objects objects top ls on shown
 advance_quiet script v top below lines after on (WithFrame spec a objects s c held m) = starts_either (λ es w. NoStop es) script spec (record v { objects = objects; stack = a ∷ below }) (one_event BudgetSpent refl) (λ some. one_event (Enter spec.sort spec.subject) refl)
 
 at_end : (phase : CollectPhase) → (phase ≡ Ending) ⊎ (phase ≢ Ending)

@@ -177,10 +177,10 @@ module _ (script : Script) (budget : ℕ) where
     may (Framed f ∷ below) top taken = let k = by_frame f f.commands refl below (due (on (Framed f) below (world before))) refl taken in (k.0, none_due (Framed f ∷ below) top k.1)
     may (ShuttingDown started ∷ below) top taken = unchanged _ taken.1 (shut_objects started (greatest_bound (on (ShuttingDown started) below (world before))) below (on (ShuttingDown started) below (world before)))
     may (Releasing refs ∷ below) top taken = let z = released_lengthens refs below script (world before) y (subst (λ (w : World). Includes w.objects y) taken.1 my) in
-        either z.3 (λ l. shorter (subst (λ q. IsLengthened q y) (is_x z.0 z.1 z.2) l)) (λ no. no)
+        either z.2.1 (λ l. shorter (subst (λ q. IsLengthened q y) (is_x z.0 z.1 z.2.0) l)) (λ no. no)
     may (Dying d ∷ below) top taken =
         let z = dying_takes script d.object below (world before) d.phase y (subst (λ (w : World). Includes w.objects y) taken.1 my) in
-        either z.3 (λ l. absurd (shorter (subst (λ q. IsLengthened q y) (is_x z.0 z.1 z.2) l)))
+        either z.2.1 (λ l. absurd (shorter (subst (λ q. IsLengthened q y) (is_x z.0 z.1 z.2.0) l)))
         (λ e. either e (λ own. inl (own ∙ sym same))
         (λ called. let waits = calls_waits d.phase x.serial (subst (CallsBack d.phase) (sym same) called) in
         inr (
@@ -189,7 +189,7 @@ module _ (script : Script) (budget : ℕ) where
         )))
     may (Collecting c ∷ below) top taken =
         let z = phase_takes script c below (world before) c.phase step.events step.world taken y my in
-        either z.3 (λ l. shorter (subst (λ q. IsLengthened q y) (is_x z.0 z.1 z.2) l))
+        either z.2.1 (λ l. shorter (subst (λ q. IsLengthened q y) (is_x z.0 z.1 z.2.0) l))
         (λ turn. never (subst (WasFinal script budget before) (sym same) (subst (λ p. FinalAt (WasFinal script budget before) c p (world before).objects) turn (past.final c (subst (λ st. Includes st (Collecting c)) (sym top) (inl refl)))).1))
 
 pub entries_leave : EntriesLeaveOnlyBy

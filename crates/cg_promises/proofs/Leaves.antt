@@ -16,13 +16,17 @@ use Rattle.cg_machine.specs.Frame.{released}
 use Rattle.cg_machine.specs.Dying.{death_at, dying}
 use Rattle.cg_machine.specs.Collect.{collection_at, PhaseStep}
 use Rattle.cg_machine.specs.Laws.{IsLengthened}
-use Rattle.cg_machine.proofs.Advances.{Advance, Plainly, WithFrame, HasChanged, NothingChanges, ChangesEach, LosesEntries, GetsEntry, LosesObject, Followed, Owns, OfEmptied, OfCalled, OfTurn, asides}
+use Rattle.cg_machine.proofs.Advances.{Advance, Plainly, WithFrame, HasChanged, Owns, OfEmptied, OfCalled, OfTurn, changed_came}
+use Rattle.cg_machine.proofs.Pointwise.{IsOrder, Came}
 use Rattle.cg_machine.proofs.Starting.{starts_either}
 use Rattle.cg_machine.proofs.Advancing.{released_advances, dying_advances, phase_advances}
 
 -- each object has the entries that it had, and perhaps more, but for some
+abbrev pub Longer : (ℕ → Type 0) → Object → Object → Type 0
+Longer Except x y = (x.serial ≡ y.serial) × (IsLengthened x y ⊎ Except y.serial)
+
 abbrev pub Lengthens : (ℕ → Type 0) → List Object → List Object → Type 0
-Lengthens Except before after = (y : Object) → Includes after y → (x : Object) × Includes before x × (x.serial ≡ y.serial) × (IsLengthened x y ⊎ Except y.serial)
+Lengthens Except before after = Came (Longer Except) before after
 
 abbrev pub Nowhere : ℕ → Type 0
 Nowhere n = ⊥
@@ -30,36 +34,25 @@ Nowhere n = ⊥
 same_entries : (x y : Object) → y.entries ≡ x.entries → IsLengthened x y
 same_entries x y e = ([], e ∙ sym (append-nil x.entries))
 
-if_lengthens : (Except : ℕ → Type 0) (f : Object → Object) (test : Object → Bool) (objects : List Object) → ((x : Object) → (f x).serial ≡ x.serial) → ((x : Object) → test x ≡ true → IsLengthened x (f x) ⊎ Except x.serial) → Lengthens Except objects (map (λ x. if test x then f x else x) objects)
-if_lengthens Except f test objects serial longer y m =
-    let x = Includes-map_cases (λ x. if test x then f x else x) objects y m in
-    let k = subst (λ z. (x.0.serial ≡ z.serial) × (IsLengthened x.0 z ⊎ Except z.serial)) x.2 (one (test x.0) x.0 refl) in
-    (x.0, x.1, k.0, k.1)
-  where
-    one : (b : Bool) (x : Object) → test x ≡ b → (let z : Object = if b then f x else x in (x.serial ≡ z.serial) × (IsLengthened x z ⊎ Except z.serial))
-    one true x t = (sym (serial x), either (longer x t) (λ l. inl l) (λ e. inr (subst Except (sym (serial x)) e)))
-    one false x t = (refl, inl (same_entries x x refl))
+longer_order : (Except : ℕ → Type 0) → IsOrder (Longer Except)
+longer_order Except = record {
+  same = λ x. (refl, inl (same_entries x x refl));
+  trans = λ x y z h k. (h.0 ∙ k.0, either k.1 (λ l. either h.1 (λ j. inl (j.0 ++ l.0, l.1 ∙ ap (λ es. es ++ l.0) j.1 ∙ append_assoc x.entries j.0 l.0)) (λ o. inr (subst Except k.0 o))) (λ o. inr o));
+}
 
 -- the objects change
-changed_lengthens : (top : Activity) (before after : List Object) → HasChanged top before after → Lengthens (Owns top) before after
-changed_lengthens top before after (NothingChanges objects) = λ y m. (y, m, refl, inl (same_entries y y refl))
-changed_lengthens top before after (ChangesEach f test objects aside) = λ y m. let x = asides top f test objects aside y m in (x.0, x.1, sym x.2.later.serial, inl (same_entries x.0 y x.2.entries))
-changed_lengthens top before after (LosesEntries es s objects owns fewer) = if_lengthens (Owns top) (with_entries es) (λ x. x.serial == s) objects (λ x. refl) (λ x t. inr (subst (Owns top) (sym (eqb-true x.serial s t)) owns))
-changed_lengthens top before after (GetsEntry o objects is) = if_lengthens (Owns top) (λ x. with_entries (x.entries ++ item (Ref o) ∷ []) x) (λ x. x.serial == 1) objects (λ x. refl) (λ x t. inl (item (Ref o) ∷ [], refl))
-changed_lengthens top before after (LosesObject o objects owns) = λ y m. (y, (Includes-filter_cases (λ x. not (x.serial == o)) objects y m).0, refl, inl (same_entries y y refl))
-changed_lengthens top before after (Followed first now last h k) = λ y m.
-    let a = changed_lengthens top now last k y m in
-    let b = changed_lengthens top first now h a.0 a.1 in
-    (b.0, b.1, b.2 ∙ a.2, either a.3 (λ l. either b.3 (λ j. inl (j.0 ++ l.0, l.1 ∙ ap (λ es. es ++ l.0) j.1 ∙ append_assoc b.0.entries j.0 l.0)) (λ o. inr (subst (Owns top) a.2 o))) (λ o. inr o))
+changed_lengthens : (top : Activity) (tops : List Activity) (lines : List Event) (before after : List Object) → HasChanged top tops lines before after → Lengthens (Owns top) before after
+changed_lengthens top tops lines = changed_came (Longer (Owns top)) (longer_order (Owns top)) top tops lines (λ x y k. (sym k.later.serial, inl (same_entries x y k.entries)))
+    (λ objects s es owns fewer x m e. (refl, inr (subst (Owns top) (sym e) owns))) (λ is o x e. (refl, inl (item (Ref o) ∷ [], refl)))
 
 advance_lengthens : (script : Script) (v : World) (top : Activity) (below : List Activity) (lines : List Event) (after : World) → Advance script v top below lines after → Lengthens (Owns top) v.objects after.objects
-advance_lengthens script v top below lines after (Plainly tops objects numbers ls t c n shown) = changed_lengthens top v.objects objects c
+advance_lengthens script v top below lines after (Plainly tops objects numbers ls t c n shown) = changed_lengthens top tops ls v.objects objects c
 advance_lengthens script v top below lines after (WithFrame spec a objects s c held m) =
-    let l = changed_lengthens top v.objects objects m in
+    let l = changed_lengthens top [] [] v.objects objects m in
     starts_either (λ es w. Lengthens (Owns top) v.objects w.objects) script spec (record v { objects = objects; stack = a ∷ below }) l (λ some. l)
 
 owned_only : (P Q : ℕ → Type 0) (before after : List Object) → ((n : ℕ) → P n → Q n) → Lengthens P before after → Lengthens Q before after
-owned_only P Q before after h l y m = let x = l y m in (x.0, x.1, x.2, either x.3 (λ e. inl e) (λ o. inr (h y.serial o)))
+owned_only P Q before after h l y m = let x = l y m in (x.0, x.1, (x.2.0, either x.2.1 (λ e. inl e) (λ o. inr (h y.serial o))))
 
 -- the weak reference that a death calls back
 abbrev pub CallsBack : DyingPhase → ℕ → Type 0

@@ -1,6 +1,5 @@
 pub mod Told
-pub mod ToldDeaths
-pub mod ToldCollections
+pub mod ToldSteps
 pub mod ToldCommands
 pub mod ToldRuns
 pub mod Promises

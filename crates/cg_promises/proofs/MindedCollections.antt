@@ -32,31 +32,31 @@ saved_keeps o objects list = test_keeps (λ x. with_entries (x.entries ++ item (
     (λ x m t n k. appended_goes x.entries (item (Ref o)) n k)
     (λ x m t s. (λ c. absurd (let no : ListKind ≡ Weak = sym (list x m (eqb-true x.serial 1 t)) ∙ c in cc), λ c. absurd (let no : ListKind ≡ Tuple = sym (list x m (eqb-true x.serial 1 t)) ∙ c in cc)))
 
-marks : (top : Activity) (x y : Object) → KeepsEntries top x y → Marks x y
-marks top x y k = record { serial = k.later.serial; code = k.later.code; class = k.later.class; finalized = k.finalized }
+marks : (top : Activity) (tops : List Activity) (lines : List Event) (x y : Object) → KeepsEntries top tops lines x y → Marks x y
+marks top tops lines x y k = record { serial = k.later.serial; code = k.later.code; class = k.later.class; finalized = k.finalized }
 
 -- the objects change, but for entries that are taken
-changed_keeps : (top : Activity) → ((s : ℕ) → ¬ Owns top s) → (before after : List Object) → HasChanged top before after → IsList before → Keeps before after []
-changed_keeps top none before after (NothingChanges objects) list = keeps_same objects
-changed_keeps top none before after (ChangesEach f test objects aside) list = record {
+changed_keeps : (top : Activity) (tops : List Activity) (lines : List Event) → ((s : ℕ) → ¬ Owns top s) → (before after : List Object) → HasChanged top tops lines before after → IsList before → Keeps before after []
+changed_keeps top tops lines none before after (NothingChanges objects) list = keeps_same objects
+changed_keeps top tops lines none before after (ChangesEach f test objects aside) list = record {
   old = record {
-    origin = λ y m. let x = asides top f test objects aside y m in (x.0, x.1, marks top x.0 y x.2);
+    origin = λ y m. let x = asides top tops lines f test objects aside y m in (x.0, x.1, marks top tops lines x.0 y x.2);
     lasts = λ n m.
         let x = Includes-map_cases (λ (z : Object). z.serial) objects n m in
-        let y = asides_last top f test objects aside x.0 x.1 in
+        let y = asides_last top tops lines f test objects aside x.0 x.1 in
         subst (Includes (serials after)) (y.2.later.serial ∙ x.2) (Includes-map (λ (z : Object). z.serial) after y.0 y.1);
   };
-  entries = λ x m n k. let y = asides_last top f test objects aside x m in inl (y.0, y.1, subst (λ es. Includes (references es) n) (sym y.2.entries) k);
-  single = λ s y m. let x = asides top f test objects aside y m in (
+  entries = λ x m n k. let y = asides_last top tops lines f test objects aside x m in inl (y.0, y.1, subst (λ es. Includes (references es) n) (sym y.2.entries) k);
+  single = λ s y m. let x = asides top tops lines f test objects aside y m in (
     λ e. subst AtMostOne (sym x.2.entries) ((s x.0 x.1).0 (sym x.2.later.code ∙ e)),
     λ e n k. subst (λ i. n < i) (sym x.2.later.serial) ((s x.0 x.1).1 (sym x.2.later.code ∙ e) n (subst (λ es. Includes (references es) n) x.2.entries k)),
   );
 }
-changed_keeps top none before after (LosesEntries es s objects owns fewer) list = absurd (none s owns)
-changed_keeps top none before after (GetsEntry o objects is) list = saved_keeps o objects list
-changed_keeps top none before after (LosesObject o objects owns) list = absurd (none o owns)
-changed_keeps top none before after (Followed first now last h k) list =
-    keeps_trans first now last (changed_keeps top none first now h list) (changed_keeps top none now last k (λ y m e. let x = changed_origin top first now h y m in x.2.code ∙ list x.0 x.1 (sym x.2.serial ∙ e)))
+changed_keeps top tops lines none before after (LosesEntries es s objects owns fewer) list = absurd (none s owns)
+changed_keeps top tops lines none before after (GetsEntry o objects is) list = saved_keeps o objects list
+changed_keeps top tops lines none before after (LosesObject o objects owns line) list = absurd (none o owns)
+changed_keeps top tops lines none before after (Followed first now last h k) list =
+    keeps_trans first now last (changed_keeps top tops lines none first now h list) (changed_keeps top tops lines none now last k (λ y m e. let x = changed_origin top tops lines first now h y m in x.2.code ∙ list x.0 x.1 (sym x.2.serial ∙ e)))
 
 -- a collection takes entries in turns alone
 owns_none : (c : Collection) → ((o : ℕ) → c.phase ≢ Turn o) → (top : Activity) → top ≡ Collecting c → (s : ℕ) → ¬ Owns top s
@@ -98,9 +98,9 @@ module _ (script : Script) (k : ℕ) (c : Collection) (below : List Activity) (v
       give_minded k references (Collecting d) a below v.objects objects v.names [] keeps (λ n m. subst (λ z. HoldsOn references z a) is held n m) (λ n m. absurd m) (no_death v.objects objects d t a g is) h
 
   advance_minded : (d : Collection) → ((o : ℕ) → d.phase ≢ Turn o) → (lines : List Event) (after : World) → Advance script v (Collecting d) below lines after → IsMinded k (on (Collecting d) below v) → IsMinded k after
-  advance_minded d other lines after (Plainly tops objects numbers ls t g n shown) h = tops_minded objects d (Collecting d) tops t refl (changed_keeps (Collecting d) (owns_none d other (Collecting d) refl) v.objects objects g list) h
+  advance_minded d other lines after (Plainly tops objects numbers ls t g n shown) h = tops_minded objects d (Collecting d) tops t refl (changed_keeps (Collecting d) tops ls (owns_none d other (Collecting d) refl) v.objects objects g list) h
   advance_minded d other lines after (WithFrame spec a objects s g held m) h = starts_minded k script spec (record v { objects = objects; stack = a ∷ below })
-      (tops_minded objects d (Collecting d) (a ∷ []) (TopGoesOn (Collecting d) a g held) refl (changed_keeps (Collecting d) (owns_none d other (Collecting d) refl) v.objects objects m list) h)
+      (tops_minded objects d (Collecting d) (a ∷ []) (TopGoesOn (Collecting d) a g held) refl (changed_keeps (Collecting d) [] [] (owns_none d other (Collecting d) refl) v.objects objects m list) h)
 
   pub phase_minded : (phase : CollectPhase) (events : List Event) (after : World) → PhaseStep script c phase below (at phase) events after → IsMinded k (at phase) → IsMinded k after
   phase_minded (Turn o) events after step h = subst (IsMinded k) (sym step.1) (empties_minded o (last_entry (entries_of v.objects o)) refl h)

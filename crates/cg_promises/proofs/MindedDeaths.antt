@@ -22,7 +22,8 @@ use Rattle.cg_machine.specs.Frame.{Transition, frame_end, gives_up_function, beg
 use Rattle.cg_machine.specs.Weak.{has_weak_references, weak_references_if, loses_referent, callback_of}
 use Rattle.cg_machine.specs.Dying.{death_at, has_finalizers, finalizer_to_run, run_finalizer, run_legacy, after_frame, clear_one, call_one, detach_one, empty_one, dying}
 use Rattle.cg_machine.proofs.Serials.{Rises}
-use Rattle.cg_promises.proofs.Told.{old_lives, origin_lives, without_gone, without_old}
+use Rattle.cg_machine.proofs.There.{without_gone}
+use Rattle.cg_promises.proofs.Told.{old_lives, origin_lives, without_old}
 use Rattle.cg_promises.proofs.Minded.{IsFree, IsMinded, Keeps, Minded, Minds, change_keeps, end_minded, free_degree, give_minded, keeps_same, lost_keeps, placed, starts_minded, stack_minded, turn_minded}
 use Rattle.cg_promises.proofs.Moved.{called_keeps, entries_of_member, last_none, shortened_keeps}
 

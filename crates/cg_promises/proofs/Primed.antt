@@ -32,7 +32,8 @@ use Rattle.cg_machine.proofs.Lookups.{at_member, same_object}
 use Rattle.cg_laws.specs.Apart.{StandsRightly}
 use Rattle.cg_laws.proofs.SetsApart.{NoneCollects, stands_at}
 use Rattle.cg_machine.proofs.Places.{place_is}
-use Rattle.cg_promises.proofs.Told.{Follows, Marks}
+use Rattle.cg_machine.proofs.Pointwise.{IsOrder, Came, came, came_all_lose, came_all_saved, came_if}
+use Rattle.cg_promises.proofs.Told.{Follows, Marks, marks_order}
 
 -- the places of condemned objects
 abbrev pub IsWanted : Place → Type 0
@@ -63,7 +64,7 @@ pub record Lingers (x y : Object) : Type 0 where
   pub marks : Marks x y
 
 abbrev pub Linger : List Object → List Object → Type 0
-Linger before after = (y : Object) → Includes after y → (x : Object) × Includes before x × Lingers x y
+Linger before after = Came Lingers before after
 
 pub legacy_later : (script : Script) (x y : Object) → Marks x y → legacy_of script x ≡ None → legacy_of script y ≡ None
 legacy_later script x y m e = same ∙ e
@@ -80,25 +81,21 @@ ran_later script x y m r some = m.finalized (r (ap (λ q. is_some q) (sym same) 
 pub linger_legacy : (script : Script) (before after : List Object) → Linger before after → HaveNoLegacy script before → HaveNoLegacy script after
 linger_legacy script before after l h y m w = let x = l y m in legacy_later script x.0 y x.2.marks (h x.0 x.1 (x.2.wanted w))
 
-same_marks : (x : Object) → Marks x x
-same_marks x = record { serial = refl; code = refl; class = refl; finalized = λ e. e }
+lingers : IsOrder Lingers
+lingers = record {
+  same = λ x. record { wanted = λ w. w; marks = marks_order.same x };
+  trans = λ x y z h k. record { wanted = λ w. h.wanted (k.wanted w); marks = marks_order.trans x y z h.marks k.marks };
+}
 
 same_linger : (objects : List Object) → Linger objects objects
-same_linger objects y m = (y, m, record { wanted = λ w. w; marks = same_marks y })
+same_linger = (came Lingers lingers).same
 
 linger_trans : (before now after : List Object) → Linger before now → Linger now after → Linger before after
-linger_trans before now after h k y m =
-    let a = k y m in let b = h a.0 a.1 in
-    (b.0, b.1, record { wanted = λ w. b.2.wanted (a.2.wanted w); marks = record { serial = a.2.marks.serial ∙ b.2.marks.serial; code = a.2.marks.code ∙ b.2.marks.code; class = a.2.marks.class ∙ b.2.marks.class; finalized = λ e. a.2.marks.finalized (b.2.marks.finalized e) } })
+linger_trans = (came Lingers lingers).trans
 
 -- those that pass a test change
 if_linger : (f : Object → Object) (test : Object → Bool) (objects : List Object) → ((x : Object) → Marks x (f x)) → ((x : Object) → Includes objects x → test x ≡ true → IsWanted (f x).place → IsWanted x.place) → Linger objects (map (λ x. if test x then f x else x) objects)
-if_linger f test objects marks wanted y m =
-    let x = Includes-map_cases (λ x. if test x then f x else x) objects y m in (x.0, x.1, subst (Lingers x.0) x.2 (one (test x.0) x.0 refl x.1))
-  where
-    one : (b : Bool) (x : Object) → test x ≡ b → Includes objects x → Lingers x (if b then f x else x)
-    one true x t m = record { wanted = wanted x m t; marks = marks x }
-    one false x t m = record { wanted = λ w. w; marks = same_marks x }
+if_linger f test objects marks wanted = came_if Lingers lingers.same f test objects (λ x m t. record { wanted = wanted x m t; marks = marks x })
 
 placed_marks : (p : Place) (x : Object) → Marks x (with_place p x)
 placed_marks p x = record { serial = refl; code = refl; class = refl; finalized = λ e. e }
@@ -112,16 +109,11 @@ lost_linger weak objects = if_linger (with_referent None) (λ x. x.serial == wea
 entries_linger : (es : List Entry) (o : ℕ) (objects : List Object) → Linger objects (change (with_entries es) o objects)
 entries_linger es o objects = if_linger (with_entries es) (λ x. x.serial == o) objects (λ x. record { serial = refl; code = refl; class = refl; finalized = λ e. e }) (λ x m t w. w)
 
-saved_linger : (o : ℕ) (objects : List Object) → Linger objects (saved o objects)
-saved_linger o objects = if_linger (λ x. with_entries (x.entries ++ item (Ref o) ∷ []) x) (λ x. x.serial == 1) objects (λ x. record { serial = refl; code = refl; class = refl; finalized = λ e. e }) (λ x m t w. w)
-
 all_saved_linger : (keeps : List ℕ) (objects : List Object) → Linger objects (all_saved keeps objects)
-all_saved_linger [] objects = same_linger objects
-all_saved_linger (o ∷ keeps) objects = linger_trans objects (saved o objects) (all_saved keeps (saved o objects)) (saved_linger o objects) (all_saved_linger keeps (saved o objects))
+all_saved_linger = came_all_saved Lingers lingers (λ o x. record { wanted = λ w. w; marks = record { serial = refl; code = refl; class = refl; finalized = λ e. e } })
 
 all_lose_linger : (wanted : Object → Bool) (weaks : List ℕ) (objects after : List Object) → AllLose wanted objects weaks after → Linger objects after
-all_lose_linger wanted [] objects after lose = subst (Linger objects) (sym lose.1) (same_linger objects)
-all_lose_linger wanted (weak ∷ weaks) objects after lose = linger_trans objects (loses_referent weak objects) after (lost_linger weak objects) (all_lose_linger wanted weaks (loses_referent weak objects) after lose.1)
+all_lose_linger = came_all_lose Lingers lingers (λ x. record { wanted = λ w. w; marks = record { serial = refl; code = refl; class = refl; finalized = λ e. e } })
 
 -- places
 merged_wanted : (g : ℕ) (p : Place) → IsWanted (merged_place g p) → IsWanted p
@@ -308,7 +300,7 @@ module _ (script : Script) (c : Collection) (below : List Activity) (v : World) 
     where
       go : (s t : Bool) → (let next : Transition = if s then (GcSaved x.serial ∷ [], collection_at c Turns below (with_objects (change (with_place (Gen (older c.generation))) x.serial (saved x.serial v.objects)) (at Turns)))
           else if t then ([], collection_at c Turns below (with_change (with_place (Gen (older c.generation))) x.serial (at Turns))) else ([], collection_at c (Turn x.serial) below (at Turns)) in IsPrimed next.1)
-      go true t = goes Turns c Turns _ (linger_trans v.objects (saved x.serial v.objects) _ (saved_linger x.serial v.objects) (place_linger (Gen (older c.generation)) gen_out x.serial (saved x.serial v.objects))) tt h
+      go true t = goes Turns c Turns _ (linger_trans v.objects (saved x.serial v.objects) _ (all_saved_linger (x.serial ∷ []) v.objects) (place_linger (Gen (older c.generation)) gen_out x.serial (saved x.serial v.objects))) tt h
       go false true = goes Turns c Turns _ (place_linger (Gen (older c.generation)) gen_out x.serial v.objects) tt h
       go false false = goes Turns c (Turn x.serial) v.objects same tt h
 

@@ -27,8 +27,8 @@ use Rattle.cg_machine.proofs.Starting.{either_way}
 use Rattle.cg_machine.proofs.Serials.{Rises}
 use Rattle.cg_machine.proofs.Lookups.{callback_first, found_at, references_take, same_object}
 use Rattle.cg_promises.proofs.Moved.{entries_of_member, last_none}
-use Rattle.cg_promises.proofs.Told.{without_gone}
-use Rattle.cg_promises.proofs.ToldDeaths.{reversed_back}
+use Rattle.cg_machine.proofs.There.{without_gone}
+use Rattle.cg_machine.proofs.There.{reversed_back}
 use Rattle.cg_promises.proofs.Sealed.{Comes, Excused, Fewer, Fits, IsDone, IsLate, IsLesser, IsMeek, Passes, Sealed, Shrinks, change_shrinks, gen_apart, goes_sealed, loosen, lost_shrinks, none_out, one_still, others_come, place_sealed, placed_lesser, pop_sealed, push_sealed, same_shrinks, shrinks_sealed, shrunk, starts_sealed, still_excused, turn_sealed, untracked_apart, yields_sealed}
 
 -- a weak reference that is found refers

@@ -32,7 +32,7 @@ use Rattle.cg_machine.proofs.Places.{place_is}
 use Rattle.cg_promises.proofs.Sealed.{Clears, Fits, IsLate, NotAfter, Passes, Sealed, TellsOut, comes_excused, goes_sealed, loosen, none_out, one_out, one_still, push_sealed, same_shrinks, shrunk, starts_sealed, turn_sealed, TellsStill}
 use Rattle.cg_promises.proofs.SealedDeaths.{dying_sealed, frame_end_sealed, late_sealed, released_sealed}
 use Rattle.cg_promises.proofs.SealedCommands.{Opens, shape_opens}
-use Rattle.cg_promises.proofs.ToldCollections.{same_lives}
+use Rattle.cg_machine.proofs.There.{same_lives}
 use Rattle.cg_promises.proofs.ToldRuns.{Fit, step_fit}
 use Rattle.cg_script.specs.declared.Command.TheVariants.{Del}
 use Rattle.cg_machine.proofs.Sound.{HasBottom}

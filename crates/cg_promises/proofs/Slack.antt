@@ -8,7 +8,7 @@ use Rattle.cg_script.specs.declared.Script.{Script}
 use Rattle.cg_graph.specs.Member.{Includes}
 use Rattle.cg_graph.specs.Value.{references}
 use Rattle.cg_graph.specs.Object.{Object, is_tuple, with_place, with_referent}
-use Rattle.cg_graph.proofs.Members.{either, Includes-map_cases}
+use Rattle.cg_graph.proofs.Members.{either}
 use Rattle.cg_machine.specs.declared.event.FrameSpec.{FrameSpec}
 use Rattle.cg_machine.specs.Frame.{start_frame}
 use Rattle.cg_machine.specs.Operands.{is_dict}
@@ -16,6 +16,7 @@ use Rattle.cg_machine.specs.Weak.{loses_referent}
 use Rattle.cg_machine.specs.World.{World, Activity, Dying, Death, Collecting, Collection}
 use Rattle.cg_machine.specs.Laws.{runs_own_frame}
 use Rattle.cg_laws.specs.Apart.{handles}
+use Rattle.cg_machine.proofs.Pointwise.{IsOrder, Came, came, came_if, came_map}
 use Rattle.cg_machine.proofs.Starting.{begun_frame, starts_either}
 
 -- each object of a serial is an untracked tuple
@@ -65,7 +66,7 @@ pub record Goes (hard : ℕ → Type 0) (x y : Object) : Type 0 where
   pub loses : hard y.serial ⊎ Loses x y
 
 abbrev pub Still : (ℕ → Type 0) → List Object → List Object → Type 0
-Still hard before after = (y : Object) → Includes after y → (x : Object) × Includes before x × Goes hard x y
+Still hard before after = Came (Goes hard) before after
 
 -- for none
 abbrev pub Never : ℕ → Type 0
@@ -74,43 +75,37 @@ Never n = ⊥
 pub goes_same : (hard : ℕ → Type 0) (x : Object) → Goes hard x x
 goes_same hard x = record { stays = record { serial = refl; code = refl; untracked = λ t u. u }; loses = inr (λ u. (u, λ o m. m)) }
 
-pub still_same : (hard : ℕ → Type 0) (objects : List Object) → Still hard objects objects
-still_same hard objects y m = (y, m, goes_same hard y)
-
 tuple_kept : (x y : Object) → y.code ≡ x.code → is_tuple y ≡ is_tuple x
 tuple_kept x y c = cc
 
 dict_kept : (x y : Object) → y.code ≡ x.code → is_dict y ≡ is_dict x
 dict_kept x y c = cc
 
+pub goes : (hard : ℕ → Type 0) → IsOrder (Goes hard)
+goes hard = record {
+  same = goes_same hard;
+  trans = λ x y z h k. record {
+    stays = record {
+      serial = k.stays.serial ∙ h.stays.serial;
+      code = k.stays.code ∙ h.stays.code;
+      untracked = λ t u. k.stays.untracked (tuple_kept x y h.stays.code ∙ t) (h.stays.untracked t u);
+    };
+    loses = either k.loses (λ i. inl i) (λ l. either h.loses (λ i. inl (subst hard (sym k.stays.serial) i)) (λ f. inr (λ u. let c = l u in let d = f c.0 in (d.0, λ o i. d.1 o (c.1 o i)))));
+  };
+}
+
+pub still_same : (hard : ℕ → Type 0) (objects : List Object) → Still hard objects objects
+still_same hard = (came (Goes hard) (goes hard)).same
+
 pub still_trans : (hard : ℕ → Type 0) (before now after : List Object) → Still hard before now → Still hard now after → Still hard before after
-still_trans hard before now after h k y m =
-    let a = k y m in
-    let b = h a.0 a.1 in (
-      b.0,
-      b.1,
-      record {
-        stays = record {
-          serial = a.2.stays.serial ∙ b.2.stays.serial;
-          code = a.2.stays.code ∙ b.2.stays.code;
-          untracked = λ t u. a.2.stays.untracked (tuple_kept b.0 a.0 b.2.stays.code ∙ t) (b.2.stays.untracked t u);
-        };
-        loses = either a.2.loses (λ x. inl x) (λ l. either b.2.loses (λ x. inl (subst hard (sym a.2.stays.serial) x)) (λ f. inr (λ u. let c = l u in let d = f c.0 in (d.0, λ o i. d.1 o (c.1 o i)))));
-      },
-    )
+still_trans hard = (came (Goes hard) (goes hard)).trans
 
 -- those that pass a test change
 pub test_still : (hard : ℕ → Type 0) (f : Object → Object) (test : Object → Bool) (objects : List Object) → ((x : Object) → Includes objects x → test x ≡ true → Goes hard x (f x)) → Still hard objects (map (λ x. if test x then f x else x) objects)
-test_still hard f test objects h y m =
-    let x = Includes-map_cases (λ x. if test x then f x else x) objects y m in
-    (x.0, x.1, subst (Goes hard x.0) x.2 (one (test x.0) x.0 refl x.1))
-  where
-    one : (b : Bool) (x : Object) → test x ≡ b → Includes objects x → Goes hard x (if b then f x else x)
-    one true x t i = h x i t
-    one false x t i = goes_same hard x
+test_still hard = came_if (Goes hard) (goes_same hard)
 
 pub map_still : (hard : ℕ → Type 0) (f : Object → Object) (objects : List Object) → ((x : Object) → Includes objects x → Goes hard x (f x)) → Still hard objects (map f objects)
-map_still hard f objects h y m = let x = Includes-map_cases f objects y m in (x.0, x.1, subst (Goes hard x.0) x.2 (h x.0 x.1))
+map_still hard = came_map (Goes hard) (goes_same hard)
 
 -- to a place of tracked ones goes what is no untracked tuple
 pub placed_goes : (hard : ℕ → Type 0) (p : Place) (x : Object) → p ≢ Untracked → (is_tuple x ≡ true → x.place ≢ Untracked) → Goes hard x (with_place p x)

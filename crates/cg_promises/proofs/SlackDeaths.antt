@@ -24,7 +24,7 @@ use Rattle.cg_machine.specs.Dying.{death_at, has_finalizers, finalizer_to_run, r
 use Rattle.cg_machine.proofs.Starting.{either_way}
 use Rattle.cg_machine.proofs.Serials.{Rises}
 use Rattle.cg_machine.proofs.Lookups.{at_member, references_take}
-use Rattle.cg_promises.proofs.Told.{without_gone}
+use Rattle.cg_machine.proofs.There.{without_gone}
 use Rattle.cg_promises.proofs.Moved.{entries_of_member}
 use Rattle.cg_promises.proofs.Slack.{Excused, Fine, IsSlackWorld, Never, Slack, Still, end_slack, excused_on, goes_same, lost_still, moves_slack, push_slack, starts_slack, still_same, test_still, turn_slack}
 

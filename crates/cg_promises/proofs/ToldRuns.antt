@@ -8,8 +8,8 @@ use Rattle.cg_graph.proofs.Members.{Includes-append_left, either}
 use Rattle.cg_machine.specs.declared.event.Event.{Event}
 use Rattle.cg_machine.specs.declared.event.Event.TheVariants.{Collected, End, Refused}
 use Rattle.cg_machine.specs.declared.event.FrameSort.TheVariants.{Call as CallFrame}
-use Rattle.cg_machine.specs.World.{World, Activity, TopLevel, Ended, opening, push, with_stack, ShuttingDown, Releasing}
-use Rattle.cg_machine.specs.Holdings.{collect_holds, dying_holds, holds}
+use Rattle.cg_machine.specs.World.{World, Activity, TopLevel, Framed, Dying, Collecting, Ended, opening, push, ShuttingDown, Releasing}
+use Rattle.cg_machine.specs.Holdings.{holds}
 use Rattle.cg_machine.specs.Frame.{procedure_of}
 use Rattle.cg_machine.specs.Effects.{Changes, Calls, Effect, bound, given_up_by}
 use Rattle.cg_machine.specs.Commands.{new_collection}
@@ -24,10 +24,10 @@ use Rattle.cg_machine.proofs.RunsOrderly.{gone_forgotten, step_orderly, opening_
 use Rattle.cg_machine.proofs.Shapes.{Shape, StartsFrame}
 use Rattle.cg_machine.proofs.Invariants.{AreAnswers, CommandSteps, Steps, any_step, emptied, on, AreLast}
 use Rattle.cg_promises.proofs.Told.{Goes, IsTold, same_old, quiet, one_told, tells, starts_told}
-use Rattle.cg_promises.proofs.ToldDeaths.{dying_told, frame_end_told, released_told}
-use Rattle.cg_promises.proofs.ToldCollections.{phase_told}
+use Rattle.cg_promises.proofs.ToldSteps.{advance_told}
 use Rattle.cg_promises.proofs.ToldCommands.{DoesTell, shape_tells}
-use Rattle.cg_graph.specs.Object.{Object}
+use Rattle.cg_graph.specs.Object.{Object, serials}
+use Rattle.cg_machine.proofs.Advancing.{frame_end_advances, released_advances, dying_advances, phase_advances}
 
 -- what holds of each world of a run
 pub record Fit (script : Script) (w : World) : Type 0 where
@@ -73,6 +73,10 @@ last_told objects next w (ShuttingDown true) lines e event m =
 last_told objects next w (ShuttingDown false) lines e event m = absurd e
 last_told objects next w a lines e event m = absurd e
 
+-- what the activity on top holds is there
+held : {script : Script} (a : Activity) (below : List Activity) (v : World) → Fit script (on a below v) → (n : ℕ) → Includes (holds a) n → Includes (serials v.objects) n
+held a below v k n m = k.order.stack_lives n (Includes-append_left (holds a) (flat_map holds below) n m)
+
 tells_steps : (script : Script) → Steps script (Fit script) StepTells
 tells_steps script = record {
   starts_due = λ a below v ha g e k. quiet v.objects v.next_serial (push (new_collection g false (on a below v)) (on a below v)) (same_old v.objects) (omega arith);
@@ -81,10 +85,10 @@ tells_steps script = record {
   gives_up = λ name below v e k. let w : World = on (ShuttingDown false) below v in quiet v.objects v.next_serial (push (Releasing (given_up_by w name)) (bound w name None)) (same_old v.objects) (omega arith);
   collects_last = λ below v k. quiet v.objects v.next_serial (push (new_collection 2 false (on (ShuttingDown false) below v)) (on (ShuttingDown true) below v)) (same_old v.objects) (omega arith);
   commands = λ command a b below v takes hb k. command_told script below v a command b k.sound.rises (taken_calm script below v command a b takes k.calm) (taken_orderly command a b below v takes k.order);
-  frame_ends = λ f below v left k. frame_end_told f (with_stack below v);
-  releases = λ references below v k. released_told references below v;
-  dies = λ d below v k. dying_told script d.object below v (k.order.deaths_live d (inl refl)) d.phase (λ n m. k.order.stack_lives n (Includes-append_left (dying_holds d.object d.phase) (flat_map holds below) n m));
-  collects = λ c below v events after step k. phase_told script c below v c.phase (λ n m. k.order.stack_lives n (Includes-append_left (collect_holds c.phase) (flat_map holds below) n m)) events after step;
+  frame_ends = λ f below v left k. advance_told script v (Framed f) (λ n d. absurd d) (held (Framed f) below v k) below _ _ (frame_end_advances script f below v);
+  releases = λ references below v k. advance_told script v (Releasing references) (λ n d. absurd d) (held (Releasing references) below v k) below _ _ (released_advances script references below v);
+  dies = λ d below v k. advance_told script v (Dying d) (λ n e. subst (Includes (serials v.objects)) e (k.order.deaths_live d (inl refl))) (held (Dying d) below v k) below _ _ (dying_advances script d.object below v d.phase);
+  collects = λ c below v events after step k. advance_told script v (Collecting c) (λ n d. absurd d) (held (Collecting c) below v k) below events after (phase_advances script c below v c.phase events after step);
 }
 
 pub step_goes : (script : Script) (w : World) (events : List Event) (after : World) → Step script w events after → Fit script w → Goes w.objects w.next_serial events after

@@ -22,7 +22,7 @@ use Rattle.cg_machine.proofs.Advancing.{frame_end_advances, released_advances, d
 use Rattle.cg_machine.proofs.RunsCalm.{no_death}
 use Rattle.cg_machine.proofs.ShapeLaws.{changes_leave}
 use Rattle.cg_machine.proofs.Invariants.{CommandSteps, HasCommands, Steps, any_step, emptied, on}
-use Rattle.cg_promises.proofs.ToldDeaths.{reversed_back}
+use Rattle.cg_machine.proofs.There.{reversed_back}
 
 -- an object refers to another weakly now
 abbrev pub RefersNow : List Object → ℕ → ℕ → Type 0

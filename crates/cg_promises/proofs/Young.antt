@@ -67,13 +67,13 @@ module _ (top : Activity) (age : (c : Collection) → top ≡ Collecting c → c
   moved_young x y (IsRevived f e) h = subst IsYoung (sym e) (omega arith)
   moved_young x y (IsPlaced c is k) h = place_young c.generation y.place (age c is) k
 
-  changed_young : (before after : List Object) → HasChanged top before after → AreYoung before → AreYoung after
-  changed_young before after (NothingChanges objects) h = h
-  changed_young before after (ChangesEach f test objects aside) h = λ y m. let x = asides top f test objects aside y m in moved_young x.0 y x.2.moved (h x.0 x.1)
-  changed_young before after (LosesEntries es s objects owns fewer) h = entries_young es s objects h
-  changed_young before after (GetsEntry o objects is) h = test_young (λ x. with_entries (x.entries ++ item (Ref o) ∷ []) x) (λ x. x.serial == 1) objects (λ x m t k. k) h
-  changed_young before after (LosesObject o objects owns) h = λ x m. h x (Includes-filter_cases (λ (z : Object). not (z.serial == o)) objects x m).0
-  changed_young before after (Followed first now last c d) h = changed_young now last d (changed_young first now c h)
+  changed_young : (tops : List Activity) (lines : List Event) (before after : List Object) → HasChanged top tops lines before after → AreYoung before → AreYoung after
+  changed_young tops lines before after (NothingChanges objects) h = h
+  changed_young tops lines before after (ChangesEach f test objects aside) h = λ y m. let x = asides top tops lines f test objects aside y m in moved_young x.0 y x.2.moved (h x.0 x.1)
+  changed_young tops lines before after (LosesEntries es s objects owns fewer) h = entries_young es s objects h
+  changed_young tops lines before after (GetsEntry o objects is) h = test_young (λ x. with_entries (x.entries ++ item (Ref o) ∷ []) x) (λ x. x.serial == 1) objects (λ x m t k. k) h
+  changed_young tops lines before after (LosesObject o objects owns line) h = λ x m. h x (Includes-filter_cases (λ (z : Object). not (z.serial == o)) objects x m).0
+  changed_young tops lines before after (Followed first now last c d) h = changed_young tops lines now last d (changed_young tops lines first now c h)
 
 -- what goes on
 continues_young : (before after : List Object) (top a : Activity) → ((c : Collection) → top ≡ Collecting c → c.generation ≤ 2) → Continues before after top a → (c : Collection) → a ≡ Collecting c → c.generation ≤ 2
@@ -90,5 +90,5 @@ tops_young before after top tops below (TopGoesOn t a c held) young h = turn_you
 tops_young before after top tops below (GivesReferences t a references few c held) young h = push_young (Releasing references) (a ∷ below) after (λ d e. cc) (turn_young t a below before after young (continues_young before after t a (λ d e. h.ages d (inl e)) c) h)
 
 pub advance_young : (script : Script) (top : Activity) (below : List Activity) (v : World) (lines : List Event) (after : World) → Advance script v top below lines after → IsYoungWorld (on top below v) → IsYoungWorld after
-advance_young script top below v lines after (Plainly tops objects numbers ls t c n none) h = tops_young v.objects objects top tops below t (changed_young top (λ d e. h.ages d (inl e)) v.objects objects c h.places) h
-advance_young script top below v lines after (WithFrame spec a objects s c held m) h = starts_young script spec (record v { objects = objects; stack = a ∷ below }) (tops_young v.objects objects top (a ∷ []) below (TopGoesOn top a c held) (changed_young top (λ d e. h.ages d (inl e)) v.objects objects m h.places) h)
+advance_young script top below v lines after (Plainly tops objects numbers ls t c n none) h = tops_young v.objects objects top tops below t (changed_young top (λ d e. h.ages d (inl e)) tops ls v.objects objects c h.places) h
+advance_young script top below v lines after (WithFrame spec a objects s c held m) h = starts_young script spec (record v { objects = objects; stack = a ∷ below }) (tops_young v.objects objects top (a ∷ []) below (TopGoesOn top a c held) (changed_young top (λ d e. h.ages d (inl e)) [] [] v.objects objects m h.places) h)

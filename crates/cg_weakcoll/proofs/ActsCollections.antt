@@ -23,7 +23,7 @@ use Rattle.cg_machine.specs.Effects.{gens_line}
 use Rattle.cg_machine.specs.Collect.{EndStep, FinalizingStep, PhaseStep, SplitStep, StartStep, TurnsStep, WeakClearingStep, after_release, all_saved, calls_back, clears_one, collectable, collection_at, empties, get_older, has_flag, is_condemned, is_condemned_in, is_saved, lines_if, looks_at, merged, merged_place, older, replaced_place, save_all, saved, sorted, stats, takes_turn, uncollectable, waits}
 use Rattle.cg_machine.proofs.Lookups.{at_member, found_at, references-append, same_object}
 use Rattle.cg_machine.proofs.Serials.{Rises}
-use Rattle.cg_promises.proofs.ToldCollections.{same_lives}
+use Rattle.cg_machine.proofs.There.{same_lives}
 use Rattle.cg_laws.specs.Apart.{IsFound}
 use Rattle.cg_weakcoll.proofs.Acts.{Acts, Ages, Grows, IsAside, Loses, Waited, acts, all_to_call, either_acts, grows_if, grows_lost, grows_place, grows_same, grows_trans, one_raised, starts_acts, to_call_in, two_raised, yields_acts}
 use Rattle.cg_weakcoll.proofs.ActsDeaths.{shortened_grows, to_run_is}

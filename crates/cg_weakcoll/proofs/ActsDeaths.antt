@@ -23,7 +23,7 @@ use Rattle.cg_machine.specs.Represents.{death_waits}
 use Rattle.cg_machine.proofs.Lookups.{found_at, references_take}
 use Rattle.cg_machine.proofs.Serials.{Rises}
 use Rattle.cg_promises.proofs.Moved.{entries_of_member}
-use Rattle.cg_promises.proofs.ToldDeaths.{reversed_back}
+use Rattle.cg_machine.proofs.There.{reversed_back}
 use Rattle.cg_promises.proofs.Waited.{RefersNow}
 use Rattle.cg_weakcoll.proofs.Acts.{Acts, Grows, Loses, Waited, acts, all_to_call, either_acts, grows_if, grows_lost, grows_place, grows_same, one_raised, starts_acts, two_raised}
 

@@ -22,7 +22,6 @@ pub mod Alive
 mod Fed
 pub mod Wanes
 pub mod WanesDeaths
-pub mod WanesCollections
 pub mod WanesRuns
 pub mod Burns
 pub mod Taking

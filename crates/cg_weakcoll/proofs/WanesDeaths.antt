@@ -1,4 +1,4 @@
--- What a release, a death and the end of a frame do to weak references.
+-- A weak reference that dies is dying still after a step, or gone.
 use Rattle.std.proofs.Common.{◌≡◌, refl, sym, ap, subst, ℕ, ◌-◌, Bool, true, false, not, inl, inr, ◌⊎◌, List, [], ◌∷◌, ◌++◌, Option, Some, None}
 use Rattle.std.specs.Prelude.{◌==◌, ◌&&◌, if◌then◌else◌, is_some, slice_get, option_and_then, option_to_list, unwrap_or}
 use Rattle.std.proofs.lemmas.Bool.{eqb-true}
@@ -25,104 +25,8 @@ use Rattle.cg_machine.specs.Run.{Step, StepOf}
 use Rattle.cg_machine.proofs.Starting.{either_way}
 use Rattle.cg_machine.proofs.Lookups.{found_at}
 use Rattle.cg_machine.proofs.LeftRuns.{LeavesUnder}
-use Rattle.cg_promises.proofs.Told.{without_gone}
+use Rattle.cg_machine.proofs.There.{without_gone}
 use Rattle.cg_weakcoll.proofs.Wanes.{IsFading, is_frameless, IsLost, Waned, Never, Goes, wanes_for, same_waned, if_waned, place_waned, entries_waned, without_waned, lost_waned, lost_none, other_line, none_cleared, steady, clears, starts_going}
-
--- a frame ends
-pub frame_end_going : (f : Frame) (u : World) → (let s : Transition = frame_end f u in Goes u.objects u.next_serial s.0 s.1)
-frame_end_going f u = by_sort f.sort f.function
-  where
-    by_sort : (sort : FrameSort) (function : Option ℕ) → Goes u.objects u.next_serial (Leave ∷ []) (gives_up_function sort function u)
-    by_sort Del function = steady u.objects u.next_serial (Leave ∷ []) u (other_line Leave tt) (same_waned Never u.objects)
-    by_sort Legacy function = steady u.objects u.next_serial (Leave ∷ []) u (other_line Leave tt) (same_waned Never u.objects)
-    by_sort Callback function = steady u.objects u.next_serial (Leave ∷ []) u (other_line Leave tt) (same_waned Never u.objects)
-    by_sort Call function = steady u.objects u.next_serial (Leave ∷ []) (push (Releasing (option_to_list function)) u) (other_line Leave tt) (same_waned Never u.objects)
-
--- a release: what begins to die refers to nothing any more
-pub released_going : (references : List ℕ) (below : List Activity) (v : World) → (let s : Transition = released references below (with_stack (Releasing references ∷ below) v) in Goes v.objects v.next_serial s.0 s.1)
-released_going [] below v = steady v.objects v.next_serial [] (with_stack below v) none_cleared (same_waned Never v.objects)
-released_going (o ∷ references) below v = either_way (Goes v.objects v.next_serial) (not (is_dying now o) && (in_degree now o == 0)) ([], begin_death o now) ([], now) dies (steady v.objects v.next_serial [] now none_cleared (same_waned Never v.objects))
-  where
-    now : World
-    now = with_stack (Releasing references ∷ below) v
-
-    dead : Object → Object
-    dead x = with_referent None (with_place Untracked x)
-
-    began : Death
-    began = record { object = o; phase = Finalizer }
-
-    waned : Waned (λ n. o ≡ n) v.objects (change dead o v.objects)
-    waned = if_waned (λ n. o ≡ n) dead (λ x. x.serial == o) (λ x e. record { serial = refl; code = refl; referent = inr (refl, sym (eqb-true x.serial o e)) }) v.objects
-
-    fading : (n : ℕ) → o ≡ n → IsFading (Dying began ∷ Releasing references ∷ below) n
-    fading n e = record { death = began; member = inl refl; object = e; frameless = refl }
-
-    dies : Goes v.objects v.next_serial [] (begin_death o now)
-    dies = record {
-      was = λ y m. let x = waned y m in inl (x.0, x.1, wanes_for (λ n. o ≡ n) (IsLost [] (Dying began ∷ Releasing references ∷ below)) (λ n e. inr (fading n e)) x.0 y x.2);
-      cleared = λ n m. absurd m;
-    }
-
--- a death
-module _ (script : Script) (o : ℕ) (below : List Activity) (v : World) where
-  abbrev at : DyingPhase → World
-  at phase = death_at o phase below v
-
-  abbrev Does : Transition → Type 0
-  Does t = Goes v.objects v.next_serial t.0 t.1
-
-  silent : (after : World) → Waned Never v.objects after.objects → Does ([], after)
-  silent after waned = steady v.objects v.next_serial [] after none_cleared waned
-
-  same : Waned Never v.objects v.objects
-  same = same_waned Never v.objects
-
-  revived : Waned Never v.objects (change (λ x. marked (with_place (Gen 0) x)) o v.objects)
-  revived = if_waned Never (λ x. marked (with_place (Gen 0) x)) (λ x. x.serial == o) (λ x e. record { serial = refl; code = refl; referent = inl refl }) v.objects
-
-  finalizer_going : (m : Option ℕ) → Does (run_finalizer script o below (at Finalizer) m)
-  finalizer_going None = silent (at (Clearing [])) same
-  finalizer_going (Some p) = starts_going v.objects v.next_serial script (record { sort = Del; proc = p; subject = o; func = None }) (death_at o AfterFinalizer below (with_change (λ x. marked (with_place (Gen 0) x)) o (at Finalizer))) revived
-
-  after_frame_going : (phase next : DyingPhase) → Does (after_frame o next below (at phase))
-  after_frame_going phase next = either_way (Goes v.objects v.next_serial) (in_degree (at next) o == 0) ([], with_change (with_place Untracked) o (at next)) (Alive o ∷ [], with_stack below (at phase))
-      (silent (with_change (with_place Untracked) o (at next)) (place_waned Untracked o v.objects))
-      (steady v.objects v.next_serial (Alive o ∷ []) (with_stack below (at phase)) (other_line (Alive o) tt) same)
-
-  clearing_going : (waiting weaks : List ℕ) → Does (clear_one o waiting below (at (Clearing waiting)) weaks)
-  clearing_going waiting [] = silent (at (Calling waiting)) same
-  clearing_going waiting (weak ∷ weaks) = clears v.objects v.next_serial weak (death_at o (Clearing (waiting ++ (if is_some (callback_of v.objects weak) then weak ∷ [] else []))) below (record (at (Clearing waiting)) { objects = loses_referent weak v.objects })) (lost_waned weak v.objects) (lost_none weak v.objects)
-
-  calling_going : (waiting : List ℕ) → Does (call_one script o below (at (Calling waiting)) waiting)
-  calling_going [] = silent (at LegacyFinalizer) same
-  calling_going (weak ∷ waiting) =
-      let callback = unwrap_or (callback_of v.objects weak) 0 in
-      starts_going v.objects v.next_serial script (record { sort = Callback; proc = procedure_of (at (Calling (weak ∷ waiting))) callback; subject = weak; func = Some callback }) (death_at o (AfterCall weak callback waiting) below (with_change (with_entries []) weak (at (Calling (weak ∷ waiting)))))
-      (entries_waned [] weak v.objects)
-
-  legacy_going : (m : Option ℕ) → Does (run_legacy script o below (at LegacyFinalizer) m)
-  legacy_going None = silent (at Detaching) same
-  legacy_going (Some p) = starts_going v.objects v.next_serial script (record { sort = Legacy; proc = p; subject = o; func = None }) (death_at o AfterLegacy below (with_change (with_place (Gen 0)) o (at LegacyFinalizer))) (place_waned (Gen 0) o v.objects)
-
-  detaching_going : (weaks : List ℕ) → Does (detach_one o below (at Detaching) weaks)
-  detaching_going [] = silent (at Emptying) same
-  detaching_going (weak ∷ weaks) = clears v.objects v.next_serial weak (death_at o Detaching below (record (at Detaching) { objects = loses_referent weak v.objects })) (lost_waned weak v.objects) (lost_none weak v.objects)
-
-  emptying_going : (m : Option Entry) → Does (empty_one o below (at Emptying) m)
-  emptying_going None = steady v.objects v.next_serial (Free o ∷ []) (empty_one o below (at Emptying) None).1 (other_line (Free o) tt) (without_waned o v.objects)
-  emptying_going (Some entry) = silent (push (Releasing (entry_references entry)) (death_at o Emptying below (with_change (with_entries (without_last (entries_of v.objects o))) o v))) (entries_waned (without_last (entries_of v.objects o)) o v.objects)
-
-  pub dying_going : (phase : DyingPhase) → Does (dying script o phase below (at phase))
-  dying_going Finalizer = finalizer_going (option_and_then (finalizer_to_run script) (object_at v.objects o))
-  dying_going AfterFinalizer = after_frame_going AfterFinalizer (Clearing [])
-  dying_going (Clearing waiting) = clearing_going waiting (weak_references_if has_weak_references v.objects o)
-  dying_going (Calling waiting) = calling_going waiting
-  dying_going (AfterCall weak callback waiting) = silent (push (Releasing (callback ∷ weak ∷ [])) (at (Calling waiting))) same
-  dying_going LegacyFinalizer = legacy_going (option_and_then (legacy_of script) (object_at v.objects o))
-  dying_going AfterLegacy = after_frame_going AfterLegacy Detaching
-  dying_going Detaching = detaching_going (weak_references_if (has_finalizers script) v.objects o)
-  dying_going Emptying = emptying_going (last_entry (entries_of v.objects o))
 
 -- A weak reference has no finalizer: its death goes on until it is gone.
 abbrev pub IsWeak : List Object → ℕ → Type 0

@@ -17,7 +17,7 @@ use Rattle.cg_graph.proofs.Members.{either, Includes-append_cases, Includes-appe
 use Rattle.cg_machine.specs.declared.event.Event.{Event}
 use Rattle.cg_machine.specs.declared.event.Event.TheVariants.{Made, Value, RefCount, Tracked as TrackedLine, Finalized as FinalizedLine, Count as CountLine, Gens as GensLine, Referent, Referrer, Held, Via, Listed, Unreachable, Cleared, Collected, End, Left, Refused}
 use Rattle.cg_machine.specs.declared.event.FrameSort.TheVariants.{Call as CallFrame}
-use Rattle.cg_machine.specs.World.{World, Activity, TopLevel, ShuttingDown, Releasing, Numbers, Ended, push, with_change, with_stack}
+use Rattle.cg_machine.specs.World.{World, Activity, TopLevel, Framed, Dying, Collecting, ShuttingDown, Releasing, Numbers, Ended, push, with_change, with_stack}
 use Rattle.cg_machine.specs.Operands.{is_dict}
 use Rattle.cg_machine.specs.Frame.{procedure_of}
 use Rattle.cg_machine.specs.Effects.{Effect, Changes, Calls, Collects, Quits, Explains, bound, frozen, given_up_by, live, may_track, replaced, tracked_by, unfrozen, with_new}
@@ -26,14 +26,15 @@ use Rattle.cg_machine.specs.Run.{StepTaken, Step, Run, events_of, last_world}
 use Rattle.cg_machine.proofs.Inspecting.{TellsThere}
 use Rattle.cg_machine.proofs.Shapes.{Shape, Binds, Makes, Edits, Puts, Shows, Tells, Stays, Sets, Freezes, Unfreezes, StartsFrame, StartsCollection, Ends, Inspects, AsksWhy, TellsNumbers}
 use Rattle.cg_machine.proofs.Invariants.{AreAnswers, AreLast, CommandSteps, Steps, any_step, emptied, on}
+use Rattle.cg_machine.proofs.There.{HasNoReferent}
+use Rattle.cg_machine.proofs.Advancing.{frame_end_advances, released_advances, dying_advances, phase_advances}
 use Rattle.cg_machine.proofs.LeftRuns.{step_leaves}
 use Rattle.cg_machine.proofs.Unheld.{not_dying}
 use Rattle.cg_promises.proofs.Told.{Goes as TellsSo}
 use Rattle.cg_promises.proofs.ToldRuns.{Fit, step_fit, step_goes}
 use Rattle.cg_weakcoll.specs.Maps.{RefersBy}
-use Rattle.cg_weakcoll.proofs.Wanes.{ClearNone, IsFading, IsLost, IsOther, Waned, Wanes, Never, Goes, HasNoReferent, wanes_for, same_waned, map_waned, if_waned, entries_waned, other_line, none_cleared, others_more, steady, starts_going}
-use Rattle.cg_weakcoll.proofs.WanesDeaths.{IsWeak, frame_end_going, released_going, dying_going, step_fades}
-use Rattle.cg_weakcoll.proofs.WanesCollections.{phase_going}
+use Rattle.cg_weakcoll.proofs.Wanes.{ClearNone, IsFading, IsLost, IsOther, Waned, Wanes, Never, Goes, advance_wanes, wanes_for, same_waned, map_waned, if_waned, entries_waned, other_line, none_cleared, others_more, steady, starts_going}
+use Rattle.cg_weakcoll.proofs.WanesDeaths.{IsWeak, step_fades}
 
 -- a command
 abbrev DoesGo : World → Effect → Type 0
@@ -152,10 +153,10 @@ goes_steps script = record {
   gives_up = λ name below v e k. let w : World = on (ShuttingDown false) below v in unchanged script below v (push (Releasing (given_up_by w name)) (bound w name None)) [] none_cleared refl;
   collects_last = λ below v k. unchanged script below v (push (new_collection 2 false (on (ShuttingDown false) below v)) (on (ShuttingDown true) below v)) [] none_cleared refl;
   commands = λ command a b below v takes hb k. command_goes script below v a command b;
-  frame_ends = λ f below v left k. frame_end_going f (with_stack below v);
-  releases = λ references below v k. released_going references below v;
-  dies = λ d below v k. dying_going script d.object below v d.phase;
-  collects = λ c below v events after step k. phase_going script c below v c.phase events after step;
+  frame_ends = λ f below v left k. advance_wanes script v (Framed f) below _ _ (frame_end_advances script f below v);
+  releases = λ references below v k. advance_wanes script v (Releasing references) below _ _ (released_advances script references below v);
+  dies = λ d below v k. advance_wanes script v (Dying d) below _ _ (dying_advances script d.object below v d.phase);
+  collects = λ c below v events after step k. advance_wanes script v (Collecting c) below events after (phase_advances script c below v c.phase events after step);
 }
 
 pub step_wanes : (script : Script) (w : World) (events : List Event) (after : World) → Step script w events after → Goes w.objects w.next_serial events after
