@@ -26,7 +26,7 @@ use Rattle.cg_machine.proofs.Starting.{either_way}
 use Rattle.cg_machine.proofs.Lookups.{found_at}
 use Rattle.cg_machine.proofs.LeftRuns.{LeavesUnder}
 use Rattle.cg_machine.proofs.There.{without_gone}
-use Rattle.cg_weakcoll.proofs.Wanes.{IsFading, is_frameless, IsLost, Waned, Never, Goes, wanes_for, same_waned, if_waned, place_waned, entries_waned, without_waned, lost_waned, lost_none, other_line, none_cleared, steady, clears, starts_going}
+use Rattle.cg_weakcoll.proofs.Wanes.{IsFading, is_frameless}
 
 -- A weak reference has no finalizer: its death goes on until it is gone.
 abbrev pub IsWeak : List Object → ℕ → Type 0
