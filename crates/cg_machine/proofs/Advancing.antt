@@ -19,11 +19,10 @@ use Rattle.cg_machine.specs.declared.event.FrameSort.{FrameSort}
 use Rattle.cg_machine.specs.declared.event.FrameSort.TheVariants.{Del, Legacy, Callback, Call}
 use Rattle.cg_machine.specs.Program.{legacy_of, profile_of}
 use Rattle.cg_machine.specs.World.{World, Activity, Framed, Releasing, Dying, Collecting, Frame, DyingPhase, Finalizer, AfterFinalizer, Clearing, Calling, AfterCall, LegacyFinalizer, AfterLegacy, Detaching, Emptying, Collection, CollectPhase, Start, WeakClearing, WeakCalling, AfterCallback, AfterRelease, Finalizing, AfterFinalizing, Split, Turns, Turn, AfterTurn, Ending, with_stack, with_change, with_objects}
-use Rattle.cg_machine.specs.Holdings.{collect_holds, in_degree, is_collection, is_dying}
+use Rattle.cg_machine.specs.Holdings.{collect_holds, in_degree, is_dying}
 use Rattle.cg_machine.specs.Frame.{Transition, frame_end, gives_up_function, begin_death, released, procedure_of}
 use Rattle.cg_machine.specs.Effects.{gens_line}
-use Rattle.cg_machine.specs.Weak.{AllLose, has_weak_references, weak_references_if, loses_referent, callback_of}
-use Rattle.cg_machine.specs.Laws.{named}
+use Rattle.cg_machine.specs.Weak.{has_weak_references, weak_references_if, loses_referent, callback_of}
 use Rattle.cg_machine.specs.Dying.{death_at, has_finalizers, finalizer_to_run, run_finalizer, run_legacy, after_frame, clear_one, call_one, detach_one, empty_one, dying}
 use Rattle.cg_machine.specs.Collect.{all_saved, IsMemberOf, is_saved, begun, collectable, collection_at, lines_if, loses_at_split, get_older, has_none_tracked, merged, merged_place, older, saved, sorted, stats, survived, survivor_count, survivor_place, uncollectable, untrack, untracked_if, StartStep, Survives, WeakClearingStep, calls_back, after_release, looks_at, FinalizingStep, SplitStep, takes_turn, TurnsStep, has_flag, save_all, empties, EndStep, PhaseStep, waits}
 use Rattle.cg_machine.specs.Represents.{death_waits}
@@ -31,7 +30,7 @@ use Rattle.cg_machine.specs.Operands.{is_dict}
 use Rattle.cg_machine.proofs.Measure.{is_first}
 use Rattle.cg_machine.proofs.PrintableTexts.{taken_member}
 use Rattle.cg_machine.proofs.Forgotten.{place_later, place_alters}
-use Rattle.cg_machine.proofs.Advances.{Advance, Plainly, WithFrame, HasChanged, NothingChanges, ChangesEach, LosesEntries, GetsEntry, LosesObject, Followed, IsPlaceIn, IsMoved, StaysThere, IsUntracked, IsRevived, IsPlaced, Finalizes, Soon, Late, Owns, OfEmptied, OfCalled, OfTurn, SameCounts, OneLess, BegunCounts, Continues, DeathGoesOn, DeathClears, CollectionGoesOn, TopEnds, GivesFunction, GivesReference, BeginsDeath, TopGoesOn, GivesReferences, OfFinalizer, OfLegacy, OfCallback, LosesBy, IsDeathOf, IsLineOf, NamesThere, Shown, AreLinesOf, Shows, Frees, IsEarly, changed_origin, few_option, few_entry}
+use Rattle.cg_machine.proofs.Advances.{Advance, Plainly, WithFrame, HasChanged, NothingChanges, ChangesEach, LosesEntries, GetsEntry, LosesObject, Followed, IsPlaceIn, IsMoved, StaysThere, IsUntracked, IsRevived, IsPlaced, Finalizes, Soon, Late, Owns, OfEmptied, OfCalled, OfTurn, SameCounts, OneLess, BegunCounts, Continues, DeathGoesOn, DeathClears, CollectionGoesOn, TopEnds, GivesFunction, GivesReference, BeginsDeath, TopGoesOn, GivesReferences, OfFinalizer, OfLegacy, OfCallback, IsDeathOf, IsLineOf, NamesThere, Shown, AreLinesOf, Shows, Frees, IsEarly, changed_origin, few_option, few_entry}
 use Rattle.cg_machine.proofs.Pointwise.{GoesOn, all_lose_by, all_saved_by}
 use Rattle.cg_machine.proofs.There.{HasNoReferent, came_back, same_lives, filter_lives, weak_lives, without_gone, changed_all, lost_none, none_stays, all_lose_live, all_lose_none}
 use Rattle.cg_machine.proofs.Sorting.{Reach-inside}

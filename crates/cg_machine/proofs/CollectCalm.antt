@@ -26,6 +26,7 @@ use Rattle.cg_machine.specs.Weak.{loses_referent, callback_of, AllLose}
 use Rattle.cg_machine.specs.Dying.{finalizer_to_run}
 use Rattle.cg_machine.specs.Collect.{collection_at, merged_place, sorted, StartStep, older, waits, ClearsOne, WeakClearingStep, calls_back, after_release, looks_at, IsMemberOf, replaced_place, FinalizingStep, get_older, loses_at_split, SplitStep, takes_turn, TurnsStep, saved, all_saved, has_flag, save_all, is_saved, empties, after_turn, EndStep, PhaseStep}
 use Rattle.cg_machine.proofs.Forgotten.{IsQuiet, AreQuiet, Forgotten, Mortal, Alters, alters_refl, alters_trans, map_alters, if_alters, change_alters, place_later, map_quiet, test_quiet, place_quiet, entries_quiet, lost_quiet, lost_alters, entries_alter, place_alters, referred_after, still_forgotten}
+use Rattle.cg_machine.proofs.Pointwise.{GoesOn, all_lose_by, all_saved_by}
 use Rattle.cg_machine.proofs.Unheld.{IsLocalHeld, AreResting, GivenUp, IsHeldWhereDying, Calm, resting_stack, resting_after, altered_keeps, popped_free, top_free, pushed_free, turned_free, held_where_dying}
 use Rattle.cg_machine.proofs.Lookups.{references-append, last_free, shorter_free}
 use Rattle.cg_machine.proofs.Releasing.{absent, no_times, starts_calm}
@@ -60,6 +61,9 @@ saved_quiet o s objects apart q = test_quiet o (λ x. with_entries (x.entries ++
   refers_to_none = k.refers_to_none;
 }) objects q
 
+alterations : GoesOn Alters
+alterations = record { same = alters_refl; trans = alters_trans }
+
 pub saved_alters : (s : ℕ) (objects : List Object) → Alters objects (saved s objects)
 saved_alters s objects = change_alters (λ x. with_entries (x.entries ++ item (Ref s) ∷ []) x) (λ x. record { serial = refl; code = refl; class = refl; referent = inl refl }) 1 objects
 
@@ -68,17 +72,14 @@ all_saved_quiet o [] objects apart q = q
 all_saved_quiet o (s ∷ keeps) objects apart q = all_saved_quiet o keeps (saved s objects) (λ m. apart (inr m)) (saved_quiet o s objects (λ e. apart (inl e)) q)
 
 pub all_saved_alters : (keeps : List ℕ) (objects : List Object) → Alters objects (all_saved keeps objects)
-all_saved_alters [] objects = alters_refl objects
-all_saved_alters (s ∷ keeps) objects = alters_trans objects (saved s objects) (all_saved keeps (saved s objects)) (saved_alters s objects) (all_saved_alters keeps (saved s objects))
+all_saved_alters keeps = all_saved_by Alters alterations keeps (λ s m. saved_alters s)
 
 -- several weak references lose their referents
 pub all_lose_alters : (wanted : Object → Bool) (weaks : List ℕ) (objects after : List Object) → AllLose wanted objects weaks after → Alters objects after
-all_lose_alters wanted [] objects after lose = subst (λ os. Alters objects os) (sym lose.1) (alters_refl objects)
-all_lose_alters wanted (weak ∷ weaks) objects after lose = alters_trans objects (loses_referent weak objects) after (lost_alters weak objects) (all_lose_alters wanted weaks (loses_referent weak objects) after lose.1)
+all_lose_alters wanted weaks = all_lose_by Alters alterations wanted weaks (λ weak m. lost_alters weak)
 
 all_lose_quiet : (o : ℕ) (wanted : Object → Bool) (weaks : List ℕ) (objects after : List Object) → AllLose wanted objects weaks after → AreQuiet o objects → AreQuiet o after
-all_lose_quiet o wanted [] objects after lose q = subst (AreQuiet o) (sym lose.1) q
-all_lose_quiet o wanted (weak ∷ weaks) objects after lose q = all_lose_quiet o wanted weaks (loses_referent weak objects) after lose.1 (lost_quiet o weak objects q)
+all_lose_quiet o wanted weaks = all_lose_by (λ before after. AreQuiet o before → AreQuiet o after) (record { same = λ objects q. q; trans = λ before now after h k q. k (h q) }) wanted weaks (λ weak m. lost_quiet o weak)
 
 reached_inside : {Held Inside : ℕ → Type 0} (arrows : List Edge) (o : ℕ) → Reach Held Inside arrows o → Inside o
 reached_inside arrows o (first held inside) = inside

@@ -10,12 +10,13 @@ use Rattle.cg_graph.specs.Member.{Includes}
 use Rattle.cg_graph.specs.Value.{references}
 use Rattle.cg_graph.specs.Object.{Object, change, serials, with_place, with_entries, with_referent}
 use Rattle.cg_graph.specs.Holdings.{name_holdings}
-use Rattle.cg_graph.proofs.Members.{either, Includes-map, Includes-map_cases}
+use Rattle.cg_graph.proofs.Members.{either, Includes-map_cases}
 use Rattle.cg_machine.specs.World.{World}
 use Rattle.cg_machine.specs.Holdings.{holds}
 use Rattle.cg_machine.specs.Weak.{has_weak_references, loses_referent}
 use Rattle.cg_machine.specs.Dying.{has_finalizers}
 use Rattle.cg_machine.proofs.Serials.{Rises}
+use Rattle.cg_machine.proofs.Pointwise.{IsOrder, Came, Lasts, came, came_if, came_map, lasts, lasts_if, lasts_lives, lasts_map}
 
 -- an object does not hold o; where it is o, it is untracked and refers to nothing
 pub record IsQuiet (o : ℕ) (x : Object) : Type 0 where
@@ -65,8 +66,8 @@ pub record IsLater (x y : Object) : Type 0 where
 
 -- no object comes or goes
 pub record Alters (before after : List Object) : Type 0 where
-  pub origin : (y : Object) → Includes after y → (x : Object) × Includes before x × IsLater x y
-  pub lasts : (x : Object) → Includes before x → (y : Object) × Includes after y × IsLater x y
+  pub origin : Came IsLater before after
+  pub lasts : Lasts IsLater before after
 
 pub later_refl : (x : Object) → IsLater x x
 later_refl x = record { serial = refl; code = refl; class = refl; referent = inl refl }
@@ -79,27 +80,20 @@ later_trans x y z h k = record {
   referent = either k.referent (λ e. either h.referent (λ f. inl (e ∙ f)) (λ f. inr (e ∙ f))) (λ e. inr e);
 }
 
+pub later : IsOrder IsLater
+later = record { same = later_refl; trans = later_trans }
+
 pub alters_refl : (objects : List Object) → Alters objects objects
-alters_refl objects = record { origin = λ y m. (y, m, later_refl y); lasts = λ x m. (x, m, later_refl x) }
+alters_refl objects = record { origin = (came IsLater later).same objects; lasts = (lasts IsLater later).same objects }
 
 pub alters_trans : (before now after : List Object) → Alters before now → Alters now after → Alters before after
-alters_trans before now after h k = record {
-  origin = λ y m. let a = k.origin y m in let b = h.origin a.0 a.1 in (b.0, b.1, later_trans b.0 a.0 y b.2 a.2);
-  lasts = λ x m. let a = h.lasts x m in let b = k.lasts a.0 a.1 in (b.0, b.1, later_trans x a.0 b.0 a.2 b.2);
-}
+alters_trans before now after h k = record { origin = (came IsLater later).trans before now after h.origin k.origin; lasts = (lasts IsLater later).trans before now after h.lasts k.lasts }
 
 pub map_alters : (f : Object → Object) → ((x : Object) → IsLater x (f x)) → (objects : List Object) → Alters objects (map f objects)
-map_alters f h objects = record {
-  origin = λ y m. let a = Includes-map_cases f objects y m in (a.0, a.1, subst (IsLater a.0) a.2 (h a.0));
-  lasts = λ x m. (f x, Includes-map f objects x m, h x);
-}
-
-later_if : (f : Object → Object) → ((x : Object) → IsLater x (f x)) → (b : Bool) (x : Object) → IsLater x (if b then f x else x)
-later_if f h true x = h x
-later_if f h false x = later_refl x
+map_alters f h objects = record { origin = came_map IsLater later_refl f objects (λ x m. h x); lasts = lasts_map IsLater later_refl f objects (λ x m. h x) }
 
 pub if_alters : (f : Object → Object) → ((x : Object) → IsLater x (f x)) → (test : Object → Bool) (objects : List Object) → Alters objects (map (λ x. if test x then f x else x) objects)
-if_alters f h test objects = map_alters (λ x. if test x then f x else x) (λ x. later_if f h (test x) x) objects
+if_alters f h test objects = record { origin = came_if IsLater later_refl f test objects (λ x m t. h x); lasts = lasts_if IsLater later_refl f test objects (λ x m t. h x) }
 
 pub change_alters : (f : Object → Object) → ((x : Object) → IsLater x (f x)) → (s : ℕ) (objects : List Object) → Alters objects (change f s objects)
 change_alters f h s objects = if_alters f h (λ x. x.serial == s) objects
@@ -109,10 +103,7 @@ place_later p x = record { serial = refl; code = refl; class = refl; referent = 
 
 -- what an alteration keeps
 pub lives_after : (before after : List Object) → Alters before after → (o : ℕ) → Includes (serials before) o → Includes (serials after) o
-lives_after before after a o m =
-    let x = Includes-map_cases (λ (z : Object). z.serial) before o m in
-    let y = a.lasts x.0 x.1 in
-    subst (Includes (serials after)) (y.2.serial ∙ x.2) (Includes-map (λ (z : Object). z.serial) after y.0 y.1)
+lives_after before after a = lasts_lives IsLater (λ x y k. k.serial) before after a.lasts
 
 pub none_later : (x y : Object) → IsLater x y → x.referent ≡ None → y.referent ≡ None
 none_later x y h e = either h.referent (λ k. k ∙ e) (λ k. k)

@@ -1,6 +1,6 @@
 -- Objects before and after a change. What an object is and what it was stand in a relation that is reflexive and transitive: what changes of
 -- one object, of some and of all keep of it is stated here once, for any such relation.
-use Rattle.std.proofs.Common.{◌≡◌, refl, sym, ◌∙◌, ap, subst, ℕ, Bool, true, false, not, inl, inr, ◌⊎◌, List, [], ◌∷◌, ◌++◌, map, None}
+use Rattle.std.proofs.Common.{◌≡◌, refl, sym, ◌∙◌, subst, ℕ, Bool, true, false, not, inl, inr, List, [], ◌∷◌, ◌++◌, map, None}
 use Rattle.std.specs.Prelude.{◌==◌, if◌then◌else◌}
 use Rattle.cg_value.specs.declared.Val.TheVariants.{Ref}
 use Rattle.cg_graph.specs.Member.{Includes}

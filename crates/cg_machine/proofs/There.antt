@@ -1,5 +1,5 @@
 -- What the lines of a step name is there, and what loses its referent has none after.
-use Rattle.std.proofs.Common.{◌≡◌, refl, sym, ◌∙◌, ap, subst, ℕ, ◌<◌, Bool, true, false, not, inl, inr, ◌⊎◌, List, [], ◌∷◌, ◌++◌, map, Option, None}
+use Rattle.std.proofs.Common.{◌≡◌, refl, sym, ◌∙◌, ap, subst, ℕ, ◌<◌, Bool, true, false, not, inl, inr, ◌⊎◌, List, [], ◌∷◌, None}
 use Rattle.std.specs.Prelude.{◌==◌, if◌then◌else◌, filter, option_map, reverse, unwrap_or}
 use Rattle.std.proofs.lemmas.Bool.{eqb-true, eq-eqb}
 use Rattle.std.proofs.lemmas.List.{reverse-append}
@@ -9,7 +9,7 @@ use Rattle.cg_graph.proofs.Members.{either, Includes-append_cases, Includes-filt
 use Rattle.cg_machine.specs.Collect.{SameMembers}
 use Rattle.cg_machine.specs.Weak.{AllLose, is_reference_to, loses_referent, weak_references, weak_references_if}
 use Rattle.cg_machine.proofs.Condemned.{present, Includes-of_count}
-use Rattle.cg_machine.proofs.Forgotten.{Alters, IsLater, alters_refl, alters_trans, later_refl, lost_alters, none_later}
+use Rattle.cg_machine.proofs.Forgotten.{Alters, IsLater, alters_refl, alters_trans, lost_alters, none_later}
 use Rattle.cg_machine.proofs.Pointwise.{Came, all_lose_by, came_lives}
 
 -- no object of this serial refers to anything

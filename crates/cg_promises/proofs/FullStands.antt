@@ -6,9 +6,10 @@ use Rattle.cg_value.specs.declared.Place.TheVariants.{Untracked, Cand, Seen, Leg
 use Rattle.cg_script.specs.declared.Script.{Script}
 use Rattle.cg_graph.specs.Member.{Includes}
 use Rattle.cg_graph.specs.Object.{Object}
-use Rattle.cg_graph.proofs.Members.{Includes-map, Includes-map_cases}
+use Rattle.cg_graph.proofs.Members.{Includes-map_cases}
 use Rattle.cg_machine.specs.Program.{legacy_of}
 use Rattle.cg_promises.proofs.Primed.{IsWanted}
+use Rattle.cg_machine.proofs.Pointwise.{IsOrder, Came, Lasts, came, came_if, came_map, lasts, lasts_if, lasts_map}
 
 -- Before the second detection. Kept is what paths led to at the start, `aside` what was to be set aside then.
 pub data Stands (kept garbage aside : ℕ → Type 0) (y : Object) : Type 0 where
@@ -97,36 +98,26 @@ pub record Alike (script : Script) (x y : Object) : Type 0 where
 
 -- each object is there still, and none is new
 pub record AreAlike (script : Script) (before after : List Object) : Type 0 where
-  pub there : (x : Object) → Includes before x → (y : Object) × Includes after y × Alike script x y
-  pub back : (y : Object) → Includes after y → (x : Object) × Includes before x × Alike script x y
+  pub there : Lasts (Alike script) before after
+  pub back : Came (Alike script) before after
+
+alike : (script : Script) → IsOrder (Alike script)
+alike script = record {
+  same = λ x. record { serial = refl; entries = refl; legacy = refl };
+  trans = λ x y z h k. record { serial = k.serial ∙ h.serial; entries = k.entries ∙ h.entries; legacy = k.legacy ∙ h.legacy };
+}
 
 pub alike_trans : (script : Script) (before now after : List Object) → AreAlike script before now → AreAlike script now after → AreAlike script before after
-alike_trans script before now after h k = record {
-  there = λ x m. let y = h.there x m in let z = k.there y.0 y.1 in (z.0, z.1, one x y.0 z.0 y.2 z.2);
-  back = λ z m. let y = k.back z m in let x = h.back y.0 y.1 in (x.0, x.1, one x.0 y.0 z x.2 y.2);
-}
-  where
-    one : (x y z : Object) → Alike script x y → Alike script y z → Alike script x z
-    one x y z a b = record { serial = b.serial ∙ a.serial; entries = b.entries ∙ a.entries; legacy = b.legacy ∙ a.legacy }
+alike_trans script before now after h k = record { there = (lasts (Alike script) (alike script)).trans before now after h.there k.there; back = (came (Alike script) (alike script)).trans before now after h.back k.back }
 
 pub alike_same : (script : Script) (objects : List Object) → AreAlike script objects objects
-alike_same script objects = record {
-  there = λ x m. (x, m, record { serial = refl; entries = refl; legacy = refl });
-  back = λ x m. (x, m, record { serial = refl; entries = refl; legacy = refl });
-}
+alike_same script objects = record { there = (lasts (Alike script) (alike script)).same objects; back = (came (Alike script) (alike script)).same objects }
 
 pub map_alike : (script : Script) (f : Object → Object) (objects : List Object) → ((x : Object) → Alike script x (f x)) → AreAlike script objects (map f objects)
-map_alike script f objects h = record {
-  there = λ x m. (f x, Includes-map f objects x m, h x);
-  back = λ y m. let x = Includes-map_cases f objects y m in (x.0, x.1, subst (Alike script x.0) x.2 (h x.0));
-}
+map_alike script f objects h = record { there = lasts_map (Alike script) (alike script).same f objects (λ x m. h x); back = came_map (Alike script) (alike script).same f objects (λ x m. h x) }
 
 pub test_alike : (script : Script) (f : Object → Object) (test : Object → Bool) (objects : List Object) → ((x : Object) → Alike script x (f x)) → AreAlike script objects (map (λ x. if test x then f x else x) objects)
-test_alike script f test objects h = map_alike script (λ x. if test x then f x else x) objects (λ x. one (test x) x)
-  where
-    one : (b : Bool) (x : Object) → Alike script x (if b then f x else x)
-    one true x = h x
-    one false x = record { serial = refl; entries = refl; legacy = refl }
+test_alike script f test objects h = record { there = lasts_if (Alike script) (alike script).same f test objects (λ x m t. h x); back = came_if (Alike script) (alike script).same f test objects (λ x m t. h x) }
 
 -- those of a place of condemned ones
 pub wanted_cand : (p : Place) → p ≡ Cand → IsWanted p

@@ -2,14 +2,12 @@
 -- those of the member that has its turn.
 use Rattle.std.proofs.Common.{◌≡◌, refl, sym, ◌∙◌, ap, subst, ℕ, Bool, true, false, not, inl, inr, ◌⊎◌, List, [], ◌∷◌, ◌++◌, map}
 use Rattle.std.specs.Prelude.{◌==◌, if◌then◌else◌}
-use Rattle.std.proofs.lemmas.Bool.{eqb-true}
 use Rattle.std.proofs.lemmas.List.{append-nil, append_assoc}
 use Rattle.cg_value.specs.declared.Val.TheVariants.{Ref}
 use Rattle.cg_script.specs.declared.Script.{Script}
-use Rattle.cg_graph.specs.Member.{Includes}
 use Rattle.cg_graph.specs.Value.{item}
-use Rattle.cg_graph.specs.Object.{Object, with_entries}
-use Rattle.cg_graph.proofs.Members.{either, Includes-map_cases, Includes-filter_cases}
+use Rattle.cg_graph.specs.Object.{Object}
+use Rattle.cg_graph.proofs.Members.{either}
 use Rattle.cg_machine.specs.declared.event.Event.{Event}
 use Rattle.cg_machine.specs.World.{World, Activity, Releasing, Dying, Collecting, Collection, CollectPhase, Death, DyingPhase, Calling, Emptying, Turn, with_stack}
 use Rattle.cg_machine.specs.Frame.{released}

@@ -11,7 +11,7 @@ use Rattle.cg_graph.specs.Value.{entry_references, item, last_entry, references,
 use Rattle.cg_graph.specs.Object.{Object, change, entries_of, serials, with_entries}
 use Rattle.cg_graph.proofs.Members.{either, Includes-map, Includes-map_cases}
 use Rattle.cg_machine.specs.declared.event.Event.{Event}
-use Rattle.cg_machine.specs.World.{World, Activity, Releasing, Collecting, Collection, CollectPhase, Turn, AfterTurn, with_change}
+use Rattle.cg_machine.specs.World.{World, Activity, Releasing, Collecting, Collection, CollectPhase, Turn, AfterTurn}
 use Rattle.cg_machine.specs.Holdings.{collect_holds, is_death_of}
 use Rattle.cg_machine.specs.Collect.{collection_at, empties, saved, PhaseStep}
 use Rattle.cg_machine.proofs.Serials.{Rises}

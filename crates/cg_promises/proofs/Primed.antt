@@ -6,11 +6,10 @@ use Rattle.std.proofs.lemmas.Bool.{eqb-true}
 use Rattle.cg_value.specs.declared.Entry.{Entry}
 use Rattle.cg_value.specs.declared.Place.{Place}
 use Rattle.cg_value.specs.declared.Place.TheVariants.{Untracked, Gen, Frozen, Cand, Seen, Back, Legacy, Pend}
-use Rattle.cg_value.specs.declared.Val.TheVariants.{Ref}
 use Rattle.cg_script.specs.declared.Script.{Script}
 use Rattle.cg_graph.specs.Member.{Includes, includes}
 use Rattle.cg_graph.specs.Reach.{first}
-use Rattle.cg_graph.specs.Value.{entry_references, item, last_entry, without_last}
+use Rattle.cg_graph.specs.Value.{entry_references, last_entry, without_last}
 use Rattle.cg_graph.specs.Object.{Object, change, object_at, objects_at, entries_of, is_at, is_in_map, is_tracked, is_tuple, marked, same_place, serials_at, with_entries, with_place, with_referent}
 use Rattle.cg_graph.proofs.Members.{either, Includes-filter, Includes-map, Includes-map_cases}
 use Rattle.cg_machine.specs.declared.event.Event.{Event}

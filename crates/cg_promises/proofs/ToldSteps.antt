@@ -6,7 +6,7 @@ use Rattle.cg_graph.specs.Member.{Includes}
 use Rattle.cg_graph.specs.Object.{Object, object_at, serials}
 use Rattle.cg_graph.proofs.Members.{either}
 use Rattle.cg_machine.specs.declared.event.Event.{Event}
-use Rattle.cg_machine.specs.declared.event.Event.TheVariants.{Cleared, Enter, Free, GcStop, Value}
+use Rattle.cg_machine.specs.declared.event.Event.TheVariants.{Enter, Free}
 use Rattle.cg_machine.specs.declared.event.FrameSpec.{FrameSpec}
 use Rattle.cg_machine.specs.Dying.{finalizer_to_run}
 use Rattle.cg_machine.specs.Holdings.{holds}
@@ -15,7 +15,7 @@ use Rattle.cg_machine.specs.World.{World, Activity}
 use Rattle.cg_machine.proofs.Advances.{Advance, Plainly, WithFrame, AreLinesOf, Shows, Frees, FrameOf, OfFinalizer, OfLegacy, OfCallback, HasChanged, IsDeathOf, IsLineOf, changed_becomes, changed_lasts}
 use Rattle.cg_machine.proofs.Lookups.{found_at, found_lives}
 use Rattle.cg_machine.proofs.Orderly.{waits_are_held}
-use Rattle.cg_promises.proofs.Told.{AreTold, Begins, Enters, Goes, IsPlain, Old, Origin, starts_told}
+use Rattle.cg_promises.proofs.Told.{AreTold, Enters, Goes, IsPlain, Origin, starts_told}
 
 -- a finalizer that is to run has not run
 to_run_unmarked : (script : Script) (objects : List Object) (o p : ℕ) → option_and_then (finalizer_to_run script) (object_at objects o) ≡ Some p → (x : Object) × Includes objects x × (x.serial ≡ o) × (x.finalized ≡ false)

@@ -7,7 +7,7 @@ use Rattle.cg_script.specs.declared.Script.{Script}
 use Rattle.cg_graph.specs.Member.{Includes}
 use Rattle.cg_graph.specs.Value.{references}
 use Rattle.cg_graph.specs.Object.{Object, change, with_place, with_referent}
-use Rattle.cg_graph.proofs.Members.{either, Includes-map_cases}
+use Rattle.cg_graph.proofs.Members.{either}
 use Rattle.cg_machine.specs.declared.event.Event.{Event}
 use Rattle.cg_machine.specs.declared.event.Event.TheVariants.{BudgetSpent, Enter}
 use Rattle.cg_machine.specs.declared.event.FrameSort.{FrameSort}
@@ -21,6 +21,7 @@ use Rattle.cg_machine.specs.Collect.{IsMemberOf, Survives, is_condemned, merged}
 use Rattle.cg_machine.specs.Represents.{death_waits}
 use Rattle.cg_machine.proofs.Forgotten.{IsLater, later_refl, later_trans}
 use Rattle.cg_laws.specs.Apart.{IsFound}
+use Rattle.cg_machine.proofs.Pointwise.{IsOrder, Came, came, came_if}
 
 -- the weak references whose callbacks are still to come
 abbrev pub to_call_in : CollectPhase → List ℕ
@@ -94,7 +95,7 @@ pub record Ages (w : World) (x y : Object) : Type 0 where
   pub place : IsFound y.place → IsFound x.place ⊎ IsCollected w x.serial
 
 abbrev pub Grows : World → List Object → List Object → Type 0
-Grows w before after = (y : Object) → Includes after y → (x : Object) × Includes before x × Ages w x y
+Grows w before after = Came (Ages w) before after
 
 -- a callback begins, of the first that is to be called on top
 pub record Called (w : World) (below tops : List Activity) (events : List Event) (n : ℕ) : Type 0 where
@@ -123,21 +124,17 @@ ages_trans w x y z h k = record {
   place = λ f. either (k.place f) h.place (λ c. inr (subst (IsCollected w) h.later.serial c));
 }
 
+pub ages : (w : World) → IsOrder (Ages w)
+ages w = record { same = same_ages w; trans = ages_trans w }
+
 pub grows_same : (w : World) (objects : List Object) → Grows w objects objects
-grows_same w objects y m = (y, m, same_ages w y)
+grows_same w = (came (Ages w) (ages w)).same
 
 pub grows_trans : (w : World) (before now after : List Object) → Grows w before now → Grows w now after → Grows w before after
-grows_trans w before now after h k y m = let a = k y m in let b = h a.0 a.1 in (b.0, b.1, ages_trans w b.0 a.0 y b.2 a.2)
-
-pub grows_map : (w : World) (f : Object → Object) (objects : List Object) → ((x : Object) → Includes objects x → Ages w x (f x)) → Grows w objects (map f objects)
-grows_map w f objects h y m = let x = Includes-map_cases f objects y m in (x.0, x.1, subst (Ages w x.0) x.2 (h x.0 x.1))
+grows_trans w = (came (Ages w) (ages w)).trans
 
 pub grows_if : (w : World) (f : Object → Object) (test : Object → Bool) (objects : List Object) → ((x : Object) → Includes objects x → test x ≡ true → Ages w x (f x)) → Grows w objects (map (λ x. if test x then f x else x) objects)
-grows_if w f test objects h = grows_map w (λ x. if test x then f x else x) objects (λ x m. one (test x) x refl m)
-  where
-    one : (b : Bool) (x : Object) → test x ≡ b → Includes objects x → Ages w x (if b then f x else x)
-    one true x t m = h x m t
-    one false x t m = same_ages w x
+grows_if w = came_if (Ages w) (same_ages w)
 
 -- a place of those that are not set aside
 pub grows_place : (w : World) (p : Place) (s : ℕ) (objects : List Object) → ¬ IsFound p → Grows w objects (change (with_place p) s objects)

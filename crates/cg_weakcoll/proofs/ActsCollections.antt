@@ -25,8 +25,9 @@ use Rattle.cg_machine.proofs.Lookups.{at_member, found_at, references-append, sa
 use Rattle.cg_machine.proofs.Serials.{Rises}
 use Rattle.cg_machine.proofs.There.{same_lives}
 use Rattle.cg_laws.specs.Apart.{IsFound}
-use Rattle.cg_weakcoll.proofs.Acts.{Acts, Ages, Grows, IsAside, Loses, Waited, acts, all_to_call, either_acts, grows_if, grows_lost, grows_place, grows_same, grows_trans, one_raised, starts_acts, to_call_in, two_raised, yields_acts}
+use Rattle.cg_weakcoll.proofs.Acts.{Acts, Ages, ages, Grows, IsAside, Loses, Waited, acts, all_to_call, either_acts, grows_if, grows_lost, grows_place, grows_same, grows_trans, one_raised, starts_acts, to_call_in, two_raised, yields_acts}
 use Rattle.cg_weakcoll.proofs.ActsDeaths.{shortened_grows, to_run_is}
+use Rattle.cg_machine.proofs.Pointwise.{all_saved_by, came, came_all_lose}
 
 -- places that are told apart
 found_at_place : (p q : Place) → IsFound q → same_place p q ≡ true → IsFound p
@@ -222,8 +223,7 @@ module _ (script : Script) (c : Collection) (below : List Activity) (v : World) 
 
   -- the second detection
   all_lose_grows : (w : World) (wanted : Object → Bool) (weaks : List ℕ) (objects after : List Object) → AllLose wanted objects weaks after → Grows w objects after
-  all_lose_grows w wanted [] objects after lose = subst (Grows w objects) (sym lose.1) (grows_same w objects)
-  all_lose_grows w wanted (weak ∷ weaks) objects after lose = grows_trans w objects (loses_referent weak objects) after (grows_lost w weak objects) (all_lose_grows w wanted weaks (loses_referent weak objects) after lose.1)
+  all_lose_grows w = came_all_lose (Ages w) (ages w) (λ x. record { later = record { serial = refl; code = refl; class = refl; referent = inr refl }; refers = λ n i. inl i; place = λ f. inl f })
 
   split_acts : (events : List Event) (after : World) → SplitStep c below (at Split) events after → Acts script (at Split) below events after
   split_acts events after step = to (at Split) after _ events step.world (goes Split (record c { collected = c.collected + length (serials_at step.objects Cand); phase = Turns }) events _ refl refl refl
@@ -241,8 +241,7 @@ module _ (script : Script) (c : Collection) (below : List Activity) (v : World) 
   })
 
   all_saved_grows : (w : World) (keeps : List ℕ) (objects : List Object) → ((o : ℕ) → Includes keeps o → IsAside w o) → Grows w objects (all_saved keeps objects)
-  all_saved_grows w [] objects aside = grows_same w objects
-  all_saved_grows w (o ∷ keeps) objects aside = grows_trans w objects (saved o objects) (all_saved keeps (saved o objects)) (saved_grows w o objects (aside o (inl refl))) (all_saved_grows w keeps (saved o objects) (λ n m. aside n (inr m)))
+  all_saved_grows w keeps objects aside = all_saved_by (Grows w) (came (Ages w) (ages w)) keeps (λ o m now. saved_grows w o now (aside o m)) objects
 
   turn_acts : (x : Object) → Includes (objects_at v.objects Cand) x → (let t : Transition = takes_turn c x below (at Turns) in Acts script (at Turns) below t.0 t.1)
   turn_acts x member = go (has_flag c.flags save_all) (is_tuple x)

@@ -1,28 +1,23 @@
 -- A weak reference that dies is dying still after a step, or gone.
 use Rattle.std.proofs.Common.{◌≡◌, refl, sym, ap, subst, ℕ, ◌-◌, Bool, true, false, not, inl, inr, ◌⊎◌, List, [], ◌∷◌, ◌++◌, Option, Some, None}
-use Rattle.std.specs.Prelude.{◌==◌, ◌&&◌, if◌then◌else◌, is_some, slice_get, option_and_then, option_to_list, unwrap_or}
-use Rattle.std.proofs.lemmas.Bool.{eqb-true}
+use Rattle.std.specs.Prelude.{◌==◌, ◌&&◌, if◌then◌else◌, is_some, slice_get, option_and_then, unwrap_or}
 use Rattle.cg_value.specs.declared.Entry.{Entry}
 use Rattle.cg_value.specs.declared.KindCode.TheVariants.{Weak}
-use Rattle.cg_value.specs.declared.Place.TheVariants.{Untracked, Gen}
 use Rattle.cg_script.specs.declared.Script.{Script}
 use Rattle.cg_graph.specs.Member.{Includes}
-use Rattle.cg_graph.specs.Value.{entry_references, last_entry, without_last}
-use Rattle.cg_graph.specs.Object.{Object, change, object_at, entries_of, marked, serials, with_entries, with_place, with_referent}
+use Rattle.cg_graph.specs.Value.{entry_references, last_entry}
+use Rattle.cg_graph.specs.Object.{Object, object_at, entries_of, serials, with_entries}
 use Rattle.cg_graph.proofs.Members.{Includes-append_right}
 use Rattle.cg_machine.specs.declared.event.Event.{Event}
-use Rattle.cg_machine.specs.declared.event.Event.TheVariants.{Alive, BudgetSpent, Enter, Free, Leave}
-use Rattle.cg_machine.specs.declared.event.FrameSort.{FrameSort}
-use Rattle.cg_machine.specs.declared.event.FrameSort.TheVariants.{Del, Legacy, Callback, Call}
+use Rattle.cg_machine.specs.declared.event.Event.TheVariants.{BudgetSpent, Enter}
+use Rattle.cg_machine.specs.declared.event.FrameSort.TheVariants.{Callback}
 use Rattle.cg_machine.specs.declared.event.FrameSpec.{FrameSpec}
 use Rattle.cg_machine.specs.Program.{body_of, class_number, classes, finalizer_of, legacy_of}
-use Rattle.cg_machine.specs.World.{World, Activity, BudgetIsSpent, Framed, Releasing, Dying, Frame, Death, DyingPhase, Finalizer, AfterFinalizer, Clearing, Calling, AfterCall, LegacyFinalizer, AfterLegacy, Detaching, Emptying, push, with_stack, with_change}
-use Rattle.cg_machine.specs.Holdings.{in_degree, is_dying}
-use Rattle.cg_machine.specs.Frame.{Transition, frame_end, gives_up_function, begin_death, released, procedure_of}
-use Rattle.cg_machine.specs.Weak.{has_weak_references, weak_references_if, loses_referent, callback_of}
-use Rattle.cg_machine.specs.Dying.{death_at, has_finalizers, finalizer_to_run, run_finalizer, run_legacy, after_frame, clear_one, call_one, detach_one, empty_one, dying}
+use Rattle.cg_machine.specs.World.{World, Activity, BudgetIsSpent, Framed, Releasing, Dying, Death, DyingPhase, Finalizer, AfterFinalizer, Clearing, Calling, AfterCall, LegacyFinalizer, AfterLegacy, Detaching, Emptying, with_change}
+use Rattle.cg_machine.specs.Frame.{Transition, procedure_of}
+use Rattle.cg_machine.specs.Weak.{has_weak_references, weak_references_if, callback_of}
+use Rattle.cg_machine.specs.Dying.{death_at, has_finalizers, finalizer_to_run, run_finalizer, run_legacy, clear_one, call_one, detach_one, empty_one, dying}
 use Rattle.cg_machine.specs.Run.{Step, StepOf}
-use Rattle.cg_machine.proofs.Starting.{either_way}
 use Rattle.cg_machine.proofs.Lookups.{found_at}
 use Rattle.cg_machine.proofs.LeftRuns.{LeavesUnder}
 use Rattle.cg_machine.proofs.There.{without_gone}

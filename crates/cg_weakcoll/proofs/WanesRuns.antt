@@ -17,7 +17,7 @@ use Rattle.cg_graph.proofs.Members.{either, Includes-append_cases, Includes-appe
 use Rattle.cg_machine.specs.declared.event.Event.{Event}
 use Rattle.cg_machine.specs.declared.event.Event.TheVariants.{Made, Value, RefCount, Tracked as TrackedLine, Finalized as FinalizedLine, Count as CountLine, Gens as GensLine, Referent, Referrer, Held, Via, Listed, Unreachable, Cleared, Collected, End, Left, Refused}
 use Rattle.cg_machine.specs.declared.event.FrameSort.TheVariants.{Call as CallFrame}
-use Rattle.cg_machine.specs.World.{World, Activity, TopLevel, Framed, Dying, Collecting, ShuttingDown, Releasing, Numbers, Ended, push, with_change, with_stack}
+use Rattle.cg_machine.specs.World.{World, Activity, TopLevel, Framed, Dying, Collecting, ShuttingDown, Releasing, Numbers, Ended, push, with_change}
 use Rattle.cg_machine.specs.Operands.{is_dict}
 use Rattle.cg_machine.specs.Frame.{procedure_of}
 use Rattle.cg_machine.specs.Effects.{Effect, Changes, Calls, Collects, Quits, Explains, bound, frozen, given_up_by, live, may_track, replaced, tracked_by, unfrozen, with_new}
