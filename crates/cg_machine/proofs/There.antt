@@ -1,6 +1,6 @@
 -- What the lines of a step name is there, and what loses its referent has none after.
-use Rattle.std.proofs.Common.{◌≡◌, refl, sym, ◌∙◌, ap, subst, ℕ, ◌<◌, Bool, true, false, not, inl, inr, ◌⊎◌, List, [], ◌∷◌, None}
-use Rattle.std.specs.Prelude.{◌==◌, if◌then◌else◌, filter, option_map, reverse, unwrap_or}
+use Rattle.std.proofs.Common.{◌≡◌, refl, sym, ◌∙◌, ap, subst, ℕ, ◌<◌, Bool, true, false, not, inl, inr, ◌⊎◌, List, [], ◌∷◌, Option, Some, None}
+use Rattle.std.specs.Prelude.{◌==◌, if◌then◌else◌, filter, option_and_then, option_map, reverse, unwrap_or}
 use Rattle.std.proofs.lemmas.Bool.{eqb-true, eq-eqb}
 use Rattle.std.proofs.lemmas.List.{reverse-append}
 use Rattle.cg_graph.specs.Member.{Includes}
@@ -9,8 +9,13 @@ use Rattle.cg_graph.proofs.Members.{either, Includes-append_cases, Includes-filt
 use Rattle.cg_machine.specs.Collect.{SameMembers}
 use Rattle.cg_machine.specs.Weak.{AllLose, is_reference_to, loses_referent, weak_references, weak_references_if}
 use Rattle.cg_machine.proofs.Condemned.{present, Includes-of_count}
-use Rattle.cg_machine.proofs.Forgotten.{Alters, IsLater, alters_refl, alters_trans, lost_alters, none_later}
-use Rattle.cg_machine.proofs.Pointwise.{Came, all_lose_by, came_lives}
+use Rattle.cg_machine.proofs.CollectCalm.{all_lose_alters}
+use Rattle.cg_machine.proofs.Forgotten.{IsLater, lost_alters, none_later}
+use Rattle.cg_machine.proofs.Lookups.{found_at}
+use Rattle.cg_machine.specs.Dying.{finalizer_to_run}
+use Rattle.cg_machine.specs.Program.{finalizer_of}
+use Rattle.cg_script.specs.declared.Script.{Script}
+use Rattle.cg_machine.proofs.Pointwise.{Came, came_lives}
 
 -- no object of this serial refers to anything
 abbrev pub HasNoReferent : ℕ → List Object → Type 0
@@ -22,6 +27,22 @@ came_back before after h n m = came_lives IsLater (λ x y k. k.serial) before af
 -- a list with the same members as often
 pub same_lives : (xs ys : List ℕ) → SameMembers xs ys → (n : ℕ) → Includes xs n → Includes ys n
 same_lives xs ys same n m = Includes-of_count n ys (subst (λ k. 0 < k) (same n) (present n xs m))
+
+-- what is found by a serial and has something
+pub found_with : (f : Object → Option ℕ) (objects : List Object) (o p : ℕ) → option_and_then f (object_at objects o) ≡ Some p → (x : Object) × Includes objects x × (x.serial ≡ o) × (f x ≡ Some p)
+found_with f objects o p e = go (object_at objects o) refl e
+  where
+    go : (m : Option Object) → object_at objects o ≡ m → option_and_then f m ≡ Some p → (x : Object) × Includes objects x × (x.serial ≡ o) × (f x ≡ Some p)
+    go None at k = absurd (let no : None ≡ Some p = k in cc)
+    go (Some x) at k = let found = found_at objects o x at in (x, found.0, found.1, k)
+
+-- a finalizer that is to run has not run
+pub to_run : (script : Script) (x : Object) (p : ℕ) → finalizer_to_run script x ≡ Some p → (x.finalized ≡ false) × (finalizer_of script x ≡ Some p)
+to_run script x p e = go x.finalized refl e
+  where
+    go : (b : Bool) → x.finalized ≡ b → (if b then None else finalizer_of script x) ≡ Some p → (x.finalized ≡ false) × (finalizer_of script x ≡ Some p)
+    go true t k = absurd (let no : None ≡ Some p = k in cc)
+    go false t k = (t, k)
 
 -- objects that pass a test are there
 pub filter_lives : (test : Object → Bool) (objects : List Object) (n : ℕ) → Includes (serials (filter test objects)) n → Includes (serials objects) n
@@ -72,9 +93,6 @@ pub none_stays : (n : ℕ) (before after : List Object) → Came IsLater before 
 none_stays n before after h none y m e = let x = h y m in none_later x.0 y x.2 (none x.0 x.1 (sym x.2.serial ∙ e))
 
 -- several lose it
-all_lose_alter : (wanted : Object → Bool) (weaks : List ℕ) (objects after : List Object) → AllLose wanted objects weaks after → Alters objects after
-all_lose_alter wanted weaks = all_lose_by Alters (record { same = alters_refl; trans = alters_trans }) wanted weaks (λ weak m objects. lost_alters weak objects)
-
 pub all_lose_live : (wanted : Object → Bool) (weaks : List ℕ) (objects after : List Object) → AllLose wanted objects weaks after → (n : ℕ) → Includes weaks n → Includes (serials objects) n
 all_lose_live wanted [] objects after lose n m = absurd m
 all_lose_live wanted (weak ∷ weaks) objects after lose n (inl e) = subst (Includes (serials objects)) (lose.0.is ∙ e) (Includes-map (λ (z : Object). z.serial) objects lose.0.object lose.0.member)
@@ -82,5 +100,5 @@ all_lose_live wanted (weak ∷ weaks) objects after lose n (inr m) = came_back o
 
 pub all_lose_none : (wanted : Object → Bool) (weaks : List ℕ) (objects after : List Object) → AllLose wanted objects weaks after → (n : ℕ) → Includes weaks n → HasNoReferent n after
 all_lose_none wanted [] objects after lose n m = absurd m
-all_lose_none wanted (weak ∷ weaks) objects after lose n (inl e) = none_stays n (loses_referent weak objects) after (all_lose_alter wanted weaks (loses_referent weak objects) after lose.1).origin (subst (λ k. HasNoReferent k (loses_referent weak objects)) e (lost_none weak objects))
+all_lose_none wanted (weak ∷ weaks) objects after lose n (inl e) = none_stays n (loses_referent weak objects) after (all_lose_alters wanted weaks (loses_referent weak objects) after lose.1).origin (subst (λ k. HasNoReferent k (loses_referent weak objects)) e (lost_none weak objects))
 all_lose_none wanted (weak ∷ weaks) objects after lose n (inr m) = all_lose_none wanted weaks (loses_referent weak objects) after lose.1 n m

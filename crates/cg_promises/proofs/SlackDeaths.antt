@@ -1,7 +1,7 @@
 -- Releases, deaths and the end of a frame: untracked objects are slack still.
 use Rattle.std.proofs.Common.{◌≡◌, ◌≢◌, refl, sym, ◌∙◌, ap, subst, ℕ, Bool, true, false, not, ◌&&◌, inl, inr, List, [], ◌∷◌, ◌++◌, Option, Some, None}
 use Rattle.std.specs.Prelude.{◌==◌, if◌then◌else◌, is_some, option_and_then, option_to_list, slice_get, unwrap_or}
-use Rattle.std.proofs.lemmas.Bool.{eqb-true, eq-eqb}
+use Rattle.std.proofs.lemmas.Bool.{eqb-true}
 use Rattle.cg_value.specs.declared.Entry.{Entry}
 use Rattle.cg_value.specs.declared.KindCode.{KindCode}
 use Rattle.cg_value.specs.declared.KindCode.TheVariants.{List as ListKind, Tuple, Dict, Inst, Func, Weak}
@@ -10,7 +10,7 @@ use Rattle.cg_script.specs.declared.Script.{Script}
 use Rattle.cg_graph.specs.Member.{Includes}
 use Rattle.cg_graph.specs.Value.{entry_references, last_entry, references, without_last}
 use Rattle.cg_graph.specs.Object.{Object, change, is_tuple, object_at, entries_of, marked, serials, with_entries, with_place, with_referent, without}
-use Rattle.cg_graph.proofs.Members.{either, Includes-map, Includes-map_cases, Includes-filter_cases}
+use Rattle.cg_graph.proofs.Members.{either, Includes-map, Includes-filter_cases}
 use Rattle.cg_machine.specs.declared.event.Event.TheVariants.{Alive}
 use Rattle.cg_machine.specs.declared.event.FrameSort.{FrameSort}
 use Rattle.cg_machine.specs.declared.event.FrameSort.TheVariants.{Del, Legacy, Callback, Call}
@@ -24,7 +24,7 @@ use Rattle.cg_machine.specs.Dying.{death_at, has_finalizers, finalizer_to_run, r
 use Rattle.cg_machine.proofs.Starting.{either_way}
 use Rattle.cg_machine.proofs.Serials.{Rises}
 use Rattle.cg_machine.proofs.Lookups.{at_member, references_take}
-use Rattle.cg_machine.proofs.There.{without_gone}
+use Rattle.cg_machine.proofs.There.{changed_all, without_gone}
 use Rattle.cg_promises.proofs.Moved.{entries_of_member}
 use Rattle.cg_promises.proofs.Slack.{Excused, Fine, IsSlackWorld, Never, Slack, Still, end_slack, excused_on, goes_same, lost_still, moves_slack, push_slack, starts_slack, still_same, test_still, turn_slack}
 
@@ -59,14 +59,6 @@ no_tuple f next objects o p rises none e x m s t =
     let at : object_at objects o ≡ Some x = subst (λ n. object_at objects n ≡ Some x) s (at_member 1 next objects x rises m) in
     let is : f x ≡ Some p = sym (ap (option_and_then f) at) ∙ e in
     let no : None ≡ Some p = sym (none x t) ∙ is in cc
-
--- the object of a serial after it has changed
-pub changed_at : (P : Object → Type 0) (f : Object → Object) (o : ℕ) (objects : List Object) → ((x : Object) → P (f x)) → (y : Object) → Includes (change f o objects) y → y.serial ≡ o → P y
-changed_at P f o objects h y m e = let x = Includes-map_cases (λ x. if x.serial == o then f x else x) objects y m in go (x.0.serial == o) x.0 refl x.2
-  where
-    go : (b : Bool) (x : Object) → (x.serial == o) ≡ b → (if b then f x else x) ≡ y → P y
-    go true x t i = subst P i (h x)
-    go false x t i = absurd (let no : true ≡ false = sym (eq-eqb x.serial o (ap (λ (z : Object). z.serial) i ∙ e)) ∙ t in cc)
 
 -- the last entry of an object is taken out
 pub shortened_still : (hard : ℕ → Type 0) (next : ℕ) (objects : List Object) (o : ℕ) → Rises 1 next objects → Still hard objects (change (with_entries (without_last (entries_of objects o))) o objects)
@@ -146,7 +138,7 @@ module _ (script : Script) (o : ℕ) (below : List Activity) (v : World) (rises 
   revived : (f : Object → Object) (phase next : DyingPhase) → ((x : Object) → Includes v.objects x → x.serial ≡ o → ¬ (is_tuple x ≡ true)) → ((x : Object) → (f x).serial ≡ x.serial) → ((x : Object) → (f x).code ≡ x.code) → ((x : Object) → (f x).place ≡ Gen 0) → IsSlackWorld (at phase) → Slack v.next_serial (change f o v.objects) (dying_now next ∷ below)
   revived f phase next kind serial code place h = death_slack Never phase next (change f o v.objects)
       (test_still Never f (λ x. x.serial == o) v.objects (λ x m t. record { stays = record { serial = serial x; code = code x; untracked = λ a u. absurd (kind x m (eqb-true x.serial o t) a) }; loses = inr (λ u. absurd (let no : Gen 0 ≡ Untracked = sym (place x) ∙ u in cc)) }))
-      (λ n no. absurd no) (λ r. inr (λ y m e u. absurd (changed_at (λ z. z.place ≢ Untracked) f o v.objects (λ x k. let no : Gen 0 ≡ Untracked = sym (place x) ∙ k in cc) y m e u))) h
+      (λ n no. absurd no) (λ r. inr (λ y m e u. absurd (changed_all (λ z. z.place ≢ Untracked) f o v.objects (λ x k. let no : Gen 0 ≡ Untracked = sym (place x) ∙ k in cc) y m e u))) h
 
   finalizer_slack : (m : Option ℕ) → option_and_then (finalizer_to_run script) (object_at v.objects o) ≡ m → IsSlackWorld (at Finalizer) → IsSlackWorld (run_finalizer script o below (at Finalizer) m).1
   finalizer_slack None e h = goes_to Finalizer (Clearing []) v.objects same refl h

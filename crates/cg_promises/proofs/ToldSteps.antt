@@ -1,37 +1,21 @@
 -- What a step of an activity without commands prints of objects.
 use Rattle.std.proofs.Common.{◌≡◌, refl, sym, subst, ℕ, Bool, true, false, inl, inr, ◌⊎◌, List, [], ◌∷◌, ◌++◌, Option, Some, None, arith}
-use Rattle.std.specs.Prelude.{if◌then◌else◌, option_and_then}
+use Rattle.std.specs.Prelude.{if◌then◌else◌}
 use Rattle.cg_script.specs.declared.Script.{Script}
 use Rattle.cg_graph.specs.Member.{Includes}
-use Rattle.cg_graph.specs.Object.{Object, object_at, serials}
-use Rattle.cg_graph.proofs.Members.{either}
+use Rattle.cg_graph.specs.Object.{Object, serials}
+use Rattle.cg_graph.proofs.Members.{either, Includes-map}
 use Rattle.cg_machine.specs.declared.event.Event.{Event}
 use Rattle.cg_machine.specs.declared.event.Event.TheVariants.{Enter, Free}
 use Rattle.cg_machine.specs.declared.event.FrameSpec.{FrameSpec}
 use Rattle.cg_machine.specs.Dying.{finalizer_to_run}
 use Rattle.cg_machine.specs.Holdings.{holds}
-use Rattle.cg_machine.specs.Program.{finalizer_of, legacy_of}
+use Rattle.cg_machine.specs.Program.{legacy_of}
 use Rattle.cg_machine.specs.World.{World, Activity}
 use Rattle.cg_machine.proofs.Advances.{Advance, Plainly, WithFrame, AreLinesOf, Shows, Frees, FrameOf, OfFinalizer, OfLegacy, OfCallback, HasChanged, IsDeathOf, IsLineOf, changed_becomes, changed_lasts}
-use Rattle.cg_machine.proofs.Lookups.{found_at, found_lives}
 use Rattle.cg_machine.proofs.Orderly.{waits_are_held}
 use Rattle.cg_promises.proofs.Told.{AreTold, Enters, Goes, IsPlain, Origin, starts_told}
-
--- a finalizer that is to run has not run
-to_run_unmarked : (script : Script) (objects : List Object) (o p : ℕ) → option_and_then (finalizer_to_run script) (object_at objects o) ≡ Some p → (x : Object) × Includes objects x × (x.serial ≡ o) × (x.finalized ≡ false)
-to_run_unmarked script objects o p e = go (object_at objects o) refl e
-  where
-    by_mark : (x : Object) (b : Bool) → x.finalized ≡ b → (if b then None else finalizer_of script x) ≡ Some p → x.finalized ≡ false
-    by_mark x true t k = absurd (let no : None ≡ Some p = k in cc)
-    by_mark x false t k = t
-
-    go : (m : Option Object) → object_at objects o ≡ m → option_and_then (finalizer_to_run script) m ≡ Some p → (x : Object) × Includes objects x × (x.serial ≡ o) × (x.finalized ≡ false)
-    go None f k = absurd (let no : None ≡ Some p = k in cc)
-    go (Some x) f k = let found = found_at objects o x f in (x, found.0, found.1, by_mark x x.finalized refl k)
-
-legacy_lives : (script : Script) (objects : List Object) (o p : ℕ) (m : Option Object) → object_at objects o ≡ m → option_and_then (legacy_of script) m ≡ Some p → Includes (serials objects) o
-legacy_lives script objects o p None at e = absurd (let no : None ≡ Some p = e in cc)
-legacy_lives script objects o p (Some x) at e = found_lives objects o x at
+use Rattle.cg_machine.proofs.There.{found_with, to_run}
 
 plain_line : (after : List Object) (top : Activity) (event : Event) → IsLineOf after top event → IsPlain event
 plain_line after top (Enter sort n) h = h
@@ -49,8 +33,8 @@ module _ (script : Script) (v : World) (top : Activity) (lives : (n : ℕ) → I
   lines_told objects lines (Frees o dies gone) = inr (Free o, refl, (lives o dies, gone))
 
   frame_told : (objects : List Object) (a : Activity) (spec : FrameSpec) → FrameOf script v.objects objects top a spec → Enters spec.sort v.objects objects spec.subject
-  frame_told objects a spec (OfFinalizer o p e marked) = let x = to_run_unmarked script v.objects o p e in record { object = x.0; member = x.1; serial = x.2; unmarked = x.3; marked = marked }
-  frame_told objects a spec (OfLegacy o p e) = legacy_lives script v.objects o p (object_at v.objects o) refl e
+  frame_told objects a spec (OfFinalizer o p e marked) = let x = found_with (finalizer_to_run script) v.objects o p e in record { object = x.0; member = x.1; serial = x.2; unmarked = (to_run script x.0 p x.3).0; marked = marked }
+  frame_told objects a spec (OfLegacy o p e) = let x = found_with (legacy_of script) v.objects o p e in subst (Includes (serials v.objects)) x.2 (Includes-map (λ (z : Object). z.serial) v.objects x.0 x.1)
   frame_told objects a spec (OfCallback weak p waits goes) = held weak (waits_are_held top weak waits)
 
   pub advance_told : (below : List Activity) (lines : List Event) (after : World) → Advance script v top below lines after → Goes v.objects v.next_serial lines after

@@ -20,10 +20,10 @@ use Rattle.cg_machine.specs.Frame.{Transition, begin_death, frame_end, gives_up_
 use Rattle.cg_machine.specs.Weak.{callback_of, has_weak_references, loses_referent, is_reference_to, weak_references, weak_references_if}
 use Rattle.cg_machine.specs.Dying.{death_at, has_finalizers, finalizer_to_run, run_finalizer, run_legacy, after_frame, clear_one, call_one, detach_one, empty_one, dying}
 use Rattle.cg_machine.specs.Represents.{death_waits}
-use Rattle.cg_machine.proofs.Lookups.{found_at, references_take}
+use Rattle.cg_machine.proofs.Lookups.{references_take}
 use Rattle.cg_machine.proofs.Serials.{Rises}
 use Rattle.cg_promises.proofs.Moved.{entries_of_member}
-use Rattle.cg_machine.proofs.There.{reversed_back}
+use Rattle.cg_machine.proofs.There.{found_with, reversed_back, to_run}
 use Rattle.cg_promises.proofs.Waited.{RefersNow}
 use Rattle.cg_weakcoll.proofs.Acts.{Acts, Grows, Loses, Waited, acts, all_to_call, either_acts, grows_if, grows_lost, grows_place, grows_same, one_raised, starts_acts, two_raised}
 
@@ -56,22 +56,7 @@ refers_now test objects o weak weaks e = go (unwrap_or (option_map test (object_
 
 -- the object whose finalizer runs
 pub to_run_is : (script : Script) (objects : List Object) (o p : ℕ) → option_and_then (finalizer_to_run script) (object_at objects o) ≡ Some p → (x : Object) × Includes objects x × (x.serial ≡ o) × (finalizer_of script x ≡ Some p)
-to_run_is script objects o p e = go (object_at objects o) refl e
-  where
-    runs : (x : Object) (b : Bool) → (if b then None else finalizer_of script x) ≡ Some p → finalizer_of script x ≡ Some p
-    runs x true k = absurd (let no : None ≡ Some p = k in cc)
-    runs x false k = k
-
-    go : (m : Option Object) → object_at objects o ≡ m → option_and_then (finalizer_to_run script) m ≡ Some p → (x : Object) × Includes objects x × (x.serial ≡ o) × (finalizer_of script x ≡ Some p)
-    go None at k = absurd (let no : None ≡ Some p = k in cc)
-    go (Some x) at k = let f = found_at objects o x at in (x, f.0, f.1, runs x x.finalized k)
-
-legacy_is : (script : Script) (objects : List Object) (o p : ℕ) → option_and_then (legacy_of script) (object_at objects o) ≡ Some p → (x : Object) × Includes objects x × (x.serial ≡ o) × (legacy_of script x ≡ Some p)
-legacy_is script objects o p e = go (object_at objects o) refl e
-  where
-    go : (m : Option Object) → object_at objects o ≡ m → option_and_then (legacy_of script) m ≡ Some p → (x : Object) × Includes objects x × (x.serial ≡ o) × (legacy_of script x ≡ Some p)
-    go None at k = absurd (let no : None ≡ Some p = k in cc)
-    go (Some x) at k = let f = found_at objects o x at in (x, f.0, f.1, k)
+to_run_is script objects o p e = let x = found_with (finalizer_to_run script) objects o p e in (x.0, x.1, x.2, (to_run script x.0 p x.3).1)
 
 module _ (script : Script) where
   -- a frame ends
@@ -133,7 +118,7 @@ module _ (script : Script) where
     legacy_acts : (m : Option ℕ) → option_and_then (legacy_of script) (object_at v.objects o) ≡ m → (let t : Transition = run_legacy script o below (at LegacyFinalizer) m in Acts script (at LegacyFinalizer) below t.0 t.1)
     legacy_acts None e = goes LegacyFinalizer Detaching [] v.objects (grows_same (at LegacyFinalizer) v.objects) (λ weak m. absurd m) (λ n m. m)
     legacy_acts (Some p) e = starts_acts script (at LegacyFinalizer) below (record { sort = LegacyFrame; proc = p; subject = o; func = None }) (death_at o AfterLegacy below (with_change (with_place (Gen 0)) o (at LegacyFinalizer))) (stands AfterLegacy) refl refl (grows_place (at LegacyFinalizer) (Gen 0) o v.objects (λ f. f)) refl
-        (λ weak m. absurd m) (legacy_is script v.objects o p e) (λ s. absurd (let no : LegacyFrame ≡ Callback = s in cc))
+        (λ weak m. absurd m) (found_with (legacy_of script) v.objects o p e) (λ s. absurd (let no : LegacyFrame ≡ Callback = s in cc))
 
     after_frame_acts : (phase next : DyingPhase) → death_waits next ≡ [] → (let t : Transition = after_frame o next below (at phase) in Acts script (at phase) below t.0 t.1)
     after_frame_acts phase next none = either_acts script (at phase) below (in_degree (at next) o == 0) ([], with_change (with_place Untracked) o (at next)) (Alive o ∷ [], with_stack below (at phase))
