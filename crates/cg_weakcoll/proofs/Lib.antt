@@ -39,6 +39,7 @@ pub mod FreeNames
 pub mod Stretches
 pub mod Passages
 pub mod ExitNames
+pub mod ReadTables
 pub mod FinalizerLines
 pub mod ClearLines
 pub mod ExpandedExits
