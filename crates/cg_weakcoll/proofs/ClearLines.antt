@@ -10,8 +10,9 @@ use Rattle.cg_script.proofs.Joined.{sound_words, words_of-joined}
 use Rattle.cg_script.proofs.Shown.{neither}
 use Rattle.cg_weakcoll.specs.declared.form.Form.{Form}
 use Rattle.cg_weakcoll.specs.Expansion.{bad_or, fault_by, fault_of, first_bad_from, binding_form, form_fault, form_lines, form_of, inside_after, is_kept, name_fault, opening_form, written, written_by, written_from}
-use Rattle.cg_weakcoll.proofs.ExitNames.{EachLine, EachWord, IsElse, IsSound, clear_lines, clear_word, each_clear, each_sound, sound_lines}
-use Rattle.cg_weakcoll.proofs.ExpandedLines.{fits_of, sound_at, split_bad}
+use Rattle.cg_weakcoll.proofs.ExitNames.{IsElse, clear_lines, clear_word, each_clear}
+use Rattle.cg_weakcoll.proofs.SoundWords.{EachLine, EachWord, IsSound, each_sound, sound_at, sound_lines}
+use Rattle.cg_weakcoll.proofs.ExpandedLines.{fits_of, split_bad}
 use Rattle.cg_weakcoll.proofs.FreeNames.{AreClear, IsClear}
 use Rattle.cg_weakcoll.proofs.Passages.{AreClearLines}
 

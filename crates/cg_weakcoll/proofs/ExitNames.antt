@@ -1,22 +1,18 @@
 -- The names that a `finalize` line brings: other words are none of them.
-use Rattle.std.proofs.Common.{◌≡◌, ◌≢◌, ℕ, ◌<◌, ◌≤◌, List, [], ◌∷◌, ◌++◌, length, take, drop, Bool, true, false, not, cond, ◌&&◌, ◌||◌, nat_le, None, Some, refl, sym, ap, subst, ◌∙◌, inl, inr, arith, codes}
+use Rattle.std.proofs.Common.{◌≡◌, ◌≢◌, ℕ, ◌<◌, ◌≤◌, List, [], ◌∷◌, ◌++◌, length, take, drop, Bool, true, false, cond, ◌&&◌, ◌||◌, None, Some, refl, sym, ap, subst, ◌∙◌, inl, inr, arith, codes}
 use Rattle.std.specs.Prelude.{decimal, slice_index}
 use Rattle.std.specs.List.{list_all}
 use Rattle.std.specs.Str.{bytes_eq}
-use Rattle.std.proofs.lemmas.Bool.Decides.{nat_tests}
 use Rattle.std.proofs.lemmas.Fmt.{decimal_injective}
 use Rattle.std.proofs.lemmas.List.{take-append-drop}
 use Rattle.std.proofs.lemmas.Slice.Eq.{bytes_eq-Decides}
 use Rattle.cg_graph.specs.Member.{Includes}
 use Rattle.cg_script.specs.Words.{after_prefix, is_digit}
-use Rattle.cg_script.proofs.Joined.{EachSound, Graphic}
 use Rattle.cg_script.proofs.Shown.{neither}
 use Rattle.cg_weakcoll.specs.declared.form.Form.{Form}
-use Rattle.cg_weakcoll.specs.declared.form.Form.TheVariants.{MakeMap, Set, Get, Remove, Finalize}
 use Rattle.cg_script.specs.Pieces.{word_at}
 use Rattle.cg_weakcoll.specs.Expansion.{begins_with, exit_name, form_lines, function_name, is_kept, object_name, proc_name, watch_name, weak_name, word_count}
-use Rattle.cg_weakcoll.proofs.ExpandedLines.{graphic_by}
-use Rattle.cg_weakcoll.proofs.ExpandedStores.{digits_graphic, number_digits}
+use Rattle.cg_weakcoll.proofs.SoundWords.{EachLine, EachWord, call_written, each_written, is_plain, number_digits, plain_parts}
 use Rattle.cg_weakcoll.proofs.FreeNames.{AreClear, IsClear}
 
 -- the names of line l
@@ -107,114 +103,8 @@ weak_text m l low own = go own
     go (inr (inr (inr (inr (inl e))))) = by 119 refl e
     go (inr (inr (inr (inr (inr none))))) = none
 
--- A fact on each word that is written for a line.
-abbrev pub EachWord : (List ℕ → Type 0) → List (List ℕ) → Type 0
-EachWord Q [] = Unit {0}
-EachWord Q (word ∷ words) = Q word × EachWord Q words
-
-abbrev pub EachLine : (List ℕ → Type 0) → List (List (List ℕ)) → Type 0
-EachLine Q [] = Unit {0}
-EachLine Q (words ∷ lines) = EachWord Q words × EachLine Q lines
-
--- the words that expansions write of themselves
-abbrev is_plain : List ℕ → Bool
-is_plain word = nat_le 1 (length word) && list_all (λ b. nat_le 33 b && nat_le b 126) word && not (is_kept word)
-
-module _ (Q : List ℕ → Type 0) (m : ℕ) (words : List (List ℕ)) (plain : (word : List ℕ) → is_plain word ≡ true → Q word) (weak : Q (weak_name m)) (letter : (c : ℕ) → (nat_le 33 c && nat_le c 126) ≡ true → Q (codes "wv_" ++ c ∷ 95 ∷ decimal m)) where
-  pub each_written : (form : Form) → ((place : ℕ) → place < word_count form → Q (word_at words place)) → EachLine Q (form_lines form m words)
-  each_written MakeMap at = (
-    (at 0 (omega arith), (plain (codes "=") refl, (plain (codes "dict") refl, tt))),
-    tt,
-  )
-  each_written Set at = (
-    (weak, (plain (codes "=") refl, (plain (codes "ref") refl, (at 3 (omega arith), tt)))),
-    (
-      (plain (codes "put") refl, (at 1 (omega arith), (at 2 (omega arith), (weak, tt)))),
-      (
-        (plain (codes "del") refl, (weak, tt)),
-        tt,
-      ),
-    ),
-  )
-  each_written Get at = (
-    (at 0 (omega arith), (plain (codes "=") refl, (plain (codes "none") refl, tt))),
-    (
-      (at 0 (omega arith), (plain (codes "=") refl, (plain (codes "get") refl, (at 3 (omega arith), (at 4 (omega arith), tt))))),
-      (
-        (at 0 (omega arith), (plain (codes "=") refl, (plain (codes "deref") refl, (at 0 (omega arith), tt)))),
-        tt,
-      ),
-    ),
-  )
-  each_written Remove at = (
-    (plain (codes "drop") refl, (at 1 (omega arith), (at 2 (omega arith), tt))),
-    tt,
-  )
-  each_written Finalize at = (
-    (plain (codes "def") refl, (letter 112 refl, tt)),
-    (
-      (letter 111 refl, (plain (codes "=") refl, (plain (codes "deref") refl, (letter 119 refl, tt)))),
-      (
-        (plain (codes "quit") refl, (letter 111 refl, tt)),
-        (
-          (plain (codes "del") refl, (letter 119 refl, tt)),
-          (
-            (plain (codes "del") refl, (letter 111 refl, tt)),
-            (
-              (plain (codes "call") refl, (letter 102 refl, tt)),
-              (
-                (plain (codes "end") refl, tt),
-                (
-                  (letter 103 refl, (plain (codes "=") refl, (plain (codes "func") refl, (letter 112 refl, tt)))),
-                  (
-                    (letter 102 refl, (plain (codes "=") refl, (at 2 (omega arith), tt))),
-                    (
-                      (letter 119 refl, (plain (codes "=") refl, (plain (codes "ref") refl, (at 1 (omega arith), (letter 102 refl, tt))))),
-                      tt,
-                    ),
-                  ),
-                ),
-              ),
-            ),
-          ),
-        ),
-      ),
-    ),
-  )
-
-  pub call_written : EachWord Q (codes "call" ∷ exit_name m ∷ [])
-  call_written = (plain (codes "call") refl, (letter 103 refl, tt))
-
--- they are sound
-abbrev pub IsSound : List ℕ → Type 0
-IsSound word = (1 ≤ length word) × Graphic word
-
-plain_parts : (word : List ℕ) → is_plain word ≡ true → (nat_le 1 (length word) ≡ true) × (list_all (λ b. nat_le 33 b && nat_le b 126) word ≡ true) × (is_kept word ≡ false)
-plain_parts word e = go (nat_le 1 (length word)) (list_all (λ b. nat_le 33 b && nat_le b 126) word) (is_kept word) e
-  where
-    go : (a b c : Bool) → (a && b && not c) ≡ true → (a ≡ true) × (b ≡ true) × (c ≡ false)
-    go true true false h = (refl, refl, refl)
-    go false b c h = absurd (cc)
-    go true false c h = absurd (cc)
-    go true true true h = absurd (cc)
-
-pub plain_sound : (word : List ℕ) → is_plain word ≡ true → IsSound word
-plain_sound word e = let p = plain_parts word e in let some : nat_le 1 (length word) ≡ true = p.0 in (grind (arith, nat_tests), graphic_by word p.1)
-
 pub plain_clear : (l : ℕ) (word : List ℕ) → is_plain word ≡ true → IsClear (IsElse l) word
 plain_clear l word e = let p = plain_parts word e in clear_word l word p.2
-
-letter_sound : (m : ℕ) → m ≤ 400000 → (c : ℕ) → (nat_le 33 c && nat_le c 126) ≡ true → IsSound (codes "wv_" ++ c ∷ 95 ∷ decimal m)
-letter_sound m low c e = (omega arith, graphic_by (codes "wv_" ++ c ∷ 95 ∷ decimal m) (ap (λ b. b && list_all (λ b. nat_le 33 b && nat_le b 126) (95 ∷ decimal m)) e ∙ digits_graphic (decimal m) (number_digits m low)))
-
-weak_is_sound : (m : ℕ) → m ≤ 400000 → IsSound (weak_name m)
-weak_is_sound m low = (omega arith, graphic_by (weak_name m) (digits_graphic (decimal m) (number_digits m low)))
-
-pub sound_lines : (m : ℕ) → m ≤ 400000 → (words : List (List ℕ)) (form : Form) → ((place : ℕ) → place < word_count form → IsSound (word_at words place)) → EachLine IsSound (form_lines form m words)
-sound_lines m low words form at = each_written IsSound m words plain_sound (weak_is_sound m low) (letter_sound m low) form at
-
-pub sound_call : (m : ℕ) → m ≤ 400000 → EachWord IsSound (codes "call" ∷ exit_name m ∷ [])
-sound_call m low = call_written IsSound m [] plain_sound (weak_is_sound m low) (letter_sound m low)
 
 -- of another line they are none of the names
 pub clear_lines : (m l : ℕ) → m ≤ 400000 → l ≤ 400000 → m ≢ l → (words : List (List ℕ)) (form : Form) → ((place : ℕ) → place < word_count form → IsClear (IsElse l) (word_at words place)) → EachLine (IsClear (IsElse l)) (form_lines form m words)
@@ -222,10 +112,6 @@ clear_lines m l low low2 apart words form at = each_written (IsClear (IsElse l))
 
 pub clear_call : (m l : ℕ) → m ≤ 400000 → l ≤ 400000 → m ≢ l → EachWord (IsClear (IsElse l)) (codes "call" ∷ exit_name m ∷ [])
 clear_call m l low low2 apart = call_written (IsClear (IsElse l)) m [] (plain_clear l) (clear_name l (decimal m) (weak_text m l low)) (λ c e. clear_name l (c ∷ 95 ∷ decimal m) (other_text c m l low low2 apart))
-
-pub each_sound : (words : List (List ℕ)) → EachWord IsSound words → EachSound words
-each_sound [] h = tt
-each_sound (word ∷ words) h = (h.0, each_sound words h.1)
 
 pub each_clear : (Free : List ℕ → Type 0) (words : List (List ℕ)) → EachWord (IsClear Free) words → AreClear Free words
 each_clear Free [] h = tt

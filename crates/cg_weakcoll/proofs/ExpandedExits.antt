@@ -31,8 +31,9 @@ use Rattle.cg_weakcoll.specs.Expansion.{call_line, exit_name, expanded_lines, ex
 use Rattle.cg_weakcoll.specs.Exits.{AllOther, AreOthers, Exit, IsExit, IsOther, exit_body, exit_commands, final_calls, names_of}
 use Rattle.cg_weakcoll.specs.ExpandedExits.{AreExitsOf, ExpandedExitsAreThere, Finalizes, HasExitsOf, IsExitOf, NoLine, Other}
 use Rattle.cg_weakcoll.proofs.ClearLines.{Parted, clear_from, line_words, parted, unpassed_form, word_there}
-use Rattle.cg_weakcoll.proofs.ExitNames.{EachLine, IsElse, IsSound, other_text, own_apart, own_names, sound_call, sound_lines}
-use Rattle.cg_weakcoll.proofs.ExpandedLines.{Fits, expansion_lines, fits_of, numbers_low, sound_at, written-append}
+use Rattle.cg_weakcoll.proofs.ExitNames.{IsElse, other_text, own_apart, own_names}
+use Rattle.cg_weakcoll.proofs.SoundWords.{EachLine, IsSound, sound_at, sound_call, sound_lines}
+use Rattle.cg_weakcoll.proofs.ExpandedLines.{Fits, expansion_lines, fits_of, numbers_low, written-append}
 use Rattle.cg_weakcoll.proofs.FinalizerLines.{Calls, Finalizer, calls, calls_of, exit_of, finalizer, finalizer_says}
 use Rattle.cg_weakcoll.proofs.FreeNames.{AreClear, AreFree, IsClear}
 use Rattle.cg_weakcoll.proofs.LookLines.{ReadAs, read_as}

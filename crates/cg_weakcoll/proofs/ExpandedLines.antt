@@ -1,26 +1,22 @@
--- The lines of an expansion, and where the lines of a `wget` stand in them.
-use Rattle.std.proofs.Common.{◌≡◌, ℕ, zero, suc, ◌+◌, ◌≤◌, ◌<◌, List, [], ◌∷◌, ◌++◌, length, map, Bool, true, false, not, cond, ◌&&◌, ◌||◌, ◌==◌, Option, Some, None, refl, sym, ap, subst, ◌∙◌, arith, nat_le, nat_lt, inl, inr, codes, filter, append_assoc}
-use Rattle.std.specs.Prelude.{decimal, flat_map, reverse}
+-- The lines of an expansion, and where those of one line stand in them.
+use Rattle.std.proofs.Common.{◌≡◌, ℕ, suc, ◌+◌, ◌≤◌, List, [], ◌∷◌, ◌++◌, length, map, Bool, true, false, not, cond, ◌&&◌, ◌||◌, ◌==◌, Option, Some, None, refl, sym, ap, subst, ◌∙◌, arith, nat_le, nat_lt, inl, inr, append_assoc}
+use Rattle.std.specs.Prelude.{reverse}
 use Rattle.std.specs.Option.{option_or}
 use Rattle.std.specs.List.{list_all}
 use Rattle.std.proofs.lemmas.Bool.Decides.{nat_tests}
 use Rattle.std.proofs.lemmas.Bool.{eqb-true}
-use Rattle.std.proofs.lemmas.Fmt.{decimal-digits_of, decimal_digit}
-use Rattle.std.proofs.lemmas.List.Folds.{list_all-append}
-use Rattle.std.specs.Int.Digits.{digits_of}
-use Rattle.cg_script.specs.Pieces.{pieces, onto, has_bytes, lines_of, words_of, word_at}
-use Rattle.cg_script.specs.Words.{is_printable, is_variable}
-use Rattle.cg_script.specs.Canonical.{behind_space, joined}
+use Rattle.cg_script.specs.Pieces.{pieces, onto, lines_of, words_of}
+use Rattle.cg_script.specs.Words.{is_printable}
+use Rattle.cg_script.specs.Canonical.{joined}
 use Rattle.cg_script.proofs.Ascii.{both}
-use Rattle.cg_script.proofs.Joined.{EachSound, Graphic, sound_words, words_of-joined}
+use Rattle.cg_script.proofs.Joined.{all_printable, sound_words}
 use Rattle.cg_graph.specs.Member.{Includes}
 use Rattle.cg_graph.proofs.Members.{either, Includes-append_cases, Includes-map_cases}
 use Rattle.cg_machine.proofs.There.{reversed_back}
 use Rattle.cg_weakcoll.specs.declared.form.Form.{Form}
 use Rattle.cg_weakcoll.specs.declared.form.Form.TheVariants.{MakeMap, Set, Get, Remove, Finalize}
-use Rattle.cg_weakcoll.specs.Expansion.{bad_or, call_line, call_lines, expanded_lines, expansion, fault_by, fault_of, final_lines, finalize_number, finalize_numbers_from, first_bad, first_bad_from, form_fault, form_lines, form_of, inside_after, is_finalize, is_value_beside, name_fault, with_feeds, word_count, words_fit, written, written_by, written_from}
-use Rattle.cg_weakcoll.specs.MapLines.{ExpandedLooksAreCommands, HasLines}
-use Rattle.cg_weakcoll.proofs.LookLines.{look_lines}
+use Rattle.cg_weakcoll.specs.Expansion.{bad_or, call_line, call_lines, expanded_lines, expansion, fault_by, fault_of, final_lines, finalize_number, finalize_numbers_from, first_bad, first_bad_from, form_fault, form_lines, form_of, inside_after, is_finalize, name_fault, with_feeds, word_count, words_fit, written, written_by, written_from}
+use Rattle.cg_weakcoll.proofs.SoundWords.{EachLine, EachWord, IsSound, each_sound, sound_at, sound_call, sound_lines}
 
 -- bytes without a line feed
 abbrev pub has_no_feed : List ℕ → Bool
@@ -28,9 +24,6 @@ has_no_feed bytes = list_all (λ b. not (b == 10)) bytes
 
 abbrev pub AreUnfed : List (List ℕ) → Type 0
 AreUnfed lines = (line : List ℕ) → Includes lines line → has_no_feed line ≡ true
-
-unfed_both : (xs ys : List ℕ) → has_no_feed xs ≡ true → has_no_feed ys ≡ true → has_no_feed (xs ++ ys) ≡ true
-unfed_both xs ys h k = list_all-append (λ b. not (b == 10)) xs ys ∙ ap (λ b. b && has_no_feed ys) h ∙ k
 
 unfed_first : (b : ℕ) (bs : List ℕ) → (b == 10) ≡ false → has_no_feed bs ≡ true → has_no_feed (b ∷ bs) ≡ true
 unfed_first b bs e h = ap (λ t. not t && has_no_feed bs) e ∙ h
@@ -58,6 +51,23 @@ lines_again (line ∷ lines) h =
     ∙ fed_piece line (with_feeds lines) (h line (inl refl))
     ∙ ap (λ ls. line ∷ ls) (lines_again lines (λ other m. h other (inr m)))
 
+-- printable bytes have none
+printable_unfed : (bytes : List ℕ) → list_all is_printable bytes ≡ true → has_no_feed bytes ≡ true
+printable_unfed [] e = refl
+printable_unfed (b ∷ bs) e =
+    let p = both (is_printable b) (list_all is_printable bs) e in
+    let range = both (nat_le 32 b) (nat_le b 126) p.0 in
+    let low : nat_le 32 b ≡ true = range.0 in
+    let other : (b == 10) ≡ false = grind (arith, nat_tests) in
+    unfed_first b bs other (printable_unfed bs p.1)
+
+sound_unfed : (words : List (List ℕ)) → EachWord IsSound words → has_no_feed (joined words) ≡ true
+sound_unfed words sound = printable_unfed (joined words) (all_printable words (each_sound words sound))
+
+all_joined : (lines : List (List (List ℕ))) → EachLine IsSound lines → AreUnfed (map joined lines)
+all_joined [] sound = none_unfed
+all_joined (words ∷ lines) sound = one_more (joined words) (map joined lines) (sound_unfed words sound.0) (all_joined lines sound.1)
+
 -- lines and words have none
 onto_unfed : (b : ℕ) (ps : List (List ℕ)) → (b == 10) ≡ false → AreUnfed ps → AreUnfed (onto b ps)
 onto_unfed b [] e h = one_more (b ∷ []) [] (unfed_first b [] e refl) none_unfed
@@ -70,128 +80,6 @@ lines_unfed (b ∷ bs) = go (b == 10) refl (lines_unfed bs)
     go : (t : Bool) → (b == 10) ≡ t → AreUnfed (pieces 10 bs) → AreUnfed (cond t ([] ∷ pieces 10 bs) (onto b (pieces 10 bs)))
     go true e h = one_more [] (pieces 10 bs) refl h
     go false e h = onto_unfed b (pieces 10 bs) e h
-
-pieces_unfed : (line : List ℕ) → has_no_feed line ≡ true → AreUnfed (pieces 32 line)
-pieces_unfed [] h = none_unfed
-pieces_unfed (b ∷ bs) h =
-    let parts = both (not (b == 10)) (has_no_feed bs) h in
-    go (b == 32) (other (b == 10) parts.0) (pieces_unfed bs parts.1)
-  where
-    other : (t : Bool) → not t ≡ true → t ≡ false
-    other true e = absurd (cc)
-    other false e = refl
-
-    go : (t : Bool) → (b == 10) ≡ false → AreUnfed (pieces 32 bs) → AreUnfed (cond t ([] ∷ pieces 32 bs) (onto b (pieces 32 bs)))
-    go true e k = one_more [] (pieces 32 bs) refl k
-    go false e k = onto_unfed b (pieces 32 bs) e k
-
-kept_unfed : (ps : List (List ℕ)) → AreUnfed ps → AreUnfed (filter has_bytes ps)
-kept_unfed [] h = h
-kept_unfed (p ∷ ps) h = go (has_bytes p) (kept_unfed ps (λ other m. h other (inr m)))
-  where
-    go : (t : Bool) → AreUnfed (filter has_bytes ps) → AreUnfed (cond t (p ∷ filter has_bytes ps) (filter has_bytes ps))
-    go true k = one_more p (filter has_bytes ps) (h p (inl refl)) k
-    go false k = k
-
-word_unfed : (words : List (List ℕ)) (place : ℕ) → AreUnfed words → has_no_feed (word_at words place) ≡ true
-word_unfed [] place h = refl
-word_unfed (word ∷ words) zero h = h word (inl refl)
-word_unfed (word ∷ words) (suc place) h = word_unfed words place (λ other m. h other (inr m))
-
--- numbers
-digits_unfed : (ds : List ℕ) → has_no_feed (map (λ d. 48 + d) ds) ≡ true
-digits_unfed [] = refl
-digits_unfed (d ∷ ds) = let other : (48 + d == 10) ≡ false = grind (arith, nat_tests) in unfed_first (48 + d) (map (λ d. 48 + d) ds) other (digits_unfed ds)
-
-number_unfed : (l : ℕ) → l ≤ 400000 → has_no_feed (decimal l) ≡ true
-number_unfed zero low = ap has_no_feed (decimal_digit 0 (omega arith))
-number_unfed (suc l) low = ap has_no_feed (decimal-digits_of (suc l) (omega arith) (omega (arith, low))) ∙ digits_unfed (digits_of 10 (suc l))
-
--- what is written for a line of a form
-abbrev AllUnfed : List (List ℕ) → Type 0
-AllUnfed [] = Unit {0}
-AllUnfed (word ∷ words) = (has_no_feed word ≡ true) × AllUnfed words
-
-abbrev EachUnfed : List (List (List ℕ)) → Type 0
-EachUnfed [] = Unit {0}
-EachUnfed (words ∷ lines) = AllUnfed words × EachUnfed lines
-
-behind_unfed : (words : List (List ℕ)) → AllUnfed words → has_no_feed (flat_map behind_space words) ≡ true
-behind_unfed [] h = refl
-behind_unfed (word ∷ words) h = unfed_both (behind_space word) (flat_map behind_space words) h.0 (behind_unfed words h.1)
-
-joined_unfed : (words : List (List ℕ)) → AllUnfed words → has_no_feed (joined words) ≡ true
-joined_unfed [] h = refl
-joined_unfed (word ∷ words) h = unfed_both word (flat_map behind_space words) h.0 (behind_unfed words h.1)
-
-all_joined : (lines : List (List (List ℕ))) → EachUnfed lines → AreUnfed (map joined lines)
-all_joined [] h = none_unfed
-all_joined (words ∷ lines) h = one_more (joined words) (map joined lines) (joined_unfed words h.0) (all_joined lines h.1)
-
-module _ (l : ℕ) (low : l ≤ 400000) (words : List (List ℕ)) (h : AreUnfed words) where
-  named_unfed : (prefix : List ℕ) → has_no_feed prefix ≡ true → has_no_feed (prefix ++ decimal l) ≡ true
-  named_unfed prefix k = unfed_both prefix (decimal l) k (number_unfed l low)
-
-  form_unfed : (form : Form) → EachUnfed (form_lines form l words)
-  form_unfed MakeMap = (
-    (word_unfed words 0 h, (refl, (refl, tt))),
-    tt,
-  )
-  form_unfed Set = (
-    (named_unfed (codes "wv_") refl, (refl, (refl, (word_unfed words 3 h, tt)))),
-    (
-      (refl, (word_unfed words 1 h, (word_unfed words 2 h, (named_unfed (codes "wv_") refl, tt)))),
-      (
-        (refl, (named_unfed (codes "wv_") refl, tt)),
-        tt,
-      ),
-    ),
-  )
-  form_unfed Get = (
-    (word_unfed words 0 h, (refl, (refl, tt))),
-    (
-      (word_unfed words 0 h, (refl, (refl, (word_unfed words 3 h, (word_unfed words 4 h, tt))))),
-      (
-        (word_unfed words 0 h, (refl, (refl, (word_unfed words 0 h, tt)))),
-        tt,
-      ),
-    ),
-  )
-  form_unfed Remove = (
-    (refl, (word_unfed words 1 h, (word_unfed words 2 h, tt))),
-    tt,
-  )
-  form_unfed Finalize = (
-    (refl, (named_unfed (codes "wv_p_") refl, tt)),
-    (
-      (named_unfed (codes "wv_o_") refl, (refl, (refl, (named_unfed (codes "wv_w_") refl, tt)))),
-      (
-        (refl, (named_unfed (codes "wv_o_") refl, tt)),
-        (
-          (refl, (named_unfed (codes "wv_w_") refl, tt)),
-          (
-            (refl, (named_unfed (codes "wv_o_") refl, tt)),
-            (
-              (refl, (named_unfed (codes "wv_f_") refl, tt)),
-              (
-                (refl, tt),
-                (
-                  (named_unfed (codes "wv_g_") refl, (refl, (refl, (named_unfed (codes "wv_p_") refl, tt)))),
-                  (
-                    (named_unfed (codes "wv_f_") refl, (refl, (word_unfed words 2 h, tt))),
-                    (
-                      (named_unfed (codes "wv_w_") refl, (refl, (refl, (word_unfed words 1 h, (named_unfed (codes "wv_f_") refl, tt))))),
-                      tt,
-                    ),
-                  ),
-                ),
-              ),
-            ),
-          ),
-        ),
-      ),
-    ),
-  )
 
 -- a line of a form that is not bad
 pub record Fits (form : Form) (l : ℕ) (line : List ℕ) (words : List (List ℕ)) : Type 0 where
@@ -224,12 +112,17 @@ pub split_bad : (l : ℕ) (m : Option ℕ) (later : Option (ℕ × ℕ)) → bad
 split_bad l None later e = (refl, e)
 split_bad l (Some code) later e = absurd (cc)
 
+form_sound : (form : Form) (l : ℕ) (line : List ℕ) → Fits form l line (words_of line) → EachLine IsSound (form_lines form l (words_of line))
+form_sound form l line fits =
+    let count = fits.count in
+    sound_lines l fits.low (words_of line) form (λ place low. sound_at (words_of line) place (sound_words line fits.printable) (omega (arith, low, count)))
+
 written_unfed : (inside : Bool) (l : ℕ) (line : List ℕ) → has_no_feed line ≡ true → fault_of inside l line ≡ None → AreUnfed (written l line)
 written_unfed inside l line h e = go (form_of (words_of line)) refl
   where
     go : (m : Option Form) → form_of (words_of line) ≡ m → AreUnfed (written_by m l line (words_of line))
     go None is = one_more line [] h none_unfed
-    go (Some form) is = all_joined (form_lines form l (words_of line)) (form_unfed l (fits_of form inside l line is e).low (words_of line) (kept_unfed (pieces 32 line) (pieces_unfed line h)) form)
+    go (Some form) is = all_joined (form_lines form l (words_of line)) (form_sound form l line (fits_of form inside l line is e))
 
 both_unfed : (xs ys : List (List ℕ)) → AreUnfed xs → AreUnfed ys → AreUnfed (xs ++ ys)
 both_unfed xs ys h k line m = either (Includes-append_cases xs ys line m) (h line) (k line)
@@ -265,7 +158,7 @@ calls_unfed : (numbers : List ℕ) → ((n : ℕ) → Includes numbers n → n �
 calls_unfed numbers low line m =
     let n = Includes-map_cases (λ (l : ℕ). joined (call_line l)) (reverse numbers) line m in
     let k : n.0 ≤ 400000 = low n.0 (reversed_back numbers n.0 n.1) in
-    subst (λ (b : List ℕ). has_no_feed b ≡ true) n.2 (joined_unfed (call_line n.0) (refl, (unfed_both (codes "wv_g_") (decimal n.0) refl (number_unfed n.0 k), tt)))
+    subst (λ (b : List ℕ). has_no_feed b ≡ true) n.2 (sound_unfed (call_line n.0) (sound_call n.0 k))
 
 -- the lines of an expansion
 pub expansion_lines : (bytes : List ℕ) → first_bad bytes ≡ None → lines_of (expansion bytes) ≡ expanded_lines (lines_of bytes)
@@ -297,62 +190,29 @@ pub fine_line : (bytes : List ℕ) → first_bad bytes ≡ None → (front : Lis
 unfolding first_bad
 fine_line bytes e front line back all = fine_there front line back false 1 (ap (first_bad_from false 1) (sym all) ∙ e)
 
--- sound words
-pub graphic_by : (word : List ℕ) → list_all (λ b. nat_le 33 b && nat_le b 126) word ≡ true → Graphic word
-graphic_by [] e = tt
-graphic_by (b ∷ bs) e =
-    let parts = both (nat_le 33 b && nat_le b 126) (list_all (λ b. nat_le 33 b && nat_le b 126) bs) e in
-    let range = both (nat_le 33 b) (nat_le b 126) parts.0 in
-    let low : nat_le 33 b ≡ true = range.0 in
-    let high : nat_le b 126 ≡ true = range.1 in
-    ((grind (arith, nat_tests), grind (arith, nat_tests)), graphic_by bs parts.1)
-
-pub sound_at : (words : List (List ℕ)) (place : ℕ) → EachSound words → place < length words → (1 ≤ length (word_at words place)) × Graphic (word_at words place)
-sound_at [] place h low = absurd (omega (arith, low))
-sound_at (word ∷ words) zero h low = h.0
-sound_at (word ∷ words) (suc place) h low = sound_at words place h.1 (omega (arith, low))
-
 pub first_of_three : (a b c : Bool) → (a && b && c) ≡ true → a ≡ true
 first_of_three true b c e = refl
 first_of_three false b c e = absurd (cc)
 
--- the lines of a `wget` line
-module _ (bytes : List ℕ) (fine : first_bad bytes ≡ None) (front : List (List ℕ)) (line : List ℕ) (back : List (List ℕ)) (all : lines_of bytes ≡ front ++ line ∷ back) (is : form_of (words_of line) ≡ Some Get) where
-  abbrev words : List (List ℕ)
-  words = words_of line
+-- what is written for one line of a form, and where
+pub record FormLines (bytes : List ℕ) (front : List (List ℕ)) (line : List ℕ) (back : List (List ℕ)) (form : Form) : Type 0 where
+  pub fits : Fits form (1 + length front) line (words_of line)
+  pub sound : EachLine IsSound (form_lines form (1 + length front) (words_of line))
+  pub lines_are : lines_of (expansion bytes) ≡ written_from 1 front ++ (map joined (form_lines form (1 + length front) (words_of line)) ++ (written_from (1 + length front + 1) back ++ final_lines (lines_of bytes)))
 
-  fits : Fits Get (1 + length front) line words
-  fits = let f = fine_line bytes fine front line back all in fits_of Get f.inside (1 + length front) line is f.fine
-
-  sound : (place : ℕ) → place < 5 → (1 ≤ length (word_at words place)) × Graphic (word_at words place)
-  sound place low = sound_at words place (sound_words line fits.printable) (let five = fits.count in omega (arith, low, five))
-
-  abbrev pub x : List ℕ
-  x = word_at words 0
-
-  expanded : expanded_lines (lines_of bytes) ≡ written_from 1 front ++ joined (x ∷ codes "=" ∷ codes "none" ∷ []) ∷ joined (x ∷ codes "=" ∷ codes "get" ∷ word_at words 3 ∷ word_at words 4 ∷ []) ∷ joined (x ∷ codes "=" ∷ codes "deref" ∷ x ∷ [])
-      ∷ (written_from (1 + length front + 1) back ++ final_lines (lines_of bytes))
-  expanded =
-      ap (λ ls. written_from 1 ls ++ final_lines (lines_of bytes)) all
-      ∙ ap (λ ls. ls ++ final_lines (lines_of bytes)) (written-append front (line ∷ back) 1 ∙ ap (λ m. written_from 1 front ++ (written_by m (1 + length front) line words ++ written_from (1 + length front + 1) back)) is)
-      ∙ append_assoc (written_from 1 front) (map joined (form_lines Get (1 + length front) words) ++ written_from (1 + length front + 1) back) (final_lines (lines_of bytes))
-
-  has_lines : HasLines (expansion bytes) (x ∷ codes "=" ∷ codes "none" ∷ []) (x ∷ codes "=" ∷ codes "get" ∷ word_at words 3 ∷ word_at words 4 ∷ []) (x ∷ codes "=" ∷ codes "deref" ∷ x ∷ [])
-  has_lines = record {
-    front = written_from 1 front;
-    one = joined (x ∷ codes "=" ∷ codes "none" ∷ []);
-    two = joined (x ∷ codes "=" ∷ codes "get" ∷ word_at words 3 ∷ word_at words 4 ∷ []);
-    three = joined (x ∷ codes "=" ∷ codes "deref" ∷ x ∷ []);
-    back = written_from (1 + length front + 1) back ++ final_lines (lines_of bytes);
-    all = expansion_lines bytes fine ∙ expanded;
-    first_is = words_of-joined (x ∷ codes "=" ∷ codes "none" ∷ []) (sound 0 (omega arith), ((omega arith, graphic_by (codes "=") refl), ((omega arith, graphic_by (codes "none") refl), tt)));
-    second_is = words_of-joined (x ∷ codes "=" ∷ codes "get" ∷ word_at words 3 ∷ word_at words 4 ∷ []) (sound 0 (omega arith), ((omega arith, graphic_by (codes "=") refl), ((omega arith, graphic_by (codes "get") refl), (sound 3 (omega arith), (sound 4 (omega arith), tt)))));
-    third_is = words_of-joined (x ∷ codes "=" ∷ codes "deref" ∷ x ∷ []) (sound 0 (omega arith), ((omega arith, graphic_by (codes "=") refl), ((omega arith, graphic_by (codes "deref") refl), (sound 0 (omega arith), tt))));
-  }
-
-  variable : is_variable x ≡ true
-  variable = first_of_three (is_variable x) (is_value_beside x (word_at words 3)) (is_value_beside x (word_at words 4)) fits.fit
-
-pub expanded_looks : ExpandedLooksAreCommands
-expanded_looks bytes fine texts items e front line back all is =
-    look_lines (expansion bytes) texts items e (word_at (words_of line) 0) (word_at (words_of line) 3) (word_at (words_of line) 4) (variable bytes fine front line back all is) (has_lines bytes fine front line back all is)
+pub form_written : (bytes : List ℕ) → first_bad bytes ≡ None → (front : List (List ℕ)) (line : List ℕ) (back : List (List ℕ)) → lines_of bytes ≡ front ++ line ∷ back → (form : Form) → form_of (words_of line) ≡ Some form → FormLines bytes front line back form
+form_written bytes fine front line back all form is =
+    let f = fine_line bytes fine front line back all in
+    let l = 1 + length front in
+    let fits = fits_of form f.inside l line is f.fine in
+    let last = final_lines (lines_of bytes) in
+    record {
+      fits = fits;
+      sound = form_sound form l line fits;
+      lines_are =
+          expansion_lines bytes fine
+          ∙ ap (λ ls. written_from 1 ls ++ last) all
+          ∙ ap (λ ls. ls ++ last) (written-append front (line ∷ back) 1 ∙ ap (λ m. written_from 1 front ++ (written_by m l line (words_of line) ++ written_from (l + 1) back)) is)
+          ∙ append_assoc (written_from 1 front) (map joined (form_lines form l (words_of line)) ++ written_from (l + 1) back) last
+          ∙ ap (λ ls. written_from 1 front ++ ls) (append_assoc (map joined (form_lines form l (words_of line))) (written_from (l + 1) back) last);
+    }

@@ -1,6 +1,6 @@
 -- The ten lines that a `finalize` line becomes, read one after the other, and the calls at the end.
 use Rattle.std.proofs.Common.{◌≡◌, ℕ, suc, ◌+◌, List, [], ◌∷◌, ◌++◌, length, map, Bool, true, false, not, cond, ◌&&◌, ◌||◌, nat_lt, Option, None, Some, refl, sym, ap, subst, ◌∙◌, inl, inr, arith, codes, length-append}
-use Rattle.std.specs.Prelude.{decimal, is_some, unwrap_or}
+use Rattle.std.specs.Prelude.{is_some, unwrap_or}
 use Rattle.std.specs.List.{position_or_len}
 use Rattle.std.specs.Str.{bytes_eq}
 use Rattle.std.proofs.lemmas.Bool.Decides.{nat_tests}
@@ -17,19 +17,18 @@ use Rattle.cg_script.specs.Tables.{named}
 use Rattle.cg_script.specs.Words.{atoms, is_value}
 use Rattle.cg_script.specs.Forms.{bindings, openers, word_of}
 use Rattle.cg_script.specs.Meanings.{binding_form, formed, worded}
-use Rattle.cg_script.specs.Parts.{Known, numbered, operand_or, parts_of, defined_number, value_text, with_text_if}
-use Rattle.cg_script.specs.Commands.{count_or, said}
+use Rattle.cg_script.specs.Parts.{Known, numbered, operand_or, defined_number, value_text, with_text_if}
+use Rattle.cg_script.specs.Commands.{count_or}
 use Rattle.cg_script.specs.Reading.{good, known_after, lines_from, spoilt}
 use Rattle.cg_script.specs.Texts.{operand_names}
 use Rattle.cg_script.specs.Canonical.{joined, text_of}
 use Rattle.cg_script.proofs.GoodLines.{Faultless, faultless}
-use Rattle.cg_script.proofs.Joined.{words_of-joined}
 use Rattle.cg_script.proofs.Rows.{binding_is}
-use Rattle.cg_script.proofs.Shown.{Begins, begins_along, begins_texts, text_found}
+use Rattle.cg_script.proofs.Shown.{Begins, text_found}
 use Rattle.cg_weakcoll.specs.Exits.{Exit, exit_body, exit_commands}
 use Rattle.cg_weakcoll.specs.Expansion.{call_line, exit_name, finalize_lines, function_name, object_name, proc_name, watch_name}
 use Rattle.cg_weakcoll.specs.MapLines.{WordStandsFor}
-use Rattle.cg_weakcoll.proofs.ExitNames.{EachLine, EachWord, IsSound, each_sound}
+use Rattle.cg_weakcoll.proofs.SoundWords.{EachLine, EachWord, IsSound}
 use Rattle.cg_graph.specs.Member.{Includes}
 use Rattle.cg_graph.proofs.Members.{either}
 use Rattle.cg_weakcoll.proofs.FreeNames.{AreFree, IsClear, value_free}

@@ -27,6 +27,7 @@ pub mod Burns
 pub mod Taking
 pub mod MapRuns
 pub mod MapLaws
+pub mod SoundWords
 pub mod ReadLines
 pub mod LookLines
 pub mod StoreLines

@@ -1,5 +1,5 @@
--- The lines of a `wget` and of a `wset`, read one after the other.
-use Rattle.std.proofs.Common.{◌≡◌, ℕ, ◌+◌, List, [], ◌∷◌, ◌++◌, length, Bool, true, false, not, cond, ◌&&◌, ◌||◌, ◌==◌, Option, Some, None, refl, sym, ap, subst, ◌∙◌, arith, nat_le, nat_lt, inl, inr, ◌⊎◌, codes}
+-- One line of a script, read by its words.
+use Rattle.std.proofs.Common.{◌≡◌, ℕ, ◌+◌, List, [], ◌∷◌, ◌++◌, length, Bool, true, false, not, cond, ◌&&◌, ◌||◌, ◌==◌, Option, Some, None, refl, sym, ap, subst, ◌∙◌, arith, nat_le, nat_lt, inl, inr, ◌⊎◌}
 use Rattle.std.specs.Prelude.{is_some, slice_index}
 use Rattle.std.specs.List.{list_all, list_any, position_or_len}
 use Rattle.std.specs.Str.{bytes_eq}
@@ -10,35 +10,21 @@ use Rattle.cg_value.specs.Texts.{has_text, text_number, with_text}
 use Rattle.cg_script.specs.declared.item.Item.{Item}
 use Rattle.cg_script.specs.declared.command.Operand.{Operand}
 use Rattle.cg_script.specs.declared.command.Operand.TheVariants as operands
-use Rattle.cg_script.specs.declared.command.Command.TheVariants as commands
 use Rattle.cg_script.specs.declared.form.Form.{Form}
-use Rattle.cg_script.specs.declared.form.Form.TheVariants as forms
 use Rattle.cg_script.specs.declared.part.Said.{Said}
-use Rattle.cg_script.specs.declared.part.Said.TheVariants.{Does}
 use Rattle.cg_script.specs.Pieces.{words_of, lines_of}
 use Rattle.cg_script.specs.Words.{atoms, begins_name, is_identifier, is_name_byte, is_quoted, is_reserved, is_variable, reserves, string_text, number_of}
 use Rattle.cg_script.specs.Tables.{named}
-use Rattle.cg_script.specs.Forms.{bindings, openers, row, sort_at}
+use Rattle.cg_script.specs.Forms.{bindings, openers, row}
 use Rattle.cg_script.specs.Meanings.{passed, says, bad, all_fit, repeats_finalizer, formed, worded, is_passed}
-use Rattle.cg_script.specs.Parts.{Known, parts_of, texts_from, text_in, with_text_if, value_text, operand_or}
+use Rattle.cg_script.specs.Parts.{Known, parts_of, texts_from, with_text_if, value_text, operand_or}
 use Rattle.cg_script.specs.Commands.{said}
 use Rattle.cg_script.specs.Reading.{fault_in, known_after, Lines, good, spoilt, lines_from, nothing_known, items_of, script_of, reading, spells}
 use Rattle.cg_script.proofs.Ascii.{both}
 use Rattle.cg_script.proofs.Says.{not_bad}
 use Rattle.cg_script.proofs.Shown.{Begins, begins_along, begins_self, begins_texts, text_found}
-use Rattle.cg_weakcoll.specs.Maps.{wget_commands}
-use Rattle.cg_weakcoll.specs.MapLines.{Atom, Counted, HasLines, HasLook, LookLinesAreCommands, Named, Quoted, StandTogether, WordStandsFor}
-use Rattle.cg_weakcoll.proofs.ReadLines.{AreNested, First, Onward, Passes, Says, first_line, means_words, nested, onward, passes_words, stand_together}
-
--- a text that is there keeps its place
-found_push : {X : Type 0} (p : X → Bool) (xs : List X) (y : X) → list_any p xs ≡ true → position_or_len p (xs ++ y ∷ []) ≡ position_or_len p xs
-found_push p [] y e = absurd (let no : false ≡ true = e in cc)
-found_push {X} p (x ∷ xs) y e = go (p x) e (λ k. found_push p xs y k)
-  where
-    go : (b : Bool) → (b || list_any p xs) ≡ true → (list_any p xs ≡ true → position_or_len p (xs ++ y ∷ []) ≡ position_or_len p xs)
-        → cond (not b) (1 + position_or_len p (xs ++ y ∷ [])) 0 ≡ cond (not b) (1 + position_or_len p xs) 0
-    go true k ih = refl
-    go false k ih = ap (λ n. 1 + n) (ih k)
+use Rattle.cg_weakcoll.specs.MapLines.{Atom, Counted, Named, Quoted, WordStandsFor}
+use Rattle.cg_weakcoll.proofs.ReadLines.{First, Passes, Says, first_line, means_words, passes_words}
 
 -- one that is added has the place that it gets
 new_push : {X : Type 0} (p : X → Bool) (xs : List X) (y : X) → list_any p xs ≡ false → p y ≡ true → position_or_len p (xs ++ y ∷ []) ≡ position_or_len p xs
@@ -71,21 +57,6 @@ added texts text = by (has_text texts text) refl
       there = list_any-append (bytes_eq text) texts (text ∷ []) ∙ ap (λ b. list_any (bytes_eq text) texts || (b || false)) (same_text text) ∙ or_true (list_any (bytes_eq text) texts);
       place = new_push (bytes_eq text) texts text e (same_text text);
     }
-
-pub kept_with : (texts : List (List ℕ)) (text : List ℕ) (n : ℕ) (other : Option (List ℕ)) → IsAt texts text n → IsAt (with_text_if texts other) text n
-kept_with texts text n None h = h
-kept_with texts text n (Some other) h = by (has_text texts other)
-  where
-    by : (b : Bool) → IsAt (cond b texts (texts ++ other ∷ [])) text n
-    by true = h
-    by false = record {
-      there = list_any-append (bytes_eq text) texts (other ∷ []) ∙ ap (λ b. b || list_any (bytes_eq text) (other ∷ [])) h.there;
-      place = found_push (bytes_eq text) texts other h.there ∙ h.place;
-    }
-
-pub kept_from : (form : Form) (words texts : List (List ℕ)) (place : ℕ) (text : List ℕ) (n : ℕ) → IsAt texts text n → IsAt (texts_from texts form place words) text n
-kept_from form [] texts place text n h = h
-kept_from form (word ∷ words) texts place text n h = kept_from form words (with_text_if texts (text_in (sort_at form place) word)) (place + 1) text n (kept_with texts text n (text_in (sort_at form place) word) h)
 
 -- all texts begin with those that are known
 pub all_begin : (lines : List (List ℕ)) (known : Known) (number : ℕ) (texts : List (List ℕ)) (saids : List Said) → lines_from known number lines ≡ good texts saids → Begins known.texts texts
@@ -202,121 +173,3 @@ read_as bytes texts items e = go (lines_from nothing_known 1 (lines_of bytes)) r
     go : (l : Lines) → lines_from nothing_known 1 (lines_of bytes) ≡ l → script_of l ≡ spells texts items → ReadAs bytes texts items
     go (spoilt n c) is k = absurd (cc)
     go (good ts ss) is k = let same : ts ≡ texts = cc in let same_items : items_of false ss ≡ items = cc in record { saids = ss; items_are = same_items; lines_are = is ∙ ap (λ t. good t ss) same }
-
--- the words of a `wget`
-none_worded : (x : List ℕ) → worded (x ∷ codes "=" ∷ codes "none" ∷ []) ≡ formed forms.Bind (x ∷ codes "=" ∷ codes "none" ∷ [])
-unfolding bindings
-none_worded x = refl
-
-get_worded : (x map key : List ℕ) → worded (x ∷ codes "=" ∷ codes "get" ∷ map ∷ key ∷ []) ≡ formed forms.Get (x ∷ codes "=" ∷ codes "get" ∷ map ∷ key ∷ [])
-unfolding bindings
-get_worded x map key = refl
-
-deref_worded : (x : List ℕ) → worded (x ∷ codes "=" ∷ codes "deref" ∷ x ∷ []) ≡ formed forms.Deref (x ∷ codes "=" ∷ codes "deref" ∷ x ∷ [])
-unfolding bindings
-deref_worded x = refl
-
-none_said : (known : Known) (x : List ℕ) → said forms.Bind (parts_of known forms.Bind (x ∷ codes "=" ∷ codes "none" ∷ [])) ≡ Does (commands.Bind (text_number known.texts x) operands.None)
-unfolding atoms
-none_said known x = refl
-
-module _ (bytes : List ℕ) (texts : List (List ℕ)) (items : List Item) (r : ReadAs bytes texts items) (x map key : List ℕ) (name : IsName x)
-    (h : HasLines bytes (x ∷ codes "=" ∷ codes "none" ∷ []) (x ∷ codes "=" ∷ codes "get" ∷ map ∷ key ∷ []) (x ∷ codes "=" ∷ codes "deref" ∷ x ∷ [])) where
-  start : lines_from nothing_known 1 (h.front ++ h.one ∷ h.two ∷ h.three ∷ h.back) ≡ good texts r.saids
-  start = ap (λ ls. lines_from nothing_known 1 ls) (sym h.all) ∙ r.lines_are
-
-  on : Onward texts (h.one ∷ h.two ∷ h.three ∷ h.back) r.saids
-  on = onward h.front (h.one ∷ h.two ∷ h.three ∷ h.back) nothing_known 1 texts r.saids start
-
-  no_comment_here : is_passed (x ∷ codes "=" ∷ codes "none" ∷ []) ≡ false
-  no_comment_here = no_comment (slice_index x 0) name.letter
-
-  abbrev words1 : List (List ℕ)
-  words1 = x ∷ codes "=" ∷ codes "none" ∷ []
-
-  abbrev words2 : List (List ℕ)
-  words2 = x ∷ codes "=" ∷ codes "get" ∷ map ∷ key ∷ []
-
-  abbrev words3 : List (List ℕ)
-  words3 = x ∷ codes "=" ∷ codes "deref" ∷ x ∷ []
-
-  abbrev known1 : Known
-  known1 = on.known
-
-  abbrev known2 : Known
-  known2 = known_after known1 forms.Bind words1
-
-  abbrev known3 : Known
-  known3 = known_after known2 forms.Get words2
-
-  first : Line texts known1 on.number forms.Bind words1 (h.two ∷ h.three ∷ h.back) on.later
-  first = one_line forms.Bind words1 known1 on.number h.one (h.two ∷ h.three ∷ h.back) texts on.later on.goes h.first_is no_comment_here (none_worded x)
-
-  second : Line texts known2 (on.number + 1) forms.Get words2 (h.three ∷ h.back) first.later
-  second = one_line forms.Get words2 known2 (on.number + 1) h.two (h.three ∷ h.back) texts first.later first.goes h.second_is no_comment_here (get_worded x map key)
-
-  third : Line texts known3 (on.number + 1 + 1) forms.Deref words3 h.back second.later
-  third = one_line forms.Deref words3 known3 (on.number + 1 + 1) h.three h.back texts second.later second.goes h.third_is no_comment_here (deref_worded x)
-
-  abbrev number : ℕ
-  number = text_number known1.texts x
-
-  at2 : IsAt known2.texts x number
-  at2 = kept_from forms.Bind (codes "=" ∷ codes "none" ∷ []) (with_text known1.texts x) 1 x number (added known1.texts x)
-
-  at3 : IsAt known3.texts x number
-  at3 = kept_from forms.Get words2 known2.texts 0 x number at2
-
-  abbrev texts2 : List (List ℕ)
-  texts2 = with_text known2.texts x
-
-  abbrev texts3 : List (List ℕ)
-  texts3 = with_text_if texts2 (value_text (named atoms map) map)
-
-  abbrev dict : Operand
-  dict = operand_or (named atoms map) texts2 map
-
-  abbrev at : Operand
-  at = operand_or (named atoms key) texts3 key
-
-  second_said : said forms.Get (parts_of known2 forms.Get words2) ≡ Does (commands.Get number dict at)
-  second_said = ap (λ n. Does (commands.Get n dict at)) at2.place
-
-  third_said : said forms.Deref (parts_of known3 forms.Deref words3) ≡ Does (commands.Deref number (operands.Name number))
-  third_said =
-      ap (λ n. Does (commands.Deref n (operand_or (named atoms x) (with_text known3.texts x) x))) at3.place
-      ∙ ap (λ o. Does (commands.Deref number o)) (name_stands (with_text known3.texts x) x name ∙ ap operands.Name ((added known3.texts x).place ∙ at3.place))
-
-  all_said : Does (commands.Bind number operands.None) ∷ Does (commands.Get number dict at) ∷ Does (commands.Deref number (operands.Name number)) ∷ third.later ≡ on.later
-  all_said =
-      ap (λ (s : Said). s ∷ Does (commands.Get number dict at) ∷ Does (commands.Deref number (operands.Name number)) ∷ third.later) (sym (none_said known1 x))
-      ∙ ap (λ (l : List Said). said forms.Bind (parts_of known1 forms.Bind words1) ∷ l) (ap (λ (s : Said). s ∷ Does (commands.Deref number (operands.Name number)) ∷ third.later) (sym second_said)
-      ∙ ap (λ (l : List Said). said forms.Get (parts_of known2 forms.Get words2) ∷ l) (ap (λ (s : Said). s ∷ third.later) (sym third_said) ∙ third.is) ∙ second.is)
-      ∙ first.is
-
-  stand : StandTogether items (wget_commands number dict at)
-  stand =
-      let all : on.before ++ (Does (commands.Bind number operands.None) ∷ Does (commands.Get number dict at) ∷ Does (commands.Deref number (operands.Name number)) ∷ third.later) ≡ r.saids = ap (λ (l : List Said). on.before ++ l) all_said ∙ on.all in
-      let placed : AreNested false r.saids = nested (h.front ++ h.one ∷ h.two ∷ h.three ∷ h.back) nothing_known 1 texts r.saids start in
-      subst (λ is. StandTogether is (wget_commands number dict at)) (ap (items_of false) all ∙ r.items_are)
-      (stand_together (wget_commands number dict at) third.later on.before (subst (AreNested false) (sym all) placed))
-
-  begins2 : Begins known2.texts texts
-  begins2 = all_begin (h.two ∷ h.three ∷ h.back) known2 (on.number + 1) texts first.later first.goes
-
-  begins3 : Begins known3.texts texts
-  begins3 = all_begin (h.three ∷ h.back) known3 (on.number + 1 + 1) texts second.later second.goes
-
-  look : HasLook texts items x map key
-  look = record {
-    name = number;
-    dict = dict;
-    at = at;
-    name_is = text_found texts known1.texts x (begins_along (with_text known1.texts x) known2.texts texts (begins_texts forms.Bind (codes "=" ∷ codes "none" ∷ []) (with_text known1.texts x) 1) begins2);
-    dict_is = stands_for texts texts2 map (named atoms map) refl (begins_along texts3 known3.texts texts (begins_texts forms.Get (key ∷ []) texts3 4) begins3);
-    at_is = stands_for texts texts3 key (named atoms key) refl begins3;
-    together = stand;
-  }
-
-pub look_lines : LookLinesAreCommands
-look_lines bytes texts items e x map key variable h = look bytes texts items (read_as bytes texts items e) x map key (name_of_variable x variable) h

@@ -26,7 +26,7 @@ use Rattle.cg_script.specs.Canonical.{joined}
 use Rattle.cg_script.proofs.Joined.{words_of-joined}
 use Rattle.cg_script.proofs.Shown.{Begins, begins_along, begins_self, begins_texts}
 use Rattle.cg_weakcoll.specs.MapLines.{StandTogether}
-use Rattle.cg_weakcoll.proofs.ExitNames.{EachLine, IsSound, each_sound}
+use Rattle.cg_weakcoll.proofs.SoundWords.{EachLine, IsSound, each_sound}
 use Rattle.cg_weakcoll.proofs.ReadLines.{AreNested, does_all, nested, onward, stand_together}
 use Rattle.cg_weakcoll.proofs.LookLines.{added, all_begin, one_line, read_as}
 
