@@ -12,7 +12,7 @@ use Rattle.cg_script.proofs.Shown.{neither}
 use Rattle.cg_weakcoll.specs.declared.form.Form.{Form}
 use Rattle.cg_script.specs.Pieces.{word_at}
 use Rattle.cg_weakcoll.specs.Expansion.{begins_with, exit_name, form_lines, function_name, is_kept, object_name, proc_name, watch_name, weak_name, word_count}
-use Rattle.cg_weakcoll.proofs.SoundWords.{EachLine, EachWord, call_written, each_written, is_plain, number_digits, plain_parts}
+use Rattle.cg_weakcoll.proofs.SoundWords.{EachLine, EachWord, each_written, is_plain, number_digits, plain_parts}
 use Rattle.cg_weakcoll.proofs.FreeNames.{AreClear, IsClear}
 
 -- the names of line l
@@ -109,9 +109,6 @@ plain_clear l word e = let p = plain_parts word e in clear_word l word p.2
 -- of another line they are none of the names
 pub clear_lines : (m l : ℕ) → m ≤ 400000 → l ≤ 400000 → m ≢ l → (words : List (List ℕ)) (form : Form) → ((place : ℕ) → place < word_count form → IsClear (IsElse l) (word_at words place)) → EachLine (IsClear (IsElse l)) (form_lines form m words)
 clear_lines m l low low2 apart words form at = each_written (IsClear (IsElse l)) m words (plain_clear l) (clear_name l (decimal m) (weak_text m l low)) (λ c e. clear_name l (c ∷ 95 ∷ decimal m) (other_text c m l low low2 apart)) form at
-
-pub clear_call : (m l : ℕ) → m ≤ 400000 → l ≤ 400000 → m ≢ l → EachWord (IsClear (IsElse l)) (codes "call" ∷ exit_name m ∷ [])
-clear_call m l low low2 apart = call_written (IsClear (IsElse l)) m [] (plain_clear l) (clear_name l (decimal m) (weak_text m l low)) (λ c e. clear_name l (c ∷ 95 ∷ decimal m) (other_text c m l low low2 apart))
 
 pub each_clear : (Free : List ℕ → Type 0) (words : List (List ℕ)) → EachWord (IsClear Free) words → AreClear Free words
 each_clear Free [] h = tt

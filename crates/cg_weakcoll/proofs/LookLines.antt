@@ -1,5 +1,5 @@
 -- One line of a script, read by its words.
-use Rattle.std.proofs.Common.{◌≡◌, ℕ, ◌+◌, List, [], ◌∷◌, ◌++◌, length, Bool, true, false, not, cond, ◌&&◌, ◌||◌, ◌==◌, Option, Some, None, refl, sym, ap, subst, ◌∙◌, arith, nat_le, nat_lt, inl, inr, ◌⊎◌}
+use Rattle.std.proofs.Common.{◌≡◌, ℕ, ◌+◌, List, [], ◌∷◌, ◌++◌, length, Bool, true, false, not, cond, ◌&&◌, ◌||◌, ◌==◌, Option, Some, None, refl, ap, subst, ◌∙◌, arith, nat_le}
 use Rattle.std.specs.Prelude.{is_some, slice_index}
 use Rattle.std.specs.List.{list_all, list_any, position_or_len}
 use Rattle.std.specs.Str.{bytes_eq}
@@ -10,21 +10,17 @@ use Rattle.cg_value.specs.Texts.{has_text, text_number, with_text}
 use Rattle.cg_script.specs.declared.item.Item.{Item}
 use Rattle.cg_script.specs.declared.command.Operand.{Operand}
 use Rattle.cg_script.specs.declared.command.Operand.TheVariants as operands
-use Rattle.cg_script.specs.declared.form.Form.{Form}
 use Rattle.cg_script.specs.declared.part.Said.{Said}
-use Rattle.cg_script.specs.Pieces.{words_of, lines_of}
+use Rattle.cg_script.specs.Pieces.{lines_of}
 use Rattle.cg_script.specs.Words.{atoms, begins_name, is_identifier, is_name_byte, is_quoted, is_reserved, is_variable, reserves, string_text, number_of}
 use Rattle.cg_script.specs.Tables.{named}
-use Rattle.cg_script.specs.Forms.{bindings, openers, row}
-use Rattle.cg_script.specs.Meanings.{passed, says, bad, all_fit, repeats_finalizer, formed, worded, is_passed}
-use Rattle.cg_script.specs.Parts.{Known, parts_of, texts_from, with_text_if, value_text, operand_or}
-use Rattle.cg_script.specs.Commands.{said}
-use Rattle.cg_script.specs.Reading.{fault_in, known_after, Lines, good, spoilt, lines_from, nothing_known, items_of, script_of, reading, spells}
+use Rattle.cg_script.specs.Forms.{bindings, openers}
+use Rattle.cg_script.specs.Parts.{Known, texts_from, with_text_if, value_text, operand_or}
+use Rattle.cg_script.specs.Reading.{known_after, Lines, good, spoilt, lines_from, nothing_known, items_of, script_of, reading, spells}
 use Rattle.cg_script.proofs.Ascii.{both}
-use Rattle.cg_script.proofs.Says.{not_bad}
 use Rattle.cg_script.proofs.Shown.{Begins, begins_along, begins_self, begins_texts, text_found}
 use Rattle.cg_weakcoll.specs.MapLines.{Atom, Counted, Named, Quoted, WordStandsFor}
-use Rattle.cg_weakcoll.proofs.ReadLines.{First, Passes, Says, first_line, means_words, passes_words}
+use Rattle.cg_weakcoll.proofs.ReadLines.{First, Passes, Says, first_line}
 
 -- one that is added has the place that it gets
 new_push : {X : Type 0} (p : X → Bool) (xs : List X) (y : X) → list_any p xs ≡ false → p y ≡ true → position_or_len p (xs ++ y ∷ []) ≡ position_or_len p xs
@@ -65,11 +61,11 @@ all_begin [] known number texts saids e = go known.inside e
     go : (b : Bool) → cond b (spoilt number 7) (good known.texts []) ≡ good texts saids → Begins known.texts texts
     go true k = absurd (cc)
     go false k = let same : known.texts ≡ texts = cc in subst (Begins known.texts) same (begins_self known.texts)
-all_begin (line ∷ lines) known number texts saids e = go (λ k n ss h. all_begin lines k n texts ss h) (first_line known number line lines texts saids e)
+all_begin (line ∷ lines) known number texts saids e = go (λ k n ss h. all_begin lines k n texts ss h) (first_line known number lines texts saids line e)
   where
     go : ((k : Known) (n : ℕ) (ss : List Said) → lines_from k n lines ≡ good texts ss → Begins k.texts texts) → First known number line lines texts saids → Begins known.texts texts
     go ih (Passes m rest) = ih known (number + 1) saids rest
-    go ih (Says form words later m f is rest) = begins_along known.texts (texts_from known.texts form 0 words) texts (begins_texts form words known.texts 0) (ih (known_after known form words) (number + 1) later rest)
+    go ih (Says form words m s) = begins_along known.texts (texts_from known.texts form 0 words) texts (begins_texts form words known.texts 0) (ih (known_after known form words) (number + 1) s.later s.goes)
 
 -- the word of a variable
 pub record IsName (x : List ℕ) : Type 0 where
@@ -115,51 +111,6 @@ stands_for all texts word None e begins = by (is_quoted word) (begins_name (slic
     by true b h = Quoted (text_number texts (string_text word)) (text_found all texts (string_text word) h)
     by false true h = Named (text_number texts word) (text_found all texts word h)
     by false false h = Counted
-
--- a good line of a form
-formed_says : (other : Form) (others : List (List ℕ)) (form : Form) (words : List (List ℕ)) → says form words ≡ formed other others → (other ≡ form) × (others ≡ words)
-formed_says other others form words e =
-    let b = not_bad (nat_lt (length others) (row other).fewest || nat_lt (row other).most (length others)) 3 _ form words e in
-    let d = not_bad (not (all_fit other 0 others) || repeats_finalizer other others) 4 _ form words b.1 in
-    let same : says form words ≡ says other others = d.1 in
-    (cc, cc)
-
-formed_not_passed : (form : Form) (words : List (List ℕ)) → passed ≡ formed form words → ⊥
-formed_not_passed form words e = first (nat_lt (length words) (row form).fewest || nat_lt (row form).most (length words)) e
-  where
-    second : (b : Bool) → passed ≡ cond b (bad 4) (says form words) → ⊥
-    second true k = cc
-    second false k = cc
-
-    first : (b : Bool) → passed ≡ cond b (bad 3) (cond (not (all_fit form 0 words) || repeats_finalizer form words) (bad 4) (says form words)) → ⊥
-    first true k = cc
-    first false k = second (not (all_fit form 0 words) || repeats_finalizer form words) k
-
--- what the first of some lines says, by its words
-pub record Line (texts : List (List ℕ)) (known : Known) (number : ℕ) (form : Form) (words lines : List (List ℕ)) (saids : List Said) : Type 0 where
-  pub later : List Said
-  pub is : said form (parts_of known form words) ∷ later ≡ saids
-  pub goes : lines_from (known_after known form words) (number + 1) lines ≡ good texts later
-  pub clean : fault_in known form words ≡ None
-
-pub one_line : (form : Form) (words : List (List ℕ)) (known : Known) (number : ℕ) (line : List ℕ) (lines texts : List (List ℕ)) (saids : List Said) → lines_from known number (line ∷ lines) ≡ good texts saids
-    → words_of line ≡ words → is_passed words ≡ false → worded words ≡ formed form words → Line texts known number form words lines saids
-one_line form words known number line lines texts saids e is_words goes_on meant = go (first_line known number line lines texts saids e)
-  where
-    go : First known number line lines texts saids → Line texts known number form words lines saids
-    go (Passes m rest) = over (passes_words number line m)
-      where
-        over : (is_passed (words_of line) ≡ true) ⊎ (passed ≡ worded (words_of line)) → Line texts known number form words lines saids
-        over (inl p) = absurd (let no : true ≡ false = sym p ∙ ap is_passed is_words ∙ goes_on in cc)
-        over (inr p) = absurd (formed_not_passed form words (p ∙ ap worded is_words ∙ meant))
-    go (Says f ws later m fault is rest) =
-        let same = formed_says form words f ws (means_words number line f ws m ∙ ap worded is_words ∙ meant) in
-        record {
-          later = later;
-          is = ap (λ (l : List Said). l) (ap (λ (k : Form). said k (parts_of known k words) ∷ later) same.0 ∙ ap (λ (vs : List (List ℕ)). said f (parts_of known f vs) ∷ later) same.1 ∙ is);
-          goes = ap (λ (k : Form). lines_from (known_after known k words) (number + 1) lines) same.0 ∙ ap (λ (vs : List (List ℕ)). lines_from (known_after known f vs) (number + 1) lines) same.1 ∙ rest;
-          clean = ap (λ (k : Form). fault_in known k words) same.0 ∙ ap (λ (vs : List (List ℕ)). fault_in known f vs) same.1 ∙ fault;
-        }
 
 -- the lines of a script, with what they say
 pub record ReadAs (bytes : List ℕ) (texts : List (List ℕ)) (items : List Item) : Type 0 where

@@ -206,14 +206,17 @@ module _ (all names : List (List ℕ)) (Free : List ℕ → Type 0) where
     whole = whole;
     inside = refl;
   }
-  passage (line ∷ front) rest known number saids clear e whole = go (λ k n ss h w. passage front rest k n ss (λ other m. clear other (inr m)) h w) (first_line known number line (front ++ rest) all saids e)
+  passage (line ∷ front) rest known number saids clear e whole = go (λ k n ss h w. passage front rest k n ss (λ other m. clear other (inr m)) h w) (first_line known number (front ++ rest) all saids line e)
     where
       go : ((k : Known) (n : ℕ) (ss : List Said) → lines_from k n (front ++ rest) ≡ good all ss → k.procs ++ map (text_of all) (begun ss) ≡ names → Passage k rest ss) → First known number line (front ++ rest) all saids → Passage known rest saids
       go ih (Passes m more) =
           let o = ih known (number + 1) saids more whole in
           record { before = o.before; later = o.later; is = o.is; known = o.known; number = o.number; goes = o.goes; fine = o.fine; procs = o.procs; whole = o.whole; inside = o.inside }
-      go ih (Says form words later m f is more) =
-          let fault = faultless known form words f in
+      go ih (Says form words m told) =
+          let later = told.later in
+          let is = told.is in
+          let more = told.goes in
+          let fault = faultless known form words told.clean in
           let words_good = good_line number line form words m in
           let same = (says_of_line number line form words m).words_are in
           let begins = all_begin (front ++ rest) (known_after known form words) (number + 1) all later more in

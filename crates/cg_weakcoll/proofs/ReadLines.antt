@@ -1,5 +1,5 @@
 -- What three lines of a script say, one after the other, and where their commands stand.
-use Rattle.std.proofs.Common.{◌≡◌, ℕ, ◌+◌, List, [], ◌∷◌, ◌++◌, length, map, Bool, true, false, not, ◌||◌, ◌==◌, Option, Some, None, refl, sym, ap, subst, ◌∙◌, inl, inr, ◌⊎◌}
+use Rattle.std.proofs.Common.{◌≡◌, ℕ, ◌+◌, List, [], ◌∷◌, ◌++◌, length, map, Bool, true, false, not, ◌||◌, ◌==◌, cond, Option, Some, None, refl, sym, ap, subst, ◌∙◌, inl, inr}
 use Rattle.std.specs.Prelude.{if◌then◌else◌, nat_lt}
 use Rattle.std.specs.List.{list_all}
 use Rattle.cg_script.specs.declared.item.Item.{Item}
@@ -11,74 +11,75 @@ use Rattle.cg_script.specs.declared.part.Said.TheVariants.{Declares, Begins, End
 use Rattle.cg_script.specs.Items.{commands_of}
 use Rattle.cg_script.specs.Pieces.{words_of}
 use Rattle.cg_script.specs.Words.{is_printable}
-use Rattle.cg_script.specs.Meanings.{Meaning, passed, says, bad, worded, is_passed, meaning}
+use Rattle.cg_script.specs.Meanings.{Meaning, passed, says, bad, formed, worded, is_passed, meaning}
 use Rattle.cg_script.specs.Parts.{Known, parts_of}
 use Rattle.cg_script.specs.Commands.{said}
 use Rattle.cg_script.specs.Reading.{fault_in, says_or_bad, checked, meant, known_after, Lines, good, spoilt, also_said, with_later, lines_from, body_of, items_of}
 use Rattle.cg_script.specs.Views.{is_placed, inside_behind}
-use Rattle.cg_script.proofs.Says.{not_bad, not_passed}
 use Rattle.cg_script.proofs.GoodLines.{faultless}
 use Rattle.cg_script.proofs.Grouped.{placed, inside_said}
 use Rattle.cg_weakcoll.specs.MapLines.{StandTogether, Outside, InProcedure}
 
--- what the first of some good lines means, and that the others are good behind it
+-- what the first of some good lines says, by its form and its words
+pub record Line (texts : List (List ℕ)) (known : Known) (number : ℕ) (form : Form) (words lines : List (List ℕ)) (saids : List Said) : Type 0 where
+  pub later : List Said
+  pub is : said form (parts_of known form words) ∷ later ≡ saids
+  pub goes : lines_from (known_after known form words) (number + 1) lines ≡ good texts later
+  pub clean : fault_in known form words ≡ None
+
+-- what it means, and that the others are good behind it
 pub data First (known : Known) (number : ℕ) (line : List ℕ) (lines texts : List (List ℕ)) (saids : List Said) : Type 0 where
   Passes : passed ≡ meaning number line → lines_from known (number + 1) lines ≡ good texts saids → First known number line lines texts saids
-  Says : (form : Form) (words : List (List ℕ)) (later : List Said) → says form words ≡ meaning number line → fault_in known form words ≡ None → said form (parts_of known form words) ∷ later ≡ saids
-      → lines_from (known_after known form words) (number + 1) lines ≡ good texts later → First known number line lines texts saids
+  Says : (form : Form) (words : List (List ℕ)) → says form words ≡ meaning number line → Line texts known number form words lines saids → First known number line lines texts saids
 
 meant_is : (known : Known) (number : ℕ) (line : List ℕ) → meant known number line ≡ checked known (meaning number line)
 unfolding meant
 meant_is known number line = refl
 
-module _ (known : Known) (number : ℕ) (line : List ℕ) (lines texts : List (List ℕ)) (saids : List Said) where
-  abbrev later_lines : Known → Lines
-  later_lines behind = lines_from behind (number + 1) lines
+module _ (known : Known) (number : ℕ) (lines texts : List (List ℕ)) (saids : List Said) where
+  -- a line of this meaning and the others are good
+  abbrev AreGood : Meaning → Type 0
+  AreGood m = with_later known number (checked known m) (λ behind. lines_from behind (number + 1) lines) ≡ good texts saids
 
-  also : (form : Form) (words : List (List ℕ)) → says form words ≡ meaning number line → fault_in known form words ≡ None → (l : Lines) → later_lines (known_after known form words) ≡ l
-      → also_said (said form (parts_of known form words)) l ≡ good texts saids → First known number line lines texts saids
-  also form words m f (spoilt n c) el e = absurd (cc)
-  also form words m f (good ts ss) el e =
+  also : (form : Form) (words : List (List ℕ)) → fault_in known form words ≡ None → (l : Lines) → lines_from (known_after known form words) (number + 1) lines ≡ l
+      → also_said (said form (parts_of known form words)) l ≡ good texts saids → Line texts known number form words lines saids
+  also form words f (spoilt n c) el e = absurd (cc)
+  also form words f (good ts ss) el e =
       let same_texts : ts ≡ texts = cc in
       let same_saids : said form (parts_of known form words) ∷ ss ≡ saids = cc in
-      Says form words ss m f same_saids (el ∙ ap (λ t. good t ss) same_texts)
+      record { later = ss; is = same_saids; goes = el ∙ ap (λ t. good t ss) same_texts; clean = f }
 
-  by_fault : (form : Form) (words : List (List ℕ)) → says form words ≡ meaning number line → (fault : Option ℕ) → fault_in known form words ≡ fault
-      → with_later known number (says_or_bad fault form words) later_lines ≡ good texts saids → First known number line lines texts saids
-  by_fault form words m None f e = also form words m f (later_lines (known_after known form words)) refl e
-  by_fault form words m (Some code) f e = absurd (cc)
+  says_line : (form : Form) (words : List (List ℕ)) → AreGood (says form words) → Line texts known number form words lines saids
+  says_line form words e = go (fault_in known form words) refl e
+    where
+      go : (fault : Option ℕ) → fault_in known form words ≡ fault → with_later known number (says_or_bad fault form words) (λ behind. lines_from behind (number + 1) lines) ≡ good texts saids → Line texts known number form words lines saids
+      go None f k = also form words f (lines_from (known_after known form words) (number + 1) lines) refl k
+      go (Some code) f k = absurd (cc)
 
-  by_meaning : (m : Meaning) → m ≡ meaning number line → with_later known number (checked known m) later_lines ≡ good texts saids → First known number line lines texts saids
-  by_meaning passed em e = Passes em e
-  by_meaning (says form words) em e = by_fault form words em (fault_in known form words) refl e
-  by_meaning (bad code) em e = absurd (cc)
+  means : (line : List ℕ) → lines_from known number (line ∷ lines) ≡ good texts saids → AreGood (meaning number line)
+  means line e = ap (λ m. with_later known number m (λ behind. lines_from behind (number + 1) lines)) (sym (meant_is known number line)) ∙ e
 
-  pub first_line : lines_from known number (line ∷ lines) ≡ good texts saids → First known number line lines texts saids
-  first_line e = by_meaning (meaning number line) refl (ap (λ m. with_later known number m later_lines) (sym (meant_is known number line)) ∙ e)
+  pub first_line : (line : List ℕ) → lines_from known number (line ∷ lines) ≡ good texts saids → First known number line lines texts saids
+  first_line line e = by_meaning (meaning number line) refl (means line e)
+    where
+      by_meaning : (m : Meaning) → m ≡ meaning number line → AreGood m → First known number line lines texts saids
+      by_meaning passed em k = Passes em k
+      by_meaning (says form words) em k = Says form words em (says_line form words k)
+      by_meaning (bad code) em k = absurd (cc)
 
--- a line that is not passed over means what its words mean
-pub means_words : (number : ℕ) (line : List ℕ) (form : Form) (words : List (List ℕ)) → says form words ≡ meaning number line → says form words ≡ worded (words_of line)
-unfolding meaning
-means_words number line form words e =
-    let a = not_bad (not (list_all is_printable line)) 1 _ form words e in
-    let b = not_bad (nat_lt 1024 (length line) || nat_lt 64 (length (words_of line)) || (number == 400001)) 5 _ form words a.1 in
-    (not_passed (is_passed (words_of line)) _ form words b.1).1
-
-never_bad : (b : Bool) (code : ℕ) (rest : Meaning) → passed ≡ (if b then bad code else rest) → passed ≡ rest
-never_bad true code rest e = absurd (cc)
-never_bad false code rest e = e
-
-is_passed_over : (b : Bool) (words : List (List ℕ)) → passed ≡ (if b then passed else worded words) → (b ≡ true) ⊎ (passed ≡ worded words)
-is_passed_over true words e = inl refl
-is_passed_over false words e = inr e
-
--- where one is passed over, its words are, or mean nothing
-pub passes_words : (number : ℕ) (line : List ℕ) → passed ≡ meaning number line → (is_passed (words_of line) ≡ true) ⊎ (passed ≡ worded (words_of line))
-unfolding meaning
-passes_words number line e =
-    let a = never_bad (not (list_all is_printable line)) 1 _ e in
-    let b = never_bad (nat_lt 1024 (length line) || nat_lt 64 (length (words_of line)) || (number == 400001)) 5 _ a in
-    is_passed_over (is_passed (words_of line)) (words_of line) b
+  -- the words of a line that is not passed over tell
+  pub one_line : (form : Form) (words : List (List ℕ)) (line : List ℕ) → words_of line ≡ words → is_passed words ≡ false → worded words ≡ formed form words → lines_from known number (line ∷ lines) ≡ good texts saids → Line texts known number form words lines saids
+  unfolding meaning
+  one_line form words line is unpassed meant e =
+      let by : Meaning → Meaning = λ m. cond (not (list_all is_printable line)) (bad 1) (cond (nat_lt 1024 (length line) || nat_lt 64 (length (words_of line)) || (number == 400001)) (bad 5) m) in
+      says_line form words (go _ _ _ _ (ap (λ m. with_later known number (checked known (by m)) (λ behind. lines_from behind (number + 1) lines)) (sym (ap (λ ws. cond (is_passed ws) passed (worded ws)) is ∙ ap (λ b. cond b passed (worded words)) unpassed ∙ meant)) ∙ means line e))
+    where
+      go : (a b c d : Bool) → AreGood (cond a (bad 1) (cond b (bad 5) (cond c (bad 3) (cond d (bad 4) (says form words))))) → AreGood (says form words)
+      go false false false false k = k
+      go true b c d k = absurd (cc)
+      go false true c d k = absurd (cc)
+      go false false true d k = absurd (cc)
+      go false false false true k = absurd (cc)
 
 -- what some lines in the middle say: what was said before, and from where the lines go on
 pub record Onward (texts : List (List ℕ)) (lines : List (List ℕ)) (saids : List Said) : Type 0 where
@@ -91,13 +92,13 @@ pub record Onward (texts : List (List ℕ)) (lines : List (List ℕ)) (saids : L
 
 pub onward : (front lines : List (List ℕ)) (known : Known) (number : ℕ) (texts : List (List ℕ)) (saids : List Said) → lines_from known number (front ++ lines) ≡ good texts saids → Onward texts lines saids
 onward [] lines known number texts saids e = record { before = []; later = saids; all = refl; known = known; number = number; goes = e }
-onward (line ∷ front) lines known number texts saids e = go (λ k n ss h. onward front lines k n texts ss h) (first_line known number line (front ++ lines) texts saids e)
+onward (line ∷ front) lines known number texts saids e = go (λ k n ss h. onward front lines k n texts ss h) (first_line known number (front ++ lines) texts saids line e)
   where
     go : ((k : Known) (n : ℕ) (ss : List Said) → lines_from k n (front ++ lines) ≡ good texts ss → Onward texts lines ss) → First known number line (front ++ lines) texts saids → Onward texts lines saids
     go ih (Passes m rest) = let o = ih known (number + 1) saids rest in record { before = o.before; later = o.later; all = o.all; known = o.known; number = o.number; goes = o.goes }
-    go ih (Says form words later m f is rest) =
-        let o = ih (known_after known form words) (number + 1) later rest in
-        record { before = said form (parts_of known form words) ∷ o.before; later = o.later; all = ap (λ l. said form (parts_of known form words) ∷ l) o.all ∙ is; known = o.known; number = o.number; goes = o.goes }
+    go ih (Says form words m s) =
+        let o = ih (known_after known form words) (number + 1) s.later s.goes in
+        record { before = said form (parts_of known form words) ∷ o.before; later = o.later; all = ap (λ l. said form (parts_of known form words) ∷ l) o.all ∙ s.is; known = o.known; number = o.number; goes = o.goes }
 
 -- declarations stand outside procedures, and `end` inside one
 abbrev pub AreNested : Bool → List Said → Type 0
@@ -110,13 +111,13 @@ nested [] known number texts saids e = go known.inside refl e
     go : (b : Bool) → known.inside ≡ b → (if b then spoilt number 7 else good known.texts []) ≡ good texts saids → AreNested known.inside saids
     go true i k = absurd (cc)
     go false i k = let none : [] ≡ saids = cc in subst (AreNested known.inside) none tt
-nested (line ∷ lines) known number texts saids e = go (λ k n ss h. nested lines k n texts ss h) (first_line known number line lines texts saids e)
+nested (line ∷ lines) known number texts saids e = go (λ k n ss h. nested lines k n texts ss h) (first_line known number lines texts saids line e)
   where
     go : ((k : Known) (n : ℕ) (ss : List Said) → lines_from k n lines ≡ good texts ss → AreNested k.inside ss) → First known number line lines texts saids → AreNested known.inside saids
     go ih (Passes m rest) = ih known (number + 1) saids rest
-    go ih (Says form words later m f is rest) = subst (AreNested known.inside) is (
-      placed known form (parts_of known form words) (faultless known form words f).placed,
-      subst (λ b. AreNested b later) (sym (inside_said form (parts_of known form words) known.inside)) (ih (known_after known form words) (number + 1) later rest),
+    go ih (Says form words m s) = subst (AreNested known.inside) s.is (
+      placed known form (parts_of known form words) (faultless known form words s.clean).placed,
+      subst (λ b. AreNested b s.later) (sym (inside_said form (parts_of known form words) known.inside)) (ih (known_after known form words) (number + 1) s.later s.goes),
     )
 
 -- where commands stand that are said one after the other

@@ -27,8 +27,8 @@ use Rattle.cg_script.proofs.Joined.{words_of-joined}
 use Rattle.cg_script.proofs.Shown.{Begins, begins_along, begins_self, begins_texts}
 use Rattle.cg_weakcoll.specs.MapLines.{StandTogether}
 use Rattle.cg_weakcoll.proofs.SoundWords.{EachLine, IsSound, each_sound}
-use Rattle.cg_weakcoll.proofs.ReadLines.{AreNested, does_all, nested, onward, stand_together}
-use Rattle.cg_weakcoll.proofs.LookLines.{added, all_begin, one_line, read_as}
+use Rattle.cg_weakcoll.proofs.ReadLines.{AreNested, does_all, nested, one_line, onward, stand_together}
+use Rattle.cg_weakcoll.proofs.LookLines.{added, all_begin, read_as}
 
 -- a text that is there has its place in all texts
 place_first : (xs more : List (List ℕ)) (text : List ℕ) → has_text xs text ≡ true → text_number (xs ++ more) text ≡ text_number xs text
@@ -147,7 +147,7 @@ lines_in rows = map (λ (r : Row). r.line) rows
 pub table : (all : List (List ℕ)) (rows : List Row) (known : Known) (number : ℕ) (rest : List (List ℕ)) (saids : List Said) → AreRead rows → lines_from known number (lines_in rows ++ rest) ≡ good all saids → Table all known rows rest saids
 table all [] known number rest saids read e = record { later = saids; number = number; is = refl; goes = e; clean = tt; found = tt }
 table all (r ∷ rows) known number rest saids read e =
-    let line = one_line r.form r.words known number r.line (lines_in rows ++ rest) all saids e read.0.0 read.0.1.0 read.0.1.1 in
+    let line = one_line known number (lines_in rows ++ rest) all saids r.form r.words r.line read.0.0 read.0.1.0 read.0.1.1 e in
     let after = known_after known r.form r.words in
     let more = table all rows after (number + 1) rest line.later read.1 line.goes in
     let begins = all_begin (lines_in rows ++ rest) after (number + 1) all line.later line.goes in
