@@ -1,5 +1,5 @@
 -- The lines that are written for other lines have none of the names of a `finalize` line.
-use Rattle.std.proofs.Common.{◌≡◌, ◌≢◌, ℕ, zero, suc, ◌+◌, ◌<◌, ◌≤◌, List, [], ◌∷◌, ◌++◌, length, map, Bool, true, false, not, cond, ◌&&◌, Option, None, Some, refl, sym, ap, subst, ◌∙◌, arith, codes}
+use Rattle.std.proofs.Common.{◌≡◌, ◌≢◌, ℕ, zero, suc, ◌+◌, ◌<◌, ◌≤◌, List, [], ◌∷◌, length, map, Bool, true, false, not, cond, ◌&&◌, Option, None, Some, refl, sym, ap, subst, ◌∙◌, arith, codes}
 use Rattle.std.specs.Option.{option_or}
 use Rattle.std.specs.List.{list_any}
 use Rattle.cg_graph.proofs.Members.{either, Includes-append_cases}
@@ -9,7 +9,7 @@ use Rattle.cg_script.specs.Pieces.{words_of, word_at, word_is}
 use Rattle.cg_script.proofs.Joined.{sound_words, words_of-joined}
 use Rattle.cg_script.proofs.Shown.{neither}
 use Rattle.cg_weakcoll.specs.declared.form.Form.{Form}
-use Rattle.cg_weakcoll.specs.Expansion.{bad_or, fault_by, fault_of, first_bad_from, binding_form, form_fault, form_lines, form_of, inside_after, is_kept, name_fault, opening_form, written, written_by, written_from}
+use Rattle.cg_weakcoll.specs.Expansion.{fault_by, fault_of, first_bad_from, binding_form, form_fault, form_lines, form_of, inside_after, is_kept, name_fault, opening_form, written, written_by, written_from}
 use Rattle.cg_weakcoll.proofs.ExitNames.{IsElse, clear_lines, clear_word, each_clear}
 use Rattle.cg_weakcoll.proofs.SoundWords.{EachLine, EachWord, IsSound, each_sound, sound_at, sound_lines}
 use Rattle.cg_weakcoll.proofs.ExpandedLines.{fits_of, split_bad}
@@ -82,34 +82,3 @@ module _ (all names : List (List ℕ)) (l : ℕ) (low : l ≤ 400000) where
       either (Includes-append_cases (written k line) (written_from (k + 1) lines) other m)
       (λ h. written_clear inside k line (apart k (omega arith) (omega arith)) f.0 other h unpassed)
       (λ h. clear_from lines (inside_after inside (words_of line)) (k + 1) f.1 (λ n from to. apart n (omega (arith, from)) (omega (arith, to))) other h unpassed)
-
--- lines in front of one and behind it
-pub record Parted (front : List (List ℕ)) (line : List ℕ) (back : List (List ℕ)) (l : ℕ) : Type 0 where
-  pub inside : Bool
-  pub inside_behind : Bool
-  pub here : fault_of inside (l + length front) line ≡ None
-  pub behind : first_bad_from inside_behind (l + length front + 1) back ≡ None
-
-none_first : (l : ℕ) (m : Option ℕ) (later : Option (ℕ × ℕ)) → m ≡ None → later ≡ None → bad_or l m later ≡ None
-none_first l None later e k = k
-none_first l (Some code) later e k = absurd (cc)
-
-pub parted : (front : List (List ℕ)) (line : List ℕ) (back : List (List ℕ)) (inside : Bool) (l : ℕ) → first_bad_from inside l (front ++ line ∷ back) ≡ None → (first_bad_from inside l front ≡ None) × Parted front line back l
-parted [] line back inside l e =
-    let f = split_bad l (fault_of inside l line) (first_bad_from (inside_after inside (words_of line)) (l + 1) back) e in
-    let same : l ≡ l + 0 = omega arith in (
-      refl,
-      record { inside = inside; inside_behind = inside_after inside (words_of line); here = subst (λ n. fault_of inside n line ≡ None) same f.0; behind = subst (λ n. first_bad_from (inside_after inside (words_of line)) (n + 1) back ≡ None) same f.1 },
-    )
-parted (other ∷ front) line back inside l e =
-    let f = split_bad l (fault_of inside l other) (first_bad_from (inside_after inside (words_of other)) (l + 1) (front ++ line ∷ back)) e in
-    let later = parted front line back (inside_after inside (words_of other)) (l + 1) f.1 in
-    let same : l + 1 + length front ≡ l + suc (length front) = omega arith in (
-      none_first l (fault_of inside l other) (first_bad_from (inside_after inside (words_of other)) (l + 1) front) f.0 later.0,
-      record {
-        inside = later.1.inside;
-        inside_behind = later.1.inside_behind;
-        here = subst (λ n. fault_of later.1.inside n line ≡ None) same later.1.here;
-        behind = subst (λ n. first_bad_from later.1.inside_behind (n + 1) back ≡ None) same later.1.behind;
-      },
-    )

@@ -22,18 +22,17 @@ use Rattle.cg_script.specs.Reading.{good, items_of, lines_from, nothing_known}
 use Rattle.cg_script.specs.Texts.{command_names, operand_names}
 use Rattle.cg_script.specs.Words.{is_value}
 use Rattle.cg_script.proofs.Ascii.{both}
-use Rattle.cg_script.proofs.Joined.{sound_words}
 use Rattle.cg_value.specs.Texts.{text_number}
 use Rattle.cg_machine.specs.Program.{body_of}
 use Rattle.cg_weakcoll.specs.declared.form.Form.{Form}
 use Rattle.cg_weakcoll.specs.declared.form.Form.TheVariants.{MakeMap, Set, Get, Remove, Finalize}
-use Rattle.cg_weakcoll.specs.Expansion.{call_line, exit_name, expanded_lines, expansion, final_lines, finalize_lines, finalize_number, finalize_numbers_from, finalizes, first_bad, first_bad_from, form_of, is_finalize, proc_name, written_by, written_from}
+use Rattle.cg_weakcoll.specs.Expansion.{call_line, exit_name, expanded_lines, expansion, final_lines, finalize_lines, finalize_number, finalize_numbers_from, finalizes, first_bad, first_bad_from, form_of, is_finalize, proc_name, written_from}
 use Rattle.cg_weakcoll.specs.Exits.{AllOther, AreOthers, Exit, IsExit, IsOther, exit_body, exit_commands, final_calls, names_of}
 use Rattle.cg_weakcoll.specs.ExpandedExits.{AreExitsOf, ExpandedExitsAreThere, Finalizes, HasExitsOf, IsExitOf, NoLine, Other}
-use Rattle.cg_weakcoll.proofs.ClearLines.{Parted, clear_from, line_words, parted, unpassed_form, word_there}
+use Rattle.cg_weakcoll.proofs.ClearLines.{clear_from, line_words, unpassed_form, word_there}
 use Rattle.cg_weakcoll.proofs.ExitNames.{IsElse, other_text, own_apart, own_names}
-use Rattle.cg_weakcoll.proofs.SoundWords.{EachLine, IsSound, sound_at, sound_call, sound_lines}
-use Rattle.cg_weakcoll.proofs.ExpandedLines.{Fits, expansion_lines, fits_of, numbers_low, written-append}
+use Rattle.cg_weakcoll.proofs.SoundWords.{sound_call}
+use Rattle.cg_weakcoll.proofs.ExpandedLines.{FormLines, expansion_lines, form_written, numbers_low}
 use Rattle.cg_weakcoll.proofs.FinalizerLines.{Calls, Finalizer, calls, calls_of, exit_of, finalizer, finalizer_says}
 use Rattle.cg_weakcoll.proofs.FreeNames.{AreClear, AreFree, IsClear}
 use Rattle.cg_weakcoll.proofs.LookLines.{ReadAs, read_as}
@@ -131,25 +130,19 @@ module _ (bytes : List ℕ) (fine : first_bad bytes ≡ None) (all : List (List 
     form : form_of words ≡ Some Finalize
     form = is_finalize_form (form_of words) is
 
-    halves : (first_bad_from false 1 front ≡ None) × Parted front line back 1
-    halves = parted front line back false 1 (ap (first_bad_from false 1) (sym parts) ∙ fine_lines)
-
-    fits : Fits Finalize l line words
-    fits = fits_of Finalize halves.1.inside l line form halves.1.here
+    w : FormLines bytes front line back Finalize
+    w = form_written bytes fine front line back parts Finalize form
 
     abbrev Free : List ℕ → Type 0
     Free = IsElse l
 
     clear_word_at : (place : ℕ) → place < 3 → IsClear Free (word_at words place)
     clear_word_at place low =
-        let count = fits.count in
-        word_there (IsClear Free) words place (line_words l halves.1.inside l line halves.1.here (unpassed_form words Finalize form)) (omega (arith, low, count))
-
-    sound : EachLine IsSound (finalize_lines l y f)
-    sound = sound_lines l fits.low words Finalize (λ place low. let count = fits.count in sound_at words place (sound_words line fits.printable) (omega (arith, low, count)))
+        let count = w.fits.count in
+        word_there (IsClear Free) words place (line_words l w.parts.1.inside l line w.parts.1.here (unpassed_form words Finalize form)) (omega (arith, low, count))
 
     value : is_value f ≡ true
-    value = (both (is_value y) (is_value f) fits.fit).1
+    value = (both (is_value y) (is_value f) w.fits.fit).1
 
     abbrev lines_front : List (List ℕ)
     lines_front = written_from 1 front
@@ -160,20 +153,13 @@ module _ (bytes : List ℕ) (fine : first_bad bytes ≡ None) (all : List (List 
     abbrev lines_last : List (List ℕ)
     lines_last = map (λ m. joined (call_line m)) (reverse numbers)
 
-    expanded : expanded_lines lines ≡ lines_front ++ (map joined (finalize_lines l y f) ++ (lines_back ++ lines_last))
-    expanded =
-        ap (λ ls. written_from 1 ls ++ lines_last) parts
-        ∙ ap (λ ls. ls ++ lines_last) (written-append front (line ∷ back) 1 ∙ ap (λ m. lines_front ++ (written_by m l line words ++ lines_back)) form)
-        ∙ append_assoc lines_front (map joined (finalize_lines l y f) ++ lines_back) lines_last
-        ∙ ap (λ ls. lines_front ++ ls) (append_assoc (map joined (finalize_lines l y f)) lines_back lines_last)
-
     pA : Passage all names Free nothing_known (map joined (finalize_lines l y f) ++ (lines_back ++ lines_last)) r.saids
     pA = passage all names Free lines_front (map joined (finalize_lines l y f) ++ (lines_back ++ lines_last)) nothing_known 1 r.saids
-        (clear_from all names l fits.low front false 1 halves.0 (λ m from to same. omega (arith, from, to, same)))
-        (ap (λ ls. lines_from nothing_known 1 ls) (sym expanded) ∙ start) refl
+        (clear_from all names l w.fits.low front false 1 w.parts.0 (λ m from to same. omega (arith, from, to, same)))
+        (ap (λ ls. lines_from nothing_known 1 ls) (sym w.lines_are) ∙ r.lines_are) refl
 
     its_lines : Finalizer all Free pA.known (lines_back ++ lines_last) pA.later l y f
-    its_lines = finalizer all Free pA.known pA.number (lines_back ++ lines_last) pA.later l y f value (clear_word_at 1 (omega arith)) (clear_word_at 2 (omega arith)) sound pA.goes
+    its_lines = finalizer all Free pA.known pA.number (lines_back ++ lines_last) pA.later l y f value (clear_word_at 1 (omega arith)) (clear_word_at 2 (omega arith)) w.sound pA.goes
 
     abbrev proc : ℕ
     proc = length pA.known.procs
@@ -189,7 +175,7 @@ module _ (bytes : List ℕ) (fine : first_bad bytes ≡ None) (all : List (List 
 
     pB : Passage all names Free its_lines.known lines_last its_lines.later
     pB = passage all names Free lines_back lines_last its_lines.known its_lines.number its_lines.later
-        (clear_from all names l fits.low back halves.1.inside_behind (l + 1) halves.1.behind (λ m from to same. omega (arith, from, to, same)))
+        (clear_from all names l w.fits.low back w.parts.1.inside_behind (l + 1) w.parts.1.behind (λ m from to same. omega (arith, from, to, same)))
         its_lines.goes
         (ap (λ ps. ps ++ map (text_of all) (begun its_lines.later)) its_lines.procs ∙ append_assoc pA.known.procs (proc_name l ∷ []) (map (text_of all) (begun its_lines.later)) ∙ begun_behind)
 
@@ -246,7 +232,7 @@ module _ (bytes : List ℕ) (fine : first_bad bytes ≡ None) (all : List (List 
     other_call : (m : ℕ) → Includes numbers m → m ≢ l → IsOther e (commands.Call (operands.Name (text_number all (exit_name m))))
     other_call m k apart = record {
       names = λ n there own. either there
-          (λ same. other_text 103 m l (low_number m k) fits.low apart (subst (Includes (own_names l)) (ap (text_of all) (sym same) ∙ last.texts m (Includes-reversed numbers m k)) (own_text n own)))
+          (λ same. other_text 103 m l (low_number m k) w.fits.low apart (subst (Includes (own_names l)) (ap (text_of all) (sym same) ∙ last.texts m (Includes-reversed numbers m k)) (own_text n own)))
           (λ none. absurd none);
       makes = λ name cells same. cc;
     }

@@ -174,21 +174,36 @@ written-append (line ∷ front) lines l =
     ap (λ ls. written l line ++ ls) (written-append front lines (l + 1) ∙ ap (λ n. written_from (l + 1) front ++ written_from n lines) same)
     ∙ sym (append_assoc (written l line) (written_from (l + 1) front) (written_from (l + suc (length front)) lines))
 
-pub record IsFine (l : ℕ) (line : List ℕ) : Type 0 where
+-- lines in front of one and behind it
+pub record Parted (front : List (List ℕ)) (line : List ℕ) (back : List (List ℕ)) (l : ℕ) : Type 0 where
   pub inside : Bool
-  pub fine : fault_of inside l line ≡ None
+  pub inside_behind : Bool
+  pub here : fault_of inside (l + length front) line ≡ None
+  pub behind : first_bad_from inside_behind (l + length front + 1) back ≡ None
 
-fine_there : (front : List (List ℕ)) (line : List ℕ) (back : List (List ℕ)) (inside : Bool) (l : ℕ) → first_bad_from inside l (front ++ line ∷ back) ≡ None → IsFine (l + length front) line
-fine_there [] line back inside l e =
-    let same : l ≡ l + 0 = omega arith in
-    subst (λ n. IsFine n line) same (record { inside = inside; fine = (split_bad l (fault_of inside l line) (first_bad_from (inside_after inside (words_of line)) (l + 1) back) e).0 })
-fine_there (other ∷ front) line back inside l e =
-    let same : l + 1 + length front ≡ l + suc (length front) = omega arith in
-    subst (λ n. IsFine n line) same (fine_there front line back (inside_after inside (words_of other)) (l + 1) (split_bad l (fault_of inside l other) (first_bad_from (inside_after inside (words_of other)) (l + 1) (front ++ line ∷ back)) e).1)
+none_first : (l : ℕ) (m : Option ℕ) (later : Option (ℕ × ℕ)) → m ≡ None → later ≡ None → bad_or l m later ≡ None
+none_first l None later e k = k
+none_first l (Some code) later e k = absurd (cc)
 
-pub fine_line : (bytes : List ℕ) → first_bad bytes ≡ None → (front : List (List ℕ)) (line : List ℕ) (back : List (List ℕ)) → lines_of bytes ≡ front ++ line ∷ back → IsFine (1 + length front) line
-unfolding first_bad
-fine_line bytes e front line back all = fine_there front line back false 1 (ap (first_bad_from false 1) (sym all) ∙ e)
+pub parted : (front : List (List ℕ)) (line : List ℕ) (back : List (List ℕ)) (inside : Bool) (l : ℕ) → first_bad_from inside l (front ++ line ∷ back) ≡ None → (first_bad_from inside l front ≡ None) × Parted front line back l
+parted [] line back inside l e =
+    let f = split_bad l (fault_of inside l line) (first_bad_from (inside_after inside (words_of line)) (l + 1) back) e in
+    let same : l ≡ l + 0 = omega arith in (
+      refl,
+      record { inside = inside; inside_behind = inside_after inside (words_of line); here = subst (λ n. fault_of inside n line ≡ None) same f.0; behind = subst (λ n. first_bad_from (inside_after inside (words_of line)) (n + 1) back ≡ None) same f.1 },
+    )
+parted (other ∷ front) line back inside l e =
+    let f = split_bad l (fault_of inside l other) (first_bad_from (inside_after inside (words_of other)) (l + 1) (front ++ line ∷ back)) e in
+    let later = parted front line back (inside_after inside (words_of other)) (l + 1) f.1 in
+    let same : l + 1 + length front ≡ l + suc (length front) = omega arith in (
+      none_first l (fault_of inside l other) (first_bad_from (inside_after inside (words_of other)) (l + 1) front) f.0 later.0,
+      record {
+        inside = later.1.inside;
+        inside_behind = later.1.inside_behind;
+        here = subst (λ n. fault_of later.1.inside n line ≡ None) same later.1.here;
+        behind = subst (λ n. first_bad_from later.1.inside_behind (n + 1) back ≡ None) same later.1.behind;
+      },
+    )
 
 pub first_of_three : (a b c : Bool) → (a && b && c) ≡ true → a ≡ true
 first_of_three true b c e = refl
@@ -196,17 +211,20 @@ first_of_three false b c e = absurd (cc)
 
 -- what is written for one line of a form, and where
 pub record FormLines (bytes : List ℕ) (front : List (List ℕ)) (line : List ℕ) (back : List (List ℕ)) (form : Form) : Type 0 where
+  pub parts : (first_bad_from false 1 front ≡ None) × Parted front line back 1
   pub fits : Fits form (1 + length front) line (words_of line)
   pub sound : EachLine IsSound (form_lines form (1 + length front) (words_of line))
   pub lines_are : lines_of (expansion bytes) ≡ written_from 1 front ++ (map joined (form_lines form (1 + length front) (words_of line)) ++ (written_from (1 + length front + 1) back ++ final_lines (lines_of bytes)))
 
 pub form_written : (bytes : List ℕ) → first_bad bytes ≡ None → (front : List (List ℕ)) (line : List ℕ) (back : List (List ℕ)) → lines_of bytes ≡ front ++ line ∷ back → (form : Form) → form_of (words_of line) ≡ Some form → FormLines bytes front line back form
+unfolding first_bad
 form_written bytes fine front line back all form is =
-    let f = fine_line bytes fine front line back all in
+    let parts = parted front line back false 1 (ap (first_bad_from false 1) (sym all) ∙ fine) in
     let l = 1 + length front in
-    let fits = fits_of form f.inside l line is f.fine in
+    let fits = fits_of form parts.1.inside l line is parts.1.here in
     let last = final_lines (lines_of bytes) in
     record {
+      parts = parts;
       fits = fits;
       sound = form_sound form l line fits;
       lines_are =
