@@ -25,7 +25,7 @@ use Rattle.cg_script.proofs.Ascii.{both}
 use Rattle.cg_value.specs.Texts.{text_number}
 use Rattle.cg_machine.specs.Program.{body_of}
 use Rattle.cg_weakcoll.specs.declared.form.Form.{Form}
-use Rattle.cg_weakcoll.specs.declared.form.Form.TheVariants.{MakeMap, Set, Get, Remove, Finalize}
+use Rattle.cg_weakcoll.specs.declared.form.Form.TheVariants.{Finalize}
 use Rattle.cg_weakcoll.specs.Expansion.{call_line, exit_name, expanded_lines, expansion, final_lines, finalize_lines, finalize_number, finalize_numbers_from, finalizes, first_bad, first_bad_from, form_of, is_finalize, proc_name, written_from}
 use Rattle.cg_weakcoll.specs.Exits.{AllOther, AreOthers, Exit, IsExit, IsOther, exit_body, exit_commands, final_calls, names_of}
 use Rattle.cg_weakcoll.specs.ExpandedExits.{AreExitsOf, ExpandedExitsAreThere, Finalizes, HasExitsOf, IsExitOf, NoLine, Other}
@@ -34,10 +34,10 @@ use Rattle.cg_weakcoll.proofs.ExitNames.{IsElse, other_text, own_apart, own_name
 use Rattle.cg_weakcoll.proofs.SoundWords.{sound_call}
 use Rattle.cg_weakcoll.proofs.ExpandedLines.{FormLines, expansion_lines, form_written, numbers_low}
 use Rattle.cg_weakcoll.proofs.FinalizerLines.{Calls, Finalizer, calls, calls_of, exit_of, finalizer, finalizer_says}
-use Rattle.cg_weakcoll.proofs.FreeNames.{AreClear, AreFree, IsClear}
+use Rattle.cg_weakcoll.proofs.FreeNames.{AreFree, IsClear}
 use Rattle.cg_weakcoll.proofs.LookLines.{ReadAs, read_as}
 use Rattle.cg_weakcoll.proofs.ReadLines.{does_all}
-use Rattle.cg_weakcoll.proofs.Passages.{IsFine, Passage, passage}
+use Rattle.cg_weakcoll.proofs.Passages.{Any, IsFine, Passage, behind, passage}
 use Rattle.cg_weakcoll.proofs.Stretches.{ArePlain, at_place, begun, begun_names, class_said, classes_split, command_said, commands_split, elsewhere, no_classes, no_procedures, procedure_said, procedures_split, run_each, through}
 
 -- numbers of `finalize` lines
@@ -60,10 +60,7 @@ number_range (line ∷ lines) l m k = either (Includes-append_cases (finalize_nu
 is_finalize_form : (m : Option Form) → is_finalize m ≡ true → m ≡ Some Finalize
 is_finalize_form None e = absurd (cc)
 is_finalize_form (Some Finalize) e = refl
-is_finalize_form (Some MakeMap) e = absurd (cc)
-is_finalize_form (Some Set) e = absurd (cc)
-is_finalize_form (Some Get) e = absurd (cc)
-is_finalize_form (Some Remove) e = absurd (cc)
+is_finalize_form (Some form) e = absurd (cc)
 
 -- members of a reversed list
 Includes-reversed : (xs : List ℕ) (x : ℕ) → Includes xs x → Includes (reverse xs) x
@@ -433,15 +430,8 @@ module _ (bytes : List ℕ) (fine : first_bad bytes ≡ None) (all : List (List 
         }
 
   -- the commands before the calls
-  abbrev Any : List ℕ → Type 0
-  Any text = Unit {0}
-
-  clear_any : (words : List (List ℕ)) → AreClear Any words
-  clear_any [] = tt
-  clear_any (word ∷ words) = (record { itself = tt; finalizer = λ name i. tt; legacy = λ name i. tt }, clear_any words)
-
   whole_front : Passage all names Any nothing_known (final_lines lines) r.saids
-  whole_front = passage all names Any (written_from 1 lines) (final_lines lines) nothing_known 1 r.saids (λ line m unpassed. clear_any (words_of line)) start refl
+  whole_front = behind all (written_from 1 lines) (final_lines lines) r.saids start
 
   whole_last : Calls all whole_front.known whole_front.later (reverse numbers)
   whole_last = calls all whole_front.known whole_front.number whole_front.later (reverse numbers) (λ m k. sound_call m (low_number m (reversed_back numbers m k))) whole_front.goes

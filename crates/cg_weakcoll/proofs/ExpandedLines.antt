@@ -14,7 +14,7 @@ use Rattle.cg_graph.specs.Member.{Includes}
 use Rattle.cg_graph.proofs.Members.{either, Includes-append_cases, Includes-map_cases}
 use Rattle.cg_machine.proofs.There.{reversed_back}
 use Rattle.cg_weakcoll.specs.declared.form.Form.{Form}
-use Rattle.cg_weakcoll.specs.declared.form.Form.TheVariants.{MakeMap, Set, Get, Remove, Finalize}
+use Rattle.cg_weakcoll.specs.declared.form.Form.TheVariants.{Finalize}
 use Rattle.cg_weakcoll.specs.Expansion.{bad_or, call_line, call_lines, expanded_lines, expansion, fault_by, fault_of, final_lines, finalize_number, finalize_numbers_from, first_bad, first_bad_from, form_fault, form_lines, form_of, inside_after, is_finalize, name_fault, with_feeds, word_count, words_fit, written, written_by, written_from}
 use Rattle.cg_weakcoll.proofs.SoundWords.{EachLine, EachWord, IsSound, each_sound, sound_at, sound_call, sound_lines}
 
@@ -142,11 +142,8 @@ number_low inside l line e n m = go (form_of (words_of line)) refl m
   where
     go : (f : Option Form) → form_of (words_of line) ≡ f → Includes (cond (is_finalize f) (l ∷ []) []) n → n ≤ 400000
     go None is k = absurd k
-    go (Some MakeMap) is k = absurd k
-    go (Some Set) is k = absurd k
-    go (Some Get) is k = absurd k
-    go (Some Remove) is k = absurd k
     go (Some Finalize) is k = either k (λ same. subst (λ i. i ≤ 400000) same (fits_of Finalize inside l line is e).low) (λ no. absurd no)
+    go (Some form) is k = absurd k
 
 pub numbers_low : (lines : List (List ℕ)) (inside : Bool) (l : ℕ) → first_bad_from inside l lines ≡ None → (n : ℕ) → Includes (finalize_numbers_from l lines) n → n ≤ 400000
 numbers_low [] inside l e n m = absurd m

@@ -137,16 +137,7 @@ module _ (all : List (List ℕ)) (Free : List ℕ → Type 0) where
   text_part : (procs classes texts : List (List ℕ)) (sort : Sort) (word : List ℕ) → is_text sort ≡ true → IsClear Free word → Begins (with_text_if texts (text_in sort word)) all → Free (text_of all (text_or (Some (part_of procs classes texts sort word))))
   text_part procs classes texts Variable word e clear begins = placed_free texts word clear.itself begins
   text_part procs classes texts Name word e clear begins = placed_free texts word clear.itself begins
-  text_part procs classes texts Key word e clear begins = absurd (cc)
-  text_part procs classes texts Class word e clear begins = absurd (cc)
-  text_part procs classes texts Proc word e clear begins = absurd (cc)
-  text_part procs classes texts Finalizer word e clear begins = absurd (cc)
-  text_part procs classes texts Value word e clear begins = absurd (cc)
-  text_part procs classes texts Number word e clear begins = absurd (cc)
-  text_part procs classes texts Profile word e clear begins = absurd (cc)
-  text_part procs classes texts Budget word e clear begins = absurd (cc)
-  text_part procs classes texts Count word e clear begins = absurd (cc)
-  text_part procs classes texts Flag word e clear begins = absurd (cc)
+  text_part procs classes texts sort word e clear begins = absurd (cc)
 
   text_at_free : (procs classes : List (List ℕ)) (form : Form) (words texts : List (List ℕ)) (place i : ℕ) → i < length words → is_text (sort_at form (place + i)) ≡ true → AreClear Free words → Begins (texts_from texts form place words) all
       → Free (text_of all (text_at (parts_from procs classes texts form place words) i))

@@ -21,7 +21,7 @@ use Rattle.cg_script.specs.Meanings.{is_passed}
 use Rattle.cg_script.specs.Parts.{Known, parts_of, parts_from, texts_from, numbered, defined_number, finalizer, legacy, legacy_of, finalizer_of, is_unknown, has_unknown}
 use Rattle.std.specs.Option.{option_or}
 use Rattle.cg_script.specs.Commands.{count_or, del_if, legacy_if, said}
-use Rattle.cg_script.specs.Reading.{is_repeated, procs_after, known_after, good, lines_from}
+use Rattle.cg_script.specs.Reading.{nothing_known, is_repeated, procs_after, known_after, good, lines_from}
 use Rattle.cg_script.specs.Canonical.{text_of}
 use Rattle.cg_script.proofs.Grouped.{inside_said}
 use Rattle.cg_script.proofs.GoodLines.{faultless, good_line}
@@ -244,3 +244,14 @@ module _ (all names : List (List ℕ)) (Free : List ℕ → Type 0) where
             whole = o.whole;
             inside = o.inside ∙ ap (λ b. through b o.before) (sym (inside_said form (parts_of known form words) known.inside));
           }
+
+-- so behind any lines
+abbrev pub Any : List ℕ → Type 0
+Any text = Unit {0}
+
+clear_any : (words : List (List ℕ)) → AreClear Any words
+clear_any [] = tt
+clear_any (word ∷ words) = (record { itself = tt; finalizer = λ name i. tt; legacy = λ name i. tt }, clear_any words)
+
+pub behind : (all : List (List ℕ)) (front rest : List (List ℕ)) (saids : List Said) → lines_from nothing_known 1 (front ++ rest) ≡ good all saids → Passage all (map (text_of all) (begun saids)) Any nothing_known rest saids
+behind all front rest saids e = passage all (map (text_of all) (begun saids)) Any front rest nothing_known 1 saids (λ line m unpassed. clear_any (words_of line)) e refl

@@ -1,4 +1,4 @@
--- What three lines of a script say, one after the other, and where their commands stand.
+-- What the first of some lines says, and where commands stand that are said one after the other.
 use Rattle.std.proofs.Common.{◌≡◌, ℕ, ◌+◌, List, [], ◌∷◌, ◌++◌, length, map, Bool, true, false, not, ◌||◌, ◌==◌, cond, Option, Some, None, refl, sym, ap, subst, ◌∙◌, inl, inr}
 use Rattle.std.specs.Prelude.{if◌then◌else◌, nat_lt}
 use Rattle.std.specs.List.{list_all}
@@ -81,25 +81,6 @@ module _ (known : Known) (number : ℕ) (lines texts : List (List ℕ)) (saids :
       go false false true d k = absurd (cc)
       go false false false true k = absurd (cc)
 
--- what some lines in the middle say: what was said before, and from where the lines go on
-pub record Onward (texts : List (List ℕ)) (lines : List (List ℕ)) (saids : List Said) : Type 0 where
-  pub before : List Said
-  pub later : List Said
-  pub all : before ++ later ≡ saids
-  pub known : Known
-  pub number : ℕ
-  pub goes : lines_from known number lines ≡ good texts later
-
-pub onward : (front lines : List (List ℕ)) (known : Known) (number : ℕ) (texts : List (List ℕ)) (saids : List Said) → lines_from known number (front ++ lines) ≡ good texts saids → Onward texts lines saids
-onward [] lines known number texts saids e = record { before = []; later = saids; all = refl; known = known; number = number; goes = e }
-onward (line ∷ front) lines known number texts saids e = go (λ k n ss h. onward front lines k n texts ss h) (first_line known number (front ++ lines) texts saids line e)
-  where
-    go : ((k : Known) (n : ℕ) (ss : List Said) → lines_from k n (front ++ lines) ≡ good texts ss → Onward texts lines ss) → First known number line (front ++ lines) texts saids → Onward texts lines saids
-    go ih (Passes m rest) = let o = ih known (number + 1) saids rest in record { before = o.before; later = o.later; all = o.all; known = o.known; number = o.number; goes = o.goes }
-    go ih (Says form words m s) =
-        let o = ih (known_after known form words) (number + 1) s.later s.goes in
-        record { before = said form (parts_of known form words) ∷ o.before; later = o.later; all = ap (λ l. said form (parts_of known form words) ∷ l) o.all ∙ s.is; known = o.known; number = o.number; goes = o.goes }
-
 -- declarations stand outside procedures, and `end` inside one
 abbrev pub AreNested : Bool → List Said → Type 0
 AreNested inside [] = Unit {0}
@@ -128,17 +109,9 @@ pub data Stands (inside : Bool) (saids : List Said) (commands : List Command) : 
 -- one item more
 more_items : (item : Item) (items : List Item) (commands : List Command) → StandTogether items commands → StandTogether (item ∷ items) commands
 more_items (variants.Run c) items commands (Outside front back e) = Outside (c ∷ front) back (ap (λ l. c ∷ l) e)
-more_items (variants.Def p) items commands (Outside front back e) = Outside front back e
-more_items (variants.Profile n) items commands (Outside front back e) = Outside front back e
-more_items variants.Shutdown items commands (Outside front back e) = Outside front back e
-more_items (variants.Budget n) items commands (Outside front back e) = Outside front back e
-more_items (variants.Class c) items commands (Outside front back e) = Outside front back e
-more_items (variants.Run c) items commands (InProcedure p front back m e) = InProcedure p front back m e
+more_items item items commands (Outside front back e) = Outside front back e
 more_items (variants.Def q) items commands (InProcedure p front back m e) = InProcedure p front back (inr m) e
-more_items (variants.Profile n) items commands (InProcedure p front back m e) = InProcedure p front back m e
-more_items variants.Shutdown items commands (InProcedure p front back m e) = InProcedure p front back m e
-more_items (variants.Budget n) items commands (InProcedure p front back m e) = InProcedure p front back m e
-more_items (variants.Class c) items commands (InProcedure p front back m e) = InProcedure p front back m e
+more_items item items commands (InProcedure p front back m e) = InProcedure p front back m e
 
 abbrev pub does_all : List Command → List Said
 does_all commands = map (λ c. Does c) commands

@@ -10,7 +10,7 @@ use Rattle.cg_script.specs.declared.command.Operand.{Operand}
 use Rattle.cg_script.specs.declared.command.Operand.TheVariants as operands
 use Rattle.cg_script.specs.declared.form.Form.{Form}
 use Rattle.cg_script.specs.declared.form.Sort.{Sort}
-use Rattle.cg_script.specs.declared.form.Sort.TheVariants.{Key, Variable, Name, Class, Proc, Finalizer, Value, Number, Profile, Budget, Count, Flag}
+use Rattle.cg_script.specs.declared.form.Sort.TheVariants.{Variable, Name, Value}
 use Rattle.cg_script.specs.declared.part.Part.{Part}
 use Rattle.cg_script.specs.declared.part.Part.TheVariants as parts
 use Rattle.cg_script.specs.declared.part.Said.{Said}
@@ -27,7 +27,8 @@ use Rattle.cg_script.proofs.Joined.{words_of-joined}
 use Rattle.cg_script.proofs.Shown.{Begins, begins_along, begins_self, begins_texts}
 use Rattle.cg_weakcoll.specs.MapLines.{StandTogether}
 use Rattle.cg_weakcoll.proofs.SoundWords.{EachLine, IsSound, each_sound}
-use Rattle.cg_weakcoll.proofs.ReadLines.{AreNested, does_all, nested, one_line, onward, stand_together}
+use Rattle.cg_weakcoll.proofs.ReadLines.{AreNested, does_all, nested, one_line, stand_together}
+use Rattle.cg_weakcoll.proofs.Passages.{behind}
 use Rattle.cg_weakcoll.proofs.LookLines.{added, all_begin, read_as}
 
 -- a text that is there has its place in all texts
@@ -70,15 +71,7 @@ module _ (procs classes all : List (List ℕ)) where
   part_in texts Variable word begins = ap parts.Text (placed all texts word begins)
   part_in texts Name word begins = ap parts.Text (placed all texts word begins)
   part_in texts Value word begins = ap parts.Value (value_in texts word (named atoms word) begins)
-  part_in texts Key word begins = refl
-  part_in texts Class word begins = refl
-  part_in texts Proc word begins = refl
-  part_in texts Finalizer word begins = refl
-  part_in texts Number word begins = refl
-  part_in texts Profile word begins = refl
-  part_in texts Budget word begins = refl
-  part_in texts Count word begins = refl
-  part_in texts Flag word begins = refl
+  part_in texts sort word begins = refl
 
   abbrev pub parts_in : Form → ℕ → List (List ℕ) → List Part
   parts_in form place [] = []
@@ -183,13 +176,13 @@ pub middle : (bytes : List ℕ) (texts : List (List ℕ)) (items : List Item) �
 middle bytes texts items e front rows back parts read =
     let r = read_as bytes texts items e in
     let start = ap (λ ls. lines_from nothing_known 1 ls) (sym parts) ∙ r.lines_are in
-    let on = onward front (lines_in rows ++ back) nothing_known 1 texts r.saids start in
+    let on = behind texts front (lines_in rows ++ back) r.saids start in
     let t = table texts rows on.known on.number back on.later read on.goes in
     record {
       known = on.known;
       found = t.found;
       together = λ commands says.
-          let all : on.before ++ (does_all commands ++ t.later) ≡ r.saids = ap (λ ss. on.before ++ (ss ++ t.later)) (sym says) ∙ ap (λ ss. on.before ++ ss) t.is ∙ on.all in
+          let all : on.before ++ (does_all commands ++ t.later) ≡ r.saids = ap (λ ss. on.before ++ (ss ++ t.later)) (sym says) ∙ ap (λ ss. on.before ++ ss) t.is ∙ on.is in
           let placed_so : AreNested false r.saids = nested (front ++ (lines_in rows ++ back)) nothing_known 1 texts r.saids start in
           subst (λ is. StandTogether is commands) (ap (items_of false) all ∙ r.items_are)
           (stand_together commands t.later on.before (subst (AreNested false) (sym all) placed_so));
