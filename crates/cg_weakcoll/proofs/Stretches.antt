@@ -25,12 +25,8 @@ through-append (s ∷ xs) ys inside = through-append xs ys (inside_behind s insi
 
 pub commands_split : (xs ys : List Said) (inside : Bool) → commands_of (items_of inside (xs ++ ys)) ≡ commands_of (items_of inside xs) ++ commands_of (items_of (through inside xs) ys)
 commands_split [] ys inside = refl
-commands_split (Declares (items.Profile n) ∷ xs) ys inside = commands_split xs ys inside
-commands_split (Declares items.Shutdown ∷ xs) ys inside = commands_split xs ys inside
-commands_split (Declares (items.Budget n) ∷ xs) ys inside = commands_split xs ys inside
-commands_split (Declares (items.Class c) ∷ xs) ys inside = commands_split xs ys inside
-commands_split (Declares (items.Def p) ∷ xs) ys inside = commands_split xs ys inside
 commands_split (Declares (items.Run c) ∷ xs) ys inside = ap (λ l. c ∷ l) (commands_split xs ys inside)
+commands_split (Declares item ∷ xs) ys inside = commands_split xs ys inside
 commands_split (Begins name ∷ xs) ys inside = commands_split xs ys true
 commands_split (Ends ∷ xs) ys inside = commands_split xs ys false
 commands_split (Does c ∷ xs) ys true = commands_split xs ys true
@@ -38,12 +34,8 @@ commands_split (Does c ∷ xs) ys false = ap (λ l. c ∷ l) (commands_split xs 
 
 pub classes_split : (xs ys : List Said) (inside : Bool) → classes (items_of inside (xs ++ ys)) ≡ classes (items_of inside xs) ++ classes (items_of (through inside xs) ys)
 classes_split [] ys inside = refl
-classes_split (Declares (items.Profile n) ∷ xs) ys inside = classes_split xs ys inside
-classes_split (Declares items.Shutdown ∷ xs) ys inside = classes_split xs ys inside
-classes_split (Declares (items.Budget n) ∷ xs) ys inside = classes_split xs ys inside
 classes_split (Declares (items.Class c) ∷ xs) ys inside = ap (λ l. c ∷ l) (classes_split xs ys inside)
-classes_split (Declares (items.Def p) ∷ xs) ys inside = classes_split xs ys inside
-classes_split (Declares (items.Run c) ∷ xs) ys inside = classes_split xs ys inside
+classes_split (Declares item ∷ xs) ys inside = classes_split xs ys inside
 classes_split (Begins name ∷ xs) ys inside = classes_split xs ys true
 classes_split (Ends ∷ xs) ys inside = classes_split xs ys false
 classes_split (Does c ∷ xs) ys true = classes_split xs ys true
@@ -73,12 +65,8 @@ body_split (Does c ∷ xs) ys e = ap (λ l. c ∷ l) (body_split xs ys e)
 -- the procedures of lines that leave none open, and of those behind them
 pub procedures_split : (xs ys : List Said) (inside : Bool) → through inside xs ≡ false → procedures (items_of inside (xs ++ ys)) ≡ procedures (items_of inside xs) ++ procedures (items_of false ys)
 procedures_split [] ys inside e = ap (λ b. procedures (items_of b ys)) e
-procedures_split (Declares (items.Profile n) ∷ xs) ys inside e = procedures_split xs ys inside e
-procedures_split (Declares items.Shutdown ∷ xs) ys inside e = procedures_split xs ys inside e
-procedures_split (Declares (items.Budget n) ∷ xs) ys inside e = procedures_split xs ys inside e
-procedures_split (Declares (items.Class c) ∷ xs) ys inside e = procedures_split xs ys inside e
 procedures_split (Declares (items.Def p) ∷ xs) ys inside e = ap (λ l. p ∷ l) (procedures_split xs ys inside e)
-procedures_split (Declares (items.Run c) ∷ xs) ys inside e = procedures_split xs ys inside e
+procedures_split (Declares item ∷ xs) ys inside e = procedures_split xs ys inside e
 procedures_split (Begins name ∷ xs) ys inside e =
     ap (λ b. record { name = name; body = b } ∷ procedures (items_of true (xs ++ ys))) (body_split xs ys e)
     ∙ ap (λ l. record { name = name; body = body_of xs } ∷ l) (procedures_split xs ys true e)
@@ -100,12 +88,8 @@ behind s xs plain t m = plain t (inr m)
 -- what stands in the items was said
 pub command_said : (xs : List Said) (inside : Bool) (c : Command) → ArePlain xs → Includes (commands_of (items_of inside xs)) c → Includes xs (Does c)
 command_said [] inside c plain m = absurd m
-command_said (Declares (items.Profile n) ∷ xs) inside c plain m = inr (command_said xs inside c (behind _ xs plain) m)
-command_said (Declares items.Shutdown ∷ xs) inside c plain m = inr (command_said xs inside c (behind _ xs plain) m)
-command_said (Declares (items.Budget n) ∷ xs) inside c plain m = inr (command_said xs inside c (behind _ xs plain) m)
-command_said (Declares (items.Class k) ∷ xs) inside c plain m = inr (command_said xs inside c (behind _ xs plain) m)
-command_said (Declares (items.Def p) ∷ xs) inside c plain m = inr (command_said xs inside c (behind _ xs plain) m)
 command_said (Declares (items.Run d) ∷ xs) inside c plain m = absurd ((plain (Declares (items.Run d)) (inl refl)).no_run d refl)
+command_said (Declares item ∷ xs) inside c plain m = inr (command_said xs inside c (behind _ xs plain) m)
 command_said (Begins name ∷ xs) inside c plain m = inr (command_said xs true c (behind _ xs plain) m)
 command_said (Ends ∷ xs) inside c plain m = inr (command_said xs false c (behind _ xs plain) m)
 command_said (Does d ∷ xs) true c plain m = inr (command_said xs true c (behind _ xs plain) m)
@@ -122,12 +106,8 @@ body_said (Does d ∷ xs) c (inr m) = inr (body_said xs c m)
 
 pub procedure_said : (xs : List Said) (inside : Bool) (p : Proc) (c : Command) → ArePlain xs → Includes (procedures (items_of inside xs)) p → Includes p.body c → Includes xs (Does c)
 procedure_said [] inside p c plain m b = absurd m
-procedure_said (Declares (items.Profile n) ∷ xs) inside p c plain m b = inr (procedure_said xs inside p c (behind _ xs plain) m b)
-procedure_said (Declares items.Shutdown ∷ xs) inside p c plain m b = inr (procedure_said xs inside p c (behind _ xs plain) m b)
-procedure_said (Declares (items.Budget n) ∷ xs) inside p c plain m b = inr (procedure_said xs inside p c (behind _ xs plain) m b)
-procedure_said (Declares (items.Class k) ∷ xs) inside p c plain m b = inr (procedure_said xs inside p c (behind _ xs plain) m b)
 procedure_said (Declares (items.Def q) ∷ xs) inside p c plain m b = absurd ((plain (Declares (items.Def q)) (inl refl)).no_def q refl)
-procedure_said (Declares (items.Run d) ∷ xs) inside p c plain m b = inr (procedure_said xs inside p c (behind _ xs plain) m b)
+procedure_said (Declares item ∷ xs) inside p c plain m b = inr (procedure_said xs inside p c (behind _ xs plain) m b)
 procedure_said (Begins name ∷ xs) inside p c plain (inl e) b = inr (body_said xs c (subst (λ (q : Proc). Includes q.body c) (sym e) b))
 procedure_said (Begins name ∷ xs) inside p c plain (inr m) b = inr (procedure_said xs true p c (behind _ xs plain) m b)
 procedure_said (Ends ∷ xs) inside p c plain m b = inr (procedure_said xs false p c (behind _ xs plain) m b)
@@ -136,13 +116,9 @@ procedure_said (Does d ∷ xs) false p c plain m b = inr (procedure_said xs fals
 
 pub class_said : (xs : List Said) (inside : Bool) (k : ClassDef) → Includes (classes (items_of inside xs)) k → Includes xs (Declares (items.Class k))
 class_said [] inside k m = absurd m
-class_said (Declares (items.Profile n) ∷ xs) inside k m = inr (class_said xs inside k m)
-class_said (Declares items.Shutdown ∷ xs) inside k m = inr (class_said xs inside k m)
-class_said (Declares (items.Budget n) ∷ xs) inside k m = inr (class_said xs inside k m)
 class_said (Declares (items.Class c) ∷ xs) inside k (inl e) = inl (ap (λ (d : ClassDef). Declares (items.Class d)) e)
 class_said (Declares (items.Class c) ∷ xs) inside k (inr m) = inr (class_said xs inside k m)
-class_said (Declares (items.Def p) ∷ xs) inside k m = inr (class_said xs inside k m)
-class_said (Declares (items.Run c) ∷ xs) inside k m = inr (class_said xs inside k m)
+class_said (Declares item ∷ xs) inside k m = inr (class_said xs inside k m)
 class_said (Begins name ∷ xs) inside k m = inr (class_said xs true k m)
 class_said (Ends ∷ xs) inside k m = inr (class_said xs false k m)
 class_said (Does c ∷ xs) true k m = inr (class_said xs true k m)
@@ -163,12 +139,8 @@ begun-append (s ∷ xs) ys = ap (λ l. begun_by s ++ l) (begun-append xs ys) ∙
 
 pub begun_names : (xs : List Said) (inside : Bool) → ArePlain xs → map (λ (p : Proc). p.name) (procedures (items_of inside xs)) ≡ begun xs
 begun_names [] inside plain = refl
-begun_names (Declares (items.Profile n) ∷ xs) inside plain = begun_names xs inside (behind _ xs plain)
-begun_names (Declares items.Shutdown ∷ xs) inside plain = begun_names xs inside (behind _ xs plain)
-begun_names (Declares (items.Budget n) ∷ xs) inside plain = begun_names xs inside (behind _ xs plain)
-begun_names (Declares (items.Class c) ∷ xs) inside plain = begun_names xs inside (behind _ xs plain)
 begun_names (Declares (items.Def p) ∷ xs) inside plain = absurd ((plain (Declares (items.Def p)) (inl refl)).no_def p refl)
-begun_names (Declares (items.Run c) ∷ xs) inside plain = begun_names xs inside (behind _ xs plain)
+begun_names (Declares item ∷ xs) inside plain = begun_names xs inside (behind _ xs plain)
 begun_names (Begins name ∷ xs) inside plain = ap (λ l. name ∷ l) (begun_names xs true (behind _ xs plain))
 begun_names (Ends ∷ xs) inside plain = begun_names xs false (behind _ xs plain)
 begun_names (Does c ∷ xs) true plain = begun_names xs true (behind _ xs plain)
