@@ -50,7 +50,7 @@ has_all : (all texts : List (List ℕ)) (text : Option (List ℕ)) → Begins (w
 has_all all texts None begins = begins_self all
 has_all all texts (Some text) begins =
     let there : has_text all text ≡ true =
-        ap (λ l. has_text l text) begins.is ∙ list_any-append (bytes_eq text) (with_text texts text) begins.more ∙ ap (λ b. b || has_text begins.more text) (added texts text).there in
+    ap (λ l. has_text l text) begins.is ∙ list_any-append (bytes_eq text) (with_text texts text) begins.more ∙ ap (λ b. b || has_text begins.more text) (added texts text).there in
     subst (λ b. Begins (cond b all (all ++ text ∷ [])) all) (sym there) (begins_self all)
 
 module _ (procs classes all : List (List ℕ)) where

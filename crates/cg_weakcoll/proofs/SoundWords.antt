@@ -162,4 +162,3 @@ sound_call m low = call_written IsSound m [] plain_sound (weak_is_sound m low) (
 pub each_sound : (words : List (List ℕ)) → EachWord IsSound words → EachSound words
 each_sound [] h = tt
 each_sound (word ∷ words) h = (h.0, each_sound words h.1)
-
