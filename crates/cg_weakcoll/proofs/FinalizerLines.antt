@@ -16,7 +16,7 @@ use Rattle.cg_script.specs.declared.part.Said.TheVariants.{Begins as BeginsProc,
 use Rattle.cg_script.specs.Tables.{named}
 use Rattle.cg_script.specs.Words.{atoms, is_value}
 use Rattle.cg_script.specs.Forms.{bindings, openers, word_of}
-use Rattle.cg_script.specs.Meanings.{binding_form, formed, worded}
+use Rattle.cg_script.specs.Meanings.{formed, worded}
 use Rattle.cg_script.specs.Parts.{Known, numbered, operand_or, defined_number, value_text, with_text_if}
 use Rattle.cg_script.specs.Commands.{count_or}
 use Rattle.cg_script.specs.Reading.{good, known_after, lines_from, spoilt}
@@ -55,34 +55,22 @@ new_proc xs text e =
     below = let more : length (xs ++ text ∷ []) ≡ length xs + 1 = length-append xs (text ∷ []) in grind (arith, nat_tests, more)
 
 -- no value but `ref` is the word of a form that binds
-no_binding_form : (form : Form) → (is_value (word_of form) && not (bytes_eq (word_of form) (codes "ref")) && is_some (named bindings (word_of form))) ≡ false
+no_binding_form : (form : Form) → (not (is_value (word_of form)) || not (is_some (named bindings (word_of form))) || bytes_eq (word_of form) (codes "ref")) ≡ true
 unfolding atoms openers bindings
 no_binding_form forms.Def = refl
 no_binding_form forms.End = refl
 no_binding_form form = refl
 
-no_binding : (f : List ℕ) → is_value f ≡ true → bytes_eq f (codes "ref") ≡ false → named bindings f ≡ None
-no_binding f value other = go (named bindings f) refl
-  where
-    go : (m : Option Form) → named bindings f ≡ m → m ≡ None
-    go None e = refl
-    go (Some form) e =
-        let found = binding_is f form e in
-        let a : is_value (word_of form) ≡ true = ap is_value (sym found.word) ∙ value in
-        let b : bytes_eq (word_of form) (codes "ref") ≡ false = ap (λ w. bytes_eq w (codes "ref")) (sym found.word) ∙ other in
-        let c : is_some (named bindings (word_of form)) ≡ true = ap is_some found.again in
-        let no : true ≡ false = sym (ap (λ t. t && not (bytes_eq (word_of form) (codes "ref")) && is_some (named bindings (word_of form))) a ∙ ap (λ t. not t && is_some (named bindings (word_of form))) b ∙ c) ∙ no_binding_form form in
-        absurd (cc)
-
-bind_form : (x f : List ℕ) → is_value f ≡ true → binding_form (x ∷ codes "=" ∷ f ∷ []) ≡ forms.Bind
-bind_form x f value = go (bytes_eq f (codes "ref")) refl
-  where
-    go : (b : Bool) → bytes_eq f (codes "ref") ≡ b → cond (b && true) forms.Bind (unwrap_or (named bindings f) forms.Bind) ≡ forms.Bind
-    go true e = refl
-    go false e = ap (λ (m : Option Form). unwrap_or m forms.Bind) (no_binding f value e)
-
 bind_worded : (x f : List ℕ) → is_value f ≡ true → worded (x ∷ codes "=" ∷ f ∷ []) ≡ formed forms.Bind (x ∷ codes "=" ∷ f ∷ [])
-bind_worded x f value = ap (λ (k : Form). formed k (x ∷ codes "=" ∷ f ∷ [])) (bind_form x f value)
+bind_worded x f value = ap (λ (k : Form). formed k (x ∷ codes "=" ∷ f ∷ [])) (go (bytes_eq f (codes "ref")) (named bindings f) refl refl)
+  where
+    go : (b : Bool) (m : Option Form) → bytes_eq f (codes "ref") ≡ b → named bindings f ≡ m → cond (b && true) forms.Bind (unwrap_or m forms.Bind) ≡ forms.Bind
+    go true m ref is = refl
+    go false None ref is = refl
+    go false (Some form) ref is =
+        let told = ap (λ w. not (is_value w) || not (is_some (named bindings w)) || bytes_eq w (codes "ref")) (binding_is f form is).word ∙ no_binding_form form in
+        let no : false ≡ true = sym (ap (λ t. not t || not (is_some (named bindings f)) || bytes_eq f (codes "ref")) value ∙ ap (λ (m : Option Form). not (is_some m) || bytes_eq f (codes "ref")) is ∙ ref) ∙ told in
+        absurd (cc)
 
 -- its exit finalizer
 abbrev pub exit_of : List (List ℕ) → ℕ → ℕ → Operand → Operand → Exit

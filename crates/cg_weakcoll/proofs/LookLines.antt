@@ -4,7 +4,7 @@ use Rattle.std.specs.Prelude.{is_some, slice_index}
 use Rattle.std.specs.List.{list_all, list_any, position_or_len}
 use Rattle.std.specs.Str.{bytes_eq}
 use Rattle.std.proofs.lemmas.Bool.Decides.{nat_tests}
-use Rattle.std.proofs.lemmas.List.Folds.{list_any-append}
+use Rattle.std.proofs.lemmas.List.Folds.{list_any-append, position_or_len_push}
 use Rattle.std.proofs.lemmas.Slice.Eq.{bytes_eq-Decides}
 use Rattle.cg_value.specs.Texts.{has_text, text_number, with_text}
 use Rattle.cg_script.specs.declared.item.Item.{Item}
@@ -23,14 +23,8 @@ use Rattle.cg_weakcoll.specs.MapLines.{Atom, Counted, Named, Quoted, WordStandsF
 use Rattle.cg_weakcoll.proofs.ReadLines.{First, Passes, Says, first_line}
 
 -- one that is added has the place that it gets
-new_push : {X : Type 0} (p : X → Bool) (xs : List X) (y : X) → list_any p xs ≡ false → p y ≡ true → position_or_len p (xs ++ y ∷ []) ≡ position_or_len p xs
-new_push p [] y none here = ap (λ b. cond (not b) 1 0) here
-new_push {X} p (x ∷ xs) y none here = go (p x) none (λ k. new_push p xs y k here)
-  where
-    go : (b : Bool) → (b || list_any p xs) ≡ false → (list_any p xs ≡ false → position_or_len p (xs ++ y ∷ []) ≡ position_or_len p xs)
-        → cond (not b) (1 + position_or_len p (xs ++ y ∷ [])) 0 ≡ cond (not b) (1 + position_or_len p xs) 0
-    go true k ih = absurd (cc)
-    go false k ih = ap (λ n. 1 + n) (ih k)
+new_push : {X : Type 0} (p : X → Bool) (xs : List X) (y : X) → p y ≡ true → position_or_len p (xs ++ y ∷ []) ≡ position_or_len p xs
+new_push p xs y here = let push = position_or_len_push p xs y in grind (arith, nat_tests, push, here)
 
 -- a text is there at a place
 pub record IsAt (texts : List (List ℕ)) (text : List ℕ) (n : ℕ) : Type 0 where
@@ -51,7 +45,7 @@ added texts text = by (has_text texts text) refl
     by true e = record { there = e; place = refl }
     by false e = record {
       there = list_any-append (bytes_eq text) texts (text ∷ []) ∙ ap (λ b. list_any (bytes_eq text) texts || (b || false)) (same_text text) ∙ or_true (list_any (bytes_eq text) texts);
-      place = new_push (bytes_eq text) texts text e (same_text text);
+      place = new_push (bytes_eq text) texts text (same_text text);
     }
 
 -- all texts begin with those that are known
