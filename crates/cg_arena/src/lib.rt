@@ -11,8 +11,6 @@ mod index;
 mod links;
 mod near;
 mod slot;
-#[cfg(test)]
-mod tests;
 mod word;
 
 pub use arena::Arena;

@@ -24,8 +24,6 @@ mod makes;
 mod operands;
 mod parts;
 mod queries;
-#[cfg(test)]
-mod tests;
 
 pub use dispatch::{change, gives, makes_object, only_changes, perform};
 pub use done::{Done, Refusal};

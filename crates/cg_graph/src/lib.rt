@@ -8,8 +8,6 @@
 
 mod limits;
 mod reach;
-#[cfg(test)]
-mod tests;
 mod value;
 
 pub use limits::{MOST_ENTRIES, MOST_OBJECTS};

@@ -20,4 +20,3 @@ mod PutCalls
 mod WeakCalls
 mod Tracks
 mod Saves
-mod TestLemmas

@@ -19,8 +19,6 @@ mod fault;
 mod heap;
 mod names;
 mod steps;
-#[cfg(test)]
-mod tests;
 
 pub use fault::HeapFault;
 pub use heap::Heap;

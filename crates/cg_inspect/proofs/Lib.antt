@@ -1,4 +1,3 @@
 mod Trails
 mod Objects
 mod Holdings
-mod Scenes

@@ -17,8 +17,6 @@ mod live;
 mod path;
 mod reason;
 mod search;
-#[cfg(test)]
-mod tests;
 
 pub use backwards::referrers;
 pub use forwards::referents;

@@ -20,7 +20,7 @@ use Rattle.cg_heap.specs.Calls.{IsListed}
 use Rattle.cg_arena.specs.Nodes.{following}
 use Rattle.cg_kind.proofs.References.{references_in_turn, references_split}
 use Rattle.cg_trial.proofs.Lists.{IsAt, ahead, head_is}
-use Rattle.cg_trial.proofs.Scenes.{Along, along_more, along_end}
+use Rattle.cg_trial.proofs.Along.{Along, along_more, along_end}
 use Rattle.cg_records.specs.Members.{member}
 use Rattle.cg_records.specs.Text.{numbered, flag, member_text}
 use Rattle.cg_interp.specs.declared.graphs.Detection.{Detection}

@@ -3,7 +3,6 @@ mod KeyLemmas
 mod ItemLemmas
 mod ValueLemmas
 mod PairLemmas
-mod TestLemmas
 mod FewLemmas
 mod KeysOnce
 mod SumLemmas

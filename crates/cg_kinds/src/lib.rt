@@ -14,19 +14,13 @@
 
 mod body_slab;
 mod contents;
-#[cfg(test)]
-mod drop_tests;
 mod few;
-#[cfg(test)]
-mod front_tests;
 mod func;
 mod gap;
 mod hasher;
 mod held;
 mod items;
 mod kept;
-#[cfg(test)]
-mod limit_tests;
 mod list;
 mod listed;
 mod nine;
@@ -37,8 +31,6 @@ mod pairs;
 mod slots;
 mod sums;
 mod table;
-#[cfg(test)]
-mod tests;
 mod tuple;
 mod values;
 mod weak;

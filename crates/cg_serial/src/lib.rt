@@ -2,7 +2,5 @@
 #![tactic(auto)]
 
 mod hasher;
-#[cfg(test)]
-mod tests;
 
 pub use hasher::{SerialHasher, SerialHashing, serial_hashing};

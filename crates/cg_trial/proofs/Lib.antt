@@ -11,4 +11,4 @@ pub mod Counted
 pub mod Objects
 pub mod Ends
 pub mod Worlds
-pub mod Scenes
+pub mod Along

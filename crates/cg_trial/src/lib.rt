@@ -11,8 +11,6 @@
 mod candidates;
 mod laws;
 mod subtraction;
-#[cfg(test)]
-mod tests;
 
 pub use laws::reachable_in_a_heap_survives_in_its_world;
 pub use subtraction::split;

@@ -9,8 +9,6 @@ mod laws;
 mod nodes;
 mod place;
 mod table;
-#[cfg(test)]
-mod tests;
 
 pub use laws::a_walk_meets_each_newest_first;
 pub use table::WeakTable;

@@ -1,7 +1,7 @@
 use Rattle.std.proofs.Common.{refl, [], arith}
 use Rattle.std.proofs.KnownBytes.{Appends-nil}
 use Rattle.cg_records.specs.Text.{numbered}
-use Rattle.cg_trial.proofs.Scenes.{along_first, along_live}
+use Rattle.cg_trial.proofs.Along.{along_first, along_live}
 use Rattle.cg_interp.proofs.GraphText.{given_err, along_on, along_shorter, along_cut, along_all}
 use Rattle.cg_interp.proofs.graphs.write_all_at.Goals as goal
 

@@ -1,0 +1,3 @@
+mod Scenes
+mod PlaceLists
+mod Appends

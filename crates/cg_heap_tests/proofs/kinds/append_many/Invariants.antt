@@ -1,0 +1,8 @@
+use Rattle.cg_kind.specs.Bodies.{Holds}
+use Rattle.cg_heap_tests.proofs.kinds.append_many.Given as goal
+
+abbrev pub invariant-appends : goal.invariant-appends
+invariant-appends g l = Holds (g.K.Kind.bodies l.kind) l.at
+
+abbrev pub invariant-detaches : goal.invariant-detaches
+invariant-detaches g l = Holds (g.K.Kind.bodies l.kind) l.at

@@ -1,0 +1,149 @@
+//! Items that leave at the front of a long list, as those of a queue do.
+ghost use Rattle.std.specs.Prelude.{[], IfOk};
+ghost use Rattle.cg_kind.specs.Bodies.{Holds};
+ghost use Rattle.cg_kind.specs.Calls.{IsParts};
+
+use crate::kinds::{Answer, append, detach, make, put, take, take_first};
+use cg_kind::Kind;
+use cg_kinds::ListKind;
+use cg_value::Val;
+use std::alloc::{AllocError, Global};
+use std::process::Abort;
+use std::test::Fail;
+
+/// The whole numbers from one to before another, which are the items of a list: appended one by one, and taken off in the same
+/// order.
+#[derive(Clone, Copy, Debug, PartialEq, Drop)]
+struct Numbers {
+    first: i64,
+    next: i64,
+}
+
+const NONE: Numbers = Numbers { first: 0, next: 0 };
+
+/// Appends so many numbers.
+fn append_some<K: Kind>(
+    kind: &mut K,
+    at: usize,
+    numbers: Numbers,
+    count: u32,
+) -> Result<Numbers, AllocError>
+    requires { Holds (K.bodies kind.old) at }
+    ensures { Holds (K.bodies kind.new) at }
+{
+    let mut next = numbers.next;
+    'appends: for _ in 0..count {
+        append(kind, at, Val::Int(next))?;
+        next = next.wrapping_add(1);
+    }
+    Ok(Numbers { next, ..numbers })
+}
+
+/// Looks at all numbers.
+fn look<K: Kind>(rt: &impl Abort, kind: &K, at: usize, numbers: Numbers)
+    requires { Holds (K.bodies kind.now) at }
+{
+    let mut number = numbers.first;
+    'places: for i in 0..kind.len(at) {
+        assert_eq!(rt; kind.entry_at(at, i).val, Val::Int(number));
+        number = number.wrapping_add(1);
+    }
+    assert_eq!(rt; number, numbers.next);
+}
+
+/// Takes so many numbers off. After each the rest is looked at.
+fn take_each<K: Kind>(
+    rt: &impl Abort,
+    kind: &mut K,
+    at: usize,
+    numbers: Numbers,
+    count: u32,
+) -> Numbers
+    requires { Holds (K.bodies kind.old) at }
+    ensures { Holds (K.bodies kind.new) at }
+{
+    let mut left = numbers;
+    'takes: for _ in 0..count {
+        assert_eq!(rt; take_first(kind, at), Some(Val::Int(left.first)));
+        left.first = left.first.wrapping_add(1);
+        look(rt, kind, at, left);
+    }
+    left
+}
+
+/// So many numbers are taken off in each turn, and then one is appended.
+fn take_and_append<K: Kind>(
+    rt: &impl Abort,
+    kind: &mut K,
+    at: usize,
+    numbers: Numbers,
+    turns: u32,
+    taken: u32,
+) -> Result<Numbers, AllocError>
+    requires { Holds (K.bodies kind.old) at }
+    ensures { Holds (K.bodies kind.new) at }
+{
+    let mut left = numbers;
+    'turns: for _ in 0..turns {
+        left = take_each(rt, kind, at, left, taken);
+        left = append_some(kind, at, left, 1)?;
+    }
+    Ok(left)
+}
+
+/// A queue that shrinks, grows, stays full, and becomes empty.
+fn queue_up<K: Kind>(rt: &impl Abort, kind: &mut K) -> Result<(), Fail>
+    requires { IsParts (K.kind kind.old) [] }
+{
+    let at = make(kind, &[])?;
+    let some = append_some(kind, at, NONE, 200)?;
+    let fewer = take_and_append(rt, kind, at, some, 75, 2)?;
+    look(rt, kind, at, fewer);
+    let many = append_some(kind, at, fewer, 1000)?;
+    look(rt, kind, at, many);
+    let others = take_and_append(rt, kind, at, many, 2000, 1)?;
+    let none = take_each(rt, kind, at, others, 1125);
+    assert_eq!(rt; take_first(kind, at), None);
+    let last = append_some(kind, at, none, 3)?;
+    take_each(rt, kind, at, last, 3);
+    Ok(())
+}
+
+#[test]
+fn numbers_leave_at_the_front_as_they_came(rt: HostRuntime) -> Result<(), Fail> {
+    queue_up(&rt, &mut ListKind::new(rt.alloc()))
+}
+
+/// A list of the numbers from 10 to 99, of which the first ten have left at the front.
+fn ninety<K: Kind>(rt: &impl Abort, kind: &mut K) -> Result<usize, AllocError>
+    requires { IsParts (K.kind kind.old) [] }
+    ensures { IfOk result (λ at. Holds (K.bodies kind.new) at) }
+{
+    let at = make(kind, &[])?;
+    let hundred = append_some(kind, at, NONE, 100)?;
+    take_each(rt, kind, at, hundred, 10);
+    Ok(at)
+}
+
+/// What leaves at the front moves the places of the others.
+fn change_ninety<K: Kind>(rt: &impl Abort, kind: &mut K) -> Result<(), Fail>
+    requires { IsParts (K.kind kind.old) [] }
+{
+    let at = ninety(rt, kind)?;
+    let first = put(kind, at, Val::Int(0), -10)?;
+    assert_eq!(rt; first, Answer::Replaced(Some(Val::Int(10))));
+    let last = put(kind, at, Val::Int(89), -99)?;
+    assert_eq!(rt; last, Answer::Replaced(Some(Val::Int(99))));
+    assert_eq!(rt; take(kind, at, 1), Answer::Entry(Val::None, 11));
+    assert_eq!(rt; detach(kind, at), Answer::Entry(Val::None, -99));
+    assert_eq!(rt; detach(kind, at), Answer::Entry(Val::None, 98));
+    assert_eq!(rt; take_first(kind, at), Some(Val::Int(-10)));
+    assert_eq!(rt; take_first(kind, at), Some(Val::Int(12)));
+    assert_eq!(rt; kind.len(at), 85);
+    Ok(())
+}
+
+#[test]
+fn a_place_counts_from_the_first_value(rt: HostRuntime) -> Result<(), Fail> {
+    change_ninety(&rt, &mut ListKind::new(rt.alloc()))
+}

@@ -1,5 +1,0 @@
-use Rattle.cg_kind.specs.Bodies.{Holds}
-use Rattle.cg_kinds.proofs.limit_tests.walk.Given as goal
-
-abbrev pub invariant-steps : goal.invariant-steps
-invariant-steps g l = Holds (g.K.Kind.bodies l.kind) l.at

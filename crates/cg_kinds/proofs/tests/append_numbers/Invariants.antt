@@ -1,5 +1,0 @@
-use Rattle.cg_kind.specs.Bodies.{Holds}
-use Rattle.cg_kinds.proofs.tests.append_numbers.Given as goal
-
-abbrev pub invariant-appends : goal.invariant-appends
-invariant-appends g l = Holds (g.K.Kind.bodies l.kind) l.at

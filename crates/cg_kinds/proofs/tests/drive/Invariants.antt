@@ -1,5 +1,0 @@
-use Rattle.cg_kind.specs.Bodies.{Holds}
-use Rattle.cg_kinds.proofs.tests.drive.Given as goal
-
-abbrev pub invariant-rows : goal.invariant-rows
-invariant-rows g l = Holds (g.K.Kind.bodies l.kind) l.at × Holds (g.K.Kind.bodies l.kind) l.other

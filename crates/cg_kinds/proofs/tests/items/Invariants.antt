@@ -1,6 +1,0 @@
-use Rattle.std.proofs.Common.{◌≡◌, length}
-use Rattle.cg_kind.specs.Calls.{AreItems}
-use Rattle.cg_kinds.proofs.tests.items.Given as goal
-
-abbrev pub invariant-loop-value : goal.invariant-loop-value
-invariant-loop-value l = AreItems l.entries.items × (length l.entries.items ≡ l.value-index)

@@ -1,5 +1,0 @@
-use Rattle.cg_kind.specs.Calls.{AreItems}
-use Rattle.cg_kinds.proofs.tests.items_with.Given as goal
-
-abbrev pub invariant-loop-value : goal.invariant-loop-value
-invariant-loop-value l = AreItems l.entries.items

@@ -1,5 +1,0 @@
-use Rattle.cg_kind.specs.Calls.{AreItems}
-use Rattle.cg_kinds.proofs.tests.numbers.Given as goal
-
-abbrev pub invariant-loop-number : goal.invariant-loop-number
-invariant-loop-number l = AreItems l.entries.items

@@ -1,6 +1,0 @@
-use Rattle.std.proofs.Common.{◌∙◌}
-use Rattle.cg_trial.proofs.Scenes.{all_live}
-use Rattle.cg_trial.proofs.tests.split_place.Goals as goal
-
-pub reached_plainly-requires : goal.reached_plainly-requires
-reached_plainly-requires g c = all_live c.args.heap.now c.sound.ensures.listed c.args.from c.deref.result.now (c.deref.ensures.value ∙ c.in_ok-members.ensures)
