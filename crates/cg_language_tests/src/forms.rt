@@ -1,5 +1,6 @@
 //! Reading each form.
-use crate::{Command, Item, Operand, Script, ScriptFault, parse};
+use crate::texts::fault_text;
+use cg_script::{Command, Item, Operand, Script, ScriptFault, parse};
 use std::alloc::{AllocError, Global};
 use std::test::Fail;
 
@@ -7,8 +8,7 @@ use std::test::Fail;
 fn told(alloc: Global, bytes: &[u8]) -> Result<String, AllocError> {
     match parse(alloc, bytes) {
         Ok(_) => String::from_str(alloc, "good"),
-        Err(ScriptFault::Bad { line, code }) => format!(in alloc; "bad {line} {code}"),
-        Err(ScriptFault::OutOfMemory) => Err(AllocError),
+        Err(fault) => fault_text(alloc, fault),
     }
 }
 

@@ -1,5 +1,6 @@
 //! What bytes are read as, and which line is the first bad one.
-use crate::{Command, Item, Script, ScriptFault, parse};
+use crate::texts::{fault_text, filled};
+use cg_script::{Command, Item, Script, parse};
 use std::alloc::{AllocError, Global};
 use std::test::Fail;
 
@@ -17,8 +18,7 @@ fn told(alloc: Global, bytes: &[u8]) -> Result<String, AllocError> {
     let mut text = String::new(alloc);
     let script = match parse(alloc, bytes) {
         Ok(script) => script,
-        Err(ScriptFault::Bad { line, code }) => return format!(in alloc; "bad {line} {code}"),
-        Err(ScriptFault::OutOfMemory) => return Err(AllocError),
+        Err(fault) => return fault_text(alloc, fault),
     };
     for item in script.items.as_slice() {
         match item {
@@ -237,15 +237,6 @@ fn every_form_is_read(rt: HostRuntime) -> Result<(), Fail> {
         assert!(rt; parse(rt.alloc(), text.as_bytes()).is_ok(), "at {line:?}");
     }
     Ok(())
-}
-
-/// These bytes, and then one byte so many times.
-fn filled(alloc: Global, front: &[u8], byte: u8, count: usize) -> Result<Vec<u8>, AllocError> {
-    let mut bytes = Vec::from_slice(alloc, front)?;
-    for _ in 0..count {
-        bytes.push(byte)?;
-    }
-    Ok(bytes)
 }
 
 #[test]

@@ -4,8 +4,8 @@ ghost use Rattle.cg_machine.specs.Collect.{begun, survived};
 ghost use Rattle.cg_policy.specs.Flagset.{bits_of};
 ghost use Rattle.cg_policy.specs.Policy.{IsBounded};
 
-use crate::{Counts, Flagset, Policy};
 use bitflags::Flags;
+use cg_policy::{Counts, Flagset, Policy};
 
 // A whole collection.
 fn collect(policy: &mut Policy, generation: u8, survivors: u64)

@@ -1,5 +1,5 @@
 //! Words and their jobs.
-use crate::{Job, read_words};
+use cg_words::{Job, read_words};
 use std::alloc::{AllocError, Global};
 use std::test::Fail;
 

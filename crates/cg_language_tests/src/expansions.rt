@@ -2,25 +2,11 @@
 //! by hand.
 //!
 //! The lines of a script stand with `; ` between them.
-use crate::expand;
-use cg_script::ScriptFault;
+use crate::texts::{fault_text, filled, lines};
+use cg_weakcoll::expand;
 use std::alloc::{AllocError, Global};
 use std::process::Abort;
 use std::test::Fail;
-
-/// The lines, each with a line feed.
-fn lines(alloc: Global, text: &str) -> Result<Vec<u8>, AllocError> {
-    let mut bytes = Vec::new(alloc);
-    for byte in text.as_bytes() {
-        match *byte {
-            b';' => bytes.push(b'\n')?,
-            b' ' if bytes.last() == Some(&b'\n') => {}
-            other => bytes.push(other)?,
-        }
-    }
-    bytes.push(b'\n')?;
-    Ok(bytes)
-}
 
 /// The expansion of some bytes, or their first bad line with its code.
 fn told(alloc: Global, bytes: &[u8]) -> Result<Vec<u8>, AllocError> {
@@ -29,11 +15,7 @@ fn told(alloc: Global, bytes: &[u8]) -> Result<Vec<u8>, AllocError> {
     }
     match expand(alloc, bytes) {
         Ok(text) => Ok(text),
-        Err(ScriptFault::Bad { line, code }) => {
-            let text = format!(in alloc; "bad {line} {code}\n")?;
-            Vec::from_slice(alloc, text.as_bytes())
-        }
-        Err(ScriptFault::OutOfMemory) => Err(AllocError),
+        Err(fault) => lines(alloc, fault_text(alloc, fault)?.as_str()),
     }
 }
 
@@ -208,15 +190,6 @@ fn names_that_expansions_alone_may_name(rt: HostRuntime) -> Result<(), Fail> {
         check(&rt, rt.alloc(), script, want)?;
     }
     Ok(())
-}
-
-/// These bytes, and then one byte so many times.
-fn filled(alloc: Global, front: &[u8], byte: u8, count: usize) -> Result<Vec<u8>, AllocError> {
-    let mut bytes = Vec::from_slice(alloc, front)?;
-    for _ in 0..count {
-        bytes.push(byte)?;
-    }
-    Ok(bytes)
 }
 
 #[test]

@@ -1,5 +1,5 @@
 use Rattle.bitflags.proofs.OnLiterals.{bitflags_on_literals}
-use Rattle.cg_policy.proofs.tests.known.Goals as goal
+use Rattle.cg_language_tests.proofs.policy.known.Goals as goal
 
 pub returns-clause-known : goal.returns-clause-known
 unfolding bitflags_on_literals

@@ -1,5 +1,5 @@
 //! The lists of a script hand out what they were given, in order, and what has a number; what a script declares; words.
-use crate::{
+use cg_script::{
     ClassDef, Command, Commands, Item, Items, Operand, Operands, is_value, is_variable, parse,
 };
 use std::test::Fail;

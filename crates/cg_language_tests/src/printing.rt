@@ -1,5 +1,6 @@
 //! Printing of each form, and reading what was printed.
-use crate::{ScriptFault, parse, print};
+use crate::texts::fault_text;
+use cg_script::{parse, print};
 use std::alloc::{AllocError, Global};
 use std::test::Fail;
 
@@ -7,8 +8,7 @@ use std::test::Fail;
 fn printed(alloc: Global, bytes: &[u8]) -> Result<String, AllocError> {
     match parse(alloc, bytes) {
         Ok(script) => Ok(String::from_utf8_lossy(alloc, &print(alloc, &script)?)?),
-        Err(ScriptFault::Bad { line, code }) => format!(in alloc; "bad {line} {code}"),
-        Err(ScriptFault::OutOfMemory) => Err(AllocError),
+        Err(fault) => fault_text(alloc, fault),
     }
 }
 

@@ -1,5 +1,5 @@
 //! The line of each event, by the words that docs/SCRIPT.md and the worked scripts have for it.
-use crate::{Event, FrameSort, line_of};
+use cg_machine::{Event, FrameSort, line_of};
 use cg_value::{KindCode, Names, Val};
 use std::test::Fail;
 
