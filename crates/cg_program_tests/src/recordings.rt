@@ -1,11 +1,9 @@
 //! The records of worked scripts, through the top call. The texts come from the rules of docs/RULES.md and docs/RECORDS.md, worked
 //! out by hand.
-use crate::kinds::six_refusing;
-use crate::rows::{check, lines};
-use crate::tests::{Answered, answer_to, words_of};
-use crate::{Status, gc_run};
+use crate::calls::{answer_refusing, answer_to, check, lines};
 use cg_cert::{Verdict, check_records};
-use cg_io::{MemSink, MemSource, PlainSource};
+use cg_cli::Status;
+use cg_io::{MemSource, PlainSource};
 use std::alloc::{AllocError, Global};
 use std::process::Abort;
 use std::test::Fail;
@@ -129,26 +127,14 @@ fn two_members_stand_in_any_order(rt: HostRuntime) -> Result<(), Fail> {
     Ok(())
 }
 
-/// The answer to a record of the script over lists that refuse one call of `make`, after so many.
-fn refused_after(alloc: Global, script: &str, before: usize) -> Result<Answered, AllocError> {
-    let words = words_of(alloc, &["record"])?;
-    let mut source = PlainSource::new(lines(alloc, script)?);
-    let mut sink = MemSink::new(alloc, Vec::new(alloc), 0);
-    let kinds = six_refusing(alloc, before)?;
-    let status = gc_run(alloc, words.as_slice(), &mut source, &mut sink, kinds);
-    Ok(Answered {
-        status,
-        text: Vec::from_slice(alloc, sink.bytes())?,
-    })
-}
-
 #[test]
-fn want_of_memory_ends_the_records(rt: HostRuntime) -> Result<(), Fail> {
+fn a_list_that_is_refused_ends_the_records(rt: HostRuntime) -> Result<(), Fail> {
     let alloc = rt.alloc();
     let script = "a = list; append a a; del a; collect 2; b = list; append b b; del b; collect 2";
     // The garbage list, `a` and `b` are made by one call each.
     for (before, text) in [(0, None), (1, None), (2, Some(RECORD_OF_RING))] {
-        let found = refused_after(alloc, script, before)?;
+        let mut source = PlainSource::new(lines(alloc, script)?);
+        let found = answer_refusing(alloc, &["record"], &mut source, before)?;
         let wanted = match text {
             None => Vec::new(alloc),
             Some(text) => lines(alloc, text)?,

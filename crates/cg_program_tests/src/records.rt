@@ -1,56 +1,9 @@
 //! Texts of records, and bytes that are none.
-use crate::{read_records, write_records};
+use crate::edits::{Edit, LIST, edited};
+use cg_records::{read_records, write_records};
 use std::alloc::{AllocError, Global};
 use std::process::Abort;
 use std::test::Fail;
-
-/// The record of a list that holds itself and was thrown away: both graphs are that list, and it is lost.
-static LINES: [&[u8]; 11] = [
-    b"record 2\n",
-    b"graph 1\n",
-    b"m 2 1 0\n",
-    b"r 2\n",
-    b"lost 2\n",
-    b"graph 2\n",
-    b"m 2 1 0\n",
-    b"r 2\n",
-    b"lost 2\n",
-    b"stop\n",
-    b"end\n",
-];
-
-/// What is done to one of the lines.
-#[derive(Clone, Copy)]
-enum Edit {
-    LeftOut,
-    Doubled,
-    /// It changes places with the next.
-    Swapped,
-}
-
-/// The lines, one of them edited.
-fn edited(alloc: Global, edit: Edit, at: usize) -> Result<Vec<u8>, AllocError> {
-    let mut text = Vec::new(alloc);
-    let mut held: &[u8] = b"";
-    for (place, line) in LINES.iter().enumerate() {
-        if place != at {
-            text.extend_from_slice(line)?;
-            text.extend_from_slice(held)?;
-            held = b"";
-            continue;
-        }
-        match edit {
-            Edit::LeftOut => {}
-            Edit::Doubled => {
-                text.extend_from_slice(line)?;
-                text.extend_from_slice(line)?;
-            }
-            Edit::Swapped => held = *line,
-        }
-    }
-    text.extend_from_slice(held)?;
-    Ok(text)
-}
 
 /// The text of what is read, or `None` where nothing is.
 fn reread(alloc: Global, bytes: &[u8]) -> Result<Option<Vec<u8>>, AllocError> {
@@ -119,14 +72,14 @@ fn check_text(
 #[test]
 fn lines_left_out_doubled_and_swapped(rt: HostRuntime) -> Result<(), Fail> {
     let alloc = rt.alloc();
-    for at in 0..LINES.len() {
+    for at in 0..LIST.len() {
         // A graph may have any members, references to them and lost ones, in this order.
-        let text = edited(alloc, Edit::LeftOut, at)?;
+        let text = edited(alloc, &LIST, Edit::LeftOut, at)?;
         check_text(&rt, alloc, &text, [3, 4, 7, 8].contains(&at), at)?;
-        let text = edited(alloc, Edit::Doubled, at)?;
+        let text = edited(alloc, &LIST, Edit::Doubled, at)?;
         check_text(&rt, alloc, &text, [2, 3, 4, 6, 7, 8].contains(&at), at)?;
         // The last line changes places with none.
-        let text = edited(alloc, Edit::Swapped, at)?;
+        let text = edited(alloc, &LIST, Edit::Swapped, at)?;
         check_text(&rt, alloc, &text, at == 10, at)?;
     }
     Ok(())

@@ -1,8 +1,7 @@
 //! Large scripts and their summaries, through the top call. The numbers were worked out by hand from the blocks.
-use crate::kinds::six_refusing;
-use crate::tests::{answer_to, words_of};
-use crate::{Status, gc_run};
-use cg_io::{MemSink, PlainSource};
+use crate::calls::{answer_refusing, answer_to};
+use cg_cli::Status;
+use cg_io::PlainSource;
 use std::test::Fail;
 
 #[test]
@@ -41,19 +40,16 @@ fn the_summary_of_ten_thousand_blocks(rt: HostRuntime) -> Result<(), Fail> {
 #[test]
 fn a_list_that_is_refused_leaves_no_summary(rt: HostRuntime) -> Result<(), Fail> {
     let alloc = rt.alloc();
-    let words = words_of(alloc, &["generate", "3"])?;
     for before in 0..9usize {
         let mut source = PlainSource::new(Vec::new(alloc));
-        let mut sink = MemSink::new(alloc, Vec::new(alloc), 0);
-        let kinds = six_refusing(alloc, before)?;
-        let status = gc_run(alloc, words.as_slice(), &mut source, &mut sink, kinds);
-        if before < 8 {
-            assert_eq!(rt; status, Status::OutOfMemory, "after {before}");
-            assert!(rt; sink.bytes().is_empty(), "after {before}");
+        let found = answer_refusing(alloc, &["generate", "3"], &mut source, before)?;
+        let (status, text) = if before < 8 {
+            (Status::OutOfMemory, "")
         } else {
-            assert_eq!(rt; status, Status::Done);
-            assert_eq!(rt; sink.bytes(), b"summary 7 7 1 2 18\n".as_slice());
-        }
+            (Status::Done, "summary 7 7 1 2 18\n")
+        };
+        assert_eq!(rt; found.status, status, "after {before}");
+        assert_eq!(rt; found.text.as_slice(), text.as_bytes(), "after {before}");
     }
     Ok(())
 }

@@ -1,5 +1,5 @@
 //! Verdicts on small records, each by hand from the definitions.
-use crate::{Verdict, check_records};
+use cg_cert::{Verdict, check_records};
 use std::alloc::{AllocError, Global};
 use std::process::Abort;
 use std::test::Fail;

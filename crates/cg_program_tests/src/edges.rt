@@ -1,5 +1,5 @@
 //! Words at their edges, through a run.
-use crate::calls::{check_bytes, lines};
+use crate::calls::check;
 use cg_cli::Status;
 use std::test::Fail;
 
@@ -38,7 +38,7 @@ fn numbers_at_their_edges(rt: HostRuntime) -> Result<(), Fail> {
         ),
         ("threshold 0000000009; budget 0000100000", "end"),
     ] {
-        check_bytes(&rt, alloc, lines(alloc, script)?, Status::Done, text)?;
+        check(&rt, alloc, &["run"], script, Status::Done, text)?;
     }
     Ok(())
 }
@@ -62,7 +62,7 @@ fn numbers_past_their_edges(rt: HostRuntime) -> Result<(), Fail> {
         "budget 4294967296",
         "budget 00000100000",
     ] {
-        check_bytes(&rt, alloc, lines(alloc, script)?, Status::BadScript, BAD)?;
+        check(&rt, alloc, &["run"], script, Status::BadScript, BAD)?;
     }
     Ok(())
 }
@@ -75,7 +75,7 @@ fn names_at_their_edges(rt: HostRuntime) -> Result<(), Fail> {
         "def a2345678901234567890123456789012; end; class a2345678901234567890123456789012 del=a2345678901234567890123456789012; a2345678901234567890123456789012 = new a2345678901234567890123456789012; setattr a2345678901234567890123456789012 a2345678901234567890123456789012 '23456789012345678901234567890123; x = attr a2345678901234567890123456789012 a2345678901234567890123456789012; print x; del a2345678901234567890123456789012";
     let text =
         "made instance #2; value '23456789012345678901234567890123; enter del #2; leave; free #2; end";
-    check_bytes(&rt, alloc, lines(alloc, script)?, Status::Done, text)?;
+    check(&rt, alloc, &["run"], script, Status::Done, text)?;
     for script in [
         "a23456789012345678901234567890123 = list",
         "print a23456789012345678901234567890123",
@@ -86,7 +86,7 @@ fn names_at_their_edges(rt: HostRuntime) -> Result<(), Fail> {
         "x = new a23456789012345678901234567890123",
         "x = func a23456789012345678901234567890123",
     ] {
-        check_bytes(&rt, alloc, lines(alloc, script)?, Status::BadScript, BAD)?;
+        check(&rt, alloc, &["run"], script, Status::BadScript, BAD)?;
     }
     Ok(())
 }

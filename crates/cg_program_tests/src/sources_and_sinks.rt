@@ -1,6 +1,6 @@
-use crate::{
-    MemSink, MemSource, NullSink, PlainSource, ReadFailed, ReadSource, Sink, Source, WriteFailed,
-    WriteSink,
+//! Sources and sinks, in memory and over readers and writers.
+use cg_io::{
+    MemSink, MemSource, PlainSource, ReadFailed, ReadSource, Sink, Source, WriteFailed, WriteSink,
 };
 use std::alloc::{AllocError, Global};
 use std::io::{self, ErrorKind, Read, Write};
@@ -45,12 +45,6 @@ fn a_source_in_memory_fails_where_it_is_told(rt: HostRuntime) -> Result<(), Fail
     fails_to_read(&rt, &mut source);
     reads(&rt, &mut source, b"");
     Ok(())
-}
-
-#[test]
-fn a_null_sink_takes_all(rt: HostRuntime) {
-    let mut sink = NullSink::new();
-    assert_eq!(rt; sink.write(b"made list #2\n"), Ok(()));
 }
 
 #[test]

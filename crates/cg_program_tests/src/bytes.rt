@@ -1,8 +1,7 @@
 //! Each byte in each place of a short script, and each front of a longer one.
-use crate::calls::{answer_to, check_bytes, lines};
+use crate::calls::{answer_to, check_bytes, shown};
 use cg_cli::Status;
 use cg_io::PlainSource;
-use cg_script::{ScriptFault, parse};
 use std::alloc::{AllocError, Global};
 use std::process::Abort;
 use std::test::Fail;
@@ -98,35 +97,74 @@ fn each_byte_in_each_place(rt: HostRuntime) -> Result<(), Fail> {
     Ok(())
 }
 
-/// A front is run where `parse` reads it, and else its bad line is told.
-fn check_front(rt: &impl Abort, alloc: Global, front: &[u8]) -> Result<(), AllocError> {
+/// The lines of a script with a finalizer that makes a weak reference in a collection. Under each byte stands what is wrong with the
+/// front that ends there: the code of its last line, 7 where it ends inside a procedure, which the next line would have to end, and a dot
+/// where nothing is.
+///
+/// A line without `=` in the second place is unknown until its first word is that of a form (2), and then has too few words (3). A line
+/// with it has too few words (3) until a third is there, which is a variable until it is the word of a form.
+const FRONTS: [(&str, &str); 17] = [
+    ("def cb\n", "2233777"),
+    ("end\n", "22.."),
+    ("def d\n", "223377"),
+    // `attr` wants a value and a name.
+    ("n = attr self other\n", "22337773333333777777"),
+    // `ref` is a value too: what its callback was called for. As a form it wants a value, and a second one may follow.
+    ("w = ref n f\n", "223377777777"),
+    ("del n\n", "223377"),
+    ("end\n", "22.."),
+    // No option is `d`, `de` or `del`, and `del=` names no procedure.
+    ("class C del=d\n", "222233..4444.."),
+    ("class D\n", "222233.."),
+    // No procedure has the name `c`.
+    ("f = func cb\n", "2233...336.."),
+    ("a = new C\n", "2233..33.."),
+    ("b = new D\n", "2233..33.."),
+    ("setattr a other b\n", "2222223333333333.."),
+    ("setattr a me a\n", "2222223333333.."),
+    ("del a\n", "2233.."),
+    ("del b\n", "2233.."),
+    // It may have no number.
+    ("collect 2\n", "222222...."),
+];
+
+/// A front that ends in the line with this number is run, or its bad line is told.
+fn check_front(
+    rt: &impl Abort,
+    alloc: Global,
+    front: &[u8],
+    line: usize,
+    code: u8,
+) -> Result<(), AllocError> {
     let mut source = PlainSource::new(Vec::from_slice(alloc, front)?);
-    let found = answer_to(alloc, "run", &mut source)?;
-    match parse(alloc, front) {
-        Ok(_) => {
-            assert_eq!(rt; found.status, Status::Done);
-            assert!(rt; found.text.ends_with(b"end\n"));
-        }
-        Err(ScriptFault::Bad { line, code }) => {
-            assert_eq!(rt; found.status, Status::BadScript);
-            let text = format!(in alloc; "bad script {line} {code}\n")?;
-            assert_eq!(rt; found.text.as_slice(), text.as_bytes());
-        }
-        Err(ScriptFault::OutOfMemory) => return Err(AllocError),
+    let found = answer_to(alloc, &["run"], &mut source)?;
+    if code == b'.' {
+        assert_eq!(rt; found.status, Status::Done, "in line {line}");
+        assert!(rt; found.text.ends_with(b"end\n"), "in line {line}");
+        return Ok(());
     }
+    let bad = if code == b'7' {
+        line.saturating_add(1)
+    } else {
+        line
+    };
+    let code = char::from(code);
+    let text = format!(in alloc; "bad script {bad} {code}\n")?;
+    assert_eq!(rt; shown(&found.text), Some(text.as_str()), "in line {line}");
+    assert_eq!(rt; found.status, Status::BadScript, "in line {line}");
     Ok(())
 }
 
-/// The fronts of a script with a finalizer that makes a weak reference in a collection.
 #[test]
 fn each_front_of_a_script(rt: HostRuntime) -> Result<(), Fail> {
     let alloc = rt.alloc();
-    let script = lines(
-        alloc,
-        "def cb; end; def d; n = attr self other; w = ref n f; del n; end; class C del=d; class D; f = func cb; a = new C; b = new D; setattr a other b; setattr a me a; del a; del b; collect 2",
-    )?;
-    for end in 0..=script.len() {
-        check_front(&rt, alloc, &script[..end])?;
+    let mut front = Vec::new(alloc);
+    check_front(&rt, alloc, &front, 1, b'.')?;
+    for (above, (line, codes)) in FRONTS.iter().enumerate() {
+        for (byte, code) in line.as_bytes().iter().zip(codes.as_bytes()) {
+            front.push(*byte)?;
+            check_front(&rt, alloc, &front, above.saturating_add(1), *code)?;
+        }
     }
     Ok(())
 }

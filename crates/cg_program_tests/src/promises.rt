@@ -1,6 +1,6 @@
 //! What every run promises, by scripts that would print something else if a promise were broken. The texts come from the rules
 //! of docs/RULES.md, worked out by hand.
-use crate::rows::{check_done, check_one_of};
+use crate::calls::{check_done, check_one_of};
 use std::test::Fail;
 
 #[test]

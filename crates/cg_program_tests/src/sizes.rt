@@ -1,18 +1,10 @@
 //! Scripts at the limits of the language: their bytes, lines, words and reads.
-use crate::calls::{answer_to, check_bytes, check_long, lines, push_lines};
+use crate::calls::{answer_to, check_bytes, check_long, lines, push_bytes, push_lines};
 use crate::one_byte::OneByte;
 use cg_cli::Status;
 use cg_io::MemSource;
 use std::alloc::{AllocError, Global};
 use std::test::Fail;
-
-/// Appends a byte so many times.
-fn push_bytes(bytes: &mut Vec<u8>, byte: u8, times: u32) -> Result<(), AllocError> {
-    for _ in 0..times {
-        bytes.push(byte)?;
-    }
-    Ok(())
-}
 
 /// A text, then one byte so many times, then another text.
 fn filled(
@@ -25,17 +17,6 @@ fn filled(
     let mut bytes = Vec::from_slice(alloc, front.as_bytes())?;
     push_bytes(&mut bytes, byte, times)?;
     bytes.extend_from_slice(back.as_bytes())?;
-    Ok(bytes)
-}
-
-/// So many lines of 1,023 spaces, and then so many spaces.
-pub fn lines_of_spaces(alloc: Global, some: u32, more: u32) -> Result<Vec<u8>, AllocError> {
-    let mut bytes = Vec::new(alloc);
-    for _ in 0..some {
-        bytes.extend_from_slice([b' '; 1023].as_slice())?;
-        bytes.push(b'\n')?;
-    }
-    push_bytes(&mut bytes, b' ', more)?;
     Ok(bytes)
 }
 
@@ -208,7 +189,7 @@ fn sources_are_read_a_bounded_number_of_times(rt: HostRuntime) -> Result<(), Fai
     ] {
         let script = filled(alloc, "", b'\n', bytes, "")?;
         let mut source = OneByte::new(MemSource::new(script, Vec::new(alloc)));
-        let found = answer_to(alloc, "run", &mut source)?;
+        let found = answer_to(alloc, &["run"], &mut source)?;
         assert_eq!(rt; found.status, status, "of {bytes} bytes");
         assert_eq!(rt; source.calls(), reads, "of {bytes} bytes");
     }

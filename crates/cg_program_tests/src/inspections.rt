@@ -1,10 +1,7 @@
 //! Worked scripts with commands that look at the graph, through the top call. The texts come from the rules of docs/RULES.md,
 //! worked out by hand.
-use crate::Status;
-use crate::collections::push_numbered;
-use crate::rows::{check_done, lines};
-use crate::tests::answer_to;
-use cg_io::PlainSource;
+use crate::calls::{check_done, check_long, lines, push_lines, push_numbered};
+use cg_cli::Status;
 use std::test::Fail;
 
 #[test]
@@ -45,9 +42,7 @@ const LAST_REFERRER: u32 = 100_002;
 fn a_list_in_which_a_hundred_thousand_lists_stand_is_told(rt: HostRuntime) -> Result<(), Fail> {
     let alloc = rt.alloc();
     let mut script = lines(alloc, "threshold 0; k = list; a = list k")?;
-    for _list in 3..LAST_REFERRER {
-        script.extend_from_slice(b"a = list k a\n")?;
-    }
+    push_lines(&mut script, "a = list k a\n", LAST_REFERRER - 3)?;
     script.extend_from_slice(b"referrers k\n")?;
     let mut wanted = Vec::new(alloc);
     for serial in 2..=LAST_REFERRER {
@@ -57,12 +52,7 @@ fn a_list_in_which_a_hundred_thousand_lists_stand_is_told(rt: HostRuntime) -> Re
         push_numbered(&mut wanted, "referrer #", serial)?;
     }
     wanted.extend_from_slice(b"listed 100000\nend\n")?;
-    let found = answer_to(alloc, &["run"], &mut PlainSource::new(script))?;
-    assert_eq!(rt; found.status, Status::Done);
-    assert!(rt;
-        found.text.as_slice() == wanted.as_slice(),
-        "the text of many referrers"
-    );
+    check_long(&rt, alloc, script, Status::Done, &wanted)?;
     Ok(())
 }
 
@@ -73,9 +63,7 @@ const LAST: u32 = 100_001;
 fn a_list_is_held_along_a_ring_of_a_hundred_thousand(rt: HostRuntime) -> Result<(), Fail> {
     let alloc = rt.alloc();
     let mut script = lines(alloc, "threshold 0; d = list; c = list d")?;
-    for _list in 3..LAST {
-        script.extend_from_slice(b"c = list c\n")?;
-    }
+    push_lines(&mut script, "c = list c\n", LAST - 3)?;
     script.extend_from_slice(b"append d c\nwhy d\n")?;
     let mut wanted = Vec::new(alloc);
     for serial in 2..=LAST {
@@ -87,11 +75,6 @@ fn a_list_is_held_along_a_ring_of_a_hundred_thousand(rt: HostRuntime) -> Result<
         push_numbered(&mut wanted, "via #", LAST - 1 - serial)?;
     }
     wanted.extend_from_slice(b"end\n")?;
-    let found = answer_to(alloc, &["run"], &mut PlainSource::new(script))?;
-    assert_eq!(rt; found.status, Status::Done);
-    assert!(rt;
-        found.text.as_slice() == wanted.as_slice(),
-        "the text of a ring"
-    );
+    check_long(&rt, alloc, script, Status::Done, &wanted)?;
     Ok(())
 }

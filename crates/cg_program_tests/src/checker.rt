@@ -1,5 +1,5 @@
-//! Words, lines and faults, through the top call.
-use crate::{CheckStatus, check_run};
+//! Words, lines and faults, through the top call of the checker.
+use cg_cert::{CheckStatus, check_run};
 use cg_io::{MemSink, MemSource, PlainSource, Source};
 use std::alloc::{AllocError, Global};
 use std::process::Abort;

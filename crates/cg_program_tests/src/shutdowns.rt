@@ -1,6 +1,6 @@
 //! Worked scripts with a shutdown, through the top call. The texts come from the rules of docs/RULES.md, worked out by hand.
-use crate::Status;
-use crate::rows::{check, check_done};
+use crate::calls::{check, check_done};
+use cg_cli::Status;
 use std::test::Fail;
 
 #[test]

@@ -1,8 +1,7 @@
 //! Extended scripts, through the top call: their expansions, and what runs of these write. The texts come from the rules of
 //! docs/SCRIPT.md and docs/RULES.md, worked out by hand.
-use crate::Status;
-use crate::rows::{check, lines};
-use crate::tests::{answer_to, answer_with_faults, spaces};
+use crate::calls::{answer_to, answer_with_fault, check, lines, lines_of_spaces, shown};
+use cg_cli::Status;
 use cg_io::{MemSource, PlainSource};
 use std::alloc::{AllocError, Global};
 use std::process::Abort;
@@ -24,11 +23,7 @@ fn check_run(
     assert_eq!(rt; found.status, Status::Done, "at {script:?}");
     let ran = answer_to(alloc, &["run"], &mut PlainSource::new(found.text))?;
     let wanted = lines(alloc, text)?;
-    assert_eq!(rt;
-        str::from_utf8(&ran.text).ok(),
-        str::from_utf8(&wanted).ok(),
-        "at {script:?}"
-    );
+    assert_eq!(rt; shown(&ran.text), shown(&wanted), "at {script:?}");
     assert_eq!(rt; ran.status, status, "at {script:?}");
     Ok(())
 }
@@ -94,7 +89,7 @@ fn runs_of_expansions(rt: HostRuntime) -> Result<(), Fail> {
 #[test]
 fn an_expansion_that_is_not_written(rt: HostRuntime) -> Result<(), Fail> {
     let alloc = rt.alloc();
-    let mut large = PlainSource::new(spaces(alloc, 1)?);
+    let mut large = PlainSource::new(lines_of_spaces(alloc, 16_384, 1)?);
     let found = answer_to(alloc, &["expand"], &mut large)?;
     assert_eq!(rt; found.status, Status::TooLarge);
     assert_eq!(rt; found.text.as_slice(), b"too large\n".as_slice());
@@ -104,7 +99,7 @@ fn an_expansion_that_is_not_written(rt: HostRuntime) -> Result<(), Fail> {
     assert!(rt; found.text.is_empty());
     for (script, front) in [("m = wmap", b"m "), ("wdrop m", b"ba")] {
         let mut source = PlainSource::new(lines(alloc, script)?);
-        let found = answer_with_faults(alloc, &["expand"], &mut source, vec![in alloc; 1]?)?;
+        let found = answer_with_fault(alloc, &["expand"], &mut source, 1, 2)?;
         assert_eq!(rt; found.status, Status::WriteFault, "at {script:?}");
         assert_eq!(rt; found.text.as_slice(), front.as_slice(), "at {script:?}");
     }

@@ -1,52 +1,10 @@
 //! Words, sizes and bad scripts, through the top call.
-use crate::kinds::six;
-use crate::{Status, gc_run};
-use cg_io::{MemSink, PlainSource, Source};
+use crate::calls::{answer_to, lines_of_spaces};
+use cg_cli::Status;
+use cg_io::PlainSource;
 use std::alloc::{AllocError, Global};
 use std::process::Abort;
 use std::test::Fail;
-
-/// What a call answers, and what it writes.
-#[derive(Drop)]
-pub struct Answered {
-    pub status: Status,
-    pub text: Vec<u8>,
-}
-
-pub fn words_of(alloc: Global, words: &[&str]) -> Result<Vec<String>, AllocError> {
-    let mut all = Vec::new(alloc);
-    for word in words {
-        all.push(String::from_str(alloc, word)?)?;
-    }
-    Ok(all)
-}
-
-/// The answer to these words and this source, with a sink of which the calls with these numbers fail, each after its first
-/// two bytes.
-pub fn answer_with_faults<S: Source>(
-    alloc: Global,
-    words: &[&str],
-    source: &mut S,
-    fails: Vec<u64>,
-) -> Result<Answered, AllocError> {
-    let words = words_of(alloc, words)?;
-    let mut sink = MemSink::new(alloc, fails, 2);
-    let kinds = six(alloc)?;
-    let status = gc_run(alloc, words.as_slice(), source, &mut sink, kinds);
-    Ok(Answered {
-        status,
-        text: Vec::from_slice(alloc, sink.bytes())?,
-    })
-}
-
-/// The answer to these words and this source, with a sink that never fails.
-pub fn answer_to<S: Source>(
-    alloc: Global,
-    words: &[&str],
-    source: &mut S,
-) -> Result<Answered, AllocError> {
-    answer_with_faults(alloc, words, source, Vec::new(alloc))
-}
 
 /// These words ask for nothing, and that is told.
 fn check_bad_words(rt: &impl Abort, alloc: Global, words: &[&str]) -> Result<(), AllocError> {
@@ -101,23 +59,10 @@ fn bad_scripts(rt: HostRuntime) -> Result<(), Fail> {
     Ok(())
 }
 
-/// 16,384 lines of 1,023 spaces each, and these many bytes more.
-pub fn spaces(alloc: Global, more: usize) -> Result<Vec<u8>, AllocError> {
-    let mut bytes = Vec::new(alloc);
-    for _line in 0..16_384u32 {
-        bytes.extend_from_slice([b' '; 1023].as_slice())?;
-        bytes.push(b'\n')?;
-    }
-    for _byte in 0..more {
-        bytes.push(b' ')?;
-    }
-    Ok(bytes)
-}
-
 #[test]
 fn one_byte_too_many(rt: HostRuntime) -> Result<(), Fail> {
     let alloc = rt.alloc();
-    let mut source = PlainSource::new(spaces(alloc, 1)?);
+    let mut source = PlainSource::new(lines_of_spaces(alloc, 16_384, 1)?);
     let found = answer_to(alloc, &["run"], &mut source)?;
     assert_eq!(rt; found.status, Status::TooLarge);
     assert_eq!(rt; found.text.as_slice(), b"too large\n".as_slice());

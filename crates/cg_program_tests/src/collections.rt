@@ -1,11 +1,7 @@
 //! Worked scripts with collections, asked for and due, through the top call. The texts come from the rules of
 //! docs/RULES.md, worked out by hand.
-use crate::Status;
-use crate::rows::{check, check_done, check_one_of, lines};
-use crate::tests::answer_to;
-use cg_io::PlainSource;
-use itoa::Buffer;
-use std::alloc::AllocError;
+use crate::calls::{check, check_done, check_long, check_one_of, lines, push_lines, push_numbered};
+use cg_cli::Status;
 use std::test::Fail;
 
 #[test]
@@ -333,15 +329,6 @@ fn the_last_of_the_budget_in_a_collection(rt: HostRuntime) -> Result<(), Fail> {
     Ok(())
 }
 
-/// Appends a line that ends with a number.
-pub fn push_numbered(bytes: &mut Vec<u8>, text: &str, number: u32) -> Result<(), AllocError> {
-    let mut digits = Buffer::new();
-    bytes.extend_from_slice(text.as_bytes())?;
-    bytes.extend_from_slice(digits.format(number).as_bytes())?;
-    bytes.push(b'\n')?;
-    Ok(())
-}
-
 /// The number of the last list of the chain.
 const LAST: u32 = 300_002;
 
@@ -349,9 +336,7 @@ const LAST: u32 = 300_002;
 fn a_chain_of_lists_is_collected_and_dropped(rt: HostRuntime) -> Result<(), Fail> {
     let alloc = rt.alloc();
     let mut script = lines(alloc, "threshold 0; c = list")?;
-    for _list in 2..LAST {
-        script.extend_from_slice(b"c = list c\n")?;
-    }
+    push_lines(&mut script, "c = list c\n", LAST - 2)?;
     script.extend_from_slice(b"collect 2\ndel c\n")?;
     let mut wanted = Vec::new(alloc);
     for serial in 2..=LAST {
@@ -362,12 +347,7 @@ fn a_chain_of_lists_is_collected_and_dropped(rt: HostRuntime) -> Result<(), Fail
         push_numbered(&mut wanted, "free #", serial)?;
     }
     wanted.extend_from_slice(b"end\n")?;
-    let found = answer_to(alloc, &["run"], &mut PlainSource::new(script))?;
-    assert_eq!(rt; found.status, Status::Done);
-    assert!(rt;
-        found.text.as_slice() == wanted.as_slice(),
-        "the text of a chain"
-    );
+    check_long(&rt, alloc, script, Status::Done, &wanted)?;
     Ok(())
 }
 
@@ -380,9 +360,7 @@ fn many_lists_in_one_are_dropped_and_nothing_is_left_to_collect(
 ) -> Result<(), Fail> {
     let alloc = rt.alloc();
     let mut script = lines(alloc, "threshold 0; k = list")?;
-    for _list in 2..LAST_HELD {
-        script.extend_from_slice(b"a = list\nappend k a\n")?;
-    }
+    push_lines(&mut script, "a = list\nappend k a\n", LAST_HELD - 2)?;
     script.extend_from_slice(b"del a\ndel k\ncollect 2\n")?;
     let mut wanted = Vec::new(alloc);
     for serial in 2..=LAST_HELD {
@@ -393,11 +371,6 @@ fn many_lists_in_one_are_dropped_and_nothing_is_left_to_collect(
         push_numbered(&mut wanted, "free #", LAST_HELD - serial)?;
     }
     wanted.extend_from_slice(b"gc start 2\ngc stop 2 0 0\ncollected 0\nend\n")?;
-    let found = answer_to(alloc, &["run"], &mut PlainSource::new(script))?;
-    assert_eq!(rt; found.status, Status::Done);
-    assert!(rt;
-        found.text.as_slice() == wanted.as_slice(),
-        "the text of many lists in one"
-    );
+    check_long(&rt, alloc, script, Status::Done, &wanted)?;
     Ok(())
 }

@@ -1,86 +1,13 @@
 //! Worked scripts, through the top call. The texts come from the rules of docs/RULES.md, worked out by hand.
-//!
-//! The lines of a script, and of a text, stand with `; ` between them.
+use crate::calls::{
+    answer_to, check, check_done, check_long, lines, lines_of_spaces, push_lines, words_of,
+};
 use crate::kinds::six;
-use crate::tests::{answer_to, spaces, words_of};
-use crate::{Status, gc_run};
+use cg_cli::{Status, gc_run};
 use cg_io::{NullSink, PlainSource};
 use std::alloc::{AllocError, Global};
 use std::process::Abort;
 use std::test::Fail;
-
-/// The lines of a script or a text, each with a line feed.
-pub fn lines(alloc: Global, text: &str) -> Result<Vec<u8>, AllocError> {
-    let mut bytes = Vec::new(alloc);
-    for byte in text.as_bytes() {
-        match *byte {
-            b';' => bytes.push(b'\n')?,
-            b' ' if bytes.last() == Some(&b'\n') => {}
-            other => bytes.push(other)?,
-        }
-    }
-    bytes.push(b'\n')?;
-    Ok(bytes)
-}
-
-/// Bytes as a text, to be shown where they are not as they should be.
-fn text_of(bytes: &[u8]) -> Option<&str> {
-    str::from_utf8(bytes).ok()
-}
-
-/// A run of the script with these words is to end so, and to write this text.
-pub fn check(
-    rt: &impl Abort,
-    alloc: Global,
-    words: &[&str],
-    script: &str,
-    status: Status,
-    text: &str,
-) -> Result<(), AllocError> {
-    let mut source = PlainSource::new(lines(alloc, script)?);
-    let found = answer_to(alloc, words, &mut source)?;
-    let wanted = lines(alloc, text)?;
-    assert_eq!(rt; text_of(&found.text), text_of(&wanted), "at {script:?}");
-    assert_eq!(rt; found.status, status, "at {script:?}");
-    Ok(())
-}
-
-/// A run of the script is to end by `end`, and to write this text.
-pub fn check_done(
-    rt: &impl Abort,
-    alloc: Global,
-    script: &str,
-    text: &str,
-) -> Result<(), AllocError> {
-    check(rt, alloc, &["run"], script, Status::Done, text)
-}
-
-/// Whether these bytes are one of some texts.
-fn is_one_of(alloc: Global, found: &[u8], texts: &[&str]) -> Result<bool, AllocError> {
-    for text in texts {
-        if lines(alloc, text)?.as_slice() == found {
-            return Ok(true);
-        }
-    }
-    Ok(false)
-}
-
-/// A run of the script is to end by `end`, and to write one of these texts: the rules leave the order of some lines free.
-pub fn check_one_of(
-    rt: &impl Abort,
-    alloc: Global,
-    script: &str,
-    texts: &[&str],
-) -> Result<(), AllocError> {
-    let mut source = PlainSource::new(lines(alloc, script)?);
-    let found = answer_to(alloc, &["run"], &mut source)?;
-    assert!(rt;
-        is_one_of(alloc, found.text.as_slice(), texts)?,
-        "at {script:?}"
-    );
-    assert_eq!(rt; found.status, Status::Done, "at {script:?}");
-    Ok(())
-}
 
 /// A run of the script is to end by `budget spent`, and to write this text.
 fn check_spent(rt: &impl Abort, alloc: Global, script: &str, text: &str) -> Result<(), AllocError> {
@@ -463,22 +390,18 @@ fn the_budget_of_the_words(rt: HostRuntime) -> Result<(), Fail> {
 #[test]
 fn ten_thousand_frames_without_a_budget(rt: HostRuntime) -> Result<(), Fail> {
     let alloc = rt.alloc();
-    let mut source = PlainSource::new(lines(alloc, "def p; call f; end; f = func p; call f")?);
-    let found = answer_to(alloc, &["run"], &mut source)?;
+    let script = lines(alloc, "def p; call f; end; f = func p; call f")?;
     let mut wanted = lines(alloc, "made function #2")?;
-    for _frame in 0..10_000u32 {
-        wanted.extend_from_slice(b"enter call #2\n")?;
-    }
+    push_lines(&mut wanted, "enter call #2\n", 10_000)?;
     wanted.extend_from_slice(b"budget spent\n")?;
-    assert_eq!(rt; found.status, Status::Budget);
-    assert_eq!(rt; found.text.as_slice(), wanted.as_slice());
+    check_long(&rt, alloc, script, Status::Budget, &wanted)?;
     Ok(())
 }
 
 #[test]
 fn the_largest_script(rt: HostRuntime) -> Result<(), Fail> {
     let alloc = rt.alloc();
-    let mut source = PlainSource::new(spaces(alloc, 0)?);
+    let mut source = PlainSource::new(lines_of_spaces(alloc, 16_384, 0)?);
     let found = answer_to(alloc, &["run"], &mut source)?;
     assert_eq!(rt; found.status, Status::Done);
     assert_eq!(rt; found.text.as_slice(), b"end\n".as_slice());

@@ -1,12 +1,12 @@
 //! Two texts with each line left out, doubled and swapped with the next, and the verdict that each then gets.
-use crate::{Verdict, check_records};
+use cg_cert::{Verdict, check_records};
 use std::alloc::{AllocError, Global};
 use std::process::Abort;
 use std::test::Fail;
 
 /// What is done to one of the lines.
 #[derive(Clone, Copy)]
-enum Edit {
+pub enum Edit {
     LeftOut,
     Doubled,
     /// It changes places with the next.
@@ -14,7 +14,12 @@ enum Edit {
 }
 
 /// The lines, one of them edited.
-fn edited(alloc: Global, lines: &[&[u8]], edit: Edit, at: usize) -> Result<Vec<u8>, AllocError> {
+pub fn edited(
+    alloc: Global,
+    lines: &[&[u8]],
+    edit: Edit,
+    at: usize,
+) -> Result<Vec<u8>, AllocError> {
     let mut text = Vec::new(alloc);
     let mut held: &[u8] = b"";
     for (place, line) in lines.iter().enumerate() {
@@ -53,8 +58,8 @@ fn check_edits(
     Ok(())
 }
 
-/// A list that holds itself was thrown away.
-static LIST: [&[u8]; 11] = [
+/// A list that holds itself was thrown away: both graphs are that list, and it is lost.
+pub static LIST: [&[u8]; 11] = [
     b"record 2\n",
     b"graph 1\n",
     b"m 2 1 0\n",

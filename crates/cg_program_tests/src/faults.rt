@@ -1,7 +1,6 @@
 //! A write refused at each line, and a read refused at each call, whatever the job.
-use crate::calls::{answer_to, answer_with_fault, lines, shown};
+use crate::calls::{answer_to, answer_with_fault, lines, lines_of_spaces, shown};
 use crate::one_byte::OneByte;
-use crate::sizes::lines_of_spaces;
 use cg_cli::Status;
 use cg_io::{MemSource, PlainSource, Source};
 use std::alloc::{AllocError, Global};
@@ -12,7 +11,7 @@ use std::test::Fail;
 /// how it ends and its text.
 #[derive(Clone, Copy)]
 struct Call {
-    words: &'static str,
+    words: &'static [&'static str],
     script: &'static str,
     reads: u64,
     status: Status,
@@ -22,56 +21,56 @@ struct Call {
 /// Two callbacks, a shutdown, an inspection, a spent budget, a bad script, bad words, a summary, records, an expansion.
 const CALLS: [Call; 9] = [
     Call {
-        words: "run",
+        words: &["run"],
         script: "def p; end; class C; f = func p; a = new C; u = ref a f; v = ref a f; del a",
         reads: 2,
         status: Status::Done,
         text: "made function #2; made instance #3; made weakref #4; made weakref #5; cleared #5; cleared #4; enter callback #5; leave; enter callback #4; leave; free #3; end",
     },
     Call {
-        words: "run",
+        words: &["run"],
         script: "shutdown; a = list",
         reads: 2,
         status: Status::Done,
         text: "made list #2; free #2; gc start 2; gc stop 2 0 0; left 0; end",
     },
     Call {
-        words: "run",
+        words: &["run"],
         script: "a = list; b = list a; c = list a; referrers a",
         reads: 2,
         status: Status::Done,
         text: "made list #2; made list #3; made list #4; referrer #3; referrer #4; listed 2; end",
     },
     Call {
-        words: "run --budget 1",
+        words: &["run", "--budget", "1"],
         script: "def d; end; class C del=d; a = new C; del a; b = new C; del b",
         reads: 2,
         status: Status::Budget,
         text: "made instance #2; enter del #2; leave; free #2; made instance #3; budget spent",
     },
     Call {
-        words: "run",
+        words: &["run"],
         script: "a = list; b = list; del a; append a",
         reads: 2,
         status: Status::BadScript,
         text: "bad script 4 3",
     },
     Call {
-        words: "run now",
+        words: &["run", "now"],
         script: "a = list",
         reads: 0,
         status: Status::BadWords,
         text: "bad words",
     },
     Call {
-        words: "generate 3",
+        words: &["generate", "3"],
         script: "a = list",
         reads: 0,
         status: Status::Done,
         text: "summary 7 7 1 2 18",
     },
     Call {
-        words: "record",
+        words: &["record"],
         script: "a = list; append a a; del a; collect 2",
         reads: 2,
         status: Status::Done,
@@ -79,7 +78,7 @@ const CALLS: [Call; 9] = [
     },
     // An expansion is written at once, so here it has one line.
     Call {
-        words: "expand",
+        words: &["expand"],
         script: "m = wmap",
         reads: 2,
         status: Status::Done,
@@ -89,7 +88,7 @@ const CALLS: [Call; 9] = [
 
 /// A script of twenty lines of 1,024 bytes each, to be told apart from the others.
 const SPACES: Call = Call {
-    words: "run",
+    words: &["run"],
     script: "twenty lines of spaces",
     reads: 6,
     status: Status::Done,
@@ -132,7 +131,7 @@ fn front_of(text: &[u8], line: u32, keep: usize) -> &[u8] {
 fn check_writes(
     rt: &impl Abort,
     alloc: Global,
-    words: &str,
+    words: &[&str],
     script: &[u8],
     status: Status,
     text: &[u8],
@@ -165,7 +164,14 @@ fn each_write_fails_in_turn(rt: HostRuntime) -> Result<(), Fail> {
         check_writes(&rt, alloc, call.words, &script, call.status, &text)?;
     }
     let script = lines_of_spaces(alloc, 16_384, 1)?;
-    check_writes(&rt, alloc, "run", &script, Status::TooLarge, b"too large\n")?;
+    check_writes(
+        &rt,
+        alloc,
+        &["run"],
+        &script,
+        Status::TooLarge,
+        b"too large\n",
+    )?;
     Ok(())
 }
 
