@@ -11,21 +11,15 @@
 //! - `input`, `tell`, `status`, `run`: the checker as a top call, over a source and a sink.
 #![tactic(auto)]
 
-#[cfg(test)]
-mod calls;
 mod check;
 mod degrees;
 mod graph;
 mod laws;
-#[cfg(test)]
-mod lines;
 mod run;
 mod search;
 mod status;
 mod table;
 mod tell;
-#[cfg(test)]
-mod tests;
 
 pub use check::{Verdict, check_records};
 pub use laws::one_verdict;

@@ -19,24 +19,3 @@ mod top;
 pub use cg_words::{Job, read_words};
 pub use status::Status;
 pub use top::{gc_over, gc_run};
-
-#[cfg(test)]
-mod collections;
-#[cfg(test)]
-mod expansions;
-#[cfg(test)]
-mod inspections;
-#[cfg(test)]
-mod kinds;
-#[cfg(test)]
-mod promises;
-#[cfg(test)]
-mod recordings;
-#[cfg(test)]
-mod rows;
-#[cfg(test)]
-mod shutdowns;
-#[cfg(test)]
-mod summaries;
-#[cfg(test)]
-mod tests;

@@ -18,6 +18,3 @@ pub use script::{MOST_BLOCKS, generated_script};
 pub use sink::TallySink;
 pub use summary::summary_line;
 pub use whole::tally;
-
-#[cfg(test)]
-mod tests;

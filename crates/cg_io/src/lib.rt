@@ -24,6 +24,3 @@ pub use plain_source::PlainSource;
 pub use read_source::ReadSource;
 pub use traits::{ReadFailed, Sink, Source, WriteFailed};
 pub use write_sink::WriteSink;
-
-#[cfg(test)]
-mod tests;

@@ -17,6 +17,3 @@ pub use laws::{
     steps_leave_what_is_below, worlds_are_orderly, worlds_have_origins,
 };
 pub use line::{LineText, line_of, push_line};
-
-#[cfg(test)]
-mod tests;

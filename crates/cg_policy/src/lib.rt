@@ -11,8 +11,6 @@
 mod flagset;
 mod laws;
 mod policy;
-#[cfg(test)]
-mod tests;
 
 pub use flagset::Flagset;
 pub use laws::{flagsets_have_the_debug_flags, policies_follow_the_machine};

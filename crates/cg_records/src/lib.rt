@@ -17,8 +17,6 @@ mod line;
 mod number;
 mod reading;
 mod serials;
-#[cfg(test)]
-mod tests;
 mod writing;
 
 pub use graph::{Graph, Member, Members, Rec, Records};

@@ -33,12 +33,3 @@ pub use members::{Commands, Items, Operands};
 pub use printer::print;
 pub use reader::parse;
 pub use word::{is_value, is_variable};
-
-#[cfg(test)]
-mod form_tests;
-#[cfg(test)]
-mod printer_tests;
-#[cfg(test)]
-mod reader_tests;
-#[cfg(test)]
-mod tests;

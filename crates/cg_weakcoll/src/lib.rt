@@ -24,6 +24,3 @@ pub use map_laws::{
     weak_maps_answer, weak_references_keep_their_referents,
 };
 pub use worked::a_cache_answers_both;
-
-#[cfg(test)]
-mod tests;
