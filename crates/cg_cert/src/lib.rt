@@ -9,6 +9,8 @@
 //! - `graph`: the fault of one graph; `check`: the verdict on all graphs of records.
 //! - `laws`: no bytes have two verdicts.
 //! - `input`, `tell`, `status`, `run`: the checker as a top call, over a source and a sink.
+//!
+//! Records themselves, and what reads and writes them, are those of `cg_records`, named here too.
 #![tactic(auto)]
 
 mod check;
@@ -21,6 +23,7 @@ mod status;
 mod table;
 mod tell;
 
+pub use cg_records::{Graph, Member, Members, Rec, Records, Serials, read_records, write_records};
 pub use check::{Verdict, check_records};
 pub use laws::one_verdict;
 pub use run::check_run;

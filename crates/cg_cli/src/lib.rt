@@ -16,6 +16,7 @@ mod status;
 mod tell;
 mod top;
 
+pub use cg_generator::{MOST_BLOCKS, Tally, generated_script, tally};
 pub use cg_words::{Job, read_words};
 pub use status::Status;
 pub use top::{gc_over, gc_run};

@@ -138,6 +138,6 @@ pub fn generated_script(alloc: Global, blocks: u32) -> Result<Script, AllocError
     ensures known { IfOk result TextsAreKnown }
 {
     let names = variable_names(alloc)?;
-    let items = Items::new(alloc, all_items(alloc, blocks)?)?;
+    let items = Items::indexed(alloc, all_items(alloc, blocks)?)?;
     Ok(Script { names, items })
 }

@@ -38,7 +38,7 @@ fn items_in_order(rt: HostRuntime) -> Result<(), Fail> {
     let mut lines = Vec::new(alloc);
     lines.push(Item::Budget(3))?;
     lines.push(Item::Run(Command::Count))?;
-    let items = Items::new(alloc, lines)?;
+    let items = Items::new(lines);
     assert!(rt;
         matches!(
             items.as_slice(),

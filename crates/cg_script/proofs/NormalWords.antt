@@ -15,7 +15,7 @@ use Rattle.cg_script.specs.declared.form.Sort.{Sort}
 use Rattle.cg_script.specs.declared.form.Sort.TheVariants.{Key, Variable, Name, Class, Proc, Finalizer, Value, Number, Profile, Budget, Count, Flag}
 use Rattle.cg_script.specs.declared.part.Part.TheVariants as parts
 use Rattle.cg_script.specs.Tables.{named}
-use Rattle.cg_script.specs.Words.{is_printable, is_digit, begins_name, is_quoted, are_digits, decimal_after, decimal_value, has_minus, is_number, number_of, is_count, is_profile, is_value, is_variable, string_text, atoms}
+use Rattle.cg_script.specs.Words.{is_graphic, is_digit, begins_name, is_quoted, are_digits, decimal_after, decimal_value, has_minus, is_number, number_of, is_count, is_profile, is_value, is_variable, string_text, atoms}
 use Rattle.cg_script.specs.Meanings.{fits}
 use Rattle.cg_script.specs.Parts.{part_of, text_in, value_text, operand_or}
 use Rattle.cg_value.specs.Texts.{text_number}
@@ -268,8 +268,8 @@ number_value : (w v : List ℕ) → named atoms w ≡ None → is_quoted w ≡ f
 number_value w v none quote letter n =
     let v_none : named atoms v ≡ None = named_nowhere atoms v atoms_named n.no_letter in
     let value : (u : List ℕ) → named atoms u ≡ None → is_quoted u ≡ false → begins_name (slice_index u 0) ≡ false → is_value u ≡ is_number u =
-    λ u none quote letter. ap (λ (f : Option Operand). cond (is_some f) true (cond (is_quoted u) (list_all is_printable u) (cond (begins_name (slice_index u 0)) (is_variable u) (is_number u)))) none
-    ∙ ap (λ b. cond b (list_all is_printable u) (cond (begins_name (slice_index u 0)) (is_variable u) (is_number u))) quote
+    λ u none quote letter. ap (λ (f : Option Operand). cond (is_some f) true (cond (is_quoted u) (list_all is_graphic u) (cond (begins_name (slice_index u 0)) (is_variable u) (is_number u)))) none
+    ∙ ap (λ b. cond b (list_all is_graphic u) (cond (begins_name (slice_index u 0)) (is_variable u) (is_number u))) quote
     ∙ ap (λ b. cond b (is_variable u) (is_number u)) letter in
     let operand : (texts : List (List ℕ)) (u : List ℕ) → named atoms u ≡ None → is_quoted u ≡ false → begins_name (slice_index u 0) ≡ false → operand_or (named atoms u) texts u ≡ operands.Int (number_of u) =
     λ texts u none quote letter. ap (λ (f : Option Operand). operand_or f texts u) none
@@ -290,8 +290,8 @@ number_value w v none quote letter n =
 
 is_number_word : (w : List ℕ) → named atoms w ≡ None → is_quoted w ≡ false → begins_name (slice_index w 0) ≡ false → is_value w ≡ true → is_number w ≡ true
 is_number_word w none quote letter e =
-    sym (ap (λ (f : Option Operand). cond (is_some f) true (cond (is_quoted w) (list_all is_printable w) (cond (begins_name (slice_index w 0)) (is_variable w) (is_number w)))) none
-    ∙ ap (λ b. cond b (list_all is_printable w) (cond (begins_name (slice_index w 0)) (is_variable w) (is_number w))) quote
+    sym (ap (λ (f : Option Operand). cond (is_some f) true (cond (is_quoted w) (list_all is_graphic w) (cond (begins_name (slice_index w 0)) (is_variable w) (is_number w)))) none
+    ∙ ap (λ b. cond b (list_all is_graphic w) (cond (begins_name (slice_index w 0)) (is_variable w) (is_number w))) quote
     ∙ ap (λ b. cond b (is_variable w) (is_number w)) letter)
     ∙ e
 

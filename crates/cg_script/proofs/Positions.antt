@@ -4,9 +4,10 @@ use Rattle.std.specs.Prelude.{slice_get, option_map}
 use Rattle.std.proofs.lemmas.Option.{slice_get-map}
 use Rattle.std.proofs.lemmas.List.{map-append}
 use Rattle.cg_script.specs.declared.index.Index.{Index}
+use Rattle.cg_script.specs.declared.index.Declared.{Declared}
 use Rattle.cg_script.specs.declared.item.Item.{Item}
 use Rattle.cg_script.specs.declared.item.Item.TheVariants.{Profile, Shutdown, Budget, Class, Def, Run}
-use Rattle.cg_script.specs.Items.{commands_of, procedures, classes, declared_profile, declared_budget, declares_shutdown, StandAt, IsIndexOf}
+use Rattle.cg_script.specs.Items.{commands_of, procedures, classes, declared_profile, declared_budget, declares_shutdown, StandAt, IsIndexOf, AreDeclared}
 use Rattle.std.specs.Option.{option_or}
 
 -- What is read off lines one by one.
@@ -134,11 +135,8 @@ module _ (items : List Item) (item : Item) where
       → new.classes.items ≡ old.classes.items ++ classes (item ∷ [])
       → new.procedures.items ≡ old.procedures.items ++ map (λ p. at) (procedures (item ∷ []))
       → new.commands.items ≡ old.commands.items ++ map (λ c. at) (commands_of (item ∷ []))
-      → new.profile ≡ option_or old.profile (declared_profile (item ∷ []))
-      → new.budget ≡ option_or old.budget (declared_budget (item ∷ []))
-      → new.shutdown ≡ (old.shutdown || declares_shutdown (item ∷ []))
       → IsIndexOf items old → IsIndexOf (items ++ item ∷ []) new
-  index_more at old new last ds ps cs profile budget shutdown before = record {
+  index_more at old new last ds ps cs before = record {
     classes = ds ∙ ap (λ l. l ++ classes (item ∷ [])) before.classes ∙ sym (classes_by_lines.append items (item ∷ []));
     procedures =
         ap (map (slice_get (items ++ item ∷ []))) (ps ∙ ap (λ n. old.procedures.items ++ map (λ p. n) (procedures (item ∷ []))) last)
@@ -146,6 +144,15 @@ module _ (items : List Item) (item : Item) where
     commands =
         ap (map (slice_get (items ++ item ∷ []))) (cs ∙ ap (λ n. old.commands.items ++ map (λ c. n) (commands_of (item ∷ []))) last)
         ∙ stand_more Run commands_of commands_by_lines old.commands.items (own_command (items ++ item ∷ []) (length items) item (snoc_new items item)) before.commands;
+  }
+
+  -- what is declared, with one line more
+  pub declared_more : (old new : Declared)
+      → new.profile ≡ option_or old.profile (declared_profile (item ∷ []))
+      → new.budget ≡ option_or old.budget (declared_budget (item ∷ []))
+      → new.shutdown ≡ (old.shutdown || declares_shutdown (item ∷ []))
+      → AreDeclared items old → AreDeclared (items ++ item ∷ []) new
+  declared_more old new profile budget shutdown before = record {
     profile = profile ∙ ap (λ p. option_or p (declared_profile (item ∷ []))) before.profile ∙ sym (profile_append items (item ∷ []));
     budget = budget ∙ ap (λ b. option_or b (declared_budget (item ∷ []))) before.budget ∙ sym (budget_append items (item ∷ []));
     shutdown = shutdown ∙ ap (λ b. b || declares_shutdown (item ∷ [])) before.shutdown ∙ sym (shutdown_append items (item ∷ []));

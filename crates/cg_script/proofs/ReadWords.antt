@@ -11,7 +11,7 @@ use Rattle.cg_script.specs.declared.command.Operand.TheVariants as operands
 use Rattle.cg_script.specs.declared.form.Form.{Form}
 use Rattle.cg_script.specs.declared.form.Form.TheVariants as forms
 use Rattle.cg_script.specs.Tables.{named}
-use Rattle.cg_script.specs.Words.{atoms, begins_name, is_printable, is_quoted, is_variable, is_number, is_value, number_of, string_text}
+use Rattle.cg_script.specs.Words.{atoms, begins_name, is_graphic, is_quoted, is_variable, is_number, is_value, number_of, string_text}
 use Rattle.cg_script.specs.Forms.{row}
 use Rattle.cg_script.specs.Meanings.{Meaning, passed, says, bad, code_of, all_fit, repeats_finalizer, formed}
 use Rattle.cg_script.specs.Parts.{Known, parts_of, has_unknown, value_text, operand_or}
@@ -39,14 +39,14 @@ not_read_as false a other e = refl
 pub number_read : (word : List ℕ) (texts : List (List ℕ)) (found : Option Operand) → named atoms word ≡ None → is_quoted word ≡ false → begins_name (slice_index word 0) ≡ false
     → found ≡ (if is_number word then Some (operands.Int (number_of word)) else None) → found ≡ (if is_value word then Some (operand_or (named atoms word) texts word) else None)
 number_read word texts found no_atom unquoted unnamed e =
-    let value : is_value word ≡ is_number word = λ j. if is_some (no_atom j) then true else if unquoted j then list_all is_printable word else if unnamed j then is_variable word else is_number word in
+    let value : is_value word ≡ is_number word = λ j. if is_some (no_atom j) then true else if unquoted j then list_all is_graphic word else if unnamed j then is_variable word else is_number word in
     let operand : operand_or (named atoms word) texts word ≡ operands.Int (number_of word) = ap (λ f. operand_or f texts word) no_atom
     ∙ (λ j. if unquoted j then operands.Str (text_number texts (string_text word)) else if unnamed j then operands.Name (text_number texts word) else operands.Int (number_of word)) in
     e ∙ sym (λ j. if value j then Some (operand j) else None)
 
 -- one that begins as a name is one where it is a variable, which is its text
 pub name_value : (word : List ℕ) → named atoms word ≡ None → is_quoted word ≡ false → begins_name (slice_index word 0) ≡ true → is_value word ≡ is_variable word
-name_value word no_atom unquoted begins = λ j. if is_some (no_atom j) then true else if unquoted j then list_all is_printable word else if begins j then is_variable word else is_number word
+name_value word no_atom unquoted begins = λ j. if is_some (no_atom j) then true else if unquoted j then list_all is_graphic word else if begins j then is_variable word else is_number word
 
 pub name_text : (word : List ℕ) → named atoms word ≡ None → is_quoted word ≡ false → begins_name (slice_index word 0) ≡ true → value_text (named atoms word) word ≡ Some word
 name_text word no_atom unquoted begins = ap (λ f. value_text f word) no_atom

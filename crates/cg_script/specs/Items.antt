@@ -7,6 +7,7 @@ use Rattle.cg_script.specs.declared.item.Proc.{Proc}
 use Rattle.cg_script.specs.declared.item.Item.{Item}
 use Rattle.cg_script.specs.declared.item.Item.TheVariants.{Profile, Shutdown, Budget, Class, Def, Run}
 use Rattle.cg_script.specs.declared.index.Index.{Index}
+use Rattle.cg_script.specs.declared.index.Declared.{Declared}
 
 -- the commands outside procedures
 abbrev pub commands_of : List Item → List Command
@@ -64,12 +65,18 @@ declares_shutdown (item ∷ items) = declares_shutdown items
 abbrev pub StandAt : {A : Type 0} → (A → Item) → List Item → List ℕ → List A → Type 0
 StandAt line items positions those = map (slice_get items) positions ≡ map (λ x. Some (line x)) those
 
--- It has the classes of some lines, the positions of their procedures and of their commands outside procedures, the profile and
--- the budget that they declare, and whether they declare a shutdown.
+-- They are the profile and the budget that some lines declare, and whether they declare a shutdown.
+pub record AreDeclared (items : List Item) (declared : Declared) : Type 0 where
+  pub profile : declared.profile ≡ declared_profile items
+  pub budget : declared.budget ≡ declared_budget items
+  pub shutdown : declared.shutdown ≡ declares_shutdown items
+
+-- It has the classes of some lines, and the positions of their procedures and of their commands outside procedures.
 pub record IsIndexOf (items : List Item) (index : Index) : Type 0 where
   pub classes : index.classes.items ≡ classes items
   pub procedures : StandAt Def items index.procedures.items (procedures items)
   pub commands : StandAt Run items index.commands.items (commands_of items)
-  pub profile : index.profile ≡ declared_profile items
-  pub budget : index.budget ≡ declared_budget items
-  pub shutdown : index.shutdown ≡ declares_shutdown items
+
+abbrev pub IsIndexIfAny : List Item → Option Index → Type 0
+IsIndexIfAny items None = Unit {0}
+IsIndexIfAny items (Some index) = IsIndexOf items index

@@ -13,6 +13,10 @@ use Rattle.cg_script.specs.Forms.{row, openers, bindings}
 abbrev pub is_printable : ℕ → Bool
 is_printable b = nat_le 32 b && nat_le b 126
 
+-- `!` to `~`: a printable byte that is no space
+abbrev pub is_graphic : ℕ → Bool
+is_graphic b = nat_le 33 b && nat_le b 126
+
 -- A to Z and a to z
 abbrev pub is_letter : ℕ → Bool
 is_letter b = (nat_le 65 b && nat_le b 90) || (nat_le 97 b && nat_le b 122)
@@ -97,7 +101,7 @@ is_quoted word = slice_index word 0 == 39
 abbrev pub is_value : List ℕ → Bool
 is_value word =
     if is_some (named atoms word) then true
-    else if is_quoted word then list_all is_printable word
+    else if is_quoted word then list_all is_graphic word
     else if begins_name (slice_index word 0) then is_variable word
     else is_number word
 

@@ -1,23 +1,66 @@
-//! Where the procedures and the commands outside procedures stand among the lines of a script, so that each is found by its
-//! number, and what the lines declare of the whole script.
-ghost use Rattle.std.specs.Prelude.{◌≡◌, ◌||◌, ◌++◌, ◌∷◌, [], List, map, OnOk, OnErr};
+//! What lines declare of the whole script, and where its procedures and its commands outside procedures stand among them, so that
+//! each is found by its number.
+ghost use Rattle.std.specs.Prelude.{◌≡◌, ◌||◌, ◌++◌, ◌∷◌, [], List, map, IfOk, OnOk, OnErr};
 ghost use Rattle.std.specs.Option.{option_or};
 ghost use Rattle.cg_script.specs.declared.item.Item.{Item as AnyItem};
-ghost use Rattle.cg_script.specs.Items.{classes, procedures, commands_of, declared_profile, declared_budget, declares_shutdown, IsIndexOf};
+ghost use Rattle.cg_script.specs.Items.{classes, procedures, commands_of, declared_profile, declared_budget, declares_shutdown, IsIndexOf, AreDeclared};
 
 use crate::item::{ClassDef, Item};
 use std::alloc::{AllocError, Global};
 
-/// The classes of some lines, the positions of their procedures and of their commands outside procedures, the profile and the
-/// budget that they declare, and whether they declare a shutdown.
+/// The profile and the budget that some lines declare, and whether they declare a shutdown.
+#[derive(Clone, Copy)]
+pub(crate) struct Declared {
+    pub profile: Option<u8>,
+    pub budget: Option<u32>,
+    pub shutdown: bool,
+}
+
+impl Declared {
+    /// What no lines declare.
+    pub fn new() -> Declared
+        ensures { AreDeclared [] result }
+    {
+        Declared {
+            profile: None,
+            budget: None,
+            shutdown: false,
+        }
+    }
+
+    /// What these lines declare.
+    pub fn of(items: &[Item]) -> Declared
+        ensures { AreDeclared items.now result }
+    {
+        let mut declared = Declared::new();
+        'items: for at in 0..items.len() {
+            declared.add(&items[at]);
+        }
+        declared
+    }
+
+    /// Adds a line behind the others.
+    #[inline(always)]
+    pub fn add(&mut self, item: &Item)
+        ensures profile { self.new.profile ≡ option_or self.old.profile (declared_profile (item.now ∷ [])) }
+        ensures budget { self.new.budget ≡ option_or self.old.budget (declared_budget (item.now ∷ [])) }
+        ensures shutdown { self.new.shutdown ≡ (self.old.shutdown || declares_shutdown (item.now ∷ [])) }
+    {
+        match item {
+            Item::Profile(profile) => self.profile = self.profile.or(Some(*profile)),
+            Item::Budget(budget) => self.budget = self.budget.or(Some(*budget)),
+            Item::Shutdown => self.shutdown = true,
+            Item::Class(_) | Item::Def(_) | Item::Run(_) => {}
+        }
+    }
+}
+
+/// The classes of some lines, and the positions of their procedures and of their commands outside procedures.
 #[derive(Drop)]
 pub(crate) struct Index {
     pub classes: Vec<ClassDef>,
     pub procedures: Vec<usize>,
     pub commands: Vec<usize>,
-    pub profile: Option<u8>,
-    pub budget: Option<u32>,
-    pub shutdown: bool,
 }
 
 impl Index {
@@ -29,10 +72,18 @@ impl Index {
             classes: Vec::new(alloc),
             procedures: Vec::new(alloc),
             commands: Vec::new(alloc),
-            profile: None,
-            budget: None,
-            shutdown: false,
         }
+    }
+
+    /// The index of these lines. It answers `AllocError` for want of memory alone.
+    pub fn of(alloc: Global, items: &[Item]) -> Result<Index, AllocError>
+        ensures { IfOk result (λ index. IsIndexOf items.now index) }
+    {
+        let mut index = Index::new(alloc);
+        'items: for at in 0..items.len() {
+            index.add(at, &items[at])?;
+        }
+        Ok(index)
     }
 
     /// Adds the line at a position, behind those that stand before it. It answers `AllocError` for want of memory alone, and
@@ -44,15 +95,10 @@ impl Index {
             ≡ self.old.procedures.items ++ map (λ p. at) (procedures (item.now ∷ []))) }
         ensures commands { OnOk result (self.new.commands.items
             ≡ self.old.commands.items ++ map (λ c. at) (commands_of (item.now ∷ []))) }
-        ensures profile { OnOk result (self.new.profile ≡ option_or self.old.profile (declared_profile (item.now ∷ []))) }
-        ensures budget { OnOk result (self.new.budget ≡ option_or self.old.budget (declared_budget (item.now ∷ []))) }
-        ensures shutdown { OnOk result (self.new.shutdown ≡ (self.old.shutdown || declares_shutdown (item.now ∷ []))) }
         ensures err { OnErr result ((items : List AnyItem) → IsIndexOf items self.old → IsIndexOf items self.new) }
     {
         match item {
-            Item::Profile(profile) => self.profile = self.profile.or(Some(*profile)),
-            Item::Budget(budget) => self.budget = self.budget.or(Some(*budget)),
-            Item::Shutdown => self.shutdown = true,
+            Item::Profile(_) | Item::Budget(_) | Item::Shutdown => {}
             Item::Class(class) => self.classes.push(*class)?,
             Item::Def(_) => self.procedures.push(at)?,
             Item::Run(_) => {

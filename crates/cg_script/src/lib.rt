@@ -16,6 +16,7 @@ mod lexicon;
 mod limits;
 mod line;
 mod members;
+mod numbered;
 mod part;
 mod pieces;
 mod printer;

@@ -1,13 +1,15 @@
 //! Lists of operands, commands and items, which contracts see as lists.
-ghost use Rattle.std.specs.Prelude.{◌≡◌, ◌<◌, ◌+◌, ◌^◌, ◌++◌, ◌∷◌, [], IfOk, OnOk, OnErr, OnSome, Some, slice_get, option_copied};
-ghost use Rattle.cg_script.specs.Items.{classes, procedures, commands_of, profile_of, declared_budget, declares_shutdown};
+ghost use Rattle.std.specs.Prelude.{◌≡◌, ◌<◌, ◌+◌, ◌^◌, ◌++◌, ◌∷◌, [], List, length, IfOk, OnOk, OnErr, OnSome, Some, slice_get, option_copied};
+ghost use Rattle.cg_script.specs.Items.{classes, procedures, commands_of, profile_of, declared_budget, declares_shutdown, IsIndexOf, IsIndexIfAny};
 ghost use Rattle.cg_script.specs.declared.command.Command.{Command as AnyCommand};
 ghost use Rattle.cg_script.specs.declared.item.Proc.{Proc as AnyProc};
+ghost use Rattle.cg_script.specs.declared.item.Item.{Item as AnyItem};
 ghost use Rattle.cg_script.specs.declared.item.Item.TheVariants.{Run, Def};
 
 use crate::command::{Command, Operand};
-use crate::index::Index;
+use crate::index::{Declared, Index};
 use crate::item::{ClassDef, Item, Proc};
+use crate::numbered::{nth_class, nth_command, nth_procedure};
 use smallvec::SmallVec;
 use std::alloc::{AllocError, Global};
 use std::marker::Model;
@@ -83,24 +85,27 @@ impl Commands {
     }
 }
 
-/// The lines of a script, in order, with an index: classes, procedures and commands outside procedures are each found by their
-/// number, and what they declare of the whole script is at hand.
+/// The lines of a script, in order. What they declare of the whole script is at hand.
+///
+/// With an index, as those of a script that was read have one, classes, procedures and commands outside procedures are each found
+/// by their number in constant time; without, by going over the lines before.
 #[derive(Drop)]
 pub struct Items {
     members: Vec<Item>,
-    index: Index,
+    declared: Declared,
+    index: Option<Index>,
 }
 
 impl Model for Items {
     ghost use Rattle.std.specs.Prelude.{List};
     ghost use Rattle.cg_script.specs.declared.item.Item.{Item};
-    ghost use Rattle.cg_script.specs.Items.{IsIndexOf};
+    ghost use Rattle.cg_script.specs.Items.{AreDeclared, IsIndexIfAny};
 
     ghost Value = { List Item };
 
     ghost view = { λ m. m.members.items };
 
-    ghost invariant = { λ m. IsIndexOf m.members.items m.index };
+    ghost invariant = { λ m. AreDeclared m.members.items m.declared × IsIndexIfAny m.members.items m.index };
 }
 
 /// The position at a number, if there is one.
@@ -112,7 +117,7 @@ fn position_in(positions: &Vec<usize>, number: usize) -> Option<usize>
 }
 
 /// The procedure in the line at a position, if it is one.
-fn procedure_in(items: &[Item], at: usize) -> Option<&Proc>
+fn procedure_at(items: &[Item], at: usize) -> Option<&Proc>
     ensures { (p : AnyProc) → slice_get items.now at ≡ Some (Def p) → option_copied result ≡ Some p }
 {
     match items.get(at) {
@@ -122,7 +127,7 @@ fn procedure_in(items: &[Item], at: usize) -> Option<&Proc>
 }
 
 /// The command in the line at a position, if it is one.
-fn command_in(items: &[Item], at: usize) -> Option<&Command>
+fn command_at(items: &[Item], at: usize) -> Option<&Command>
     ensures { (c : AnyCommand) → slice_get items.now at ≡ Some (Run c) → option_copied result ≡ Some c }
 {
     match items.get(at) {
@@ -131,25 +136,76 @@ fn command_in(items: &[Item], at: usize) -> Option<&Command>
     }
 }
 
+/// The procedure with a number, by an index of the lines.
+fn indexed_procedure<'a>(items: &'a [Item], index: &Index, number: usize) -> Option<&'a Proc>
+    requires { IsIndexOf items.now index.now }
+    ensures { option_copied result ≡ slice_get (procedures items.now) number }
+{
+    match position_in(&index.procedures, number) {
+        Some(at) => procedure_at(items, at),
+        None => None,
+    }
+}
+
+/// The command outside procedures with a number, by an index of the lines.
+fn indexed_command<'a>(items: &'a [Item], index: &Index, number: usize) -> Option<&'a Command>
+    requires { IsIndexOf items.now index.now }
+    ensures found { option_copied result ≡ slice_get (commands_of items.now) number }
+    ensures few { OnSome result (number + 1 < 2 ^ 64) }
+{
+    match position_in(&index.commands, number) {
+        Some(at) => command_at(items, at),
+        None => None,
+    }
+}
+
+/// Adds the line at a position to an index, if there is one.
+#[inline(always)]
+fn index_line(index: &mut Option<Index>, at: usize, item: &Item) -> Result<(), AllocError>
+    ensures ok { OnOk result ((items : List AnyItem) → at ≡ length items → IsIndexIfAny items index.old
+        → IsIndexIfAny (items ++ item.now ∷ []) index.new) }
+    ensures err { OnErr result ((items : List AnyItem) → IsIndexIfAny items index.old → IsIndexIfAny items index.new) }
+{
+    if let Some(index) = index {
+        index.add(at, item)?;
+    }
+    Ok(())
+}
+
 impl Items {
-    /// These members in order. It answers `AllocError` for want of memory alone, for the index.
-    pub fn new(alloc: Global, members: Vec<Item>) -> Result<Items, AllocError>
-        ensures { IfOk result (λ items. items ≡ members.items) }
+    /// These members in order, without an index. It takes no memory.
+    pub fn new(members: Vec<Item>) -> Items
+        ensures { result ≡ members.items }
     {
-        let mut index = Index::new(alloc);
-        'members: for at in 0..members.len() {
-            index.add(at, &members[at])?;
+        let declared = Declared::of(members.as_slice());
+        Items {
+            members,
+            declared,
+            index: None,
         }
-        Ok(Items { members, index })
     }
 
-    /// No member. It takes no memory yet.
+    /// These members in order, with an index. It answers `AllocError` for want of memory alone.
+    pub fn indexed(alloc: Global, members: Vec<Item>) -> Result<Items, AllocError>
+        ensures { IfOk result (λ items. items ≡ members.items) }
+    {
+        let index = Index::of(alloc, members.as_slice())?;
+        let declared = Declared::of(members.as_slice());
+        Ok(Items {
+            members,
+            declared,
+            index: Some(index),
+        })
+    }
+
+    /// No member, with an index. It takes no memory yet.
     pub(crate) fn empty(alloc: Global) -> Items
         ensures { result ≡ [] }
     {
         Items {
             members: Vec::new(alloc),
-            index: Index::new(alloc),
+            declared: Declared::new(),
+            index: Some(Index::new(alloc)),
         }
     }
 
@@ -161,7 +217,8 @@ impl Items {
         ensures err { OnErr result (self.new ≡ self.old) }
     {
         self.members.reserve(1)?;
-        self.index.add(self.members.len(), &item)?;
+        index_line(&mut self.index, self.members.len(), &item)?;
+        self.declared.add(&item);
         self.members.push_reserved(item);
         Ok(())
     }
@@ -177,50 +234,54 @@ impl Items {
     pub fn profile(&self) -> u8
         ensures { result ≡ profile_of self.now }
     {
-        self.index.profile.unwrap_or(1)
+        self.declared.profile.unwrap_or(1)
     }
 
     /// The budget that they declare, if they declare one. It takes constant time.
     pub fn budget(&self) -> Option<u32>
         ensures { result ≡ declared_budget self.now }
     {
-        self.index.budget
+        self.declared.budget
     }
 
     /// Whether they declare a shutdown. It takes constant time.
     pub fn shutdown(&self) -> bool
         ensures { result ≡ declares_shutdown self.now }
     {
-        self.index.shutdown
+        self.declared.shutdown
     }
 
-    /// The class with a number, if there is one. Classes are numbered from 0, in their order. It takes constant time.
+    /// The class with a number, if there is one. Classes are numbered from 0, in their order. By an index it takes constant time.
     pub fn class(&self, number: u32) -> Option<ClassDef>
         ensures { result ≡ slice_get (classes self.now) number }
     {
-        self.index.classes.get(number as usize).copied()
-    }
-
-    /// The procedure with a number, if there is one. Procedures are numbered from 0, in their order. It takes constant time.
-    pub fn procedure(&self, number: u32) -> Option<&Proc>
-        ensures { option_copied result ≡ slice_get (procedures self.now) number }
-    {
-        match position_in(&self.index.procedures, number as usize) {
-            Some(at) => procedure_in(self.members.as_slice(), at),
-            None => None,
+        match &self.index {
+            Some(index) => index.classes.get(number as usize).copied(),
+            None => nth_class(self.members.as_slice(), number as usize),
         }
     }
 
-    /// The command outside procedures with a number, if there is one. They are numbered from 0, in their order. It takes
-    /// constant time.
+    /// The procedure with a number, if there is one. Procedures are numbered from 0, in their order. By an index it takes constant
+    /// time.
+    pub fn procedure(&self, number: u32) -> Option<&Proc>
+        ensures { option_copied result ≡ slice_get (procedures self.now) number }
+    {
+        match &self.index {
+            Some(index) => indexed_procedure(self.members.as_slice(), index, number as usize),
+            None => nth_procedure(self.members.as_slice(), number as usize),
+        }
+    }
+
+    /// The command outside procedures with a number, if there is one. They are numbered from 0, in their order. By an index it
+    /// takes constant time.
     pub fn command(&self, number: usize) -> Option<&Command>
         ensures found { option_copied result ≡ slice_get (commands_of self.now) number }
         // The number of the one after it is a number too.
         ensures few { OnSome result (number + 1 < 2 ^ 64) }
     {
-        match position_in(&self.index.commands, number) {
-            Some(at) => command_in(self.members.as_slice(), at),
-            None => None,
+        match &self.index {
+            Some(index) => indexed_command(self.members.as_slice(), index, number),
+            None => nth_command(self.members.as_slice(), number),
         }
     }
 }

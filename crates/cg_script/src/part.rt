@@ -5,7 +5,7 @@ ghost use Rattle.cg_value.specs.Texts.{with_text, text_number};
 ghost use Rattle.cg_script.specs.declared.command.Operand.TheVariants.{Str, Name as NameOf, Int};
 ghost use Rattle.cg_script.specs.declared.part.Part.TheVariants.{Text, Value as ValueOf, Number as NumberOf, Count as CountOf};
 ghost use Rattle.cg_script.specs.Tables.{named as named_in};
-ghost use Rattle.cg_script.specs.Words.{begins_name, is_value, is_variable, is_identifier, is_printable, is_quoted, string_text, is_number, number_of, are_digits, decimal_value, atoms, after_prefix, flags};
+ghost use Rattle.cg_script.specs.Words.{begins_name, is_value, is_variable, is_identifier, is_graphic, is_quoted, string_text, is_number, number_of, are_digits, decimal_value, atoms, after_prefix, flags};
 ghost use Rattle.cg_script.specs.Meanings.{fits, repeats_finalizer, formed, code_of};
 ghost use Rattle.cg_script.specs.Parts.{text_in, with_text_if, value_text, operand_or, numbered, finalizer, legacy, defined_number, finalizer_of, part_of, parts_from, texts_from, has_unknown, names_defined};
 
@@ -17,7 +17,7 @@ use crate::limits::{MOST_BUDGET, MOST_COUNT, MOST_WORDS};
 use crate::line::WORD_COUNT;
 use crate::word::{
     after_del, after_legacy, atom, begins_as_name, count_of_word, flag, is_count_word,
-    is_free_name, is_identifier_word, is_printable_text, is_profile_word, is_quoted_word,
+    is_free_name, is_graphic_text, is_identifier_word, is_profile_word, is_quoted_word,
     is_variable, names_finalizer_word, names_legacy_word, number_in, text_of, text_of_identifier,
 };
 use cg_value::Names;
@@ -61,14 +61,14 @@ pub enum Said {
 /// The parts of a line.
 pub(crate) type Parts = Vec<Part>;
 
-/// What a string stands for, unless it is not printable.
+/// What a string stands for, unless a byte of it is not printable or a space.
 fn read_string(word: &[u8], names: &mut Lexicon) -> Result<Option<Operand>, AllocError>
     requires quoted { is_quoted word.now ≡ true }
     requires room { length names.old < 2 ^ 32 - 1 }
-    ensures operand { IfOk result (λ operand. operand ≡ (if list_all is_printable word.now then Some (Str (text_number names.old (string_text word.now))) else None)) }
-    ensures texts { OnOk result (list_all is_printable word.now ≡ true → names.new ≡ with_text names.old (string_text word.now)) }
+    ensures operand { IfOk result (λ operand. operand ≡ (if list_all is_graphic word.now then Some (Str (text_number names.old (string_text word.now))) else None)) }
+    ensures texts { OnOk result (list_all is_graphic word.now ≡ true → names.new ≡ with_text names.old (string_text word.now)) }
 {
-    if !is_printable_text(word) {
+    if !is_graphic_text(word) {
         return Ok(None);
     }
     Ok(Some(Operand::Str(names.intern(text_of(&word[1..]))?)))

@@ -4,7 +4,7 @@ ghost use Rattle.std.specs.List.{list_all};
 ghost use Rattle.cg_script.specs.Tables.{named as named_in};
 ghost use Rattle.cg_script.specs.Alike.{rows_like};
 ghost use Rattle.cg_script.specs.Forms.{openers, bindings};
-ghost use Rattle.cg_script.specs.Words.{is_printable, is_digit, is_name_byte, begins_name, is_identifier, reserves, is_reserved, is_variable, is_quoted, has_minus, are_digits, decimal_value, is_number, number_of, is_count, is_profile, is_value, atoms, after_prefix, names_finalizer, names_legacy, flags};
+ghost use Rattle.cg_script.specs.Words.{is_graphic, is_digit, is_name_byte, begins_name, is_identifier, reserves, is_reserved, is_variable, is_quoted, has_minus, are_digits, decimal_value, is_number, number_of, is_count, is_profile, is_value, atoms, after_prefix, names_finalizer, names_legacy, flags};
 
 use crate::command::Operand;
 use crate::form::{Form, form_named, row_for};
@@ -91,16 +91,17 @@ pub(crate) fn is_free_name(word: &[u8]) -> bool
     word.len() <= MOST_NAME_BYTES && goes_on_as_name(word) && !is_reserved_for_form(word)
 }
 
-pub(crate) fn is_printable_text(bytes: &[u8]) -> bool
-    ensures { result ≡ list_all is_printable bytes.now }
+/// Whether bytes are printable, and none of them is a space.
+pub(crate) fn is_graphic_text(bytes: &[u8]) -> bool
+    ensures { result ≡ list_all is_graphic bytes.now }
 {
-    bytes.iter().all(|byte| (32..=126).contains(byte))
+    bytes.iter().all(|byte| (33..=126).contains(byte))
 }
 
 /// Printable bytes as text.
-#[tactic(auto, using(crate::proofs::Ascii::printable_is_text))]
+#[tactic(auto, using(crate::proofs::Ascii::graphic_is_text))]
 pub(crate) fn text_of(word: &[u8]) -> &str
-    requires { list_all is_printable word.now ≡ true }
+    requires { list_all is_graphic word.now ≡ true }
     ensures { result.now ≡ word.now }
 {
     // Printable bytes are text, which need not be found out again.
@@ -108,7 +109,7 @@ pub(crate) fn text_of(word: &[u8]) -> &str
 }
 
 /// A variable or another identifier as text.
-#[tactic(auto, using(crate::proofs::Ascii::identifier_is_printable))]
+#[tactic(auto, using(crate::proofs::Ascii::identifier_is_graphic))]
 pub(crate) fn text_of_identifier(word: &[u8]) -> &str
     requires { is_identifier word.now ≡ true }
     ensures { result.now ≡ word.now }
@@ -299,7 +300,7 @@ pub(crate) fn atom(word: &[u8]) -> Option<Operand>
 }
 
 /// Whether a word stands for a value: `none`, `self`, `ref`, `garbage`, `c0` to `c7`, a string, a variable, or a whole number of
-/// 64 bits. (Ours.)
+/// 64 bits. No string has a space in it. (Ours.)
 pub fn is_value(word: &[u8]) -> bool
     ensures { result ≡ is_value word.now }
 {
@@ -307,7 +308,7 @@ pub fn is_value(word: &[u8]) -> bool
         return true;
     }
     if is_quoted_word(word) {
-        return is_printable_text(word);
+        return is_graphic_text(word);
     }
     if begins_as_name(word) {
         return is_free_name(word);
