@@ -31,4 +31,5 @@ pub mod Staging
 pub mod GivingUp
 pub mod Stepping
 mod LookingTwice
+mod MeetingStages
 mod Unreferred

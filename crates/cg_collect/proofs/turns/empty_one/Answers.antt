@@ -16,11 +16,11 @@ returns-in-Some g c = λ script facts policy.
     let live = outside_live store c.args.object c.requires.held in
     in_heap c.in-Some.ensures.rest (gives_up c.gives_up.ensures (turn-taken store c.args.object c.sound.ensures.live c.in-Some.entry c.in-Some.ensures.last c.new.result c.new.ensures script facts policy)
     (apart_taken store c.sound.ensures.listed c.args.object live c.in-Some.entry c.in-Some.ensures.last c.requires.ready.1 c.requires.ready.0, c.requires.ready.1) tt
-    (inr (refl, taken_falls store c.sound.ensures.listed c.args.object live c.in-Some.entry c.in-Some.ensures.last c.new.result c.new.ensures)) tt (λ n few. few) (omega arith)
+    (inr (refl, taken_falls store c.sound.ensures.listed c.args.object live c.in-Some.entry c.in-Some.ensures.last c.new.result c.new.ensures)) tt (λ n few. few) (omega arith, refl)
     (keeps-taken (entry_references c.in-Some.entry) c.args.object (without_last (entries_of store c.args.object)) store))
 
 pub returns-in-None : goal.returns-in-None
 returns-in-None g c = λ script facts policy.
     let store = c.args.heap.now in
     in_heap c.in-None.ensures.none (gives_up c.gives_up-in-None.ensures (turn-emptied store c.args.object c.of.result c.of.ensures (c.in-None.ensures.empty.0 refl) script facts policy)
-    c.requires.ready tt (let one = ap length c.of.ensures in inr (refl, omega (arith, one))) tt (λ n few. few) (omega arith) (keeps_all store))
+    c.requires.ready tt (let one = ap length c.of.ensures in inr (refl, omega (arith, one))) tt (λ n few. few) (omega arith, refl) (keeps_all store))
