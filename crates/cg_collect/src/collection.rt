@@ -222,7 +222,7 @@ impl Collection {
             Phase::Detaching(next) => detach_one(heap, next),
             Phase::Unlinking { member, weak } => unlink_one(heap, member, weak),
             Phase::Turns => take_turn(facts, heap),
-            Phase::Turn(object) => empty_one(heap, object),
+            Phase::Turn(object) => empty_one(heap, object, steps),
             Phase::AfterTurn(object) => after_turn(facts, heap, object),
             Phase::Ending => end(facts, heap, policy, script),
             Phase::Uncollectable {
