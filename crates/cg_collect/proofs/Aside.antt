@@ -1,8 +1,9 @@
 -- What is set aside because of its legacy finalizer, and what that leads to.
-use Rattle.std.proofs.Common.{◌≡◌, ◌≢◌, refl, sym, ◌∙◌, ap, subst, ℕ, ◌+◌, ◌<◌, ◌⊎◌, inl, inr, true, false, List, [], ◌∷◌, ◌++◌, length, length-append, take, Option, Some, None, arith, append_assoc}
-use Rattle.std.specs.Prelude.{option_map, option_and_then, is_some, slice_get}
+use Rattle.std.proofs.Common.{◌≡◌, ◌≢◌, refl, sym, ◌∙◌, ap, subst, ℕ, ◌+◌, ◌<◌, ◌≤◌, ◌⊎◌, inl, inr, true, false, List, [], ◌∷◌, ◌++◌, length, length-append, take, Option, Some, None, arith, append_assoc}
+use Rattle.std.specs.Prelude.{option_map, option_and_then, is_some, slice_get, sum_by}
 use Rattle.std.specs.FinMap as fin
 use Rattle.std.proofs.lemmas.Bool.{cases_eq}
+use Rattle.std.proofs.lemmas.List.Sums.{sum_by-append, sum_by-cons}
 use Rattle.std.proofs.Math.Seq.{take-length}
 use Rattle.cg_value.specs.declared.Entry.{Entry}
 use Rattle.cg_value.specs.declared.Place.TheVariants.{Cand, Legacy}
@@ -28,6 +29,8 @@ use Rattle.cg_kind.proofs.References.{references_in_turn}
 use Rattle.cg_trial.proofs.Splits.{arrow}
 use Rattle.cg_trial.proofs.Placed.{once_at, apart, is_there}
 use Rattle.cg_collect.specs.Starting.{StaysAt, SetsLegacyAside, SetsFinalizedAside, SetsReferencesAside, Closes, IsLedByLegacy, FollowsLegacy, has_legacy_in}
+use Rattle.cg_collect.specs.Looks.{entries_listed}
+use Rattle.cg_collect.proofs.Sums.{sum_alike}
 use Rattle.cg_collect.proofs.Standing.{same_itself, same_more, entries_on, lives_at, stands_at, stood_at, edge_at, edge_back, nobody_at}
 use Rattle.cg_collect.proofs.Moving.{one-shorter, standing_at, walk_at, walk_over, walk_first, walk_passes, comes_next, live_where, left_is, moved_same, moved_there, moved_not, moved_last, moved_from, moved_once, walk_leaves}
 
@@ -97,6 +100,11 @@ setting_more o old mid half new i e so is one two = record {
 pub setting_all : (o : ℕ) (old now : Store) (i : ℕ) → i ≡ length (entries_of old o) → Setting o old now i → SetsReferencesAside (references (entries_of old o)) old now
 setting_all o old now i is so = subst (λ (es : List Entry). SetsReferencesAside (references es) old now) (ap (λ n. take n (entries_of old o)) is ∙ take-length (entries_of old o)) so.so_far
 
+-- Each of these was looked at once.
+pub record SettingLooked (o : ℕ) (old now : Store) (i before looks : ℕ) : Type 0 where
+  pub setting : Setting o old now i
+  pub looked : looks ≡ before + i
+
 -- The walk over what is set aside: what it passed leads to no candidate any more.
 pub record Closing (old now : Store) (cursor : Option ℕ) : Type 0 where
   pub front : List ℕ
@@ -115,6 +123,15 @@ closing_first store cursor is = record {
   closed = λ q p h. absurd h;
   others = λ o. inl refl;
 }
+
+-- Each entry of those that it passed was looked at once.
+pub record ClosingLooked (old now : Store) (cursor : Option ℕ) (before looks : ℕ) : Type 0 where
+  pub walk : Closing old now cursor
+  pub looked : looks ≡ before + sum_by (λ q. length (entries_of old q)) walk.front
+
+pub closing_looked : (store : Store) (cursor : Option ℕ) (looks : ℕ) → cursor ≡ slice_get (list_at store Legacy) 0 → ClosingLooked store store cursor looks looks
+unfolding closing_first
+closing_looked store cursor looks is = record { walk = closing_first store cursor is; looked = omega arith }
 
 module _ (old now : Store) (cursor : Option ℕ) (o : ℕ) (listed : IsListed now) (so : Closing old now cursor) (is : cursor ≡ Some o) where
   abbrev at_object : IsAt (list_at now Legacy) (Some o) so.front so.back
@@ -175,6 +192,14 @@ module _ (old now : Store) (cursor : Option ℕ) (o : ℕ) (listed : IsListed no
         both p (inr went) (inl t) = inr (t ∙ went.0, went.1)
         both p (inr went) (inr again) = absurd (let z : Legacy ≡ Cand = sym went.0 ∙ again.0 in cc)
 
+    pub closing_looks : (before looks looks_now : ℕ) → looks ≡ before + sum_by (λ q. length (entries_of old q)) so.front → looks_now ≡ looks + length (entries_of now o) → ClosingLooked old mid then before looks_now
+    unfolding closing_more
+    closing_looks before looks looks_now so_far more =
+        let own : length (entries_of now o) ≡ length (entries_of old o) = ap length (entries_on old now so.same o) in
+        let pushed = sum_by-append (λ q. length (entries_of old q)) so.front (o ∷ []) in
+        let one = sum_by-cons (λ q. length (entries_of old q)) o [] in
+        record { walk = closing_more; looked = omega (arith, so_far, more, own, pushed, one) }
+
     pub closing_shorter : length (list_at mid Cand) + length (ahead then (list_at mid Legacy)) < length (list_at now Cand) + length (ahead cursor (list_at now Legacy))
     unfolding passed
     closing_shorter =
@@ -190,6 +215,13 @@ closing_done old now cursor listed so is = record {
       (subst (λ l. Includes l q) (walk_over (list_at now Legacy) cursor so.front so.back so.at is) (is_there now listed Legacy q (lives_at now q Legacy at (λ e. cc)) at)) refers;
   others = so.others;
 }
+
+pub closing_over : (old now : Store) (cursor : Option ℕ) (before looks : ℕ) → ClosingLooked old now cursor before looks → cursor ≡ None → looks ≤ before + entries_listed now Legacy
+closing_over old now cursor before looks so is =
+    let f : ℕ → ℕ = λ q. length (entries_of old q) in
+    let all : list_at now Legacy ≡ so.walk.front = walk_over (list_at now Legacy) cursor so.walk.front so.walk.back so.walk.at is in
+    let own : entries_listed now Legacy ≡ sum_by f (list_at now Legacy) = sum_alike (λ q. length (entries_of now q)) f (list_at now Legacy) (λ q m. ap length (entries_on old now so.walk.same q)) in
+    omega (arith, so.looked, own, ap (sum_by f) all)
 
 -- whether a class has a legacy finalizer does not depend on places
 pub legacy_alike : (script : Script) (old new : Store) → IsSameButPlaces old new → (o : ℕ) → has_legacy_in script new o ≡ has_legacy_in script old o

@@ -30,11 +30,11 @@ use Rattle.cg_collect.specs.Phases.{collection_of, lines_left}
 use Rattle.cg_collect.specs.Ready.{IsClear, IsReadyForCollectionAt, HasItsWalk, IsApartUnseen, IsEmptyAt, HasFewCollected}
 use Rattle.cg_collect.specs.Answers.{CollectionShows, CollectionStands, WentOn, CollectSteps}
 use Rattle.cg_collect.specs.Stages.{detection_at}
-use Rattle.cg_collect.specs.Turns.{pass_of, collection_at, TakesTurn}
+use Rattle.cg_collect.specs.Turns.{Advances, collection_at, TakesTurn}
 use Rattle.cg_collect.specs.Starting.{told_sizes, told_if, told_after_sizes, told_start}
 use Rattle.cg_collect.proofs.Standing.{same_more, map_alike, place_there, objects_on, outside_on, list_has, list_length}
 use Rattle.cg_collect.proofs.TakingTurns.{in_policy, leads_to, tells}
-use Rattle.cg_collect.proofs.Telling.{ready_told, walk_told, few_told, late_told, told_lines}
+use Rattle.cg_collect.proofs.Telling.{ready_told, walk_told, few_told, told_lines}
 use Rattle.cg_collect.proofs.Apart.{nobody_waits, apart_unseen}
 use Rattle.cg_collect.proofs.Traces.{Trace, same16}
 use Rattle.cg_collect.proofs.Sorts.{chosen, places, sorts, objects_sorted, survivors_counted}
@@ -75,9 +75,10 @@ apart_start true b old store = refl
 apart_start false true old store = refl
 apart_start false false old store = refl
 
-late_start : (s b : Bool) (old store : Store) → 1 ≤ pass_of (told_start s b old store)
-late_start true b old store = omega arith
-late_start false b old store = omega (arith, late_told b store)
+onward_start : (s b : Bool) (old store : Store) → Advances phase_of.Start (told_start s b old store)
+onward_start true b old store = (omega arith, refl)
+onward_start false true old store = (omega arith, refl)
+onward_start false false old store = (omega arith, refl)
 
 -- what the code tells first
 told_start-is : (s b : Bool) (old store : Store) → unwrap_or (if s then Some (told_sizes old) else None) (told_if b store) ≡ told_start s b old store
@@ -224,5 +225,5 @@ module _ (script : Script) (facts : Facts) (s0 s1 s2 s4 s5 s6 : Store) (t : Trac
       in_policy (after ∙ ap (λ (n : ℕ). with_numbers (survived facts.generation n policy.numbers) policy) count)
       (tells leads_there (steps_start script facts s0 s1 s2 s4 s5 s6 t listed0 listed4 listed6 waits_none policy)
       (ready_start facts.generation with_sizes with_members s0 s6 listed6 unseen waits_none) (walk_start (profile_of script.items) with_sizes with_members s0 s6 listed6 unseen waits_none)
-      (λ n none. few_start n with_sizes with_members s0 s6 none) (late_start with_sizes with_members s0 s6)
+      (λ n none. few_start n with_sizes with_members s0 s6 none) (onward_start with_sizes with_members s0 s6)
       (keeps-same s0 s6 (same_more s0 s1 s6 t.merges.same (same16 script facts.generation s0 s1 s2 s4 s5 s6 t))))

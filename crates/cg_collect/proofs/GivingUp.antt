@@ -35,7 +35,7 @@ use Rattle.cg_collect.specs.Ready.{IsHeapApart, OthersHaveCallbacks, IsReadyForC
 use Rattle.cg_collect.specs.Answers.{CollectionShows, CollectAnswer, CollectSteps, numbers_at}
 use Rattle.cg_collect.specs.Turns.{pass_of, passes_on, ComesNearer, KeepsObjects, left_in_pass, to_clear, others_cleared}
 use Rattle.cg_collect.specs.Collections.{IsReadyForCollection, KeepsReady, CollectFalls, CollectionEndsWith, GivesUpNext, once_given_up, give_up_answer}
-use Rattle.cg_collect.specs.Stages.{detection_at}
+use Rattle.cg_collect.specs.Stages.{detection_at, stage_at, MeetsStage}
 use Rattle.cg_collect.proofs.Staging.{TakesStep, leaves_stage}
 use Rattle.cg_collect.proofs.Keeping.{keeps-released}
 use Rattle.cg_collect.proofs.Looking.{still_unsaved}
@@ -274,14 +274,15 @@ record Lasts (p : Phase) : Type 0 where
   runs : MayRun p
   begun : IsBegun p
   onward : passes_on p ≡ 0
+  meets : MeetsStage p (stage_at p (detection_at p)) p
   spares : (store : Store) (g : ℕ) → IsReadyForCollectionAt store g p → SparesGarbageList p
   walk : (profile : ℕ) (store : Store) → HasItsWalk profile store p
 
 lasts_at : (p : Phase) → MayGiveUp p → Lasts p
-lasts_at (phase_of.AfterRelease weak) may = record { runs = tt; begun = tt; onward = refl; spares = λ store g r. r.2; walk = λ profile store. tt }
-lasts_at phase_of.Finalizing may = record { runs = tt; begun = tt; onward = refl; spares = λ store g r. tt; walk = λ profile store. tt }
-lasts_at (phase_of.Turn o) may = record { runs = tt; begun = tt; onward = refl; spares = λ store g r. r.1; walk = λ profile store. tt }
-lasts_at (phase_of.AfterTurn o) may = record { runs = tt; begun = tt; onward = refl; spares = λ store g r. r.1; walk = λ profile store. tt }
+lasts_at (phase_of.AfterRelease weak) may = record { runs = tt; begun = tt; onward = refl; meets = refl; spares = λ store g r. r.2; walk = λ profile store. tt }
+lasts_at phase_of.Finalizing may = record { runs = tt; begun = tt; onward = refl; meets = refl; spares = λ store g r. tt; walk = λ profile store. tt }
+lasts_at (phase_of.Turn o) may = record { runs = tt; begun = tt; onward = refl; meets = refl; spares = λ store g r. r.1; walk = λ profile store. tt }
+lasts_at (phase_of.AfterTurn o) may = record { runs = tt; begun = tt; onward = refl; meets = refl; spares = λ store g r. r.1; walk = λ profile store. tt }
 lasts_at phase_of.Start may = absurd may
 lasts_at (phase_of.Sizes zero one two frozen) may = absurd may
 lasts_at (phase_of.Telling next) may = absurd may
@@ -405,5 +406,7 @@ module _ (c : Collection) (store : Store) (new : Collection) (now : Store) (answ
         detected = gives_up-stays.2 ∙ is;
         -- that of a step without a detection
         stage = leaves_stage c.phase new.phase new.detected (gives_up-stays.2 ∙ is) begun (λ start. absurd (subst MayGiveUp start may)) onward;
+        meets = subst (λ d. MeetsStage c.phase (stage_at new.phase d) new.phase) (sym (gives_up-stays.2 ∙ is))
+            (subst (λ p. MeetsStage c.phase (stage_at p (detection_at c.phase)) p) (sym gives_up-stays.1) (lasts_at c.phase may).meets);
         keeps = subst (KeepsObjects store) (sym g.heap) (keeps-released (references_left g.before) store);
       }

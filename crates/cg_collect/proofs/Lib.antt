@@ -12,6 +12,7 @@ pub mod Turning
 pub mod Saved
 pub mod Merging
 pub mod Looks
+pub mod StartLooks
 pub mod Telling
 pub mod RowFilters
 pub mod FinalRows
@@ -30,5 +31,6 @@ pub mod WalkTurns
 pub mod Staging
 pub mod GivingUp
 pub mod Stepping
-mod LookingTwice
+mod BoundedLooks
+mod MeetingStages
 mod Unreferred

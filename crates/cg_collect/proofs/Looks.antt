@@ -1,15 +1,21 @@
--- The entries that the first detection looks at are counted before the merge.
-use Rattle.std.proofs.Common.{◌≡◌, refl, ◌∙◌, ap, ℕ, Bool, true, false, cond, List, [], ◌∷◌, length, map, arith}
+-- The entries that a turn looks at, and those that the first detection does, which are counted before the merge.
+use Rattle.std.proofs.Common.{◌≡◌, refl, ◌∙◌, ap, ℕ, Bool, true, false, cond, List, [], ◌∷◌, ◌++◌, length, map, arith}
 use Rattle.std.specs.Prelude.{sum_by}
 use Rattle.std.proofs.lemmas.List.Sums.{sum_by-cons}
+use Rattle.cg_value.specs.declared.Entry.{Entry}
 use Rattle.cg_value.specs.declared.Place.TheVariants.{Gen}
 use Rattle.cg_graph.specs.Object.{Object, with_place, is_at, objects_at}
 use Rattle.cg_graph.specs.Store.{Store, objects_of, place_of}
 use Rattle.cg_machine.specs.Collect.{merged_place}
 use Rattle.cg_trial.specs.Split.{entry_number_at}
 use Rattle.cg_collect.specs.Starting.{MergesYounger}
-use Rattle.cg_collect.specs.Looks.{collected_from, entry_number_from}
+use Rattle.cg_collect.specs.Looks.{one_of, collected_from, entry_number_from}
 use Rattle.cg_collect.proofs.Standing.{map_alike, objects_on, place_there}
+
+-- the last of some entries is one
+pub one_there : (es front : List Entry) (e : Entry) → es ≡ front ++ e ∷ [] → one_of es ≡ 1
+one_there es [] e is = ap one_of is
+one_there es (x ∷ front) e is = ap one_of is
 
 -- the entries of some objects
 abbrev entries_among : List Object → ℕ

@@ -13,7 +13,7 @@ use Rattle.cg_collect.specs.declared.phase.Phase.TheVariants as phase_of
 use Rattle.cg_collect.specs.declared.stage.Detection.{Detection}
 use Rattle.cg_collect.specs.declared.stage.Detection.TheVariants.{First, Second}
 use Rattle.cg_collect.specs.declared.stage.Stage.TheVariants as stage
-use Rattle.cg_collect.specs.Stages.{detection_at, stage_after, stage_at, stage_of, LeavesStage}
+use Rattle.cg_collect.specs.Stages.{detection_at, stage_after, stage_at, stage_of, LeavesStage, MeetsStage}
 use Rattle.cg_collect.specs.Ready.{IsBegun}
 use Rattle.cg_collect.specs.Answers.{CollectionShows, CollectionStands, CollectAnswer, CollectSteps}
 use Rattle.cg_collect.specs.Turns.{pass_of, passes_on, KeepsObjects}
@@ -90,6 +90,7 @@ pub record TakesStep (script : Script) (old : Collection) (store : Store) (polic
   pub onward : pass_of old.phase + passes_on old.phase ≤ pass_of new.phase
   pub detected : new.detected ≡ detection_at old.phase
   pub stage : LeavesStage old.phase (stage_of new)
+  pub meets : MeetsStage old.phase (stage_of new) new.phase
   pub keeps : KeepsObjects store now
 
 pub also-step : (detected : Option Detection) (script : Script) (old : Collection) (store : Store) (policy : Policy) (new : Collection) (now : Store) (policy_now : Policy) (answer : CollectStep)
@@ -105,5 +106,6 @@ also-step detected script old store policy new now policy_now answer s = record 
   onward = s.onward;
   detected = s.detected;
   stage = s.stage;
+  meets = s.meets;
   keeps = s.keeps;
 }

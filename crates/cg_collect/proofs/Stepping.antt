@@ -16,7 +16,7 @@ use Rattle.cg_collect.specs.Ready.{IsReadyForCollectionAt, HasFewCollected, Runs
 use Rattle.cg_collect.specs.Answers.{CollectSteps}
 use Rattle.cg_collect.specs.Turns.{pass_of, passes_on, collection_at, collection_after, StaysReady, HandsOutIn, TakesTurn}
 use Rattle.cg_collect.specs.Looks.{most_looks}
-use Rattle.cg_collect.specs.Stages.{detection_at}
+use Rattle.cg_collect.specs.Stages.{detection_at, stage_at, MeetsStage}
 use Rattle.cg_collect.specs.Collections.{IsReadyForCollection, KeepsReady, CollectFalls, CollectionEndsWith, DiesUnheld, facts_of, given_up_by, own_holds_at, held_by}
 use Rattle.cg_collect.proofs.Staging.{TakesStep, also-steps, leaves_stage}
 
@@ -101,10 +101,11 @@ module _ (script : Script) (old : Collection) (store : Store) (policy : Policy) 
     died = none_dies turn.answer takes.hands_out;
     ends = ends_with turn.answer takes.hands_out;
     generation = refl;
-    begun = begun_onward old.phase turn.phase takes.onward;
-    onward = takes.onward;
+    begun = begun_onward old.phase turn.phase takes.onward.0;
+    onward = takes.onward.0;
     detected = detected;
-    stage = leaves_stage old.phase turn.phase old.detected detected (begun_onward old.phase turn.phase takes.onward) apart takes.onward;
+    stage = leaves_stage old.phase turn.phase old.detected detected (begun_onward old.phase turn.phase takes.onward.0) apart takes.onward.0;
+    meets = subst (λ d. MeetsStage old.phase (stage_at turn.phase d) turn.phase) (sym detected) takes.onward.1;
     keeps = takes.keeps;
   }
 

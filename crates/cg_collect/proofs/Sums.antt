@@ -1,8 +1,8 @@
 -- What the members of the final set have still to do, as one of them goes on or goes; and what the garbage list names.
-use Rattle.std.proofs.Common.{◌≡◌, ◌≢◌, refl, sym, ◌∙◌, ap, subst, ℕ, suc, ◌+◌, ◌-◌, ◌*◌, Bool, true, false, cond, inl, inr, List, [], ◌∷◌, ◌++◌, length, length-append, Option, Some, None, arith}
+use Rattle.std.proofs.Common.{◌≡◌, ◌≢◌, refl, sym, ◌∙◌, ap, subst, ℕ, suc, ◌+◌, ◌-◌, ◌*◌, ◌≤◌, Bool, true, false, cond, inl, inr, List, [], ◌∷◌, ◌++◌, length, length-append, Option, Some, None, arith}
 use Rattle.std.specs.Prelude.{◌⊎◌, ◌==◌, sum_by, slice_get, option_map, if◌then◌else◌}
 use Rattle.std.specs.FinMap as fin
-use Rattle.std.proofs.lemmas.Bool.{cases_eq, eqb-true, ne_eqb}
+use Rattle.std.proofs.lemmas.Bool.{cases_eq, eq-eqb, eqb-true, ne_eqb}
 use Rattle.std.proofs.lemmas.List.Sums.{sum_by-cons}
 use Rattle.cg_value.specs.declared.Val.TheVariants.{Ref}
 use Rattle.cg_value.specs.declared.Entry.{Entry}
@@ -18,7 +18,7 @@ use Rattle.cg_graph.proofs.Members.{either, cases_of}
 use Rattle.cg_graph.proofs.Objects.{objects-changed}
 use Rattle.cg_machine.specs.Collect.{saved}
 use Rattle.cg_heap.proofs.ReferenceLemmas.{push-item}
-use Rattle.cg_trial.proofs.Lists.{occurrences-cons, occurs, occurs_in, sum_by-without, Includes-without}
+use Rattle.cg_trial.proofs.Lists.{none_or_some, occurrences-cons, occurs, occurs_in, sum_by-without, Includes-without}
 use Rattle.cg_collect.proofs.Standing.{map_alike, map_itself, entries_there, live_there}
 
 pub sum_alike : (f g : ℕ → ℕ) (xs : List ℕ) → ((q : ℕ) → Includes xs q → f q ≡ g q) → sum_by f xs ≡ sum_by g xs
@@ -30,6 +30,23 @@ pub sum-one_less : (f : ℕ → ℕ) (o : ℕ) (xs : List ℕ) → occurrences o
 sum-one_less f o xs one =
     let taken : occurrences o xs * f o ≡ 1 * f o = ap (λ n. n * f o) one in
     omega (arith, sum_by-without f o xs, taken)
+
+-- the members of a list that has each once
+pub sum-within : (f : ℕ → ℕ) (ys xs : List ℕ) → ((o : ℕ) → occurrences o xs ≤ 1) → ((o : ℕ) → occurrences o ys ≤ occurrences o xs) → sum_by f ys ≤ sum_by f xs
+sum-within f [] xs once fewer = omega arith
+sum-within f (y ∷ ys) xs once fewer =
+    let here : occurrences y (y ∷ ys) ≡ 1 + occurrences y ys = occurrences-cons y y ys ∙ ap (λ b. cond b 1 0 + occurrences y ys) (eq-eqb y y refl) in
+    let one : occurrences y xs ≡ 1 = omega (arith, here, fewer y, once y) in
+    let left = λ (o : ℕ). sum-one_less (λ x. cond {A = ℕ} (x == o) 1 0) y xs one in
+    let rest = sum-within f ys (without_serial y xs) (λ o. omega (arith, left o, once o)) (λ o. omega (arith, left o, fewer o, occurrences-cons o y ys)) in
+    omega (arith, rest, sum-one_less f y xs one, sum_by-cons f y ys)
+
+pub sum-inside : (f : ℕ → ℕ) (ys xs : List ℕ) → ((o : ℕ) → occurrences o ys ≤ 1) → ((o : ℕ) → occurrences o xs ≤ 1) → ((o : ℕ) → Includes ys o → Includes xs o) → sum_by f ys ≤ sum_by f xs
+sum-inside f ys xs one once inside = sum-within f ys xs once (λ o. fewer o (none_or_some (occurrences o ys)))
+  where
+    fewer : (o : ℕ) → (occurrences o ys ≡ 0) ⊎ (1 ≤ occurrences o ys) → occurrences o ys ≤ occurrences o xs
+    fewer o (inl none) = omega (arith, none)
+    fewer o (inr some) = omega (arith, one o, occurs xs o (inside o (occurs_in ys o some)))
 
 -- one has another number, the others have theirs
 pub sum-one_other : (f g : ℕ → ℕ) (o : ℕ) (xs : List ℕ) → occurrences o xs ≡ 1 → ((q : ℕ) → q ≢ o → f q ≡ g q) → sum_by f xs + g o ≡ sum_by g xs + f o

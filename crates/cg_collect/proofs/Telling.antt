@@ -24,7 +24,7 @@ use Rattle.cg_collect.specs.declared.phase.Phase.TheVariants as phase_of
 use Rattle.cg_collect.specs.Phases.{from_on, lines_left}
 use Rattle.cg_collect.specs.Ready.{IsReadyForCollectionAt, IsApartUnseen, IsEmptyAt, IsAt, HasItsWalk, HasFewCollected}
 use Rattle.cg_collect.specs.Answers.{CollectionShows, CollectSteps}
-use Rattle.cg_collect.specs.Turns.{pass_of, collection_at}
+use Rattle.cg_collect.specs.Turns.{Advances, collection_at}
 use Rattle.cg_collect.specs.Starting.{told_weak, told_if}
 use Rattle.cg_collect.proofs.Moving.{walk_passes, comes_next}
 use Rattle.cg_collect.proofs.Walking.{walk_begins}
@@ -122,9 +122,9 @@ pub few_told : (n : ℕ) (b : Bool) (store : Store) → n ≡ 0 → HasFewCollec
 few_told n true store e = e
 few_told n false store e = e
 
-pub late_told : (b : Bool) (store : Store) → 2 ≤ pass_of (told_if b store)
-late_told true store = omega arith
-late_told false store = omega arith
+pub onward_told : (zero one two frozen : ℕ) (b : Bool) (store : Store) → Advances (phase_of.Sizes zero one two frozen) (told_if b store)
+onward_told zero one two frozen true store = (omega arith, refl)
+onward_told zero one two frozen false store = (omega arith, refl)
 
 -- the lines that are left
 module _ (script : Script) (asked : Bool) (facts : Facts) (store : Store) where

@@ -1,11 +1,12 @@
 -- A pass that untracks objects of which no reference may be tracked.
-use Rattle.std.proofs.Common.{◌≡◌, ◌≢◌, refl, sym, ◌∙◌, ap, subst, ℕ, ◌+◌, ◌<◌, ◌⊎◌, inl, inr, Bool, true, false, not, ◌||◌, List, [], ◌∷◌, ◌++◌, length, take, drop, Option, Some, None, IsSome, arith}
-use Rattle.std.specs.Prelude.{IfSome, slice_get}
+use Rattle.std.proofs.Common.{◌≡◌, ◌≢◌, refl, sym, ◌∙◌, ap, subst, ℕ, ◌+◌, ◌<◌, ◌≤◌, ◌⊎◌, inl, inr, Bool, true, false, not, ◌||◌, List, [], ◌∷◌, ◌++◌, length, take, drop, Option, Some, None, IsSome, arith}
+use Rattle.std.specs.Prelude.{IfSome, slice_get, sum_by}
 use Rattle.std.specs.List.{list_any}
 use Rattle.std.specs.FinMap as fin
 use Rattle.std.proofs.lemmas.Bool.{cases_eq}
 use Rattle.std.proofs.lemmas.List.{take-append-drop}
 use Rattle.std.proofs.lemmas.List.Folds.{list_any-append}
+use Rattle.std.proofs.lemmas.List.Sums.{sum_by-cons}
 use Rattle.std.proofs.Math.Seq.{take-length}
 use Rattle.cg_value.specs.declared.Entry.{Entry}
 use Rattle.cg_value.specs.declared.Val.{Val}
@@ -28,6 +29,7 @@ use Rattle.cg_trial.proofs.Lists.{IsAt, ahead, ahead_is}
 use Rattle.cg_kind.proofs.References.{references-append, references_in_turn}
 use Rattle.cg_trial.proofs.Placed.{is_there}
 use Rattle.cg_collect.specs.Starting.{StaysAt, Untracks, WasUntracked, UntracksOne, has_tracked}
+use Rattle.cg_collect.specs.Looks.{entries_listed}
 use Rattle.cg_collect.proofs.Standing.{same_itself, same_more, code_on, code_back, entries_on, lives_at}
 use Rattle.cg_collect.proofs.Moving.{walk_at, walk_over, walk_first, walk_passes, comes_next, live_where, left_is, moved_same, moved_there, moved_not, moved_once, walk_leaves}
 
@@ -103,6 +105,11 @@ has_tracked_alike a b same alike o = ap (λ es. list_any (trackable b) (referenc
 -- Of the first entries of an object none may be tracked.
 pub record NoneSoFar (store : Store) (o i : ℕ) : Type 0 where
   pub none : list_any (trackable store) (references (take i (entries_of store o))) ≡ false
+
+-- Each of them was looked at once.
+pub record NoneLooked (store : Store) (o i before looks : ℕ) : Type 0 where
+  pub so_far : NoneSoFar store o i
+  pub looked : looks ≡ before + i
 
 value_any : (store : Store) (v : Val) → list_any (trackable store) (targets v) ≡ may_be_tracked store v
 value_any store Nothing = refl
@@ -182,6 +189,18 @@ untracking_first g kind store cursor is = record {
   passed = λ q h. absurd h;
   others = λ o. inl refl;
 }
+
+-- Each entry of those that it passed was looked at once at most: what was looked at, and what is still to be, is no more than this.
+pub record UntrackingLooked (g : ℕ) (kind : KindCode) (old now : Store) (cursor : Option ℕ) (most looks : ℕ) : Type 0 where
+  pub walk : Untracking g kind old now cursor
+  pub looked : looks + sum_by (λ q. length (entries_of old q)) walk.back ≤ most
+
+pub untracking_looked : (g : ℕ) (kind : KindCode) (store : Store) (cursor : Option ℕ) (looks : ℕ) → cursor ≡ slice_get (list_at store (Gen g)) 0 → UntrackingLooked g kind store store cursor (looks + entries_listed store (Gen g)) looks
+unfolding untracking_first
+untracking_looked g kind store cursor looks is =
+    let walk = untracking_first g kind store cursor is in
+    let all : sum_by (λ q. length (entries_of store q)) walk.back ≡ entries_listed store (Gen g) = refl in
+    record { walk = walk; looked = omega (arith, all) }
 
 untracked_or_stays : (g : ℕ) (kind : KindCode) (old now : Store) → ((o : ℕ) → StaysAt old now o ⊎ WasUntracked g kind old now o) → (o : ℕ) → StaysAt old now o ⊎ (place_of now o ≡ Untracked)
 untracked_or_stays g kind old now others o = either (others o) (λ s. inl s) (λ went. inr went.stands)
@@ -280,6 +299,20 @@ module _ (g : ℕ) (kind : KindCode) (old now : Store) (cursor : Option ℕ) (o 
     pub untracking_more : (new : Store) → UntracksOne o kind now new → Untracking g kind old new then
     untracking_more new (inl (e, of_kind, none)) = subst (λ (s : Store). Untracking g kind old s then) (sym e) (untracking_one of_kind none)
     untracking_more new (inr (e, not_one)) = subst (λ (s : Store). Untracking g kind old s then) (sym e) (untracking_passes not_one)
+
+    -- what is looked at for it are its entries
+    pub untracking_looks : (new : Store) (most looks looks_now : ℕ) → UntracksOne o kind now new → looks + sum_by (λ q. length (entries_of old q)) so.back ≤ most → looks_now ≤ looks + length (entries_of now o) → UntrackingLooked g kind old new then most looks_now
+    unfolding untracking_one untracking_passes
+    untracking_looks new most looks looks_now (inl (e, of_kind, none)) few more =
+        let rest = leaves of_kind none in
+        let own : length (entries_of now o) ≡ length (entries_of old o) = ap length (entries_on old now so.same o) in
+        let parts = ap (sum_by (λ q. length (entries_of old q))) rest.1 ∙ sum_by-cons (λ q. length (entries_of old q)) o rest.0 in
+        subst (λ (s : Store). UntrackingLooked g kind old s then most looks_now) (sym e) (record { walk = untracking_one of_kind none; looked = omega (arith, few, more, own, parts) })
+    untracking_looks new most looks looks_now (inr (e, not_one)) few more =
+        let rest = passes not_one in
+        let own : length (entries_of now o) ≡ length (entries_of old o) = ap length (entries_on old now so.same o) in
+        let parts = ap (sum_by (λ q. length (entries_of old q))) rest.1 ∙ sum_by-cons (λ q. length (entries_of old q)) o rest.0 in
+        subst (λ (s : Store). UntrackingLooked g kind old s then most looks_now) (sym e) (record { walk = untracking_passes not_one; looked = omega (arith, few, more, own, parts) })
 
     pub untracking_shorter : (new : Store) → UntracksOne o kind now new → length (ahead then (list_at new (Gen g))) < length (ahead cursor (list_at now (Gen g)))
     untracking_shorter new (inl (e, of_kind, none)) = subst (λ (s : Store). length (ahead then (list_at s (Gen g))) < length (ahead cursor (list_at now (Gen g)))) (sym e) (one_shorter of_kind none)

@@ -1,5 +1,5 @@
 -- Where a collection stands towards its two detections. (Ours.)
-use Rattle.std.specs.Prelude.{◌≡◌, ◌⊎◌, Bool, true, false, Option, Some, None}
+use Rattle.std.specs.Prelude.{◌≡◌, ◌⊎◌, ℕ, Bool, true, false, List, [], ◌∷◌, ◌++◌, Option, Some, None, flat_map}
 use Rattle.cg_collect.specs.declared.phase.Phase.{Phase}
 use Rattle.cg_collect.specs.declared.phase.Phase.TheVariants as phase_of
 use Rattle.cg_collect.specs.declared.stage.Stage.{Stage}
@@ -42,3 +42,45 @@ abbrev pub LeavesStage : Phase → Stage → Type 0
 LeavesStage phase_of.Start now = now ≡ stage.AfterFirst
 LeavesStage phase_of.Split now = now ≡ stage.AfterSecond
 LeavesStage phase now = (now ≡ stage.BeforeSecond) ⊎ (now ≡ stage.Between)
+
+-- a stage as a list, if it is one of the four that are met
+abbrev pub met : Stage → List Stage
+met stage.Between = []
+met now = now ∷ []
+
+-- the two of the second detection
+abbrev pub second_stages : List Stage
+second_stages = stage.BeforeSecond ∷ stage.AfterSecond ∷ []
+
+-- the stages that a collection at a phase has still to come to, in their order
+abbrev pub stages_ahead : Phase → List Stage
+stages_ahead phase_of.Start = stage.AfterFirst ∷ second_stages
+stages_ahead (phase_of.Sizes zero one two frozen) = second_stages
+stages_ahead (phase_of.Telling next) = second_stages
+stages_ahead (phase_of.WeakClearing member weak) = second_stages
+stages_ahead phase_of.WeakCalling = second_stages
+stages_ahead (phase_of.AfterCallback weak) = second_stages
+stages_ahead (phase_of.AfterRelease weak) = second_stages
+stages_ahead phase_of.Finalizing = second_stages
+stages_ahead (phase_of.AfterFinalizing o) = second_stages
+stages_ahead phase_of.Split = stage.AfterSecond ∷ []
+stages_ahead phase = []
+
+-- A step comes to the first of those that were ahead, or to none of them: the others are ahead afterwards.
+abbrev pub MeetsStage : Phase → Stage → Phase → Type 0
+MeetsStage phase now next = stages_ahead phase ≡ met now ++ stages_ahead next
+
+-- steps one after the other, by the clause `meets` of `Collection::step`: from a collection, the ones that they leave
+abbrev pub MeetStages : Collection → List Collection → Type 0
+MeetStages c [] = Unit {0}
+MeetStages c (next ∷ later) = MeetsStage c.phase (stage_of next) next.phase × MeetStages next later
+
+-- where a collection stands after them
+abbrev pub phase_after : Collection → List Collection → Phase
+phase_after c [] = c.phase
+phase_after c (next ∷ later) = phase_after next later
+
+-- A collection that has just begun and ends meets each of the four once, in this order.
+abbrev pub StagesAreMetOnce : Type 0
+StagesAreMetOnce = (c : Collection) (later : List Collection) (number : ℕ) → stage_of c ≡ stage.BeforeFirst → MeetStages c later → phase_after c later ≡ phase_of.Over number
+    → flat_map (λ d. met (stage_of d)) (c ∷ later) ≡ stage.BeforeFirst ∷ stage.AfterFirst ∷ stage.BeforeSecond ∷ stage.AfterSecond ∷ []

@@ -20,6 +20,7 @@ use Rattle.cg_collect.specs.declared.collection.Collection.{Collection}
 use Rattle.cg_collect.specs.Phases.{from_on}
 use Rattle.cg_collect.specs.Ready.{IsReadyForCollectionAt, HasItsWalk, SparesGarbageList, to_look_at, HasFewCollected, GivesUpIn, RunsFrame}
 use Rattle.cg_collect.specs.Answers.{CollectSteps}
+use Rattle.cg_collect.specs.Stages.{detection_at, stage_at, MeetsStage}
 
 -- a collection with these facts, at a phase, which gives up this first; whether its last step detected is seen in no answer
 abbrev pub collection_at : Facts → Phase → Option Release → Collection
@@ -69,6 +70,10 @@ abbrev pub passes_on : Phase → ℕ
 passes_on phase_of.Start = 1
 passes_on phase_of.Split = 1
 passes_on phase = 0
+
+-- No earlier pass follows, and of the stages that were ahead the turn meets the first or none.
+abbrev pub Advances : Phase → Phase → Type 0
+Advances phase next = (pass_of phase + passes_on phase ≤ pass_of next) × MeetsStage phase (stage_at next (detection_at phase)) next
 
 -- what a release has still to do
 abbrev pub still_released : Option Release → ℕ
@@ -146,8 +151,8 @@ pub record TakesTurn (script : Script) (facts : Facts) (phase : Phase) (old : St
   pub gives_up : GivesUpIn turn.phase turn.release
   -- what is handed out
   pub hands_out : HandsOutIn facts phase turn.answer turn.phase turn.release
-  -- no earlier pass follows, and the end comes nearer
-  pub onward : pass_of phase + passes_on phase ≤ pass_of turn.phase
+  -- no earlier pass follows, no stage is left out, and the end comes nearer
+  pub onward : Advances phase turn.phase
   pub falls : TurnFalls old phase new turn
   -- what stays
   pub keeps : KeepsObjects old new

@@ -1,10 +1,10 @@
 -- The steps of a whole collection, and how many entries they look at together. (Ours.)
 use Rattle.std.specs.Prelude.{◌≡◌, ℕ, ◌+◌, ◌≤◌, List, [], ◌∷◌}
-use Rattle.cg_graph.specs.Store.{Store}
+use Rattle.cg_graph.specs.Store.{Store, entries_of}
 use Rattle.cg_collect.specs.declared.phase.Phase.{Phase}
 use Rattle.cg_collect.specs.declared.phase.Phase.TheVariants as phase_of
 use Rattle.cg_collect.specs.Turns.{pass_of, passes_on}
-use Rattle.cg_collect.specs.Looks.{most_looks}
+use Rattle.cg_collect.specs.Looks.{most_looks, one_of}
 
 -- a step: the heap and the phase that it found, the phase that it left, and the counter before and after
 pub record SteppedPhase : Type 0 where
@@ -39,6 +39,14 @@ abbrev pub looks_at_split : ℕ → List SteppedPhase → ℕ
 looks_at_split g [] = 0
 looks_at_split g (step ∷ steps) = elim step.phase [ phase_of.Split ↦ most_looks g phase_of.Split step.store | _ ↦ looks_at_split g steps ]
 
--- A collection looks at no more than these two, each of which goes over its entries twice.
-abbrev pub CollectionsLookTwice : Type 0
-CollectionsLookTwice = (g : ℕ) (phase : Phase) (looks : ℕ) (steps : List SteppedPhase) → AreSteps g phase looks steps → looks_after looks steps ≤ looks + looks_at_start g steps + looks_at_split g steps
+-- what the turns of members may look at: one for each entry that they take out
+abbrev pub looks_in_turn : SteppedPhase → ℕ
+looks_in_turn step = elim step.phase [ phase_of.Turn o ↦ one_of (entries_of step.store o) | _ ↦ 0 ]
+
+abbrev pub looks_in_turns : List SteppedPhase → ℕ
+looks_in_turns [] = 0
+looks_in_turns (step ∷ steps) = looks_in_turn step + looks_in_turns steps
+
+-- A collection looks at no more than these.
+abbrev pub LooksAreBounded : Type 0
+LooksAreBounded = (g : ℕ) (phase : Phase) (looks : ℕ) (steps : List SteppedPhase) → AreSteps g phase looks steps → looks_after looks steps ≤ looks + looks_at_start g steps + looks_at_split g steps + looks_in_turns steps

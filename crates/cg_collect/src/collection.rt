@@ -17,7 +17,7 @@ ghost use Rattle.cg_collect.specs.Ready.{IsClear, IsReadyForCollectionAt, HasIts
 ghost use Rattle.cg_collect.specs.Turns.{pass_of, passes_on, TakesTurn};
 ghost use Rattle.cg_collect.specs.Looks.{most_looks};
 ghost use Rattle.cg_collect.specs.Answers.{CollectSteps, CollectionShows};
-ghost use Rattle.cg_collect.specs.Stages.{stage_of, detection_at, LeavesStage};
+ghost use Rattle.cg_collect.specs.Stages.{stage_of, detection_at, LeavesStage, MeetsStage};
 ghost use Rattle.cg_collect.specs.declared.stage.Stage.TheVariants as stage;
 ghost use Rattle.cg_collect.specs.Collections.{IsReadyForCollection, KeepsReady, CollectFalls, DiesUnheld, CollectionEndsWith, GivesUpNext, StopsWith, stop_turn, held_by, given_up_by, own_holds_at, facts_of};
 
@@ -138,6 +138,7 @@ impl Collection {
         ensures begun { IsBegun self.new.phase }
         ensures detected { self.new.detected ≡ detection_at self.old.phase }
         ensures stage { LeavesStage self.old.phase (stage_of self.new) }
+        ensures meets { MeetsStage self.old.phase (stage_of self.new) self.new.phase }
         ensures onward { pass_of self.old.phase + passes_on self.old.phase ≤ pass_of self.new.phase }
         ensures objects { MakesNone heap.old heap.new }
         ensures names { KeepsNames heap.old heap.new }
@@ -221,7 +222,7 @@ impl Collection {
             Phase::Detaching(next) => detach_one(heap, next),
             Phase::Unlinking { member, weak } => unlink_one(heap, member, weak),
             Phase::Turns => take_turn(facts, heap),
-            Phase::Turn(object) => empty_one(heap, object),
+            Phase::Turn(object) => empty_one(heap, object, steps),
             Phase::AfterTurn(object) => after_turn(facts, heap, object),
             Phase::Ending => end(facts, heap, policy, script),
             Phase::Uncollectable {

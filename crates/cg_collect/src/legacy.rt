@@ -1,27 +1,35 @@
 //! Unreachable objects whose class has a legacy finalizer, and what they lead to, are set aside. (`gc` manual, `gc.garbage`;
 //! PEP 442, "legacy finalizers".)
+ghost use Rattle.std.specs.Prelude.{◌≡◌, ◌+◌, ◌≤◌, length};
 ghost use Rattle.cg_graph.specs.Value.{references};
 ghost use Rattle.cg_graph.specs.Store.{IsLive, entries_of};
 ghost use Rattle.cg_heap.specs.Calls.{IsLiveValue};
 ghost use Rattle.cg_collect.specs.Ready.{IsEmptyAt};
 ghost use Rattle.cg_collect.specs.Starting.{SetsLegacyAside, SetsFinalizedAside, Closes, SetsReferencesAside};
+ghost use Rattle.cg_collect.specs.Looks.{entries_listed};
 ghost use Rattle.cg_trial.specs.View.{targets};
 
 use cg_arena::Near;
 use cg_death::finalizers_of;
-use cg_heap::Heap;
+use cg_heap::{Heap, Steps};
 use cg_kind::Kind;
 use cg_script::Script;
 use cg_value::{Place, Val};
+use std::sync::ledger::Ledger;
 
 /// The candidates with a legacy finalizer, and the candidates that they lead to, are set aside.
-pub fn set_legacy_aside<B: Kind>(heap: &mut Heap<B>, script: &Script)
+pub fn set_legacy_aside<B: Kind, L: Ledger>(
+    heap: &mut Heap<B>,
+    script: &Script,
+    steps: &mut Steps<L>,
+)
     requires { IsEmptyAt heap.old Place.Legacy }
-    ensures { SetsLegacyAside script.now heap.old heap.new }
+    ensures sets { SetsLegacyAside script.now heap.old heap.new }
+    ensures looks { steps.new ≤ steps.old + entries_listed heap.new Place.Legacy }
 {
     heap.sound();
     set_finalized_aside(heap, script);
-    close(heap);
+    close(heap, steps);
 }
 
 /// The candidates with a legacy finalizer are set aside.
@@ -43,14 +51,15 @@ fn set_finalized_aside<B: Kind>(heap: &mut Heap<B>, script: &Script)
 }
 
 /// What they lead to is set aside: each stands behind them in the list, and is gone through in its turn.
-fn close<B: Kind>(heap: &mut Heap<B>)
-    ensures { Closes heap.old heap.new }
+fn close<B: Kind, L: Ledger>(heap: &mut Heap<B>, steps: &mut Steps<L>)
+    ensures closes { Closes heap.old heap.new }
+    ensures looks { steps.new ≤ steps.old + entries_listed heap.new Place.Legacy }
 {
     heap.sound();
     let mut next = heap.first(Place::Legacy);
     'objects: while let Some(object) = next {
         heap.sound();
-        set_references_aside(heap, object);
+        set_references_aside(heap, object, steps);
         heap.sound();
         next = heap.next(object);
     }
@@ -58,13 +67,14 @@ fn close<B: Kind>(heap: &mut Heap<B>)
 }
 
 /// The candidates among the references of an object are set aside.
-fn set_references_aside<B: Kind>(heap: &mut Heap<B>, object: u64)
+fn set_references_aside<B: Kind, L: Ledger>(heap: &mut Heap<B>, object: u64, steps: &mut Steps<L>)
     requires { IsLive heap.old object }
-    ensures { SetsReferencesAside (references (entries_of heap.old object)) heap.old heap.new }
+    ensures sets { SetsReferencesAside (references (entries_of heap.old object)) heap.old heap.new }
+    ensures looks { steps.new ≡ steps.old + length (entries_of heap.old object) }
 {
     heap.sound();
     'entries: for i in 0..heap.len(object) {
-        let entry = heap.entry_at(object, i);
+        let entry = heap.look(object, i, steps);
         set_aside(heap, entry.val);
         set_aside(heap, entry.key);
     }

@@ -27,5 +27,5 @@ mod weak;
 
 pub use answer::CollectStep;
 pub use collection::Collection;
-pub use laws::a_collection_looks_at_each_twice;
+pub use laws::{a_collection_meets_each_stage_once, looks_of_a_collection_are_bounded};
 pub use stage::Stage;

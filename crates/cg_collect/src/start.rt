@@ -51,13 +51,13 @@ pub fn start<B: Kind, L: Ledger>(
     merge_younger(facts.generation, heap);
     heap.sound();
     split(heap, Place::Gen(facts.generation), steps);
-    untrack(heap, facts.generation);
+    untrack(heap, facts.generation, steps);
     heap.sound();
     let survivors = heap.size(Place::Gen(facts.generation));
     policy.survived(facts.generation, survivors);
     get_older(facts.generation, heap);
     heap.sound();
-    set_legacy_aside(heap, script);
+    set_legacy_aside(heap, script, steps);
     heap.sound();
     Turn::tells(
         Event::GcStart(facts.generation),

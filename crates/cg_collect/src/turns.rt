@@ -1,6 +1,6 @@
 //! The clearing: each member of the final set has a turn. (Developer guide, "destroying unreachable objects". That it is
 //! emptied entry by entry is ours.)
-ghost use Rattle.std.specs.Prelude.{◌≡◌, ◌<◌, ◌≤◌, Some, slice_get};
+ghost use Rattle.std.specs.Prelude.{◌≡◌, ◌+◌, ◌<◌, ◌≤◌, Some, slice_get};
 ghost use Rattle.cg_value.specs.declared.Place.TheVariants as place_of;
 ghost use Rattle.cg_script.specs.declared.Script.{Script as AnyScript};
 ghost use Rattle.cg_policy.specs.Policy.{Policy as Standing};
@@ -10,16 +10,18 @@ ghost use Rattle.cg_collect.specs.declared.collection.Facts.{Facts as AnyFacts};
 ghost use Rattle.cg_collect.specs.declared.phase.Phase.TheVariants as phase_of;
 ghost use Rattle.cg_collect.specs.Ready.{IsReadyForCollectionAt};
 ghost use Rattle.cg_collect.specs.Turns.{TakesTurn};
+ghost use Rattle.cg_collect.specs.Looks.{most_looks};
 
 use crate::collection::Facts;
 use crate::phase::{Phase, Turn, older};
 use bitflags::Flags;
 use cg_death::Release;
-use cg_heap::Heap;
+use cg_heap::{Heap, Steps};
 use cg_kind::Kind;
 use cg_machine::Event;
 use cg_policy::Flagset;
 use cg_value::{KindCode, Place};
+use std::sync::ledger::Ledger;
 
 /// The next member has its turn; when all had theirs, the end follows.
 pub fn take_turn<B: Kind>(facts: Facts, heap: &mut Heap<B>) -> Turn
@@ -63,14 +65,15 @@ fn begin_turn<B: Kind>(facts: Facts, heap: &mut Heap<B>, object: u64) -> Turn
 }
 
 /// Its last entry is taken out, to be given up; when none is left, it is given up itself.
-pub fn empty_one<B: Kind>(heap: &mut Heap<B>, object: u64) -> Turn
+pub fn empty_one<B: Kind, L: Ledger>(heap: &mut Heap<B>, object: u64, steps: &mut Steps<L>) -> Turn
     requires ready { IsReadyForCollectionAt heap.old 0 (phase_of.Turn object) }
     requires few { HasFewHolds heap.old }
     requires held { 0 < outside_of heap.old object }
-    ensures { (script : AnyScript) (facts : AnyFacts) (policy : Standing) → TakesTurn script facts (phase_of.Turn object) heap.old policy heap.new policy result }
+    ensures takes { (script : AnyScript) (facts : AnyFacts) (policy : Standing) → TakesTurn script facts (phase_of.Turn object) heap.old policy heap.new policy result }
+    ensures looks { steps.new ≤ steps.old + most_looks 0 (phase_of.Turn object) heap.old }
 {
     heap.sound();
-    match heap.detach(object) {
+    match heap.detach_looking(object, steps) {
         Some(entry) => Turn::gives_up(Release::new(entry), Phase::Turn(object)),
         None => Turn::gives_up(Release::of(object), Phase::AfterTurn(object)),
     }

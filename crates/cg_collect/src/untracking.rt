@@ -1,31 +1,43 @@
 //! The survivors that are untracked. (Developer guide, "optimization: delay tracking containers".)
-ghost use Rattle.std.specs.Prelude.{◌≡◌, ◌≤◌};
+ghost use Rattle.std.specs.Prelude.{◌≡◌, ◌+◌, ◌*◌, ◌≤◌, length};
 ghost use Rattle.cg_value.specs.declared.KindCode.TheVariants as kind_of;
-ghost use Rattle.cg_graph.specs.Store.{IsLive};
+ghost use Rattle.cg_value.specs.declared.Place.TheVariants.{Gen};
+ghost use Rattle.cg_graph.specs.Store.{IsLive, entries_of};
 ghost use Rattle.cg_heap.specs.Calls.{IsLiveValue, may_be_tracked};
 ghost use Rattle.cg_collect.specs.Starting.{Untracks, UntracksSurvivors, UntracksOne, has_tracked};
+ghost use Rattle.cg_collect.specs.Looks.{entries_listed};
 
 use cg_arena::Near;
-use cg_heap::Heap;
+use cg_heap::{Heap, Steps};
 use cg_kind::Kind;
 use cg_value::{KindCode, Place, Val};
+use std::sync::ledger::Ledger;
 
 /// The surviving tuples of which no item may be tracked are untracked, and then, in a collection of 2, the dictionaries of
 /// which no key and no value may be.
-pub fn untrack<B: Kind>(heap: &mut Heap<B>, generation: u8)
+pub fn untrack<B: Kind, L: Ledger>(heap: &mut Heap<B>, generation: u8, steps: &mut Steps<L>)
     requires { generation ≤ 2 }
-    ensures { UntracksSurvivors generation heap.old heap.new }
+    ensures untracks { UntracksSurvivors generation heap.old heap.new }
+    ensures looks { steps.new ≤ steps.old + 2 * entries_listed heap.old (Gen generation) }
 {
-    untrack_kind(heap, generation, KindCode::Tuple);
+    heap.sound();
+    untrack_kind(heap, generation, KindCode::Tuple, steps);
+    heap.sound();
     if generation == 2 {
-        untrack_kind(heap, generation, KindCode::Dict);
+        untrack_kind(heap, generation, KindCode::Dict, steps);
     }
 }
 
 /// The objects of a kind in a generation are untracked, where none of their references may be tracked.
-fn untrack_kind<B: Kind>(heap: &mut Heap<B>, generation: u8, kind: KindCode)
+fn untrack_kind<B: Kind, L: Ledger>(
+    heap: &mut Heap<B>,
+    generation: u8,
+    kind: KindCode,
+    steps: &mut Steps<L>,
+)
     requires { generation ≤ 2 }
-    ensures { Untracks generation kind heap.old heap.new }
+    ensures untracks { Untracks generation kind heap.old heap.new }
+    ensures looks { steps.new ≤ steps.old + entries_listed heap.old (Gen generation) }
 {
     heap.sound();
     let mut near = Near::default();
@@ -34,29 +46,42 @@ fn untrack_kind<B: Kind>(heap: &mut Heap<B>, generation: u8, kind: KindCode)
         heap.sound();
         let here = near;
         next = heap.next_near(object, &mut near);
-        untrack_one(heap, object, here, kind);
+        untrack_one(heap, object, here, kind, steps);
     }
     heap.sound();
 }
 
 /// One of them, which is near.
-fn untrack_one<B: Kind>(heap: &mut Heap<B>, object: u64, near: Near, kind: KindCode)
+fn untrack_one<B: Kind, L: Ledger>(
+    heap: &mut Heap<B>,
+    object: u64,
+    near: Near,
+    kind: KindCode,
+    steps: &mut Steps<L>,
+)
     requires { IsLive heap.old object }
-    ensures { UntracksOne object kind heap.old heap.new }
+    ensures untracks { UntracksOne object kind heap.old heap.new }
+    ensures looks { steps.new ≤ steps.old + length (entries_of heap.old object) }
 {
-    if heap.head_near(object, near).code == kind && !has_tracked(heap, object, near) {
+    if heap.head_near(object, near).code == kind && !has_tracked(heap, object, near, steps) {
         heap.move_near(object, near, Place::Untracked);
     }
 }
 
 /// Whether a reference of an object that is near may be tracked.
-fn has_tracked<B: Kind>(heap: &Heap<B>, object: u64, near: Near) -> bool
+fn has_tracked<B: Kind, L: Ledger>(
+    heap: &Heap<B>,
+    object: u64,
+    near: Near,
+    steps: &mut Steps<L>,
+) -> bool
     requires { IsLive heap.now object }
-    ensures { result ≡ has_tracked heap.now object }
+    ensures found { result ≡ has_tracked heap.now object }
+    ensures looks { steps.new ≤ steps.old + length (entries_of heap.now object) }
 {
     heap.sound();
     'entries: for i in 0..heap.len_near(object, near) {
-        let entry = heap.entry_near(object, i, near);
+        let entry = heap.look_near(object, i, near, steps);
         if may_be_tracked(heap, entry.val) || may_be_tracked(heap, entry.key) {
             return true;
         }

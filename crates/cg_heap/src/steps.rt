@@ -6,7 +6,7 @@ use std::sync::ledger::{Blank, Book, Ledger, Share};
 
 /// How many entries were looked at: contracts see a number that rises, and nothing stands there at run time.
 ///
-/// Only `Heap::look` and `Heap::note_near` let it rise. (Ours.)
+/// Only `Heap::look`, `Heap::look_near`, `Heap::note_near` and `Heap::detach_looking` let it rise. (Ours.)
 #[derive(Drop)]
 pub struct Steps<L: Ledger> {
     book: Book<L>,

@@ -1,7 +1,7 @@
 //! What becomes of exit finalizers in every run. Each law is the contract of a function that does nothing.
 ghost use Rattle.cg_weakcoll.specs.Exits.{ExitsAreCalledLastFirst, ExitsBeginAlive, ExitsBeginOnce};
 ghost use Rattle.cg_weakcoll.specs.ExpandedExits.{ExpandedExitsAreThere};
-ghost use Rattle.cg_weakcoll.specs.WorkedExits.{HasBoth};
+ghost use Rattle.cg_weakcoll.specs.WorkedExits.{FindsOneAlive, HasBoth};
 
 /// In every run of a script with an exit finalizer, the callback frames of its weak reference and the frames that its procedure's
 /// call begins are together at most one.
@@ -23,6 +23,11 @@ pub fn exits_begin_alive()
 /// The expansion of a worked script with two `finalize` lines spells a script that has both exit finalizers, as these laws ask.
 pub fn two_finalizers_are_there()
     ensures { HasBoth }
+{}
+
+/// A run of that script meets what the law on finalizers that begin alive asks, and the second function's frame begins in it.
+pub fn the_second_begins_alive()
+    ensures { FindsOneAlive }
 {}
 
 /// In the script that an expansion spells each `finalize` line of the extended script has its exit finalizer, as these laws ask.

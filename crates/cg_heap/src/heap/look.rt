@@ -1,6 +1,9 @@
-//! A look at an entry, which is counted.
-ghost use Rattle.std.specs.Prelude.{◌≡◌, ◌+◌, ◌<◌, Some, length, slice_get};
+//! Looks at an entry, which are counted.
+ghost use Rattle.std.specs.Prelude.{◌≡◌, ◌↔◌, ◌+◌, ◌<◌, ◌∷◌, ◌++◌, [], Some, IfSome, IfNone, IsNone, length, slice_get};
+ghost use Rattle.cg_graph.specs.Value.{without_last, entry_references};
 ghost use Rattle.cg_graph.specs.Store.{IsLive, entries_of};
+ghost use Rattle.cg_graph.specs.Changes.{held, rewritten};
+ghost use Rattle.cg_heap.specs.Calls.{HasFewHolds};
 
 use super::Heap;
 use crate::steps::Steps;
@@ -18,5 +21,27 @@ impl<B: Kind> Heap<B> {
     {
         steps.rise(1);
         self.entry_at(object, i)
+    }
+
+    /// Takes the last entry off, as `detach`, and the counter rises by 1 where there is one.
+    pub fn detach_looking<L: Ledger>(&mut self, object: u64, steps: &mut Steps<L>) -> Option<Entry>
+        requires live { IsLive self.old object }
+        requires few { HasFewHolds self.old }
+        ensures last { IfSome result (λ e. entries_of self.old object ≡
+            without_last (entries_of self.old object) ++ e ∷ []) }
+        ensures rest { IfSome result (λ e. self.new ≡ held (entry_references e)
+            (rewritten object (without_last (entries_of self.old object)) self.old)) }
+        ensures empty { IsNone result ↔ (entries_of self.old object ≡ []) }
+        ensures none { IfNone result (self.new ≡ self.old) }
+        ensures looked { IfSome result (λ e. steps.new ≡ steps.old + 1) }
+        ensures unlooked { IfNone result (steps.new ≡ steps.old) }
+    {
+        match self.detach(object) {
+            Some(entry) => {
+                steps.rise(1);
+                Some(entry)
+            }
+            None => None,
+        }
     }
 }

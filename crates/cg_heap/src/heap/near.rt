@@ -85,6 +85,24 @@ impl<B: Kind> Heap<B> {
         self.boxes.entry_at(seat, i)
     }
 
+    /// `entry_near`, and the counter rises by 1.
+    #[inline(always)]
+    pub fn look_near<L: Ledger>(
+        &self,
+        object: u64,
+        i: usize,
+        near: Near,
+        steps: &mut Steps<L>,
+    ) -> Entry
+        requires live { IsLive self.now object }
+        requires within { i < length (entries_of self.now object) }
+        ensures entry { slice_get (entries_of self.now object) i ≡ Some result }
+        ensures steps { steps.new ≡ steps.old + 1 }
+    {
+        steps.rise(1);
+        self.entry_near(object, i, near)
+    }
+
     /// The entry at a position of an object that is near, `None` exactly where that is the length or more.
     #[inline(always)]
     pub fn get_near(&self, object: u64, i: usize, near: Near) -> Option<Entry>

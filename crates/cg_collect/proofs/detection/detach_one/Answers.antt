@@ -29,7 +29,7 @@ pub returns-then-is_unreferred : goal.returns-then-is_unreferred
 returns-then-is_unreferred g c = λ script facts policy.
     let store = c.args.heap.now in
     goes_on c.to.ensures (turn-unreferred script facts store policy c.args.next (c.is_unreferred.ensures.0 c.if-is_unreferred.true))
-    c.requires.ready.0 tt (inl (omega arith)) (λ n few. few) (omega arith) (keeps_all store)
+    c.requires.ready.0 tt (inl (omega arith)) (λ n few. few) (omega arith, refl) (keeps_all store)
 
 -- All have lost the final set.
 pub returns-in_default : goal.returns-in_default
@@ -38,7 +38,7 @@ returns-in_default g c = λ script facts policy.
     let ready = subst (λ n. IsReadyForCollectionAt store 0 (phase_of.Detaching n)) c.in_default.is c.requires.ready in
     let bare : (o : ℕ) → Includes (list_at store Cand) o → weak_references_in store.rows o ≡ [] = λ o m. either (ready.2 o m) (λ e. absurd e) (λ none. none) in
     at_phase (ap phase_of.Detaching c.in_default.is) (goes_on c.to-in_default.ensures (turn-detached script facts store policy bare c.first.result c.first.ensures)
-    (ready.0, unlink_begins store bare c.first.result c.first.ensures) tt (inl (omega arith)) (λ n few. few) (omega arith) (keeps_all store))
+    (ready.0, unlink_begins store bare c.first.result c.first.ensures) tt (inl (omega arith)) (λ n few. few) (omega arith, refl) (keeps_all store))
 
 -- the object is a member
 pub newest_of-requires : goal.newest_of-requires
@@ -72,7 +72,7 @@ returns-in-Some-newest_of g c = λ script facts policy.
     (turn-lost store c.sound.ensures.rows.rise o n.older n.row n.inside n.passes n.first script facts policy rest.0 ready.1 rest.1 rest.2))
     (subst (λ (v : ℕ). IsReadyForCollectionAt (record store { rows = without_row v store.rows }) facts.generation (phase_of.Detaching (Some o))) n.is
     (apart_lost store c.sound.ensures.rows.rise o n.older n.row n.inside n.passes n.first ready.0, ready.1, behind_lost store c.sound.ensures.rows.rise o n.older n.row n.inside n.passes n.first ready.2))
-    tt (λ n few. few) (omega arith) (keeps-cleared weak false store)))
+    tt (λ n few. few) (omega arith, refl) (keeps-cleared weak false store)))
 
 -- It has none: the next member follows.
 pub next-requires : goal.next-requires
@@ -95,4 +95,4 @@ returns-in-None g c = λ script facts policy.
           (λ ahead. either (subst (λ l. Includes l q) next ahead) (λ e. inr (ap (weak_references_in store.rows) (sym e) ∙ bare)) (λ later. inl later))
           (λ none. inr none),
     )
-    tt (inr (refl, omega (arith, shorter))) (λ n few. few) (omega arith) (keeps_all store))
+    tt (inr (refl, omega (arith, shorter))) (λ n few. few) (omega arith, refl) (keeps_all store))

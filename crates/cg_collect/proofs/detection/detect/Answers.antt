@@ -28,6 +28,6 @@ returns-clause-takes r c = λ script policy.
       few = λ n h. omega (arith, h, c.size.ensures, list-le c.merge.new.self c.sound-2.ensures.listed Cand, c.sound-2.ensures.objects);
       gives_up = tt;
       hands_out = tt;
-      onward = omega arith;
+      onward = (omega arith, refl);
       keeps = keeps_then store half (merged Back (Gen (older g)) half) (keeps-same store half c.split.ensures.same) (keeps-merged Back (Gen (older g)) half);
     })

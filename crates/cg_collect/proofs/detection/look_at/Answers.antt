@@ -30,7 +30,7 @@ returns-then-is_member g c = λ script facts policy.
     let u : Unlinks store c.args.member c.args.weak = unlinks store c.sound.ensures.rows c.args.member c.args.weak c.requires.ready.1 one in
     let rise = subst (λ (now : Store). IsRising now.rows) c.clear_weak.ensures c.sound-then-is_member.ensures.rows.rise in
     in_heap c.clear_weak.ensures (tells (leads_to c.tells.ensures (ap (phase_of.Unlinking c.args.member) c.older_of.ensures)) (u.steps rise script facts policy)
-    (apart_rows store (without_row c.args.weak store.rows) c.requires.ready.0, u.goes_on rise) tt (λ n few. few) (omega arith) (keeps-cleared c.args.weak false store))
+    (apart_rows store (without_row c.args.weak store.rows) c.requires.ready.0, u.goes_on rise) tt (λ n few. few) (omega arith, refl) (keeps-cleared c.args.weak false store))
 
 -- Another is passed.
 pub returns-else-is_member : goal.returns-else-is_member
@@ -39,4 +39,4 @@ returns-else-is_member g c = λ script facts policy.
     let none = sym (is_final store c.sound.ensures.listed c.args.weak (looked_lives store c.sound.ensures.rows c.args.member c.args.weak c.requires.ready.1)) ∙ sym c.is_member.ensures ∙ c.if-is_member.false in
     let s : Skips store c.args.member c.args.weak = skips store c.sound.ensures.rows c.args.member c.args.weak c.requires.ready.1 none in
     goes_on (leads_to c.to.ensures (ap (phase_of.Unlinking c.args.member) c.older_of.ensures)) (s.steps script facts policy)
-    (c.requires.ready.0, s.goes_on) tt (inr (refl, s.falls)) (λ n few. few) (omega arith) (keeps_all store)
+    (c.requires.ready.0, s.goes_on) tt (inr (refl, s.falls)) (λ n few. few) (omega arith, refl) (keeps_all store)

@@ -22,11 +22,11 @@ returns-in-Some g c = λ script facts policy.
     (turn-next store c.sound.ensures.listed c.sound.ensures.rows c.in-Some.object walk c.next.result c.newest_beside.result c.next.ensures c.newest_beside.ensures script facts policy)
     (c.requires.ready.0, unlink_next store c.sound.ensures.listed c.sound.ensures.rows c.in-Some.object walk c.next.result c.newest_beside.result c.next.ensures c.newest_beside.ensures)
     tt (inr (refl, unlink_nearer store c.sound.ensures.listed c.sound.ensures.rows c.in-Some.object walk c.next.result c.newest_beside.result c.next.ensures c.newest_beside.ensures))
-    (λ n few. few) (omega arith) (keeps_all store))
+    (λ n few. few) (omega arith, refl) (keeps_all store))
 
 pub returns-in-None : goal.returns-in-None
 returns-in-None g c = λ script facts policy.
     let store = c.args.heap.now in
     at_phase (ap (λ m. phase_of.Unlinking m None) c.in-None.is) (goes_on c.to-in-None.ensures
     (turn-all_unlinked store c.sound.ensures.rows.rise (subst (λ m. IsMemberWalk store m None) c.in-None.is c.requires.ready.1) script facts policy)
-    c.requires.ready.0 tt (inl (omega arith)) (λ n few. few) (omega arith) (keeps_all store))
+    c.requires.ready.0 tt (inl (omega arith)) (λ n few. few) (omega arith, refl) (keeps_all store))

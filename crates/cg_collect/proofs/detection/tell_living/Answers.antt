@@ -1,4 +1,4 @@
-use Rattle.std.proofs.Common.{inl, subst, sym, ap, ◌∙◌, arith}
+use Rattle.std.proofs.Common.{refl, inl, subst, sym, ap, ◌∙◌, arith}
 use Rattle.cg_value.specs.declared.Place.TheVariants.{Gen, Cand}
 use Rattle.cg_graph.specs.Member.{Includes}
 use Rattle.cg_graph.specs.Store.{list_at}
@@ -25,7 +25,7 @@ returns-in-Some g c = λ script policy.
     at_phase (ap phase_of.Living c.in-Some.is) (tells c.tells.ensures
     (turn-living script c.args.facts c.args.heap.now policy c.in-Some.object c.next.result (next_from c.args.heap.now c.sound.ensures.listed (Gen (older c.args.facts.generation)) c.in-Some.object there c.next.result c.next.ensures))
     (c.requires.ready.0, next_at c.args.heap.now c.sound.ensures.listed (Gen (older c.args.facts.generation)) c.in-Some.object there c.next.result c.next.ensures)
-    tt (λ n few. few) (omega arith) (keeps_all c.args.heap.now))
+    tt (λ n few. few) (omega arith, refl) (keeps_all c.args.heap.now))
 
 pub returns-in-None : goal.returns-in-None
 returns-in-None g c = λ script policy.
@@ -34,4 +34,4 @@ returns-in-None g c = λ script policy.
       subst (λ n. IsAt n (list_at c.args.heap.now Cand)) (sym c.first.ensures) (at_first (list_at c.args.heap.now Cand)),
       λ o m. inl (subst (λ l. Includes l o) (sym (ap (λ n. from_on n (list_at c.args.heap.now Cand)) c.first.ensures ∙ from_first (list_at c.args.heap.now Cand))) m),
     )
-    tt (inl (omega arith)) (λ n few. few) (omega arith) (keeps_all c.args.heap.now))
+    tt (inl (omega arith)) (λ n few. few) (omega arith, refl) (keeps_all c.args.heap.now))

@@ -1,4 +1,4 @@
-use Rattle.std.proofs.Common.{◌≡◌, ℕ, ◌++◌, map, inl, subst, sym, ap, ◌∙◌, arith}
+use Rattle.std.proofs.Common.{refl, ◌≡◌, ℕ, ◌++◌, map, inl, subst, sym, ap, ◌∙◌, arith}
 use Rattle.cg_graph.specs.Store.{IsLive}
 use Rattle.cg_value.specs.declared.KindCode.TheVariants.{List as ListKind}
 use Rattle.cg_value.specs.declared.Place.TheVariants.{Gen, Legacy}
@@ -38,7 +38,7 @@ returns-then-intersects g c =
     in_heap is (in_policy c.ended.ensures (goes_on c.to.ensures
     (turn-ended_told script facts store root c.sound.ensures.listed (subst IsListed c.save_legacy.ensures c.sound-2.ensures.listed) (subst IsListed is c.sound-3.ensures.listed) c.args.policy.now
     c.first-first.result c.first-first.ensures c.size-number.result c.size-number.ensures (sym (c.intersects.ensures tt) ∙ c.if-intersects.true))
-    (there, there) tt (inl (omega arith)) (λ n few. (few, omega (arith, c.size-number.ensures, list_few store c.sound.ensures.listed c.sound.ensures.objects Legacy))) (omega arith)
+    (there, there) tt (inl (omega arith)) (λ n few. (few, omega (arith, c.size-number.ensures, list_few store c.sound.ensures.listed c.sound.ensures.objects Legacy))) (omega arith, refl)
     (saves script (bits_of facts.flags) (Gen (older facts.generation)) store)))
 
 -- Without it those that were saved are.
@@ -54,5 +54,5 @@ returns-else-intersects g c =
     in_heap is (in_policy c.ended.ensures (goes_on c.to-else-intersects.ensures
     (turn-ended script facts store root c.sound.ensures.listed (subst IsListed c.save_legacy.ensures c.sound-2.ensures.listed) (subst IsListed is c.sound-3.ensures.listed) c.args.policy.now
     c.first-first.result c.first-first.ensures c.size-number.result c.size-number.ensures (sym (c.intersects.ensures tt) ∙ c.if-intersects.false))
-    there tt (inl (omega arith)) (λ n few. (few, omega (arith, c.size-number.ensures, list_few store c.sound.ensures.listed c.sound.ensures.objects Legacy))) (omega arith)
+    there tt (inl (omega arith)) (λ n few. (few, omega (arith, c.size-number.ensures, list_few store c.sound.ensures.listed c.sound.ensures.objects Legacy))) (omega arith, refl)
     (saves script (bits_of facts.flags) (Gen (older facts.generation)) store)))

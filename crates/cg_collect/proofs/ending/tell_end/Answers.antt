@@ -1,4 +1,4 @@
-use Rattle.std.proofs.Common.{arith}
+use Rattle.std.proofs.Common.{refl, arith}
 use Rattle.cg_collect.proofs.Keeping.{keeps_all}
 use Rattle.cg_collect.proofs.Stopping.{turn-stopped}
 use Rattle.cg_collect.proofs.TakingTurns.{tells}
@@ -6,4 +6,4 @@ use Rattle.cg_collect.proofs.ending.tell_end.Goals as goal
 
 pub returns-clause-takes : goal.returns-clause-takes
 returns-clause-takes c = λ script store policy.
-    tells c.tells.ensures (turn-stopped script c.args.facts store policy c.args.number) tt tt (λ n few. few) (omega arith) (keeps_all store)
+    tells c.tells.ensures (turn-stopped script c.args.facts store policy c.args.number) tt tt (λ n few. few) (omega arith, refl) (keeps_all store)

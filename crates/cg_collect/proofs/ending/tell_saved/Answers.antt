@@ -13,7 +13,7 @@ use Rattle.cg_collect.proofs.ending.tell_saved.Goals as goal
 pub returns-in_default : goal.returns-in_default
 returns-in_default g c = λ policy.
     at_phase (ap (λ n. phase_of.Saved n c.args.number) c.in_default.is) (goes_on c.to.ensures (turn-stopping c.args.script.now c.args.facts c.args.heap.now policy c.args.number)
-    tt tt (inl (omega arith)) (λ n few. few) (omega arith) (keeps_all c.args.heap.now))
+    tt tt (inl (omega arith)) (λ n few. few) (omega arith, refl) (keeps_all c.args.heap.now))
 
 pub next-requires : goal.next-requires
 next-requires g c =
@@ -32,7 +32,7 @@ returns-then-is_saved g c = λ policy.
     (turn-saved_told c.args.script.now c.args.facts c.args.heap.now policy c.in-Some.object c.next.result c.args.number
     (next_from c.args.heap.now c.sound.ensures.listed (Gen (older c.args.facts.generation)) c.in-Some.object there c.next.result c.next.ensures) (sym c.is_saved.ensures ∙ c.if-is_saved.true))
     (next_at c.args.heap.now c.sound.ensures.listed (Gen (older c.args.facts.generation)) c.in-Some.object there c.next.result c.next.ensures)
-    tt (λ n few. few) (omega arith) (keeps_all c.args.heap.now))
+    tt (λ n few. few) (omega arith, refl) (keeps_all c.args.heap.now))
 
 pub returns-else-is_saved : goal.returns-else-is_saved
 returns-else-is_saved g c = λ policy.
@@ -42,4 +42,4 @@ returns-else-is_saved g c = λ policy.
     (next_from c.args.heap.now c.sound.ensures.listed (Gen (older c.args.facts.generation)) c.in-Some.object there c.next.result c.next.ensures) (sym c.is_saved.ensures ∙ c.if-is_saved.false))
     (next_at c.args.heap.now c.sound.ensures.listed (Gen (older c.args.facts.generation)) c.in-Some.object there c.next.result c.next.ensures)
     tt (inr (refl, omega (arith, around_shorter c.args.heap.now c.sound.ensures.listed (Gen (older c.args.facts.generation)) c.in-Some.object there c.next.result c.next.ensures)))
-    (λ n few. few) (omega arith) (keeps_all c.args.heap.now))
+    (λ n few. few) (omega arith, refl) (keeps_all c.args.heap.now))

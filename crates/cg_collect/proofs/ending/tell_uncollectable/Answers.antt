@@ -1,4 +1,4 @@
-use Rattle.std.proofs.Common.{inl, ap, subst, arith}
+use Rattle.std.proofs.Common.{refl, inl, ap, subst, arith}
 use Rattle.cg_value.specs.declared.Place.TheVariants.{Gen}
 use Rattle.cg_graph.specs.Store.{list_at}
 use Rattle.cg_trial.proofs.Placed.{where_is}
@@ -22,9 +22,9 @@ returns-in-Some g c = λ script policy.
     (turn-uncollectable script c.args.facts c.args.heap.now policy c.args.first c.in-Some.object c.next.result c.args.number
     (next_from c.args.heap.now c.sound.ensures.listed (Gen (older c.args.facts.generation)) c.in-Some.object there c.next.result c.next.ensures))
     (c.requires.ready.0, next_at c.args.heap.now c.sound.ensures.listed (Gen (older c.args.facts.generation)) c.in-Some.object there c.next.result c.next.ensures)
-    tt (λ n few. few) (omega arith) (keeps_all c.args.heap.now))
+    tt (λ n few. few) (omega arith, refl) (keeps_all c.args.heap.now))
 
 pub returns-in-None : goal.returns-in-None
 returns-in-None g c = λ script policy.
     at_phase (ap (λ n. phase_of.Uncollectable c.args.first n c.args.number) c.in-None.is) (goes_on c.to.ensures (turn-all_told script c.args.facts c.args.heap.now policy c.args.first c.args.number)
-    c.requires.ready.0 tt (inl (omega arith)) (λ n few. few) (omega arith) (keeps_all c.args.heap.now))
+    c.requires.ready.0 tt (inl (omega arith)) (λ n few. few) (omega arith, refl) (keeps_all c.args.heap.now))

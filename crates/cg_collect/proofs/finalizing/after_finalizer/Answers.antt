@@ -7,4 +7,4 @@ use Rattle.cg_collect.proofs.finalizing.after_finalizer.Goals as goal
 pub returns : goal.returns
 returns c = λ script facts store policy ready.
     gives_up c.gives_up.ensures (turn-given_up script facts store policy c.args.object c.of.result c.of.ensures)
-    ready tt (let one = ap length c.of.ensures in inr (refl, omega (arith, one))) tt (λ n few. few) (omega arith) (keeps_all store)
+    ready tt (let one = ap length c.of.ensures in inr (refl, omega (arith, one))) tt (λ n few. few) (omega arith, refl) (keeps_all store)

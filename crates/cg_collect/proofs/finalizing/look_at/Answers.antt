@@ -19,11 +19,11 @@ pub returns-in-Some : goal.returns-in-Some
 returns-in-Some g c = λ facts policy.
     let store = c.args.heap.now in
     in_heap c.run.ensures.heap (runs c.run.ensures.turn (turn-runs store c.sound.ensures.listed c.args.object c.requires.first c.args.script.now facts policy c.in-Some.proc (sym c.in-Some.ensures))
-    tt refl tt (λ n few. few) (omega arith) (keeps-own_frame marked c.args.object Seen store))
+    tt refl tt (λ n few. few) (omega arith, refl) (keeps-own_frame marked c.args.object Seen store))
 
 pub returns-in-None : goal.returns-in-None
 returns-in-None g c = λ facts policy.
     let store = c.args.heap.now in
     in_heap c.move_near.ensures (goes_on c.to.ensures (turn-looked store c.sound.ensures.listed c.args.object c.requires.first c.args.script.now facts policy (sym c.in-None.ensures))
     (apart_looked store c.sound.ensures.listed c.args.object c.requires.first c.requires.ready) tt (inr (refl, fewer_left store c.sound.ensures.listed c.args.object c.requires.first))
-    (λ n few. few) (omega arith) (keeps-moved c.args.object Seen store))
+    (λ n few. few) (omega arith, refl) (keeps-moved c.args.object Seen store))

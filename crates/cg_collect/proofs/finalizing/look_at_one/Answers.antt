@@ -1,4 +1,4 @@
-use Rattle.std.proofs.Common.{inl, sym, arith}
+use Rattle.std.proofs.Common.{refl, inl, sym, arith}
 use Rattle.cg_value.specs.declared.Place.TheVariants.{Cand, Seen}
 use Rattle.cg_collect.proofs.Keeping.{keeps-merged}
 use Rattle.cg_collect.proofs.Looking.{turn-all_looked, apart_again}
@@ -9,4 +9,4 @@ pub returns-in-None : goal.returns-in-None
 returns-in-None g c = λ facts policy.
     let store = c.args.heap.now in
     in_heap c.merge.ensures (goes_on c.to.ensures (turn-all_looked store c.sound.ensures.listed (sym c.in-None.ensures) c.args.script.now facts policy)
-    (apart_again store c.sound.ensures.listed (sym c.in-None.ensures) c.requires.ready) tt (inl (omega arith)) (λ n few. few) (omega arith) (keeps-merged Seen Cand store))
+    (apart_again store c.sound.ensures.listed (sym c.in-None.ensures) c.requires.ready) tt (inl (omega arith)) (λ n few. few) (omega arith, refl) (keeps-merged Seen Cand store))

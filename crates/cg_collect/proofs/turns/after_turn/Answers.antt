@@ -12,7 +12,7 @@ pub returns-then-not-has : goal.returns-then-not-has
 returns-then-not-has g c = λ script policy.
     let store = c.args.heap.now in
     goes_on c.to.ensures (turn-died store c.args.object (λ live. absurd (let there = c.has.ensures.1 live in cc)) script c.args.facts policy) c.requires.ready.0 tt
-    (inr (refl, omega (arith, none_but_others store c.sound.ensures.listed c.args.object (λ live. absurd (let there = c.has.ensures.1 live in cc))))) (λ n few. few) (omega arith) (keeps_all store)
+    (inr (refl, omega (arith, none_but_others store c.sound.ensures.listed c.args.object (λ live. absurd (let there = c.has.ensures.1 live in cc))))) (λ n few. few) (omega arith, refl) (keeps_all store)
 
 -- One that lives gets older.
 pub move_to-requires-clause-live : goal.move_to-requires-clause-live
@@ -24,4 +24,4 @@ returns g c = λ script policy.
     let live = c.has.ensures.0 c.if-not-has.false in
     in_heap (c.move_to.ensures ∙ ap (λ k. moved c.args.object (Gen k) store) c.older.ensures) (goes_on c.to-2.ensures (turn-older store c.args.object script c.args.facts policy)
     (apart_older store c.sound.ensures.listed c.args.object live c.args.facts.generation c.requires.ready.1 c.requires.ready.0) tt
-    (inr (refl, omega (arith, others_left store c.sound.ensures.listed c.args.object live c.args.facts.generation))) (λ n few. few) (omega arith) (keeps-moved c.args.object (Gen (older c.args.facts.generation)) store))
+    (inr (refl, omega (arith, others_left store c.sound.ensures.listed c.args.object live c.args.facts.generation))) (λ n few. few) (omega arith, refl) (keeps-moved c.args.object (Gen (older c.args.facts.generation)) store))

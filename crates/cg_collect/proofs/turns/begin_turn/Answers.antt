@@ -43,7 +43,7 @@ returns-then-intersects g c = λ script policy.
     (tells c.tells.ensures (saved-turn store c.args.object live at script c.args.facts policy (sym (c.intersects.ensures tt) ∙ c.if-intersects.true))
     (apart_saved store c.args.object (live_of_kind store 1 ListKind c.sound.ensures.root) at c.args.facts.generation (subst IsListed c.save.ensures c.sound-then-intersects.ensures.listed)
     (lives_on store (rewritten 1 names store) (kinds-rewritten 1 names store) c.args.object live) c.requires.ready)
-    tt (λ n few. few) (omega arith) (keeps-saved c.args.object older_place names store))
+    tt (λ n few. few) (omega arith, refl) (keeps-saved c.args.object older_place names store))
 
 pub kind_of-requires : goal.kind_of-requires
 kind_of-requires g c = (condemned c.args.heap.now c.sound.ensures.listed c.args.object c.requires.first).0
@@ -60,7 +60,7 @@ returns-in-Tuple g c = λ script policy.
     (goes_on c.to.ensures (tuple-turn store c.args.object live at script c.args.facts policy c.in-Tuple.ensures (sym (c.intersects.ensures tt) ∙ c.if-intersects.false))
     (apart_older store c.sound.ensures.listed c.args.object live c.args.facts.generation (not_garbage store c.args.object Cand c.requires.ready.0.garbage at (λ e. cc)) c.requires.ready) tt
     (inr (refl, omega (arith, others_left store c.sound.ensures.listed c.args.object live c.args.facts.generation, one_and_others store c.sound.ensures.listed c.args.object live at)))
-    (λ n few. few) (omega arith) (keeps-moved c.args.object (Gen (older c.args.facts.generation)) store))
+    (λ n few. few) (omega arith, refl) (keeps-moved c.args.object (Gen (older c.args.facts.generation)) store))
 
 -- Another is held.
 pub hold-requires : goal.hold-requires
@@ -74,4 +74,4 @@ returns-in_default g c = λ script policy.
     (goes_on c.to-in_default.ensures (held-turn store c.args.object live at script c.args.facts policy c.kind_of.result c.kind_of.ensures c.in_default.not-Tuple (sym (c.intersects.ensures tt) ∙ c.if-intersects.false))
     (apart_held store c.sound.ensures.listed c.args.object live c.requires.ready, not_garbage store c.args.object Cand c.requires.ready.0.garbage at (λ e. cc)) tt
     (inr (refl, omega (arith, as_much_for_it store c.sound.ensures.listed c.args.object live, as_much_for_others store c.sound.ensures.listed c.args.object live, one_and_others store c.sound.ensures.listed c.args.object live at)))
-    (λ n few. few) (omega arith) (keeps-held (c.args.object ∷ []) store))
+    (λ n few. few) (omega arith, refl) (keeps-held (c.args.object ∷ []) store))

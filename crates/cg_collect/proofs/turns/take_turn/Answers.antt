@@ -1,4 +1,4 @@
-use Rattle.std.proofs.Common.{inl, sym, arith}
+use Rattle.std.proofs.Common.{refl, inl, sym, arith}
 use Rattle.cg_value.specs.declared.Place.TheVariants.{Cand}
 use Rattle.cg_graph.specs.Store.{list_at}
 use Rattle.cg_death.proofs.Clearing.{none_first}
@@ -11,4 +11,4 @@ pub returns-in-None : goal.returns-in-None
 returns-in-None g c = λ script policy.
     let store = c.args.heap.now in
     goes_on c.to.ensures (turn-ending store c.sound.ensures.listed (sym c.in-None.ensures) script c.args.facts policy)
-    (c.requires.ready, none_first (list_at store Cand) (sym c.in-None.ensures)) tt (inl (omega arith)) (λ n few. few) (omega arith) (keeps_all store)
+    (c.requires.ready, none_first (list_at store Cand) (sym c.in-None.ensures)) tt (inl (omega arith)) (λ n few. few) (omega arith, refl) (keeps_all store)

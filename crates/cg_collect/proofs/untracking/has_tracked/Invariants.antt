@@ -1,5 +1,5 @@
-use Rattle.cg_collect.proofs.Untracked.{NoneSoFar}
+use Rattle.cg_collect.proofs.Untracked.{NoneLooked}
 use Rattle.cg_collect.proofs.untracking.has_tracked.Given as goal
 
 abbrev pub invariant-entries : goal.invariant-entries
-invariant-entries g l = NoneSoFar l.heap l.object l.i
+invariant-entries g l = NoneLooked l.heap l.object l.i l.fn.steps l.steps

@@ -23,7 +23,7 @@ returns-then-has g c = λ script policy.
       apart_away c.args.heap.now c.sound.ensures.listed c.args.weak live (Gen (older c.args.facts.generation)) place c.requires.ready.2 (λ e. cc) (λ e. cc) (λ e. cc) (λ e. cc) c.requires.ready.0,
       callbacks_away c.args.heap.now c.sound.ensures.listed c.args.weak live (Gen (older c.args.facts.generation)) place (λ e. cc) c.requires.ready.1,
     )
-    tt (inr (refl, omega (arith, no_more_wait c.args.heap.now c.args.weak c.sound.ensures.listed live c.args.facts.generation c.requires.generation))) (λ n few. omega (arith, few, wait)) (omega arith)
+    tt (inr (refl, omega (arith, no_more_wait c.args.heap.now c.args.weak c.sound.ensures.listed live c.args.facts.generation c.requires.generation))) (λ n few. omega (arith, few, wait)) (omega arith, refl)
     (keeps-moved c.args.weak (Gen (older c.args.facts.generation)) c.args.heap.now))
 
 -- One that has died is counted.
@@ -39,6 +39,6 @@ returns-else-has g c = λ script policy.
       few = λ n few. omega (arith, few, all);
       gives_up = tt;
       hands_out = tt;
-      onward = omega arith;
+      onward = (omega arith, refl);
       keeps = keeps_all c.args.heap.now;
     }

@@ -38,7 +38,7 @@ returns-then-loses g c = λ script in_profile facts policy.
     let lost = loses_then c.args.profile c.args.heap.now c.lose.new.heap c.sound.ensures c.args.weak c.args.member c.requires.walk (sym c.loses.ensures ∙ c.if-loses.true) c.lose.ensures in
     tells (leads_to c.tells.ensures (ap (phase_of.WeakClearing c.args.member) c.older_of.ensures)) (lost.steps script in_profile facts policy) (lost.apart c.requires.ready.0, lost.callbacks c.requires.ready.1)
     (subst (λ p. IsWalk p c.lose.new.heap c.args.member (next_older_in c.args.heap.now.rows c.args.weak)) (sym in_profile) (lost.goes_on c.sound-then-loses.ensures.rows.rise))
-    (λ n none. none) (omega arith) (subst (KeepsObjects c.args.heap.now) (sym c.lose.ensures) (keeps-lost (waits (objects_of c.args.heap.now) c.args.weak) c.args.weak c.args.heap.now))
+    (λ n none. none) (omega arith, refl) (subst (KeepsObjects c.args.heap.now) (sym c.lose.ensures) (keeps-lost (waits (objects_of c.args.heap.now) c.args.weak) c.args.weak c.args.heap.now))
 
 less_left : (a b c : ℕ) → b < c → (a + b) + 0 < (a + c) + 0
 less_left a b c h = omega (arith, h)
@@ -48,4 +48,4 @@ returns-else-loses g c = λ script in_profile facts policy.
     let passes = passes_then c.args.profile c.args.heap.now c.sound.ensures.rows c.args.weak c.args.member c.requires.walk (sym c.loses.ensures ∙ c.if-loses.false) in
     goes_on (leads_to c.to.ensures (ap (phase_of.WeakClearing c.args.member) c.older_of.ensures)) (steps_passing script facts c.args.heap.now policy c.args.member _ (Some c.args.weak) _) c.requires.ready
     (subst (λ p. IsWalk p c.args.heap.now c.args.member (next_older_in c.args.heap.now.rows c.args.weak)) (sym in_profile) passes.0)
-    (inr (refl, less_left _ _ _ passes.1)) (λ n none. none) (omega arith) (keeps_all c.args.heap.now)
+    (inr (refl, less_left _ _ _ passes.1)) (λ n none. none) (omega arith, refl) (keeps_all c.args.heap.now)

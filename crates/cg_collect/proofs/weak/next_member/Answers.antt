@@ -21,7 +21,7 @@ returns-then-is_unreferred g c = λ script in_profile facts policy.
     let none = c.is_unreferred.ensures.0 c.if-is_unreferred.true in
     goes_on c.to.ensures
     (turn-all_cleared c.args.profile store (unreferred_walk c.args.profile store c.args.member none c.requires.walk) script in_profile facts policy c.args.member) c.requires.ready
-    tt (inl (omega arith)) (λ n few. omega (arith, few, list_few store c.sound.ensures Pend)) (omega arith) (keeps_all store)
+    tt (inl (omega arith)) (λ n few. omega (arith, few, list_few store c.sound.ensures Pend)) (omega arith, refl) (keeps_all store)
 
 pub returns-in-Some : goal.returns-in-Some
 returns-in-Some g c = λ script in_profile facts policy.
@@ -31,11 +31,11 @@ returns-in-Some g c = λ script in_profile facts policy.
     (subst (λ p. IsWalk p store c.next.result c.first_to_look_at.result) (sym in_profile)
     (walk_next c.args.profile store c.sound.ensures.listed c.sound.ensures.rows c.in-Some.object walk c.next.result c.first_to_look_at.result c.next.ensures c.first_to_look_at.ensures))
     (inr (refl, next_falls c.args.profile store c.sound.ensures.listed c.sound.ensures.rows c.in-Some.object walk c.next.result c.first_to_look_at.result c.next.ensures c.first_to_look_at.ensures))
-    (λ n none. none) (omega arith) (keeps_all store))
+    (λ n none. none) (omega arith, refl) (keeps_all store))
 
 pub returns-in-None : goal.returns-in-None
 returns-in-None g c = λ script in_profile facts policy.
     let store = c.args.heap.now in
     at_phase (ap (λ m. phase_of.WeakClearing m None) c.in-None.is) (goes_on c.to-in-None.ensures
     (turn-all_cleared c.args.profile store (subst (λ m. IsWalk c.args.profile store m None) c.in-None.is c.requires.walk) script in_profile facts policy None) c.requires.ready
-    tt (inl (omega arith)) (λ n none. omega (arith, none, list_few store c.sound.ensures Pend)) (omega arith) (keeps_all store))
+    tt (inl (omega arith)) (λ n none. omega (arith, none, list_few store c.sound.ensures Pend)) (omega arith, refl) (keeps_all store))

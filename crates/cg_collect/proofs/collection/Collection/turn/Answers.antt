@@ -53,7 +53,7 @@ pub returns-in-Turns-clause-takes : goal.returns-in-Turns-clause-takes
 returns-in-Turns-clause-takes g c = at_phase c.in-Turns.is (c.take_turn.ensures c.args.script.now c.args.policy.now)
 
 pub returns-in-Turn-clause-takes : goal.returns-in-Turn-clause-takes
-returns-in-Turn-clause-takes g c = at_phase c.in-Turn.is (c.empty_one.ensures c.args.script.now (facts_of c.args.self.now) c.args.policy.now)
+returns-in-Turn-clause-takes g c = at_phase c.in-Turn.is (c.empty_one.ensures.takes c.args.script.now (facts_of c.args.self.now) c.args.policy.now)
 
 pub returns-in-AfterTurn-clause-takes : goal.returns-in-AfterTurn-clause-takes
 returns-in-AfterTurn-clause-takes g c = at_phase c.in-AfterTurn.is (c.after_turn.ensures c.args.script.now c.args.policy.now)
@@ -90,6 +90,10 @@ returns-in-Start-clause-looks g c = subst (λ (p : Phase). c.start.new.steps ≤
 
 pub returns-in-Split-clause-looks : goal.returns-in-Split-clause-looks
 returns-in-Split-clause-looks g c = subst (λ (p : Phase). c.detect.new.steps ≤ c.args.steps.now + most_looks c.args.self.now.generation p c.args.heap.now) (sym c.in-Split.is) c.detect.ensures.looks
+
+-- and the turns
+pub returns-in-Turn-clause-looks : goal.returns-in-Turn-clause-looks
+returns-in-Turn-clause-looks g c = subst (λ (p : Phase). c.empty_one.new.steps ≤ c.args.steps.now + most_looks c.args.self.now.generation p c.args.heap.now) (sym c.in-Turn.is) c.empty_one.ensures.looks
 
 -- the start comes before no other detection
 pub returns-in-Start-clause-apart : goal.returns-in-Start-clause-apart
