@@ -152,8 +152,8 @@ module _ (all : List (List ℕ)) (Free : List ℕ → Type 0) (known0 : Known) (
   finalizer = record {
     source = source;
     target = target;
-    source_is = stands_for all all f (named atoms f) refl source_there;
-    target_is = stands_for all all y (named atoms y) refl target_there;
+    source_is = stands_for all all f (named atoms f) refl value source_there;
+    target_is = stands_for all all y (named atoms y) refl t.fit.1.1.1.1.1.1.1.1.1.0.1.1.1.0 target_there;
     source_free = value_free all Free all f (named atoms f) refl clear_f source_there;
     target_free = value_free all Free all y (named atoms y) refl clear_y target_there;
     later = t.later;

@@ -12,7 +12,7 @@ use Rattle.cg_script.specs.declared.command.Operand.{Operand}
 use Rattle.cg_script.specs.declared.command.Operand.TheVariants as operands
 use Rattle.cg_script.specs.declared.part.Said.{Said}
 use Rattle.cg_script.specs.Pieces.{lines_of}
-use Rattle.cg_script.specs.Words.{atoms, begins_name, is_identifier, is_name_byte, is_quoted, is_reserved, is_variable, reserves, string_text, number_of}
+use Rattle.cg_script.specs.Words.{atoms, begins_name, is_identifier, is_name_byte, is_number, is_quoted, is_reserved, is_value, is_variable, reserves, string_text, number_of}
 use Rattle.cg_script.specs.Tables.{named}
 use Rattle.cg_script.specs.Forms.{bindings, openers}
 use Rattle.cg_script.specs.Parts.{Known, texts_from, with_text_if, value_text, operand_or}
@@ -96,15 +96,25 @@ name_stands texts x h =
     ∙ ap (λ b. cond b (operands.Str (text_number texts (string_text x))) (cond (begins_name (slice_index x 0)) (operands.Name (text_number texts x)) (operands.Int (number_of x)))) (no_quote (slice_index x 0) h.letter)
     ∙ ap (λ b. cond b (operands.Name (text_number texts x)) (operands.Int (number_of x))) h.letter
 
--- the word of a value stands for what is read
-pub stands_for : (all texts : List (List ℕ)) (word : List ℕ) (found : Option Operand) → named atoms word ≡ found → Begins (with_text_if texts (value_text found word)) all → WordStandsFor all word (operand_or found texts word)
-stands_for all texts word (Some operand) e begins = Atom operand e
-stands_for all texts word None e begins = by (is_quoted word) (begins_name (slice_index word 0)) begins
+-- a value without a word of its own is a string, a variable or a number
+unnamed : (word : List ℕ) (found : Option Operand) → named atoms word ≡ found → is_some found ≡ false → is_value word ≡ true → (is_quoted word ≡ false) → cond (begins_name (slice_index word 0)) (is_variable word) (is_number word) ≡ true
+unnamed word found e none value unquoted = by (is_some (named atoms word)) (is_quoted word) _ _ value (ap is_some e ∙ none) unquoted
   where
-    by : (q b : Bool) → Begins (with_text_if texts (cond q (Some (string_text word)) (cond b (Some word) None))) all → WordStandsFor all word (cond q (operands.Str (text_number texts (string_text word))) (cond b (operands.Name (text_number texts word)) (operands.Int (number_of word))))
-    by true b h = Quoted (text_number texts (string_text word)) (text_found all texts (string_text word) h)
-    by false true h = Named (text_number texts word) (text_found all texts word h)
-    by false false h = Counted
+    by : (s q a rest : Bool) → cond s true (cond q a rest) ≡ true → s ≡ false → q ≡ false → rest ≡ true
+    by true q a rest h n u = absurd (cc)
+    by false true a rest h n u = absurd (cc)
+    by false false a rest h n u = h
+
+-- the word of a value stands for what is read
+pub stands_for : (all texts : List (List ℕ)) (word : List ℕ) (found : Option Operand) → named atoms word ≡ found → is_value word ≡ true → Begins (with_text_if texts (value_text found word)) all → WordStandsFor all word (operand_or found texts word)
+stands_for all texts word (Some operand) e value begins = Atom operand e
+stands_for all texts word None e value begins = by (is_quoted word) (begins_name (slice_index word 0)) refl (unnamed word None e refl value) begins
+  where
+    by : (q b : Bool) → is_quoted word ≡ q → (is_quoted word ≡ false → cond b (is_variable word) (is_number word) ≡ true) → Begins (with_text_if texts (cond q (Some (string_text word)) (cond b (Some word) None))) all
+        → WordStandsFor all word (cond q (operands.Str (text_number texts (string_text word))) (cond b (operands.Name (text_number texts word)) (operands.Int (number_of word))))
+    by true b quoted is h = Quoted (text_number texts (string_text word)) quoted (text_found all texts (string_text word) h)
+    by false true quoted is h = Named (text_number texts word) (is quoted) (text_found all texts word h)
+    by false false quoted is h = Counted (is quoted)
 
 -- the lines of a script, with what they say
 pub record ReadAs (bytes : List ℕ) (texts : List (List ℕ)) (items : List Item) : Type 0 where

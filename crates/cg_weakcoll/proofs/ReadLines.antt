@@ -11,11 +11,13 @@ use Rattle.cg_script.specs.declared.part.Said.TheVariants.{Declares, Begins, End
 use Rattle.cg_script.specs.Items.{commands_of}
 use Rattle.cg_script.specs.Pieces.{words_of}
 use Rattle.cg_script.specs.Words.{is_printable}
-use Rattle.cg_script.specs.Meanings.{Meaning, passed, says, bad, formed, worded, is_passed, meaning}
+use Rattle.cg_script.specs.Meanings.{Meaning, passed, says, bad, fits, all_fit, repeats_finalizer, formed, worded, is_passed, meaning}
+use Rattle.cg_script.specs.Forms.{sort_at}
 use Rattle.cg_script.specs.Parts.{Known, parts_of}
 use Rattle.cg_script.specs.Commands.{said}
 use Rattle.cg_script.specs.Reading.{fault_in, says_or_bad, checked, meant, known_after, Lines, good, spoilt, also_said, with_later, lines_from, body_of, items_of}
 use Rattle.cg_script.specs.Views.{is_placed, inside_behind}
+use Rattle.cg_script.proofs.Ascii.{both}
 use Rattle.cg_script.proofs.GoodLines.{faultless}
 use Rattle.cg_script.proofs.Grouped.{placed, inside_said}
 use Rattle.cg_weakcoll.specs.MapLines.{StandTogether, Outside, InProcedure}
@@ -35,6 +37,21 @@ pub data First (known : Known) (number : ℕ) (line : List ℕ) (lines texts : L
 meant_is : (known : Known) (number : ℕ) (line : List ℕ) → meant known number line ≡ checked known (meaning number line)
 unfolding meant
 meant_is known number line = refl
+
+-- each word from a place on has the form that its place asks for
+abbrev pub AllFit : Form → ℕ → List (List ℕ) → Type 0
+AllFit form place [] = Unit {0}
+AllFit form place (word ∷ words) = (fits (sort_at form place) word ≡ true) × AllFit form (place + 1) words
+
+every_fit : (form : Form) (place : ℕ) (words : List (List ℕ)) → all_fit form place words ≡ true → AllFit form place words
+every_fit form place [] e = tt
+every_fit form place (word ∷ words) e =
+    let parts = both (fits (sort_at form place) word) (all_fit form (place + 1) words) e in
+    (parts.0, every_fit form (place + 1) words parts.1)
+
+not_false : (a b : Bool) → (not a || b) ≡ false → a ≡ true
+not_false true b e = refl
+not_false false b e = absurd (cc)
 
 module _ (known : Known) (number : ℕ) (lines texts : List (List ℕ)) (saids : List Said) where
   -- a line of this meaning and the others are good
@@ -67,15 +84,16 @@ module _ (known : Known) (number : ℕ) (lines texts : List (List ℕ)) (saids :
       by_meaning (says form words) em k = Says form words em (says_line form words k)
       by_meaning (bad code) em k = absurd (cc)
 
-  -- the words of a line that is not passed over tell
-  pub one_line : (form : Form) (words : List (List ℕ)) (line : List ℕ) → words_of line ≡ words → is_passed words ≡ false → worded words ≡ formed form words → lines_from known number (line ∷ lines) ≡ good texts saids → Line texts known number form words lines saids
+  -- the words of a line that is not passed over tell, and have the forms that their places ask for
+  pub one_line : (form : Form) (words : List (List ℕ)) (line : List ℕ) → words_of line ≡ words → is_passed words ≡ false → worded words ≡ formed form words → lines_from known number (line ∷ lines) ≡ good texts saids → Line texts known number form words lines saids × AllFit form 0 words
   unfolding meaning
   one_line form words line is unpassed meant e =
       let by : Meaning → Meaning = λ m. cond (not (list_all is_printable line)) (bad 1) (cond (nat_lt 1024 (length line) || nat_lt 64 (length (words_of line)) || (number == 400001)) (bad 5) m) in
-      says_line form words (go _ _ _ _ (ap (λ m. with_later known number (checked known (by m)) (λ behind. lines_from behind (number + 1) lines)) (sym (ap (λ ws. cond (is_passed ws) passed (worded ws)) is ∙ ap (λ b. cond b passed (worded words)) unpassed ∙ meant)) ∙ means line e))
+      let told : AreGood (says form words) × ((not (all_fit form 0 words) || repeats_finalizer form words) ≡ false) = go _ _ _ _ (ap (λ m. with_later known number (checked known (by m)) (λ behind. lines_from behind (number + 1) lines)) (sym (ap (λ ws. cond (is_passed ws) passed (worded ws)) is ∙ ap (λ b. cond b passed (worded words)) unpassed ∙ meant)) ∙ means line e) in
+      (says_line form words told.0, every_fit form 0 words (not_false (all_fit form 0 words) (repeats_finalizer form words) told.1))
     where
-      go : (a b c d : Bool) → AreGood (cond a (bad 1) (cond b (bad 5) (cond c (bad 3) (cond d (bad 4) (says form words))))) → AreGood (says form words)
-      go false false false false k = k
+      go : (a b c d : Bool) → AreGood (cond a (bad 1) (cond b (bad 5) (cond c (bad 3) (cond d (bad 4) (says form words))))) → AreGood (says form words) × (d ≡ false)
+      go false false false false k = (k, refl)
       go true b c d k = absurd (cc)
       go false true c d k = absurd (cc)
       go false false true d k = absurd (cc)

@@ -27,7 +27,7 @@ use Rattle.cg_script.proofs.Joined.{words_of-joined}
 use Rattle.cg_script.proofs.Shown.{Begins, begins_along, begins_self, begins_texts}
 use Rattle.cg_weakcoll.specs.MapLines.{StandTogether}
 use Rattle.cg_weakcoll.proofs.SoundWords.{EachLine, IsSound, each_sound}
-use Rattle.cg_weakcoll.proofs.ReadLines.{AreNested, does_all, nested, one_line, stand_together}
+use Rattle.cg_weakcoll.proofs.ReadLines.{AllFit, AreNested, does_all, nested, one_line, stand_together}
 use Rattle.cg_weakcoll.proofs.Passages.{behind}
 use Rattle.cg_weakcoll.proofs.LookLines.{added, all_begin, read_as}
 
@@ -122,6 +122,10 @@ abbrev pub AreClean : Known → List Row → Type 0
 AreClean known [] = Unit {0}
 AreClean known (r ∷ rows) = (fault_in known r.form r.words ≡ None) × AreClean (known_after known r.form r.words) rows
 
+abbrev pub AreFit : List Row → Type 0
+AreFit [] = Unit {0}
+AreFit (r ∷ rows) = AllFit r.form 0 r.words × AreFit rows
+
 abbrev pub AreFound : List (List ℕ) → List Row → Type 0
 AreFound all [] = Unit {0}
 AreFound all (r ∷ rows) = AreThere all r.form 0 r.words × AreFound all rows
@@ -133,14 +137,15 @@ pub record Table (all : List (List ℕ)) (known : Known) (rows : List Row) (rest
   pub goes : lines_from (known_behind known rows) number rest ≡ good all later
   pub clean : AreClean known rows
   pub found : AreFound all rows
+  pub fit : AreFit rows
 
 abbrev pub lines_in : List Row → List (List ℕ)
 lines_in rows = map (λ (r : Row). r.line) rows
 
 pub table : (all : List (List ℕ)) (rows : List Row) (known : Known) (number : ℕ) (rest : List (List ℕ)) (saids : List Said) → AreRead rows → lines_from known number (lines_in rows ++ rest) ≡ good all saids → Table all known rows rest saids
-table all [] known number rest saids read e = record { later = saids; number = number; is = refl; goes = e; clean = tt; found = tt }
+table all [] known number rest saids read e = record { later = saids; number = number; is = refl; goes = e; clean = tt; found = tt; fit = tt }
 table all (r ∷ rows) known number rest saids read e =
-    let line = one_line known number (lines_in rows ++ rest) all saids r.form r.words r.line read.0.0 read.0.1.0 read.0.1.1 e in
+    let (line, fit) = one_line known number (lines_in rows ++ rest) all saids r.form r.words r.line read.0.0 read.0.1.0 read.0.1.1 e in
     let after = known_after known r.form r.words in
     let more = table all rows after (number + 1) rest line.later read.1 line.goes in
     let begins = all_begin (lines_in rows ++ rest) after (number + 1) all line.later line.goes in
@@ -152,6 +157,7 @@ table all (r ∷ rows) known number rest saids read e =
       goes = more.goes;
       clean = (line.clean, more.clean);
       found = (are_there all r.form r.words known.texts 0 begins, more.found);
+      fit = (fit, more.fit);
     }
 
 -- rows of lines that are written of words
@@ -170,6 +176,7 @@ are_read (w ∷ ws) sound meant = ((words_of-joined w.1 (each_sound w.1 sound.0)
 pub record Middle (texts : List (List ℕ)) (items : List Item) (rows : List Row) : Type 0 where
   pub known : Known
   pub found : AreFound texts rows
+  pub fit : AreFit rows
   pub together : (commands : List Command) → says_rows texts known.procs known.classes rows ≡ does_all commands → StandTogether items commands
 
 pub middle : (bytes : List ℕ) (texts : List (List ℕ)) (items : List Item) → reading bytes ≡ spells texts items → (front : List (List ℕ)) (rows : List Row) (back : List (List ℕ)) → lines_of bytes ≡ front ++ (lines_in rows ++ back) → AreRead rows → Middle texts items rows
@@ -181,6 +188,7 @@ middle bytes texts items e front rows back parts read =
     record {
       known = on.known;
       found = t.found;
+      fit = t.fit;
       together = λ commands says.
           let all : on.before ++ (does_all commands ++ t.later) ≡ r.saids = ap (λ ss. on.before ++ (ss ++ t.later)) (sym says) ∙ ap (λ ss. on.before ++ ss) t.is ∙ on.is in
           let placed_so : AreNested false r.saids = nested (front ++ (lines_in rows ++ back)) nothing_known 1 texts r.saids start in

@@ -59,8 +59,8 @@ look_lines bytes texts items e x map key variable h =
       dict = dict;
       at = at;
       name_is = text_found texts texts x m.found.0.0;
-      dict_is = stands_for texts texts map (named atoms map) refl m.found.1.0.1.1.1.0;
-      at_is = stands_for texts texts key (named atoms key) refl m.found.1.0.1.1.1.1.0;
+      dict_is = stands_for texts texts map (named atoms map) refl m.fit.1.0.1.1.1.0 m.found.1.0.1.1.1.0;
+      at_is = stands_for texts texts key (named atoms key) refl m.fit.1.0.1.1.1.1.0 m.found.1.0.1.1.1.1.0;
       together = m.together (wget_commands number dict at) (ap (λ v. Does (commands.Bind number operands.None) ∷ Does (commands.Get number dict at) ∷ Does (commands.Deref number v) ∷ []) (name_stands texts x name));
     }
 
@@ -82,8 +82,8 @@ store_lines bytes texts items e t map key v variable map_value h =
       at = at;
       value = value;
       name_is = text_found texts texts t m.found.0.0;
-      dict_is = stands_for texts texts map (named atoms map) refl m.found.1.0.1.0;
-      at_is = stands_for texts texts key (named atoms key) refl m.found.1.0.1.1.0;
-      value_is = stands_for texts texts v (named atoms v) refl m.found.0.1.1.1.0;
+      dict_is = stands_for texts texts map (named atoms map) refl m.fit.1.0.1.0 m.found.1.0.1.0;
+      at_is = stands_for texts texts key (named atoms key) refl m.fit.1.0.1.1.0 m.found.1.0.1.1.0;
+      value_is = stands_for texts texts v (named atoms v) refl m.fit.0.1.1.1.0 m.found.0.1.1.1.0;
       together = m.together (wset_commands number dict at value) (ap (λ o. Does (commands.MakeRef number value operands.None) ∷ Does (commands.Put dict at o) ∷ Does (commands.Del number) ∷ []) (name_stands texts t name));
     }

@@ -8,7 +8,7 @@ use Rattle.cg_script.specs.declared.command.Command.{Command}
 use Rattle.cg_script.specs.Items.{commands_of, procedures}
 use Rattle.cg_script.specs.Pieces.{lines_of, words_of, word_at}
 use Rattle.cg_script.specs.Tables.{named}
-use Rattle.cg_script.specs.Words.{atoms, is_value, is_variable, number_of, string_text}
+use Rattle.cg_script.specs.Words.{atoms, is_number, is_quoted, is_value, is_variable, number_of, string_text}
 use Rattle.cg_script.specs.Canonical.{text_of}
 use Rattle.cg_script.specs.Reading.{reading, spells}
 use Rattle.cg_graph.specs.Member.{Includes}
@@ -21,12 +21,12 @@ pub data StandTogether (items : List Item) (commands : List Command) : Type 0 wh
   Outside : (front back : List Command) → commands_of items ≡ front ++ commands ++ back → StandTogether items commands
   InProcedure : (proc : Proc) (front back : List Command) → Includes (procedures items) proc → proc.body ≡ front ++ commands ++ back → StandTogether items commands
 
--- what a word stands for in a script with these texts
+-- what a word stands for in a script with these texts: one of the words for values, a string, a variable or a number
 pub data WordStandsFor (texts : List (List ℕ)) (word : List ℕ) : Operand → Type 0 where
   Atom : (operand : Operand) → named atoms word ≡ Some operand → WordStandsFor texts word operand
-  Quoted : (n : ℕ) → text_of texts n ≡ string_text word → WordStandsFor texts word (operands.Str n)
-  Named : (n : ℕ) → text_of texts n ≡ word → WordStandsFor texts word (operands.Name n)
-  Counted : WordStandsFor texts word (operands.Int (number_of word))
+  Quoted : (n : ℕ) → is_quoted word ≡ true → text_of texts n ≡ string_text word → WordStandsFor texts word (operands.Str n)
+  Named : (n : ℕ) → is_variable word ≡ true → text_of texts n ≡ word → WordStandsFor texts word (operands.Name n)
+  Counted : is_number word ≡ true → WordStandsFor texts word (operands.Int (number_of word))
 
 -- three lines of a script one after the other, by their words
 pub record HasLines (bytes : List ℕ) (first second third : List (List ℕ)) : Type 0 where
