@@ -18,6 +18,7 @@ pub mod Below
 pub mod Known
 pub mod Each
 pub mod SpelledScripts
+pub mod ReadScripts
 pub mod Written
 pub mod Joined
 pub mod NormalWords

@@ -124,9 +124,13 @@ pub record BeginsOnce (script : Script) (budget : ℕ) (steps : List StepTaken) 
   pub calls : calls_from e.function (opening script budget) steps ≤ 1
   pub together : (weak : ℕ) → MakesWatch script budget steps e weak → count_by (is_callback_of weak) (events_of steps) + calls_from e.function (opening script budget) steps ≤ 1
 
--- So it is in every run.
+-- So it is in every run of a fit script.
+abbrev pub ExitsBeginOnceIn : (Script → Type 0) → Type 0
+ExitsBeginOnceIn Fit = (script : Script) (budget : ℕ) (steps : List StepTaken) → Fit script → IsRun script budget steps → (e : Exit) → IsExit script e → BeginsOnce script budget steps e
+
+-- so it is where a script names its own texts alone
 abbrev pub ExitsBeginOnce : Type 0
-ExitsBeginOnce = (script : Script) (budget : ℕ) (steps : List StepTaken) → TextsAreKnown script → IsRun script budget steps → (e : Exit) → IsExit script e → BeginsOnce script budget steps e
+ExitsBeginOnce = ExitsBeginOnceIn TextsAreKnown
 
 -- The exit finalizers of a script, in the order of their lines. Its last commands are the calls, the last finalizer's first; no
 -- other command is one of them.
@@ -154,9 +158,13 @@ pub record CallsFall (script : Script) (budget : ℕ) (steps : List StepTaken) (
   pub undone : List Command
   pub order : own_commands (opening script budget) steps ++ undone ≡ lines ++ final_calls exits
 
--- So it is in every run.
+-- So it is in every run of a fit script.
+abbrev pub ExitsAreCalledLastFirstIn : (Script → Type 0) → Type 0
+ExitsAreCalledLastFirstIn Fit = (script : Script) (budget : ℕ) (steps : List StepTaken) → Fit script → IsRun script budget steps → (exits : List Exit) → (a : AreExits script exits) → CallsFall script budget steps a.lines exits
+
+-- so it is where a script names its own texts alone
 abbrev pub ExitsAreCalledLastFirst : Type 0
-ExitsAreCalledLastFirst = (script : Script) (budget : ℕ) (steps : List StepTaken) → TextsAreKnown script → IsRun script budget steps → (exits : List Exit) → (a : AreExits script exits) → CallsFall script budget steps a.lines exits
+ExitsAreCalledLastFirst = ExitsAreCalledLastFirstIn TextsAreKnown
 
 -- The procedure's frame asks for its object now, which lives: the weak reference refers to it.
 pub record FindsAlive (e : Exit) (w : World) (frame : Frame) (below : List Activity) : Type 0 where
@@ -187,8 +195,12 @@ pub record IsUnderway (below stack : List Activity) : Type 0 where
   pub left : frame.commands ≢ []
 
 -- Where the procedure finds its object alive and none of its commands is refused, the function's frame begins before the
--- procedure has no command left.
-abbrev pub ExitsBeginAlive : Type 0
-ExitsBeginAlive = (script : Script) (budget : ℕ) (before during : List StepTaken) → TextsAreKnown script → IsRun script budget (before ++ during) → (e : Exit) → IsExit script e
+-- procedure has no command left: in every run of a fit script.
+abbrev pub ExitsBeginAliveIn : (Script → Type 0) → Type 0
+ExitsBeginAliveIn Fit = (script : Script) (budget : ℕ) (before during : List StepTaken) → Fit script → IsRun script budget (before ++ during) → (e : Exit) → IsExit script e
     → (frame : Frame) (below : List Activity) → FindsAlive e (world_after script budget before) frame below → NoneRefused below (world_after script budget before) during
     → IsUnderway below (last_world (world_after script budget before) during).stack ⊎ (0 < calls_from e.function (world_after script budget before) during)
+
+-- so it is where a script names its own texts alone
+abbrev pub ExitsBeginAlive : Type 0
+ExitsBeginAlive = ExitsBeginAliveIn TextsAreKnown

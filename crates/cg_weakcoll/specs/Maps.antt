@@ -106,10 +106,14 @@ pub record Misses (w : World) (x : ℕ) (map key : Operand) (first : StepTaken) 
   pub number : ℕ
   pub refused : Includes second.events (Refused number)
 
--- The variable is none then.
-abbrev pub MissesLeaveNone : Type 0
-MissesLeaveNone = (script : Script) (budget : ℕ) (before : List StepTaken) (first : StepTaken) (early : List StepTaken) (second : StepTaken) → TextsAreKnown script → IsRun script budget (before ++ first ∷ early ++ second ∷ [])
+-- The variable is none then: in each fit script.
+abbrev pub MissesLeaveNoneIn : (Script → Type 0) → Type 0
+MissesLeaveNoneIn Fit = (script : Script) (budget : ℕ) (before : List StepTaken) (first : StepTaken) (early : List StepTaken) (second : StepTaken) → Fit script → IsRun script budget (before ++ first ∷ early ++ second ∷ [])
     → (x : ℕ) (map key : Operand) → Misses (world_after script budget before) x map key first early second → value_of second.world (Name x) ≡ Some Nothing
+
+-- so it is in each that names its own texts alone
+abbrev pub MissesLeaveNone : Type 0
+MissesLeaveNone = MissesLeaveNoneIn TextsAreKnown
 
 -- in a world the value under the key of a map is this weak reference
 pub record IsUnder (w : World) (map key : Operand) (weak : ℕ) : Type 0 where

@@ -1,23 +1,27 @@
 //! What becomes of exit finalizers in every run. Each law is the contract of a function that does nothing.
-ghost use Rattle.cg_weakcoll.specs.Exits.{ExitsAreCalledLastFirst, ExitsBeginAlive, ExitsBeginOnce};
+ghost use Rattle.cg_script.specs.ReadScripts.{WasRead};
+ghost use Rattle.cg_weakcoll.specs.Exits.{ExitsAreCalledLastFirst, ExitsAreCalledLastFirstIn, ExitsBeginAlive, ExitsBeginAliveIn, ExitsBeginOnce, ExitsBeginOnceIn};
 ghost use Rattle.cg_weakcoll.specs.ExpandedExits.{ExpandedExitsAreThere};
 ghost use Rattle.cg_weakcoll.specs.WorkedExits.{FindsOneAlive, HasBoth};
 
 /// In every run of a script with an exit finalizer, the callback frames of its weak reference and the frames that its procedure's
 /// call begins are together at most one.
 pub fn exits_begin_once()
-    ensures { ExitsBeginOnce }
+    ensures known { ExitsBeginOnce }
+    ensures read { ExitsBeginOnceIn WasRead }
 {}
 
 /// In every run of a script with exit finalizers, the calls at its end that are reached are reached from the last finalizer's on.
 pub fn exits_are_called_last_first()
-    ensures { ExitsAreCalledLastFirst }
+    ensures known { ExitsAreCalledLastFirst }
+    ensures read { ExitsAreCalledLastFirstIn WasRead }
 {}
 
 /// In every run, where the procedure of an exit finalizer finds its object alive, none of its commands is refused and the budget is
 /// not spent there, the function's frame begins.
 pub fn exits_begin_alive()
-    ensures { ExitsBeginAlive }
+    ensures known { ExitsBeginAlive }
+    ensures read { ExitsBeginAliveIn WasRead }
 {}
 
 /// The expansion of a worked script with two `finalize` lines spells a script that has both exit finalizers, as these laws ask.

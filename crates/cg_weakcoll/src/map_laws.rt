@@ -1,6 +1,7 @@
 //! What weak references and weak value maps tell in every run. Each law is the contract of a function that does nothing.
+ghost use Rattle.cg_script.specs.ReadScripts.{WasRead};
 ghost use Rattle.cg_weakcoll.specs.MapLines.{ExpandedLooksAreCommands, ExpandedStoresAreCommands, LookLinesAreCommands, StoreLinesAreCommands};
-ghost use Rattle.cg_weakcoll.specs.Maps.{LooksAnswer, LooksFindReferents, MissesLeaveNone, WeakMapsAnswer, WeakReferencesKeepTheirReferents};
+ghost use Rattle.cg_weakcoll.specs.Maps.{LooksAnswer, LooksFindReferents, MissesLeaveNone, MissesLeaveNoneIn, WeakMapsAnswer, WeakReferencesKeepTheirReferents};
 
 /// In every run a weak reference refers to the object that it was made of exactly until the line that it is cleared, unless it
 /// is dying itself.
@@ -23,7 +24,8 @@ pub fn looks_answer()
 /// In every run, where the second command of a `wget` is refused, as where the map has no such key, and no frame begins from the first
 /// to it, the variable is none.
 pub fn misses_leave_none()
-    ensures { MissesLeaveNone }
+    ensures known { MissesLeaveNone }
+    ensures read { MissesLeaveNoneIn WasRead }
 {}
 
 /// In every run, where a `wset` made the weak reference of an object and put it into a map, such a `wget` that finds it answers
