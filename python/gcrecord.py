@@ -1,8 +1,8 @@
 """Records the collections of a running CPython 3.12: see docs/REFEREE.md.
 
-    python3.12 gcrecord.py OUT PROGRAM ARGS..      runs a program, and writes the records of its collections to OUT
-    python3.12 gcrecord.py OUT -m MODULE ARGS..    the same for a module
-    python3.12 gcrecord.py --explain OUT VERDICT   says which objects a verdict `no G C` on OUT is about
+    python3.12 gcrecord.py -o OUT PROGRAM ARGS..     runs a program, and writes the records of its collections to OUT
+    python3.12 gcrecord.py -o OUT -m MODULE ARGS..   the same for a module
+    python3.12 gcrecord.py --explain OUT VERDICT     says which objects a verdict `no G C` on OUT is about
 
 In a program: `with gcrecord.Recorder(file): ..`.
 
@@ -15,10 +15,13 @@ thread, no signal handler and no code of the program comes between. What is kept
 The collector writes its lines to `sys.stderr`, and not to descriptor 2. So an object of ours stands there while a
 collection runs; what else is written to it goes on to the program's own.
 """
+from __future__ import annotations
+
 import _thread
 import argparse
 import ctypes
 import gc
+import importlib.util
 import operator
 import os
 import re
@@ -27,8 +30,8 @@ import sys
 from array import array
 from collections import Counter
 from functools import partial
-from itertools import chain, count, islice, repeat, starmap
-from typing import Callable, Iterable, Iterator, NamedTuple, NoReturn, Self, TextIO
+from itertools import chain, count, islice, repeat, starmap, takewhile
+from typing import Callable, Iterable, Iterator, NamedTuple, NoReturn, TextIO
 
 # what gccheck reads at most
 LIMIT = 67_108_864
@@ -120,14 +123,23 @@ class Snapshot:
             left[-1]()
         return not left
 
-    def graph(self) -> "Told":
+    def serials(self) -> dict[int, int]:
+        """The serial of each member, by its address."""
+        return {address: serial for serial, address in enumerate(self.addresses)}
+
+    def size(self) -> int:
+        """How many bytes the lines of the graph take, summed without building them."""
+        widths = list(map(len, map(str, range(len(self.addresses)))))
+        members = sum(widths) + sum(len(str(count - OWN_REFERENCES)) for count in self.counts)
+        references = dict(zip(self.addresses, map(len("r \n").__add__, widths)))
+        return members + len("m   0\n") * len(widths) + sum(map(references.get, self.referents, repeat(0)))
+
+    def graph(self) -> Told:
         """The lines of the graph, with the serials of its members."""
         told = Told()
         marks = dict(zip(self.kinds, map(bool, self.legacy)))
         names = dict(zip(self.kinds, map(printable, self.names)))
-        serials = told.serials
-        for serial, address in enumerate(self.addresses):
-            serials[address] = serial
+        told.serials = serials = self.serials()
         serial = -1
         for referent in self.referents:
             if referent == self.mark:
@@ -259,9 +271,9 @@ class Output:
         self.file.write(text)
         self.file.flush()
 
-    def has_room(self, record: str) -> bool:
-        """Whether the record can be added within the limit."""
-        return self.size + len(record) + len(END) <= self.limit
+    def has_room(self, size: int) -> bool:
+        """Whether a record of so many bytes can be added within the limit."""
+        return self.size + size + len(END) <= self.limit
 
     def add(self, record: str, rows: Iterable[str]) -> None:
         """Adds a record of one graph, and rows on its objects."""
@@ -292,6 +304,16 @@ class Output:
             self.file.flush()
 
 
+class Refused(RuntimeError):
+    """What is asked for can't be done, and nothing was written."""
+
+
+def needs_cpython_312() -> None:
+    """Refuses another Python."""
+    if sys.implementation.name != "cpython" or sys.version_info[:2] != (3, 12):
+        raise Refused("CPython 3.12 is needed")
+
+
 class Recorder:
     """Writes a record of each collection of this interpreter while the `with` statement runs.
 
@@ -310,8 +332,7 @@ class Recorder:
         limit: int = LIMIT,
         more: Callable[[], tuple[TextIO, TextIO | None]] | None = None,
     ) -> None:
-        if sys.implementation.name != "cpython" or sys.version_info[:2] != (3, 12):
-            raise RuntimeError("CPython 3.12 is needed")
+        needs_cpython_312()
         self.generations = frozenset(generations)
         self.most = most
         self.limit = limit
@@ -325,7 +346,7 @@ class Recorder:
         self.collection: Collection | None = None
         self.within: list[int] = []
 
-    def __enter__(self) -> Self:
+    def __enter__(self) -> Recorder:
         self.first_callback = self.called
         gc.callbacks.insert(0, self.first_callback)
         return self
@@ -397,7 +418,7 @@ class Recorder:
         if isinstance(fault, KeyboardInterrupt):
             _thread.interrupt_main()
 
-    def record(self, collection: "Collection", uncollectable: int) -> None:
+    def record(self, collection: Collection, uncollectable: int) -> None:
         """Writes the record of a collection that has ended."""
         if self.process != os.getpid():
             return
@@ -407,16 +428,16 @@ class Recorder:
         else:
             self.left_out[fault] += 1
 
-    def write(self, collection: "Collection") -> str | None:
-        """Writes a record; answers what keeps it from that."""
-        told = collection.told()
-        text = "".join(told.lines)
-        if not self.output.has_room(text):
-            if self.more is None or len(text) + len(END) > self.limit:
+    def write(self, collection: Collection) -> str | None:
+        """Writes a record; answers what keeps it from that. The text is built only where there is room for it."""
+        size = collection.size()
+        if not self.output.has_room(size):
+            if self.more is None or size + len(END) > self.limit:
                 return TOO_LARGE
             self.output.close()
             self.output = Output(*self.more(), self.limit)
-        self.output.add(text, told.rows)
+        told = collection.told()
+        self.output.add("".join(told.lines), told.rows)
         return None
 
 
@@ -473,6 +494,13 @@ class Collection:
         if not set(self.snapshot.addresses).issuperset(self.stand.found):
             return NOT_SEEN
         return None
+
+    def size(self) -> int:
+        """How many bytes its record takes."""
+        widths = {address: len(str(serial)) for address, serial in self.snapshot.serials().items()}
+        lost = sum(len("lost \n") + widths[address] for address in self.stand.found)
+        legacy = sum(len("legacy \n") + widths[address] for address in self.stand.uncollectable)
+        return len("record 0\ngraph 1\ncut\n") + self.snapshot.size() + lost + legacy
 
     def told(self) -> Told:
         """What is written of it."""
@@ -705,25 +733,75 @@ def explain(out: str, verdict: list[str], most: int = 20) -> str:
     return "".join(lines + [f"  and {left} more\n"] * (left > 0))
 
 
-def arguments_of(words: list[str]) -> argparse.Namespace:
-    """The words after the program's name."""
-    parser = argparse.ArgumentParser("gcrecord.py", description="Records the collections of a program for gccheck.")
-    parser.add_argument("--explain", action="store_true", help="say which objects a verdict on OUT is about")
+def at_least_one(word: str) -> int:
+    """The number that a word spells, where it is at least 1."""
+    number = int(word)
+    if number < 1:
+        raise argparse.ArgumentTypeError(f"{number} is less than 1")
+    return number
+
+
+def parser_of_words() -> argparse.ArgumentParser:
+    """Reads the words after the program's name."""
+    parser = argparse.ArgumentParser(
+        prog="gcrecord.py",
+        usage="%(prog)s [options] -o OUT PROGRAM ARGS..\n"
+        "       %(prog)s [options] -o OUT -m MODULE ARGS..\n"
+        "       %(prog)s --explain OUT VERDICT",
+        description="Records the collections of a program for gccheck.",
+        allow_abbrev=False,
+    )
+    parser.add_argument("-o", dest="out", metavar="OUT", help="the file that the records are written to")
+    parser.add_argument("-m", dest="is_module", action="store_true", help="the program is the module of that name")
+    parser.add_argument("--explain", metavar="OUT", help="say which objects the verdict on the records in OUT is about")
     parser.add_argument("--generation", action="append", type=int, choices=(0, 1, 2), help="only collections of it")
-    parser.add_argument("--most", type=int, metavar="N", help="record at most N collections")
-    parser.add_argument("--limit", type=int, default=LIMIT, metavar="BYTES", help="keep OUT within so many bytes")
+    parser.add_argument("--most", type=at_least_one, metavar="N", help="record at most N collections")
+    parser.add_argument(
+        "--limit", type=at_least_one, default=LIMIT, metavar="BYTES", help="keep OUT within so many bytes"
+    )
     parser.add_argument("--more-files", action="store_true", help="go on in OUT.2, OUT.3, .. where OUT is full")
     parser.add_argument("--no-objects", action="store_true", help="do not write OUT.objects, which --explain reads")
-    parser.add_argument("out", metavar="OUT", help="the file of records")
     parser.add_argument(
-        "rest", metavar="PROGRAM ARGS..", nargs=argparse.REMAINDER, help="or -m MODULE ARGS..; with --explain a verdict"
+        "words", metavar="PROGRAM ARGS..", nargs=argparse.REMAINDER, help="the program with its words, or a verdict"
     )
+    return parser
+
+
+def arguments_of(words: list[str]) -> argparse.Namespace:
+    """What the words after the program's name ask for; wrong ones end the program, with nothing written."""
+    parser = parser_of_words()
     given = parser.parse_args(words)
-    if not 0 < given.limit <= LIMIT:
-        parser.error(f"the limit is at most {LIMIT}")
-    if not given.rest or given.rest == ["-m"]:
-        parser.error("a verdict is missing" if given.explain else "a program is missing")
+    if given.limit > LIMIT:
+        parser.error(f"the limit is at most {LIMIT}, which is all that gccheck reads")
+    if given.explain is not None:
+        if given.out is not None or given.is_module:
+            parser.error("--explain takes neither -o nor -m")
+        if not given.words:
+            parser.error("a verdict is missing: yes N, or no G C")
+    elif not given.words:
+        parser.error("a program is missing")
+    elif given.out is None:
+        parser.error("-o OUT is missing, the file to write")
     return given
+
+
+# what may be overwritten: records, and what tells of their objects
+RECORDS = re.compile(rb"(?:(?:(?:record|graph|m|r|lost|legacy)(?: [0-9]+)+|cut|stop)\n)*end\n")
+OBJECTS = re.compile(rb"(?:(?:graph [0-9]+|[0-9]+ 0x[0-9a-f]+ [^\n]*)\n)*")
+
+
+def may_overwrite(name: str, content: re.Pattern[bytes]) -> None:
+    """Refuses to write to a file that holds anything else."""
+    if name.endswith(".py"):
+        raise Refused(f"{name} is the name of a program: give another file after -o")
+    # a pipe or a device holds nothing
+    if os.path.isdir(name):
+        raise Refused(f"{name} is a folder")
+    if os.path.isfile(name):
+        with open(name, "rb") as file:
+            held = file.read()
+        if held and not content.fullmatch(held):
+            raise Refused(f"{name} holds something else than gcrecord writes: remove it, or give another file after -o")
 
 
 class Files:
@@ -736,13 +814,34 @@ class Files:
         self.numbers = count(1)
         self.opened: list[TextIO] = []
 
+    def name(self, number: int) -> str:
+        """The name of a file of records."""
+        return self.out if number == 1 else f"{self.out}.{number}"
+
+    def there(self, more: bool) -> list[str]:
+        """The names of OUT, and of what an earlier run may have left behind it."""
+        further = takewhile(os.path.exists, map(self.name, count(2))) if more else ()
+        return [self.out, *further]
+
+    def check(self, more: bool) -> None:
+        """Sees to it that nothing but records is overwritten or taken away."""
+        for name in self.there(more):
+            may_overwrite(name, RECORDS)
+            may_overwrite(name + BESIDE, OBJECTS)
+
+    def take_away(self, more: bool) -> None:
+        """Takes away what an earlier run left, which would look like a part of this one."""
+        first, *further = self.there(more)
+        stale = further + [name + BESIDE for name in further] + [first + BESIDE] * (not self.objects)
+        for name in filter(os.path.isfile, stale):
+            os.remove(name)
+
     def open(self) -> tuple[TextIO, TextIO | None]:
         """The next file, and the one for its objects; those before are closed."""
         self.close()
-        number = next(self.numbers)
-        out = self.out if number == 1 else f"{self.out}.{number}"
+        out = self.name(next(self.numbers))
         names = [out, out + BESIDE] if self.objects else [out]
-        self.opened = [open(name, "w", encoding="ascii") for name in names]
+        self.opened = [open(name, "w", encoding="ascii", newline="\n") for name in names]
         return self.opened[0], self.opened[1] if self.objects else None
 
     def close(self) -> None:
@@ -751,23 +850,58 @@ class Files:
             file.close()
 
 
-def run_program(words: list[str]) -> None:
-    """Runs a program as CPython does, or with `-m` a module."""
-    if words[0] == "-m":
-        sys.argv = words[1:]
-        sys.path[0] = os.getcwd()
-        runpy.run_module(words[1], run_name="__main__", alter_sys=True)
-    else:
-        sys.argv = words
-        sys.path[0] = os.path.dirname(os.path.abspath(words[0]))
-        runpy.run_path(words[0], run_name="__main__")
+class Program:
+    """A program to be run as CPython runs it, or with `-m` a module."""
+
+    def __init__(self, words: list[str], is_module: bool) -> None:
+        self.words = words
+        self.is_module = is_module
+
+    def enter(self) -> None:
+        """Sets `sys.argv`, and the first folder that is searched for modules as CPython does: with -P or -I none."""
+        sys.argv = self.words
+        if not sys.flags.safe_path:
+            name = self.words[0]
+            sys.path[0] = os.getcwd() if self.is_module else os.path.dirname(os.path.abspath(name))
+
+    def check(self) -> None:
+        """Refuses a program that is not there."""
+        name = self.words[0]
+        if self.is_module:
+            try:
+                is_there = importlib.util.find_spec(name) is not None
+            except (ImportError, ValueError):
+                is_there = False
+            if not is_there:
+                raise Refused(f"there is no module {name}")
+        elif not os.path.exists(name):
+            raise Refused(f"there is no program {name}")
+        elif not os.access(name, os.R_OK):
+            raise Refused(f"the program {name} can't be read")
+
+    def run(self) -> None:
+        """Runs it."""
+        if self.is_module:
+            runpy.run_module(self.words[0], run_name="__main__", alter_sys=True)
+        else:
+            runpy.run_path(self.words[0], run_name="__main__")
 
 
 def record(given: argparse.Namespace) -> NoReturn:
     """Runs the program, and ends as it does."""
+    program = Program(given.words, given.is_module)
     files = Files(given.out, not given.no_objects)
+    try:
+        needs_cpython_312()
+        program.enter()
+        program.check()
+        files.check(given.more_files)
+        first = files.open()
+        files.take_away(given.more_files)
+    except (Refused, OSError) as fault:
+        leave(str(fault))
     recorder = Recorder(
-        *files.open(),
+        *first,
         generations=given.generation or (0, 1, 2),
         most=given.most,
         limit=given.limit,
@@ -775,23 +909,29 @@ def record(given: argparse.Namespace) -> NoReturn:
     )
     try:
         with recorder:
-            run_program(given.rest)
+            program.run()
     finally:
         files.close()
         for why, times in recorder.left_out.items():
-            print(f"gcrecord: left out {times}: {why}", file=sys.__stderr__)
+            write_to(sys.__stderr__, f"gcrecord: left out {times}: {why}\n")
     sys.exit(0)
+
+
+def leave(message: str) -> NoReturn:
+    """Ends the program where it can't do what it was asked for."""
+    write_to(sys.__stderr__, f"gcrecord: {message}\n")
+    sys.exit(2)
 
 
 def main(words: list[str]) -> NoReturn:
     """Runs the command line."""
     given = arguments_of(words)
-    if not given.explain:
+    if given.explain is None:
         record(given)
     try:
-        sys.stdout.write(explain(given.out, given.rest))
+        sys.stdout.write(explain(given.explain, given.words))
     except (OSError, ValueError, IndexError, KeyError) as fault:
-        sys.exit(f"gcrecord: {fault}")
+        leave(str(fault))
     sys.exit(0)
 
 

@@ -69,7 +69,7 @@ def record(program: str | list[object], *options: object, folder: Path | None = 
         words = program if isinstance(program, list) else [Path(name, "program.py")]
         if isinstance(program, str):
             Path(name, "program.py").write_text(textwrap.dedent(program))
-        done = run(*options, out, *words, folder=folder)
+        done = run(*options, "-o", out, *words, folder=folder)
         files = [out] if out.exists() else []
         while (further := Path(f"{out}.{len(files) + 1}")).exists():
             files.append(further)

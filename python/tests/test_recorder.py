@@ -1,12 +1,13 @@
 """The recorder: what it sees of a collection, what the program notices of it, and its command line."""
 import io
 import shutil
+import subprocess
 import sys
 import tempfile
 import unittest
 from pathlib import Path
 
-from .recording import JUDGED, explained, record, run, verdict
+from .recording import JUDGED, RECORDER, explained, record, run, verdict
 
 sys.path.insert(0, str(JUDGED))
 from build import build  # noqa: E402
@@ -15,6 +16,11 @@ from build import build  # noqa: E402
 OWN_LIST = "l = []; l.append(l); del l"
 # begins a program so that the next young collection has nothing of the start
 QUIET = "import gc, io, os, sys\ngc.disable()\ngc.collect()\n"
+
+
+def runs(python: str) -> bool:
+    """Whether there is another Python of this name."""
+    return shutil.which(python) is not None and subprocess.run([python, "-c", ""], capture_output=True).returncode == 0
 
 
 class Seen(unittest.TestCase):
@@ -246,8 +252,23 @@ class Lines(unittest.TestCase):
         self.assertTrue(all(len(text) <= 30_000 for text in recorded.records))
 
     def test_words_that_are_wrong(self) -> None:
-        for words in ([], ["out"], ["out", "-m"], ["--limit", 67_108_865, "out", "p"], ["--explain", "out"]):
-            self.assertEqual(2, run(*words).returncode, words)
+        for words, said in (
+            ([], "a program is missing"),
+            (["prog.py", "--flag"], "-o OUT is missing"),
+            (["-o", "out"], "a program is missing"),
+            (["-o", "out", "-m"], "a program is missing"),
+            (["--limit", 67_108_865, "-o", "out", "p"], "the limit is at most 67108864"),
+            (["--most", -1, "-o", "out", "p"], "argument --most: -1 is less than 1"),
+            (["--most", "few", "-o", "out", "p"], "argument --most: invalid at_least_one value: 'few'"),
+            (["--mo", 1, "-o", "out", "p"], "unrecognized arguments: --mo"),
+            (["--explain", "out"], "a verdict is missing"),
+            (["--explain", "out", "-o", "out", "no"], "--explain takes neither -o nor -m"),
+        ):
+            with tempfile.TemporaryDirectory() as folder:
+                done = run(*words, folder=Path(folder))
+                self.assertEqual([], list(Path(folder).iterdir()))
+            self.assertEqual((2, True), (done.returncode, said in done.stderr), (words, done.stderr))
+            self.assertNotIn("Traceback", done.stderr)
         self.assertIn("no verdict", explained("end\n", "maybe"))
         self.assertIn("there is no graph 3", explained("end\n", "no", "3", "4"))
 
@@ -263,6 +284,154 @@ class Lines(unittest.TestCase):
         self.assertEqual((1, {}), (recorder.recorded, recorder.left_out))
         self.assertEqual("yes 1", verdict(file.getvalue()))
         self.assertEqual(before, (list(gc.callbacks), gc.get_debug(), sys.stderr))
+
+
+class Kept(unittest.TestCase):
+    """What is in the files of the user, and which are opened."""
+
+    PROGRAM = "import gc; gc.collect(0)"
+
+    def setUp(self) -> None:
+        folder = tempfile.TemporaryDirectory()
+        self.addCleanup(folder.cleanup)
+        self.folder = Path(folder.name)
+        self.write("prog.py", self.PROGRAM)
+
+    def write(self, name: str, text: str) -> None:
+        """Writes a file of the user's."""
+        (self.folder / name).write_text(text)
+
+    def refuse(self, said: str, *words: object) -> None:
+        """Wants a message, status 2, and all files as they were."""
+        before = {path.name: path.read_bytes() for path in self.folder.iterdir() if path.is_file()}
+        done = run(*words, folder=self.folder)
+        self.assertEqual((2, f"gcrecord: {said}\n"), (done.returncode, done.stderr))
+        self.assertEqual(before, {path.name: path.read_bytes() for path in self.folder.iterdir() if path.is_file()})
+
+    def test_a_program_is_not_overwritten(self) -> None:
+        name = self.folder.resolve() / "prog.py"
+        self.refuse(f"{name} is the name of a program: give another file after -o", "-o", "prog.py", "prog.py")
+
+    def test_only_records_are_overwritten(self) -> None:
+        self.write("notes", "record 2\nof my own\nend\n")
+        says = " holds something else than gcrecord writes: remove it, or give another file after -o"
+        self.refuse(f"{self.folder.resolve() / 'notes'}{says}", "-o", "notes", "prog.py")
+        for name, text in (("out.objects", "notes"), ("out.2", "notes"), ("out.2.objects", "graph one\n")):
+            self.write("out.2", "end\n")
+            self.write(name, text)
+            self.refuse(f"{self.folder.resolve() / name}{says}", "--more-files", "-o", "out", "prog.py")
+            (self.folder / name).unlink()
+
+    def test_records_are_overwritten(self) -> None:
+        for _ in range(2):
+            self.assertEqual("", run("-o", "out", "prog.py", folder=self.folder).stderr)
+        self.assertRegex(verdict((self.folder / "out").read_text()), r"^yes \d+$")
+
+    def test_what_an_earlier_run_left_is_taken_away(self) -> None:
+        self.write("prog.py", "import gc; l = [[] for _ in range(1000)]; gc.collect(0); gc.collect(1); gc.collect(1)")
+        run("--limit", 30_000, "--more-files", "-o", "out", "prog.py", folder=self.folder)
+        self.assertTrue((self.folder / "out.2.objects").exists())
+        run("--most", 1, "--more-files", "-o", "out", "prog.py", folder=self.folder)
+        self.assertEqual({"prog.py", "out", "out.objects"}, {path.name for path in self.folder.iterdir()})
+        run("--no-objects", "-o", "out", "prog.py", folder=self.folder)
+        self.assertEqual({"prog.py", "out"}, {path.name for path in self.folder.iterdir()})
+
+    def test_a_program_that_is_not_there(self) -> None:
+        self.refuse("there is no program missing.py", "-o", "out", "missing.py")
+        self.refuse("there is no module missing.module", "-o", "out", "-m", "missing.module")
+
+    def test_a_file_that_cannot_be_written(self) -> None:
+        name = self.folder.resolve() / "missing" / "out"
+        self.refuse(f"[Errno 2] No such file or directory: '{name}'", "-o", "missing/out", "prog.py")
+        (self.folder / "out").mkdir()
+        self.refuse(f"{self.folder.resolve() / 'out'} is a folder", "-o", "out", "prog.py")
+
+    def run_front(self, before: str, after: str = "") -> subprocess.CompletedProcess[str]:
+        """Records the program by a program of the test's, with lines before the recorder is imported and after."""
+        lines = ["import sys", f"sys.path[0] = {str(RECORDER.parent)!r}", before, "import gcrecord", after]
+        self.write("front.py", "\n".join([*lines, "gcrecord.main(['-o', 'out', 'prog.py'])"]))
+        words = [sys.executable, "front.py"]
+        return subprocess.run(words, capture_output=True, text=True, cwd=self.folder, timeout=60)
+
+    def test_another_python(self) -> None:
+        done = self.run_front("", "sys.version_info = (3, 10)")
+        self.assertEqual((2, "gcrecord: CPython 3.12 is needed\n"), (done.returncode, done.stderr))
+        self.assertFalse((self.folder / "out").exists())
+
+    @unittest.skipUnless(runs("python3.10"), "no Python 3.10")
+    def test_python_310(self) -> None:
+        words = ["python3.10", RECORDER, "-o", "out", "prog.py"]
+        done = subprocess.run(words, capture_output=True, text=True, cwd=self.folder, timeout=60)
+        self.assertEqual((2, "gcrecord: CPython 3.12 is needed\n"), (done.returncode, done.stderr))
+
+    def test_lines_end_alike_on_every_system(self) -> None:
+        # as on Windows, where a text file has two bytes at the end of each line if `open` is not told otherwise
+        before = """
+import builtins, io
+def open_as_windows(name, mode="r", newline=None, **words):
+    return io.open(name, mode, newline="\\r\\n" if newline is None and "b" not in mode else newline, **words)
+builtins.open = open_as_windows
+"""
+        done = self.run_front(before)
+        self.assertEqual((0, ""), (done.returncode, done.stderr))
+        for name in ("out", "out.objects"):
+            content = (self.folder / name).read_bytes()
+            self.assertEqual((True, False), (b"\n" in content, b"\r" in content))
+
+    def test_the_folders_that_are_searched(self) -> None:
+        self.write("prog.py", "import sys; print(sys.path)")
+        self.write("plain.py", "import sys; print(sys.path)")
+        for flags in ([], ["-P"], ["-I"]):
+            recorded = [sys.executable, *flags, RECORDER, "-o", "out", "prog.py"]
+            without = [sys.executable, *flags, "plain.py"]
+            self.assertEqual(*(self.output(words) for words in (without, recorded)), flags)
+
+    def output(self, words: list[object]) -> str:
+        """What a program writes."""
+        return subprocess.run(words, capture_output=True, text=True, cwd=self.folder, timeout=60, check=True).stdout
+
+    def test_a_stderr_that_is_closed(self) -> None:
+        self.write("prog.py", "import gc, sys\ngc.callbacks.append(lambda *w: gc.set_debug(1)); gc.collect(0)\n")
+        for closing in ("sys.__stderr__.close()", "sys.__stderr__ = sys.stderr = None"):
+            self.write("closing.py", (self.folder / "prog.py").read_text() + f"gc.set_debug(0); {closing}; sys.exit(7)")
+            done = run("-o", "out", "closing.py", folder=self.folder)
+            self.assertEqual((7, ""), (done.returncode, done.stdout), done.stderr)
+
+    def test_a_large_record_is_not_built(self) -> None:
+        import gc
+
+        import gcrecord
+
+        graph, gcrecord.Snapshot.graph = gcrecord.Snapshot.graph, None
+        try:
+            with gcrecord.Recorder(io.StringIO(), generations=[0], limit=50) as recorder:
+                gc.collect(0)
+        finally:
+            gcrecord.Snapshot.graph = graph
+        self.assertEqual({"larger than what is left of the size limit": 1}, recorder.left_out)
+
+    def test_sizes_are_those_of_the_texts(self) -> None:
+        import gc
+
+        import gcrecord
+
+        class Both(gcrecord.Recorder):
+            """Compares the size of each record with its text."""
+
+            def write(self, collection: gcrecord.Collection) -> str | None:
+                sizes.append((collection.size(), len("".join(collection.told().lines))))
+                return None
+
+        sizes: list[tuple[int, int]] = []
+        with Both(io.StringIO()):
+            for generation in (0, 2, 1):
+                cycle: list[object] = [1]
+                cycle.append(cycle)
+                del cycle
+                gc.collect(generation)
+        self.assertEqual(3, len(sizes))
+        for size, length in sizes:
+            self.assertEqual(length, size)
 
 
 class Explained(unittest.TestCase):
