@@ -49,7 +49,7 @@ def verdict(text: str) -> str:
     """The verdict of the plain judge; where gccheck has been built, it must say the same."""
     answer = judge.verdict(text)
     if GCCHECK.exists():
-        done = subprocess.run([GCCHECK], input=text, capture_output=True, text=True)
+        done = subprocess.run([GCCHECK], input=text, capture_output=True, text=True, timeout=120)
         if done.stdout != answer + "\n":
             raise AssertionError(f"gccheck says {done.stdout.strip()}, the plain judge {answer}")
     return answer
