@@ -11,7 +11,7 @@ import sys
 import tempfile
 from typing import BinaryIO, NoReturn
 
-from beside.main import main
+from halzsetor.beside.main import main
 
 # how many seconds one may take
 LONGEST = 60

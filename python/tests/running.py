@@ -9,7 +9,7 @@ from pathlib import Path
 from typing import Iterable, Iterator, NamedTuple
 
 HERE = Path(__file__).resolve().parent
-PROGRAM = HERE.parent / "gcscript.py"
+PROGRAM = ("-m", "halzsetor.gcscript")
 EXAMPLES = HERE.parent.parent / "examples"
 OTHERWISE = EXAMPLES / "otherwise"
 TEXTS = HERE / "texts.jsonl"
@@ -86,11 +86,11 @@ def words_for(folder: str, script: str, text: str | None) -> list[str]:
     return [str(script_file), "--compare", str(text_file)]
 
 
-def run(script: str, *options: str, text: str | None = None, python: tuple[str, ...] = ("-S",)) -> Outcome:
+def run(script: str, *options: str, text: str | None = None, python: tuple[str, ...] = ("-S", *PROGRAM)) -> Outcome:
     """Runs a script, and compares it with a text where there is one."""
     with tempfile.TemporaryDirectory() as folder:
-        words = [sys.executable, *python, str(PROGRAM), *words_for(folder, script, text), *options]
-        done = subprocess.run(words, capture_output=True, text=True, timeout=LONGEST)
+        words = [sys.executable, *python, *words_for(folder, script, text), *options]
+        done = subprocess.run(words, capture_output=True, text=True, cwd=HERE.parent, timeout=LONGEST)
     return Outcome(done.returncode, done.stdout, done.stderr)
 
 

@@ -1,7 +1,7 @@
 """Scripts beside the texts of gcrun: the examples, those for the named points, and generated ones."""
 import unittest
 
-from beside import points, reader
+from halzsetor.beside import points, reader
 
 from .generator import Generator
 from .running import (

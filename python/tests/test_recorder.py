@@ -1,4 +1,5 @@
 """The recorder: what it sees of a collection, what the program notices of it, and its command line."""
+import gc
 import io
 import shutil
 import subprocess
@@ -7,7 +8,11 @@ import tempfile
 import unittest
 from pathlib import Path
 
-from .recording import JUDGED, RECORDER, explained, record, run, verdict
+from halzsetor.recorder import Recorder
+from halzsetor.recorder.recorder import Collection
+from halzsetor.recorder.snapshot import Snapshot
+
+from .recording import JUDGED, PYTHON, explained, record, run, run_python, verdict
 
 sys.path.insert(0, str(JUDGED))
 from build import build  # noqa: E402
@@ -191,7 +196,7 @@ else: sys.exit(3)
 
     def test_a_file_that_fails(self) -> None:
         program = """
-import gcrecord
+from halzsetor.recorder import Recorder
 class Full(io.StringIO):
     def write(self, text):
         if len(text) > 10:
@@ -199,12 +204,11 @@ class Full(io.StringIO):
             raise OSError
         return super().write(text)
 file = Full()
-with gcrecord.Recorder(file) as recorder:
+with Recorder(file) as recorder:
     gc.collect()
 print(recorder.recorded, dict(recorder.left_out), repr(file.getvalue()))
 """
-        path = f"import sys\nsys.path.insert(0, {str(JUDGED.parent.parent / 'python')!r})\n"
-        recorded = record(path + QUIET + program, "--most", 1)
+        recorded = record(QUIET + program, "--most", 1)
         self.assertEqual("0 {'OSError in the recorder': 1} 'end\\n'\n", recorded.output)
 
 
@@ -273,12 +277,8 @@ class Lines(unittest.TestCase):
         self.assertIn("there is no graph 3", explained("end\n", "no", "3", "4"))
 
     def test_the_context_manager(self) -> None:
-        import gc
-
-        import gcrecord
-
         file, before = io.StringIO(), (list(gc.callbacks), gc.get_debug(), sys.stderr)
-        with gcrecord.Recorder(file, generations=[0], most=1) as recorder:
+        with Recorder(file, generations=[0], most=1) as recorder:
             gc.collect(0)
             gc.collect(0)
         self.assertEqual((1, {}), (recorder.recorded, recorder.left_out))
@@ -346,28 +346,27 @@ class Kept(unittest.TestCase):
         (self.folder / "out").mkdir()
         self.refuse(f"{self.folder.resolve() / 'out'} is a folder", "-o", "out", "prog.py")
 
-    def run_front(self, before: str, after: str = "") -> subprocess.CompletedProcess[str]:
-        """Records the program by a program of the test's, with lines before the recorder is imported and after."""
-        lines = ["import sys", f"sys.path[0] = {str(RECORDER.parent)!r}", before, "import gcrecord", after]
-        self.write("front.py", "\n".join([*lines, "gcrecord.main(['-o', 'out', 'prog.py'])"]))
-        words = [sys.executable, "front.py"]
-        return subprocess.run(words, capture_output=True, text=True, cwd=self.folder, timeout=60)
+    def run_front(self, before: str) -> subprocess.CompletedProcess[str]:
+        """Records the program by a program of the test's, which begins with these lines."""
+        lines = ["import sys", before, "from halzsetor.gcrecord import main"]
+        self.write("front.py", "\n".join([*lines, "sys.argv = ['gcrecord', '-o', 'out', 'prog.py']", "main()"]))
+        return run_python("front.py", folder=self.folder)
 
     def test_another_python(self) -> None:
-        done = self.run_front("", "sys.version_info = (3, 10)")
-        self.assertEqual((2, "gcrecord: CPython 3.12 is needed\n"), (done.returncode, done.stderr))
+        done = self.run_front("sys.version_info = (3, 10)")
+        self.assertEqual((2, "gcrecord: CPython 3.12 is needed, and this is cpython 3.10\n"), (done.returncode, done.stderr))
         self.assertFalse((self.folder / "out").exists())
 
-    @unittest.skipUnless(runs("python3.10"), "no Python 3.10")
-    def test_python_310(self) -> None:
-        words = ["python3.10", RECORDER, "-o", "out", "prog.py"]
-        done = subprocess.run(words, capture_output=True, text=True, cwd=self.folder, timeout=60)
-        self.assertEqual((2, "gcrecord: CPython 3.12 is needed\n"), (done.returncode, done.stderr))
+    def test_older_and_newer_pythons(self) -> None:
+        others = [f"python3.{minor}" for minor in (7, 8, 9, 10, 11, 13, 14)]
+        for python in filter(runs, others):
+            done = run_python("-m", "halzsetor.gcrecord", "-o", "out", "prog.py", folder=self.folder, python=python)
+            said = f"gcrecord: CPython 3.12 is needed, and this is c{python.replace('3.', ' 3.')}\n"
+            self.assertEqual((2, said), (done.returncode, done.stderr))
 
     def test_lines_end_alike_on_every_system(self) -> None:
         # as on Windows, where a text file has two bytes at the end of each line if `open` is not told otherwise
-        before = """
-import builtins, io
+        before = """import builtins, io
 def open_as_windows(name, mode="r", newline=None, **words):
     return io.open(name, mode, newline="\\r\\n" if newline is None and "b" not in mode else newline, **words)
 builtins.open = open_as_windows
@@ -380,15 +379,13 @@ builtins.open = open_as_windows
 
     def test_the_folders_that_are_searched(self) -> None:
         self.write("prog.py", "import sys; print(sys.path)")
-        self.write("plain.py", "import sys; print(sys.path)")
+        # -I ignores PYTHONPATH, so the folder of the package is put behind the others
+        front = f"import sys; sys.path.append({str(PYTHON)!r}); from halzsetor.gcrecord import main; main()"
         for flags in ([], ["-P"], ["-I"]):
-            recorded = [sys.executable, *flags, RECORDER, "-o", "out", "prog.py"]
-            without = [sys.executable, *flags, "plain.py"]
-            self.assertEqual(*(self.output(words) for words in (without, recorded)), flags)
-
-    def output(self, words: list[object]) -> str:
-        """What a program writes."""
-        return subprocess.run(words, capture_output=True, text=True, cwd=self.folder, timeout=60, check=True).stdout
+            without = run_python(*flags, "prog.py", folder=self.folder)
+            recorded = run_python(*flags, "-c", front, "-o", "out", "prog.py", folder=self.folder)
+            said = without.stdout.removesuffix("]\n") + f", {str(PYTHON)!r}]\n"
+            self.assertEqual((said, ""), (recorded.stdout, recorded.stderr), flags)
 
     def test_a_stderr_that_is_closed(self) -> None:
         self.write("prog.py", "import gc, sys\ngc.callbacks.append(lambda *w: gc.set_debug(1)); gc.collect(0)\n")
@@ -398,27 +395,19 @@ builtins.open = open_as_windows
             self.assertEqual((7, ""), (done.returncode, done.stdout), done.stderr)
 
     def test_a_large_record_is_not_built(self) -> None:
-        import gc
-
-        import gcrecord
-
-        graph, gcrecord.Snapshot.graph = gcrecord.Snapshot.graph, None
+        graph, Snapshot.graph = Snapshot.graph, None
         try:
-            with gcrecord.Recorder(io.StringIO(), generations=[0], limit=50) as recorder:
+            with Recorder(io.StringIO(), generations=[0], limit=50) as recorder:
                 gc.collect(0)
         finally:
-            gcrecord.Snapshot.graph = graph
+            Snapshot.graph = graph
         self.assertEqual({"larger than what is left of the size limit": 1}, recorder.left_out)
 
     def test_sizes_are_those_of_the_texts(self) -> None:
-        import gc
-
-        import gcrecord
-
-        class Both(gcrecord.Recorder):
+        class Both(Recorder):
             """Compares the size of each record with its text."""
 
-            def write(self, collection: gcrecord.Collection) -> str | None:
+            def write(self, collection: Collection) -> str | None:
                 sizes.append((collection.size(), len("".join(collection.told().lines))))
                 return None
 

@@ -26,7 +26,7 @@ DEEPEST = 1_000_000
 
 def arguments_of(words: list[str]) -> argparse.Namespace:
     """The words after the program's name."""
-    parser = argparse.ArgumentParser(prog="gcscript.py", description="Runs a script of gcrun on real objects.")
+    parser = argparse.ArgumentParser(prog="gcscript", description="Runs a script of gcrun on real objects.")
     parser.add_argument("script", metavar="SCRIPT", type=Path, help="the script")
     parser.add_argument("--automatic", action="store_true", help="let CPython start collections by itself")
     parser.add_argument("--compare", metavar="TEXT", type=Path, help="a text of gcrun to set beside CPython's lines")
