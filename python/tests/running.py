@@ -8,14 +8,15 @@ from concurrent.futures import ThreadPoolExecutor
 from pathlib import Path
 from typing import Iterable, Iterator, NamedTuple
 
+from halzsetor.beside.main import OURS
+
 HERE = Path(__file__).resolve().parent
 PROGRAM = ("-m", "halzsetor.gcscript")
 EXAMPLES = HERE.parent.parent / "examples"
 OTHERWISE = EXAMPLES / "otherwise"
 TEXTS = HERE / "texts.jsonl"
 POINTS = HERE / "points.json"
-# what gcscript does not know
-OURS = {"profile", "shutdown", "referents", "referrers", "why"}
+BOTH_BAD = "agrees: the script is bad, and nothing was run"
 # how many seconds a run may take
 LONGEST = 60
 PROCESSES = min(4, os.cpu_count() or 1)
@@ -40,7 +41,7 @@ class Outcome(NamedTuple):
     def points(self) -> list[str] | None:
         """The first words of the points that a comparison named, none where the texts agree; or no such answer."""
         lines = self.output.splitlines()
-        if self.status == 0 and lines == ["agrees"]:
+        if self.status == 0 and lines in (["agrees"], [BOTH_BAD]):
             return []
         if self.status != 0 or not all(line.startswith("differs in ") for line in lines):
             return None
@@ -62,7 +63,7 @@ def example_cases() -> list[Case]:
     """The scripts of the folders of `examples`, but for those with rules and commands of ours alone."""
     folders = sorted({script.parent for script in EXAMPLES.glob("*/*.script")} - {OTHERWISE})
     cases = [case for folder in folders for case in folder_cases(folder)]
-    return [case for case in cases if OURS.isdisjoint(first_words(case.script))]
+    return [case for case in cases if OURS.keys().isdisjoint(first_words(case.script))]
 
 
 def stored_cases() -> list[Case]:

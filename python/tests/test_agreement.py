@@ -2,6 +2,7 @@
 import unittest
 
 from halzsetor.beside import points, reader
+from halzsetor.beside.main import OURS
 
 from .generator import Generator
 from .running import (
@@ -16,7 +17,7 @@ from .running import (
 )
 
 NAMES = {value.partition(":")[0] for name, value in vars(points).items() if name.isupper()}
-FORMS = set(reader.BINDINGS) | set(reader.OPENERS) | {"bind"}
+FORMS = set(reader.BINDINGS) | set(reader.OPENERS) - OURS.keys()
 
 
 class Stored(unittest.TestCase):
@@ -71,7 +72,7 @@ class Generated(Stored):
     def test_all_commands_come(self) -> None:
         words = [line.split() for case in stored_cases() for line in case.script.splitlines()]
         forms = {line[2] if line[1:2] == ["="] else line[0] for line in words if line}
-        self.assertEqual(FORMS - {"bind"}, forms & FORMS)
+        self.assertEqual(FORMS, forms & FORMS)
 
     def test_all_agree(self) -> None:
         self.check(stored_cases())

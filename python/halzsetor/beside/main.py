@@ -14,7 +14,7 @@ from .automatic import Automatic
 from .compare import Comparison, Differs
 from .objects import Unsupported
 from .points import AUTOMATIC
-from .reader import BadScript, Script, TooLarge, read
+from .reader import BadScript, Script, TooLarge, read, told, warnings
 from .run import Machine
 from .texts import Item
 
@@ -22,6 +22,14 @@ AGREES = 0
 DIFFERS = 1
 CANNOT_SAY = 2
 DEEPEST = 1_000_000
+# lines that are gcrun's alone, and why
+OURS = {
+    "profile": "its collector has one rule for weak references",
+    "shutdown": "its own end does more than a script's",
+    "referents": "its answer has types and dictionaries that no script makes",
+    "referrers": "its answer would have what this program holds",
+    "why": "it has no such question",
+}
 
 
 def arguments_of(words: list[str]) -> argparse.Namespace:
@@ -89,6 +97,30 @@ def run(script: Script, text: list[str] | None, automatic: bool) -> NoReturn:
         leave(CANNOT_SAY, str(fault))
 
 
+def refuse(fault: BadScript | TooLarge, text: list[str] | None) -> NoReturn:
+    """Says what is wrong with a script, and ends. Nothing of it is run; with a text to compare that is said too."""
+    sys.stderr.write(told(fault.mistakes) if isinstance(fault, BadScript) else "")
+    if text is None:
+        show([str(fault)])
+        leave(DIFFERS)
+    if text == [str(fault)]:
+        show(["agrees: the script is bad, and nothing was run"])
+        leave(AGREES)
+    show([str(fault)])
+    leave(DIFFERS, f"the script is bad here, and gcrun has `{text[0] if text else ''}`: nothing was run")
+
+
+def first_of_ours(script: Script) -> str | None:
+    """Why a script can't be carried out, where it has a line that is gcrun's alone."""
+    bodies = [script.commands, *(procedure.body for procedure in script.procedures.values())]
+    found = {command.line: command.form for body in bodies for command in body if command.form in OURS}
+    found |= {line: word for word in ("profile", "shutdown") if (line := getattr(script, word)) is not None}
+    if not found:
+        return None
+    line = min(found)
+    return f"line {line}: `{found[line]}` can't be carried out by CPython: {OURS[found[line]]}"
+
+
 def main(words: list[str]) -> int:
     """Runs the program; the answer is its status where it has not ended before."""
     given = arguments_of(words)
@@ -101,7 +133,9 @@ def main(words: list[str]) -> int:
     except OSError as fault:
         leave(CANNOT_SAY, str(fault))
     except (BadScript, TooLarge) as fault:
-        agrees = text == [str(fault)]
-        show(["agrees" if agrees else str(fault)])
-        return AGREES if agrees else DIFFERS
+        refuse(fault, text)
+    sys.stderr.write(told(warnings(script)))
+    ours = first_of_ours(script)
+    if ours is not None:
+        leave(CANNOT_SAY, ours)
     run(script, text, given.automatic)
