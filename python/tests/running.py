@@ -95,13 +95,14 @@ def run(script: str, *options: str, text: str | None = None, python: tuple[str, 
     return Outcome(done.returncode, done.stdout, done.stderr)
 
 
-def compare_some(cases: list[Case]) -> list[Outcome]:
-    """Compares each script with its text, one after the other."""
+def run_some(runs: list[tuple[str, str | None]]) -> list[Outcome]:
+    """Runs each script, and compares it with its text if it has one, one after the other."""
     with tempfile.TemporaryDirectory() as name:
-        folders = [Path(name, str(place)) for place in range(len(cases))]
-        for folder in folders:
+        words = []
+        for place, (script, text) in enumerate(runs):
+            folder = Path(name, str(place))
             folder.mkdir()
-        words = [words_for(str(folder), case.script, case.text) for folder, case in zip(folders, cases)]
+            words.append(words_for(str(folder), script, text))
         done = subprocess.run(
             [sys.executable, "-S", "-m", "tests.forking"],
             input="".join(json.dumps(line) + "\n" for line in words),
@@ -109,16 +110,20 @@ def compare_some(cases: list[Case]) -> list[Outcome]:
             text=True,
             check=True,
             cwd=HERE.parent,
-            timeout=LONGEST + len(cases),
+            timeout=LONGEST + len(runs),
         )
     return [Outcome(*json.loads(line)) for line in done.stdout.splitlines()]
+
+
+def run_all(runs: list[tuple[str, str | None]]) -> list[Outcome]:
+    """Runs each script, and compares it with its text if it has one."""
+    shares = [runs[first::PROCESSES] for first in range(PROCESSES)]
+    with ThreadPoolExecutor(PROCESSES) as pool:
+        outcomes = list(pool.map(run_some, shares))
+    return [outcomes[place % PROCESSES][place // PROCESSES] for place in range(len(runs))]
 
 
 def compare_all(cases: Iterable[Case]) -> Iterator[tuple[Case, Outcome]]:
     """Compares each script with its text."""
     cases = list(cases)
-    shares = [cases[first::PROCESSES] for first in range(PROCESSES)]
-    with ThreadPoolExecutor(PROCESSES) as pool:
-        outcomes = list(pool.map(compare_some, shares))
-    for place, case in enumerate(cases):
-        yield case, outcomes[place % PROCESSES][place // PROCESSES]
+    yield from zip(cases, run_all([(case.script, case.text) for case in cases]))

@@ -52,7 +52,7 @@ class Verdicts(unittest.TestCase):
 
     def test_gccheck_says_the_same(self) -> None:
         if not GCCHECK.exists():
-            self.skipTest("gccheck is not built: no record of these tests is judged by it (cd crates/gccheck && rt run)")
+            self.skipTest("gccheck is not built (cd crates/gccheck && rt run): it judges no record here")
         # `verdict` asks it too, here and for each record of the other tests
         for text, wanted in VERDICTS:
             done = subprocess.run([GCCHECK], input=text.replace("; ", "\n") + "\n", capture_output=True, text=True)

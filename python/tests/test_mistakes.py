@@ -54,12 +54,17 @@ SAID = (
     (b"a = list\nprofile 2", "`profile` is the first line of a script, comments aside"),
     (b"debug all", "`all` is no debug flag, which are stats, collectable, uncollectable, saveall, leak"),
     (b"threshold -1", "`-1`: a number from 0 to 2147483647 is wanted here"),
-    (b"m = dict\nwset m 1 m", "`wset` is for weak value maps and exit finalizers: `gcrun expand` writes it out first, "
-     "as gcplay does"),
+    (
+        b"m = dict\nwset m 1 m",
+        "`wset` is for weak value maps and exit finalizers: `gcrun expand` writes it out, as gcplay does",
+    ),
 )
 WARNED = (
     (b"a = list\nprint b", "line 2: warning: no line binds `b`, so the command is refused\n"),
-    (b"node = list\nprint nod", "line 2: warning: no line binds `nod`, so the command is refused: did you mean `node`?\n"),
+    (
+        b"node = list\nprint nod",
+        "line 2: warning: no line binds `nod`, so the command is refused: did you mean `node`?\n",
+    ),
     (b"print None", "line 1: warning: no line binds `None`: the value is `none`\n"),
     (b"del a", "line 1: warning: no line binds `a`, so the command is refused\n"),
     (b"print self", "line 1: warning: `self` stands for nothing outside a procedure, so the command is refused\n"),
@@ -90,7 +95,8 @@ class Mistakes(unittest.TestCase):
         self.assertEqual("line 3: the procedure `p` of line 1 has no `end`\n", told(self.found(b"def p\nprint 1\n")))
 
     def test_a_bad_line_is_not_blamed_on_others(self) -> None:
-        self.assertEqual("line 1: `def` wants 1 word behind it, and here follow 2: def NAME\n", told(self.found(b"def p x\nend\n")))
+        said = "line 1: `def` wants 1 word behind it, and here follow 2: def NAME\n"
+        self.assertEqual(said, told(self.found(b"def p x\nend\n")))
         found = self.found(b"class C del p\na = new C\ndef q\nend\nclass C del=q")
         self.assertEqual([1, 5], [mistake.line for mistake in found])
 

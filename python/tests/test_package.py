@@ -16,7 +16,7 @@ from .recording import JUDGED, PYTHON, run_python, verdict
 
 # CPython 3.12 has these among its tests
 WHEELS = [str(wheel) for name in ("setuptools", "wheel") for wheel in Path(test.__file__).parent.glob(f"{name}-*.whl")]
-COMMANDS = ("gcrecord", "gcscript")
+COMMANDS = ("gcplay", "gcrecord", "gcscript")
 # pip never asks a server
 ALONE = ("-m", "pip", "install", "--quiet", "--no-index", "--disable-pip-version-check")
 
@@ -126,8 +126,9 @@ class Fronts(unittest.TestCase):
     """Words that are wrong."""
 
     def test_no_traceback(self) -> None:
-        for words in (["gcscript"], ["gcscript", "--automatc", "x"], ["gcscript", "missing.script"], ["gcrecord"]):
-            done = run_python("-m", f"halzsetor.{words[0]}", *words[1:])
+        for line in ("gcscript", "gcscript --automatc x", "gcscript missing.script", "gcrecord", "gcplay"):
+            command, *words = line.split()
+            done = run_python("-m", f"halzsetor.{command}", *words)
             self.assertEqual((2, False), (done.returncode, "Traceback" in done.stderr), done.stderr)
 
 

@@ -173,7 +173,8 @@ print(sys.stderr.getvalue())
     def test_deep_calls(self) -> None:
         program = "gc.set_threshold(1); gc.enable(); sys.unraisablehook = print\n"
         calls = "def f(n): l = [n]; l.append(l); return f(n + 1)\n"
-        recorded = record(QUIET + program + calls + "try: f(0)\nexcept RecursionError: print('deep')", "--generation", 0)
+        program = QUIET + program + calls + "try: f(0)\nexcept RecursionError: print('deep')"
+        recorded = record(program, "--generation", 0)
         self.assertEqual(("deep", 0), (recorded.output.splitlines()[-1], recorded.status))
         self.assertEqual(recorded.all_right, recorded.verdict)
 
@@ -354,7 +355,8 @@ class Kept(unittest.TestCase):
 
     def test_another_python(self) -> None:
         done = self.run_front("sys.version_info = (3, 10)")
-        self.assertEqual((2, "gcrecord: CPython 3.12 is needed, and this is cpython 3.10\n"), (done.returncode, done.stderr))
+        said = "gcrecord: CPython 3.12 is needed, and this is cpython 3.10\n"
+        self.assertEqual((2, said), (done.returncode, done.stderr))
         self.assertFalse((self.folder / "out").exists())
 
     def test_older_and_newer_pythons(self) -> None:

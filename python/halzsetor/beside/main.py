@@ -5,6 +5,7 @@ for a bad script, and where the texts differ otherwise; 2 where nothing can be s
 """
 import argparse
 import gc
+import json
 import os
 import sys
 from pathlib import Path
@@ -38,7 +39,11 @@ def arguments_of(words: list[str]) -> argparse.Namespace:
     parser.add_argument("script", metavar="SCRIPT", type=Path, help="the script")
     parser.add_argument("--automatic", action="store_true", help="let CPython start collections by itself")
     parser.add_argument("--compare", metavar="TEXT", type=Path, help="a text of gcrun to set beside CPython's lines")
-    return parser.parse_args(words)
+    parser.add_argument("--json", action="store_true", help="with --compare: the lines and the answer, as JSON")
+    given = parser.parse_args(words)
+    if given.json and given.compare is None:
+        parser.error("--json is for --compare")
+    return given
 
 
 def leave(status: int, message: str = "") -> NoReturn:
@@ -60,31 +65,41 @@ def first_line(item: Item | None) -> str:
     return "nothing more" if item is None else f"`{' '.join(item.words)}`"
 
 
-def compare(text: list[str], machine: Machine, schedule: Automatic | None) -> NoReturn:
-    """Sets CPython's lines beside the text, and ends."""
+def answer(text: list[str], machine: Machine, schedule: Automatic | None) -> tuple[list[str], str | None]:
+    """The points in which CPython's lines differ from the text, and what else does."""
     comparison = Comparison(text, machine.lines, machine.evidence)
     try:
         points = comparison.run()
     except Differs as difference:
-        show(machine.lines)
-        leave(DIFFERS, f"gcrun has {first_line(difference.ours)}, CPython {first_line(difference.theirs)}")
+        return [], f"gcrun has {first_line(difference.ours)}, CPython {first_line(difference.theirs)}"
     if schedule is not None and schedule.is_missed:
-        show(machine.lines)
-        leave(DIFFERS, "a collection is due where gcrun goes on")
+        return [], "a collection is due where gcrun goes on"
     if schedule is not None and schedule.used:
         points.add(AUTOMATIC)
-    show([f"differs in {point}" for point in sorted(points)] or ["agrees"])
+    return sorted(points), None
+
+
+def compare(text: list[str], machine: Machine, schedule: Automatic | None, as_json: bool) -> NoReturn:
+    """Sets CPython's lines beside the text, and ends."""
+    points, difference = answer(text, machine, schedule)
+    if as_json:
+        show([json.dumps({"lines": machine.lines, "points": points, "difference": difference})])
+        leave(AGREES if difference is None else DIFFERS)
+    if difference is not None:
+        show(machine.lines)
+        leave(DIFFERS, difference)
+    show([f"differs in {point}" for point in points] or ["agrees"])
     leave(AGREES)
 
 
-def run(script: Script, text: list[str] | None, automatic: bool) -> NoReturn:
+def run(script: Script, text: list[str] | None, automatic: bool, as_json: bool) -> NoReturn:
     """Runs a script, and ends."""
     schedule = None if text is None or automatic else Automatic(text)
 
     def ended(lines: list[str]) -> NoReturn:
         gc.disable()
         if text is not None:
-            compare(text, machine, schedule)
+            compare(text, machine, schedule, as_json)
         show(lines)
         leave(AGREES)
 
@@ -138,4 +153,4 @@ def main(words: list[str]) -> int:
     ours = first_of_ours(script)
     if ours is not None:
         leave(CANNOT_SAY, ours)
-    run(script, text, given.automatic)
+    run(script, text, given.automatic, given.json)

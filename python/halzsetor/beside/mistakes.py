@@ -71,7 +71,7 @@ def no_form(words: Sequence[str], openers: Iterable[str], bindings: Iterable[str
     """No word picks a form."""
     word, rest = words[0], words[1:]
     if word in extended:
-        return f"`{word}` is for weak value maps and exit finalizers: `gcrun expand` writes it out first, as gcplay does"
+        return f"`{word}` is for weak value maps and exit finalizers: `gcrun expand` writes it out, as gcplay does"
     name, equals, value = word.partition("=")
     if equals and name and name not in ("del", "legacy"):
         return f"`{word}` is one word: spaces stand around `=`, as in `{name} = {value or '..'}`"
@@ -95,7 +95,8 @@ def wrong_number(key: str, words: Sequence[str], fewest: int, most: int) -> str:
         return comment_behind(comment)
     opening = next((place for place, word in enumerate(words) if word[0] in "'\""), None)
     if opening is not None and len(words) > most and any(word[-1] in "'\"" for word in words[opening + 1 :]):
-        return f"`{' '.join(words[opening:])}`: a string has no spaces and no closing quote, as in `'{words[opening][1:]}`"
+        string = " ".join(words[opening:])
+        return f"`{string}`: a string has no spaces and no closing quote, as in `'{words[opening][1:]}`"
     if key == "bind":
         bound = " ".join(words)
         return f"a name gets one value, and here are {len(words)}: for a list write `x = list {bound}`"
@@ -156,7 +157,8 @@ def no_count(word: str, least: int, limit: int) -> str:
 def no_value(word: str) -> str:
     """A word that stands for no value."""
     if word[0] == '"':
-        return f"`{word}` is no value: a string begins with one ' and has no closing quote, as in `'{word.strip(chr(34))}`"
+        text = word.strip('"')
+        return f"`{word}` is no value: a string begins with one ' and has no closing quote, as in `'{text}`"
     if word[0] == "#":
         return comment_behind(word)
     if word[0] in BRACKETS:
@@ -181,7 +183,8 @@ def unknown(kind: str, name: str, known: Iterable[str], later: int | None, opene
     if later is None:
         return f"no {kind} `{name}`{guess(name, known)}"
     if opened is not None and kind == "class":
-        return f"no class `{name}` yet: line {later} defines it, and the procedure `{opened}` can't name what comes later"
+        behind = f"the procedure `{opened}` can't name what comes later"
+        return f"no class `{name}` yet: line {later} defines it, and {behind}"
     return f"no {kind} `{name}` yet: line {later} defines it, and has to stand before"
 
 
