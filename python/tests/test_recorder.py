@@ -1,6 +1,7 @@
 """The recorder: what it sees of a collection, what the program notices of it, and its command line."""
 import gc
 import io
+import re
 import shutil
 import subprocess
 import sys
@@ -9,10 +10,12 @@ import unittest
 from pathlib import Path
 
 from halzsetor.recorder import Recorder
+from halzsetor.recorder.explain import is_text_of_records
 from halzsetor.recorder.recorder import Collection
 from halzsetor.recorder.snapshot import Snapshot
 
-from .recording import JUDGED, PYTHON, explained, record, run, run_python, verdict
+from .recording import GCCHECK, JUDGED, PYTHON, explained, record, run, run_python, verdict
+from .test_judge import VERDICTS
 
 sys.path.insert(0, str(JUDGED))
 from build import build  # noqa: E402
@@ -267,7 +270,8 @@ class Lines(unittest.TestCase):
             (["--most", "few", "-o", "out", "p"], "argument --most: invalid at_least_one value: 'few'"),
             (["--mo", 1, "-o", "out", "p"], "unrecognized arguments: --mo"),
             (["--explain", "out"], "a verdict is missing"),
-            (["--explain", "out", "-o", "out", "no"], "--explain takes neither -o nor -m"),
+            (["--explain", "out", "-o", "out", "no"], "--explain takes none of -o, -m and --judge"),
+            (["--judge"], "a program is missing"),
         ):
             with tempfile.TemporaryDirectory() as folder:
                 done = run(*words, folder=Path(folder))
@@ -462,6 +466,79 @@ class Explained(unittest.TestCase):
     def test_verdicts_without_a_graph(self) -> None:
         self.assertIn("every recorded collection is right", explained("end\n", "yes 0"))
         self.assertIn("no text of records", explained("", "no", "0", "1"))
+
+    def test_a_verdict_on_another_file(self) -> None:
+        text = self.GRAPH.replace("; ", "\n") + "\n"
+        wrong = text.replace("lost 3\n", "")
+        for records, verdict_words, said in (
+            (text, "no 1 4", "graph 1 of {} has no fault, and the verdict says 4"),
+            (wrong, "no 1 3", "graph 1 of {} has a fault of code 4, and the verdict says 3"),
+            (wrong, "no 1 7", "graph 1 of {} has a fault of code 4, and the verdict says 7"),
+            (text, "no 0 4", "there is no graph 0 in {}"),
+            (text, "no 2 4", "there is no graph 2 in {}"),
+            (text, "no 0 1", "{} is a text of records: the verdict is on another file"),
+            (text, "yes 2", "the verdict is on another number of records: {} has 1"),
+            (wrong, "yes 1", "graph 1 of {} has a fault of code 4"),
+            ("notes\n", "yes 1", "{} is no text of records, so the verdict would be `no 0 1`"),
+            ("notes\n", "no 1 4", "{} is no text of records, so the verdict would be `no 0 1`"),
+            (text, "maybe", "no verdict: maybe"),
+            (text, "no 1", "no verdict: no 1"),
+            (text, "yes one", "no verdict: yes one"),
+        ):
+            message = explained(records, verdict_words)
+            self.assertRegex(message, "^gcrecord: " + re.escape(said).replace(r"\{\}", ".*") + "\n$")
+
+    def test_what_is_a_text_of_records(self) -> None:
+        for text, wanted in VERDICTS:
+            lines = (text.replace("; ", "\n") + "\n").encode()
+            self.assertEqual(wanted != "no 0 1", is_text_of_records(lines), text)
+
+
+class Judged(unittest.TestCase):
+    """`--judge`, by a stand-in for gccheck and by gccheck itself."""
+
+    def setUp(self) -> None:
+        folder = tempfile.TemporaryDirectory()
+        self.addCleanup(folder.cleanup)
+        self.folder = Path(folder.name)
+        program = self.folder / "gccheck"
+        judging = "import sys; from tests.judge import verdict; print(verdict(sys.stdin.read()))"
+        program.write_text(f"#!/bin/sh\nPYTHONPATH={PYTHON} exec {sys.executable} -c '{judging}'\n")
+        program.chmod(0o755)
+        self.programs = [program, GCCHECK] if GCCHECK.exists() else [program]
+
+    def judge(self, gccheck: Path, *words: object) -> tuple[int, str, str]:
+        """Records and judges: the status, the output and the message."""
+        done = run("--judge", "--gccheck", gccheck, *words, folder=self.folder)
+        return done.returncode, done.stdout, done.stderr
+
+    def test_a_program_that_is_right(self) -> None:
+        (self.folder / "prog.py").write_text(f"{QUIET}{OWN_LIST}; gc.collect(0); print(1)\n")
+        for gccheck in self.programs:
+            status, output, message = self.judge(gccheck, "prog.py")
+            self.assertEqual((0, "1\n"), (status, output))
+            self.assertRegex(message, r"^gcrecord: \d+ collections recorded, each of them right\n$")
+
+    def test_the_status_is_the_programs_own(self) -> None:
+        for end, wanted in (("sys.exit(7)", 7), ("sys.exit()", 0), ("1 / 0", 1), ("sys.exit('bye')", 1)):
+            (self.folder / "prog.py").write_text(f"{QUIET}{end}\n")
+            status, _, message = self.judge(self.programs[0], "prog.py")
+            self.assertEqual((wanted, True), (status, "each of them right" in message), message)
+
+    @unittest.skipUnless(shutil.which("cc"), "no C compiler")
+    def test_a_program_that_is_wrong(self) -> None:
+        build(self.folder)
+        shutil.copy(JUDGED / "two_boxes.py", self.folder)
+        for gccheck in self.programs:
+            status, _, message = self.judge(gccheck, "-o", "out", "two_boxes.py")
+            self.assertEqual(1, status)
+            self.assertRegex(message, r"^gcrecord: .*/out: no \d+ 3: graph \d+, a collection of generation \d: an in-d")
+            self.assertRegex(message, r"\n  list at 0x\w+ \(serial \d+\): in-degree 1, but 2 references, of borrowing.Box")
+
+    def test_no_gccheck(self) -> None:
+        (self.folder / "prog.py").write_text("print(1)\n")
+        said = "gcrecord: --gccheck names missing, which is no program\n"
+        self.assertEqual((2, "", said), self.judge(Path("missing"), "prog.py"))
 
 
 class Examples(unittest.TestCase):

@@ -1,10 +1,21 @@
 """Says which objects a verdict on records is about."""
 import os
+import re
 from collections import Counter
 from itertools import chain, islice
 from typing import Iterable, Iterator, NamedTuple
 
 from .files import BESIDE
+
+# the form of a text of records; nothing is tried twice
+NUMBER = rb"(?:0|[1-9][0-9]{0,19}+)"
+GRAPH = rb"(?:m N N [01]\n(?:r N\n)*+)*+(?:lost N\n)*+"
+RECORD = rb"record [012]\ngraph 1\n" + GRAPH + rb"(?:legacy N\n)*+(?:cut\n|graph 2\n" + GRAPH + rb"stop\n)"
+FORM = re.compile((rb"(?:" + RECORD + rb")*+end\n").replace(b"N", NUMBER))
+
+
+class WrongVerdict(Exception):
+    """A verdict that is not on this file."""
 
 
 class Member(NamedTuple):
@@ -114,9 +125,12 @@ class Explanation:
             4: ("what was found is not what is unreachable", self.wrongly_found()),
             5: ("what was set aside is not what legacy finalizers reach", self.wrongly_set_aside()),
         }
-        if code not in faults:
-            raise ValueError(f"no fault of a graph has the code {code}")
         return faults[code]
+
+    def code(self) -> int | None:
+        """The least code of a fault of the graph; a later one can be asked for where the earlier ones don't hold."""
+        codes = (2, 3, 4, 5) if self.graph.is_first else (2, 3, 4)
+        return next((code for code in codes if next(self.of(code)[1], None) is not None), None)
 
     def misnamed(self) -> Iterator[str]:
         """The serials that stand twice or name no member."""
@@ -181,27 +195,81 @@ def names_in(lines: Iterable[str], position: int) -> dict[int, str]:
     return names
 
 
-def explain(out: str, verdict: list[str], most: int = 20) -> str:
-    """The text that says which objects a verdict on a file of records is about."""
-    match " ".join(verdict).split():
-        case ["yes", _]:
-            return "every recorded collection is right\n"
-        case ["no", "0", "1"]:
-            return "the file is no text of records: it may have been cut short or changed\n"
-        case ["no", position, code]:
-            at, kind = int(position), int(code)
-        case words:
-            raise ValueError(f"no verdict: {' '.join(words)}")
-    with open(out, encoding="ascii") as file:
-        graph = next(islice(graphs_of(file), at - 1, None), None)
-    if graph is None:
-        raise ValueError(f"there is no graph {at} in {out}")
-    names: dict[int, str] = {}
-    if os.path.exists(out + BESIDE):
-        with open(out + BESIDE, encoding="ascii") as file:
-            names = names_in(file, at)
-    heading, objects = Explanation(graph, names).of(kind)
-    lines = [f"graph {at}, a collection of generation {graph.generation}: {heading}\n"]
-    lines += [f"  {line}\n" for line in islice(objects, most)]
-    left = sum(1 for _ in objects)
-    return "".join(lines + [f"  and {left} more\n"] * (left > 0))
+def is_text_of_records(text: bytes) -> bool:
+    """Whether bytes have the form that docs/RECORDS.md gives."""
+    if not FORM.fullmatch(text):
+        return False
+    return all(int(number) < 2**64 for number in re.findall(rb"[0-9]{20}", text))
+
+
+class Records:
+    """A file of records."""
+
+    def __init__(self, out: str) -> None:
+        self.out = out
+        with open(out, "rb") as file:
+            self.text = file.read()
+
+    def graphs(self) -> Iterator[Graph]:
+        """Its graphs, in order."""
+        return graphs_of(self.text.decode("ascii").splitlines())
+
+    def must_be_readable(self) -> None:
+        """Refuses another text."""
+        if not is_text_of_records(self.text):
+            raise WrongVerdict(f"{self.out} is no text of records, so the verdict would be `no 0 1`")
+
+    def explain(self, verdict: list[str], most: int = 20) -> str:
+        """The text that says which objects a verdict on the file is about; the fault has to be there."""
+        words = " ".join(verdict).split()
+        numbers = [int(word) for word in words[1:] if word.isdecimal()]
+        if words[:1] == ["yes"] and len(words) == len(numbers) + 1 == 2:
+            return self.explain_yes(numbers[0])
+        if words[:1] != ["no"] or len(words) != len(numbers) + 1 or len(words) != 3:
+            raise WrongVerdict(f"no verdict: {' '.join(words)}")
+        position, code = numbers
+        if (position, code) == (0, 1):
+            return self.explain_unreadable()
+        self.must_be_readable()
+        return self.explain_no(position, code, most)
+
+    def explain_yes(self, records: int) -> str:
+        """That all is right."""
+        self.must_be_readable()
+        found = self.text.count(b"record ")
+        if found != records:
+            raise WrongVerdict(f"the verdict is on another number of records: {self.out} has {found}")
+        for position, graph in enumerate(self.graphs(), 1):
+            code = Explanation(graph, {}).code()
+            if code is not None:
+                raise WrongVerdict(f"graph {position} of {self.out} has a fault of code {code}")
+        return "every recorded collection is right\n"
+
+    def explain_unreadable(self) -> str:
+        """That the file is no text of records."""
+        if is_text_of_records(self.text):
+            raise WrongVerdict(f"{self.out} is a text of records: the verdict is on another file")
+        return "the file is no text of records: it may have been cut short or changed\n"
+
+    def explain_no(self, position: int, code: int, most: int) -> str:
+        """The objects that a fault is about, at most so many."""
+        graph = next(islice(self.graphs(), position - 1, None), None) if position > 0 else None
+        if graph is None:
+            raise WrongVerdict(f"there is no graph {position} in {self.out}")
+        explanation = Explanation(graph, self.names(position))
+        found = explanation.code()
+        if found != code:
+            has = "no fault" if found is None else f"a fault of code {found}"
+            raise WrongVerdict(f"graph {position} of {self.out} has {has}, and the verdict says {code}")
+        heading, objects = explanation.of(code)
+        lines = [f"graph {position}, a collection of generation {graph.generation}: {heading}\n"]
+        lines += [f"  {line}\n" for line in islice(objects, most)]
+        left = sum(1 for _ in objects)
+        return "".join(lines + [f"  and {left} more\n"] * (left > 0))
+
+    def names(self, position: int) -> dict[int, str]:
+        """What is known of the members of a graph."""
+        if not os.path.exists(self.out + BESIDE):
+            return {}
+        with open(self.out + BESIDE, encoding="ascii") as file:
+            return names_in(file, position)

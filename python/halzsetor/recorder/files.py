@@ -38,6 +38,8 @@ class Files:
         self.objects = objects
         self.numbers = count(1)
         self.opened: list[TextIO] = []
+        # the names of the files of records
+        self.written: list[str] = []
 
     def name(self, number: int) -> str:
         """The name of a file of records."""
@@ -65,6 +67,7 @@ class Files:
         """The next file, and the one for its objects; those before are closed."""
         self.close()
         out = self.name(next(self.numbers))
+        self.written.append(out)
         names = [out, out + BESIDE] if self.objects else [out]
         self.opened = [open(name, "w", encoding="ascii", newline="\n") for name in names]
         return self.opened[0], self.opened[1] if self.objects else None
