@@ -1,14 +1,14 @@
-"""Makes the stored texts again: `python3 -m tests.make_texts GCRUN`, in the folder `python`.
+"""Makes what is stored again: `python3.12 -m tests.make_texts GCRUN`, in the folder `python`.
 
 GCRUN is the built program, crates/gcrun/out/gcrun. The texts of the generated scripts go to tests/texts.jsonl, a line
-for each seed.
+for each seed; and the points in which scripts differ from CPython, also those of the examples, to tests/points.json.
 """
 import json
 import subprocess
 import sys
 
 from .generator import Generator
-from .running import TEXTS
+from .running import POINTS, TEXTS, compare_all, example_cases, stored_cases
 
 SEEDS = 340
 # a bad script, and a run that ended for want of budget, have texts too
@@ -17,7 +17,7 @@ STATUSES = (0, 1, 6)
 
 def text_of(program: str, script: str) -> str:
     """What gcrun prints for a script."""
-    done = subprocess.run([program, "run"], input=script, capture_output=True, text=True)
+    done = subprocess.run([program, "run"], input=script, capture_output=True, text=True, timeout=60)
     if done.returncode not in STATUSES:
         raise SystemExit(f"{program} ended with status {done.returncode}")
     return done.stdout
@@ -29,6 +29,9 @@ def main(program: str) -> None:
         for seed in range(SEEDS):
             script = Generator(seed).script()
             texts.write(json.dumps({"seed": seed, "script": script, "text": text_of(program, script)}) + "\n")
+    outcomes = compare_all(example_cases() + stored_cases())
+    rows = [f'"{case.name}": {json.dumps(outcome.points)}' for case, outcome in outcomes if outcome.points != []]
+    POINTS.write_text("{\n" + ",\n".join(rows) + "\n}\n")
 
 
 if __name__ == "__main__":

@@ -1,4 +1,5 @@
 """Records a program in a process of its own, and asks for the verdict."""
+import os
 import subprocess
 import sys
 import tempfile
@@ -9,9 +10,10 @@ from typing import NamedTuple
 from . import judge
 
 HERE = Path(__file__).resolve().parent
-RECORDER = HERE.parent / "gcrecord.py"
-JUDGED = HERE.parent.parent / "examples" / "judged"
-GCCHECK = HERE.parent.parent / "crates" / "gccheck" / "out" / "gccheck"
+# where the package is
+PYTHON = HERE.parent
+JUDGED = PYTHON.parent / "examples" / "judged"
+GCCHECK = PYTHON.parent / "crates" / "gccheck" / "out" / "gccheck"
 
 
 class Recorded(NamedTuple):
@@ -49,17 +51,29 @@ def verdict(text: str) -> str:
     """The verdict of the plain judge; where gccheck has been built, it must say the same."""
     answer = judge.verdict(text)
     if GCCHECK.exists():
-        done = subprocess.run([GCCHECK], input=text, capture_output=True, text=True)
+        done = subprocess.run([GCCHECK], input=text, capture_output=True, text=True, timeout=120)
         if done.stdout != answer + "\n":
             raise AssertionError(f"gccheck says {done.stdout.strip()}, the plain judge {answer}")
     return answer
 
 
+def run_python(
+    *words: object, folder: Path | None = None, python: str = sys.executable
+) -> subprocess.CompletedProcess[str]:
+    """Runs a Python that finds the package."""
+    return subprocess.run(
+        [python, *map(str, words)],
+        capture_output=True,
+        text=True,
+        cwd=folder,
+        timeout=120,
+        env=os.environ | {"PYTHONPATH": str(PYTHON)},
+    )
+
+
 def run(*words: object, folder: Path | None = None) -> subprocess.CompletedProcess[str]:
     """Runs the recorder with these words."""
-    return subprocess.run(
-        [sys.executable, RECORDER, *map(str, words)], capture_output=True, text=True, cwd=folder, timeout=120
-    )
+    return run_python("-m", "halzsetor.gcrecord", *words, folder=folder)
 
 
 def record(program: str | list[object], *options: object, folder: Path | None = None) -> Recorded:
@@ -69,7 +83,7 @@ def record(program: str | list[object], *options: object, folder: Path | None = 
         words = program if isinstance(program, list) else [Path(name, "program.py")]
         if isinstance(program, str):
             Path(name, "program.py").write_text(textwrap.dedent(program))
-        done = run(*options, out, *words, folder=folder)
+        done = run(*options, "-o", out, *words, folder=folder)
         files = [out] if out.exists() else []
         while (further := Path(f"{out}.{len(files) + 1}")).exists():
             files.append(further)

@@ -1,32 +1,43 @@
 """Scripts beside the texts of gcrun: the examples, those for the named points, and generated ones."""
 import unittest
 
-from beside import points, reader
+from halzsetor.beside import points, reader
+from halzsetor.beside.main import OURS
 
 from .generator import Generator
-from .running import EXAMPLES, OTHERWISE, compare_all, folder_cases, run, stored_cases
+from .running import (
+    OTHERWISE,
+    Case,
+    compare_all,
+    example_cases,
+    folder_cases,
+    run,
+    stored_cases,
+    stored_points,
+)
 
 NAMES = {value.partition(":")[0] for name, value in vars(points).items() if name.isupper()}
-FORMS = set(reader.BINDINGS) | set(reader.OPENERS) | {"bind"}
-OURS = {"profile", "shutdown", "referents", "referrers", "why"}
+FORMS = set(reader.BINDINGS) | set(reader.OPENERS) - OURS.keys()
 
 
-def first_words(script: str) -> set[str]:
-    """The words that begin the lines of a script."""
-    return {line.split()[0] for line in script.splitlines() if line.split()}
+class Stored(unittest.TestCase):
+    """Cases that agree, or differ in just the points that are stored."""
+
+    def check(self, cases: list[Case]) -> None:
+        """Compares each."""
+        points = stored_points()
+        for case, outcome in compare_all(cases):
+            with self.subTest(case.name):
+                self.assertEqual(points.get(case.name, []), outcome.points, outcome.output + outcome.message)
 
 
-class Examples(unittest.TestCase):
+class Examples(Stored):
     """The scripts of the folders of `examples`, but for those with rules and commands of ours alone."""
 
     def test_all_agree(self) -> None:
-        folders = sorted({script.parent for script in EXAMPLES.glob("*/*.script")} - {OTHERWISE})
-        examples = [case for folder in folders for case in folder_cases(folder)]
-        cases = [case for case in examples if OURS.isdisjoint(first_words(case.script))]
+        cases = example_cases()
         self.assertGreaterEqual(len(cases), 30)
-        for case, outcome in compare_all(cases):
-            with self.subTest(case.name):
-                self.assertEqual(0, outcome.status, outcome.message)
+        self.check(cases)
 
 
 class Otherwise(unittest.TestCase):
@@ -49,7 +60,7 @@ class Otherwise(unittest.TestCase):
                 self.assertEqual(stored, run(case.script, *options).output)
 
 
-class Generated(unittest.TestCase):
+class Generated(Stored):
     """The scripts of the generator."""
 
     def test_texts_are_of_these_scripts(self) -> None:
@@ -61,9 +72,13 @@ class Generated(unittest.TestCase):
     def test_all_commands_come(self) -> None:
         words = [line.split() for case in stored_cases() for line in case.script.splitlines()]
         forms = {line[2] if line[1:2] == ["="] else line[0] for line in words if line}
-        self.assertEqual(FORMS - {"bind"}, forms & FORMS)
+        self.assertEqual(FORMS, forms & FORMS)
 
     def test_all_agree(self) -> None:
-        for case, outcome in compare_all(stored_cases()):
-            with self.subTest(case.name):
-                self.assertEqual(0, outcome.status, outcome.message)
+        self.check(stored_cases())
+
+    def test_stored_points_are_of_cases(self) -> None:
+        known = {case.name for case in example_cases() + stored_cases()}
+        for name, points in stored_points().items():
+            self.assertIn(name, known)
+            self.assertEqual((True, []), (points != [], [point for point in points if point not in NAMES]), name)

@@ -1,7 +1,8 @@
 """The plain judge on small records, each verdict by hand."""
+import subprocess
 import unittest
 
-from .recording import verdict
+from .recording import GCCHECK, verdict
 
 # a list that held itself and was thrown away, as the collector finds it and as it is left after the finalizers
 OWN_LIST = "record 2; graph 1; m 2 1 0; r 2; lost 2; graph 2; m 2 1 0; r 2; lost 2; stop; end"
@@ -48,3 +49,11 @@ class Verdicts(unittest.TestCase):
 
     def test_no_line_feed_at_the_end(self) -> None:
         self.assertEqual("no 0 1", verdict("end"))
+
+    def test_gccheck_says_the_same(self) -> None:
+        if not GCCHECK.exists():
+            self.skipTest("gccheck is not built (cd crates/gccheck && rt run): it judges no record here")
+        # `verdict` asks it too, here and for each record of the other tests
+        for text, wanted in VERDICTS:
+            done = subprocess.run([GCCHECK], input=text.replace("; ", "\n") + "\n", capture_output=True, text=True)
+            self.assertEqual(wanted + "\n", done.stdout, text)

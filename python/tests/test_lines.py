@@ -3,8 +3,7 @@ import unittest
 
 from .running import run
 
-WITHOUT_TESTCAPI = "import sys, runpy; sys.modules['_testcapi'] = None; sys.argv = sys.argv[1:]; "
-RUN_FIRST = "sys.path.insert(0, sys.argv[0].rpartition('/')[0]); runpy.run_path(sys.argv[0], run_name='__main__')"
+WITHOUT_TESTCAPI = "import sys; sys.modules['_testcapi'] = None; from halzsetor.gcscript import main; main()"
 
 
 class Lines(unittest.TestCase):
@@ -63,6 +62,6 @@ class Lines(unittest.TestCase):
 
     def test_a_missing_module_is_told(self) -> None:
         script = "def p\nend\nclass C legacy=p\n"
-        outcome = run(script, python=("-c", WITHOUT_TESTCAPI + RUN_FIRST))
+        outcome = run(script, python=("-c", WITHOUT_TESTCAPI))
         self.assertEqual(2, outcome.status)
         self.assertIn("_testcapi", outcome.message)

@@ -1,7 +1,7 @@
 """Reading scripts: the codes of bad lines, and what words stand for."""
 import unittest
 
-from beside.reader import BadScript, Operand, Script, Sort, TooLarge, read
+from halzsetor.beside.reader import BadScript, Operand, Script, Sort, TooLarge, read
 
 BAD_LINES = (
     ("a = list\t", 1, 1),

@@ -1,12 +1,21 @@
 """The recorder: what it sees of a collection, what the program notices of it, and its command line."""
+import gc
 import io
+import re
 import shutil
+import subprocess
 import sys
 import tempfile
 import unittest
 from pathlib import Path
 
-from .recording import JUDGED, explained, record, run, verdict
+from halzsetor.recorder import Recorder
+from halzsetor.recorder.explain import is_text_of_records
+from halzsetor.recorder.recorder import Collection
+from halzsetor.recorder.snapshot import Snapshot
+
+from .recording import GCCHECK, JUDGED, PYTHON, explained, record, run, run_python, verdict
+from .test_judge import VERDICTS
 
 sys.path.insert(0, str(JUDGED))
 from build import build  # noqa: E402
@@ -15,6 +24,11 @@ from build import build  # noqa: E402
 OWN_LIST = "l = []; l.append(l); del l"
 # begins a program so that the next young collection has nothing of the start
 QUIET = "import gc, io, os, sys\ngc.disable()\ngc.collect()\n"
+
+
+def runs(python: str) -> bool:
+    """Whether there is another Python of this name."""
+    return shutil.which(python) is not None and subprocess.run([python, "-c", ""], capture_output=True).returncode == 0
 
 
 class Seen(unittest.TestCase):
@@ -162,7 +176,8 @@ print(sys.stderr.getvalue())
     def test_deep_calls(self) -> None:
         program = "gc.set_threshold(1); gc.enable(); sys.unraisablehook = print\n"
         calls = "def f(n): l = [n]; l.append(l); return f(n + 1)\n"
-        recorded = record(QUIET + program + calls + "try: f(0)\nexcept RecursionError: print('deep')", "--generation", 0)
+        program = QUIET + program + calls + "try: f(0)\nexcept RecursionError: print('deep')"
+        recorded = record(program, "--generation", 0)
         self.assertEqual(("deep", 0), (recorded.output.splitlines()[-1], recorded.status))
         self.assertEqual(recorded.all_right, recorded.verdict)
 
@@ -185,7 +200,7 @@ else: sys.exit(3)
 
     def test_a_file_that_fails(self) -> None:
         program = """
-import gcrecord
+from halzsetor.recorder import Recorder
 class Full(io.StringIO):
     def write(self, text):
         if len(text) > 10:
@@ -193,12 +208,11 @@ class Full(io.StringIO):
             raise OSError
         return super().write(text)
 file = Full()
-with gcrecord.Recorder(file) as recorder:
+with Recorder(file) as recorder:
     gc.collect()
 print(recorder.recorded, dict(recorder.left_out), repr(file.getvalue()))
 """
-        path = f"import sys\nsys.path.insert(0, {str(JUDGED.parent.parent / 'python')!r})\n"
-        recorded = record(path + QUIET + program, "--most", 1)
+        recorded = record(QUIET + program, "--most", 1)
         self.assertEqual("0 {'OSError in the recorder': 1} 'end\\n'\n", recorded.output)
 
 
@@ -246,23 +260,173 @@ class Lines(unittest.TestCase):
         self.assertTrue(all(len(text) <= 30_000 for text in recorded.records))
 
     def test_words_that_are_wrong(self) -> None:
-        for words in ([], ["out"], ["out", "-m"], ["--limit", 67_108_865, "out", "p"], ["--explain", "out"]):
-            self.assertEqual(2, run(*words).returncode, words)
+        for words, said in (
+            ([], "a program is missing"),
+            (["prog.py", "--flag"], "-o OUT is missing"),
+            (["-o", "out"], "a program is missing"),
+            (["-o", "out", "-m"], "a program is missing"),
+            (["--limit", 67_108_865, "-o", "out", "p"], "the limit is at most 67108864"),
+            (["--most", -1, "-o", "out", "p"], "argument --most: -1 is less than 1"),
+            (["--most", "few", "-o", "out", "p"], "argument --most: invalid at_least_one value: 'few'"),
+            (["--mo", 1, "-o", "out", "p"], "unrecognized arguments: --mo"),
+            (["--explain", "out"], "a verdict is missing"),
+            (["--explain", "out", "-o", "out", "no"], "--explain takes none of -o, -m and --judge"),
+            (["--judge"], "a program is missing"),
+        ):
+            with tempfile.TemporaryDirectory() as folder:
+                done = run(*words, folder=Path(folder))
+                self.assertEqual([], list(Path(folder).iterdir()))
+            self.assertEqual((2, True), (done.returncode, said in done.stderr), (words, done.stderr))
+            self.assertNotIn("Traceback", done.stderr)
         self.assertIn("no verdict", explained("end\n", "maybe"))
         self.assertIn("there is no graph 3", explained("end\n", "no", "3", "4"))
 
     def test_the_context_manager(self) -> None:
-        import gc
-
-        import gcrecord
-
         file, before = io.StringIO(), (list(gc.callbacks), gc.get_debug(), sys.stderr)
-        with gcrecord.Recorder(file, generations=[0], most=1) as recorder:
+        with Recorder(file, generations=[0], most=1) as recorder:
             gc.collect(0)
             gc.collect(0)
         self.assertEqual((1, {}), (recorder.recorded, recorder.left_out))
         self.assertEqual("yes 1", verdict(file.getvalue()))
         self.assertEqual(before, (list(gc.callbacks), gc.get_debug(), sys.stderr))
+
+
+class Kept(unittest.TestCase):
+    """What is in the files of the user, and which are opened."""
+
+    PROGRAM = "import gc; gc.collect(0)"
+
+    def setUp(self) -> None:
+        folder = tempfile.TemporaryDirectory()
+        self.addCleanup(folder.cleanup)
+        self.folder = Path(folder.name)
+        self.write("prog.py", self.PROGRAM)
+
+    def write(self, name: str, text: str) -> None:
+        """Writes a file of the user's."""
+        (self.folder / name).write_text(text)
+
+    def refuse(self, said: str, *words: object) -> None:
+        """Wants a message, status 2, and all files as they were."""
+        before = {path.name: path.read_bytes() for path in self.folder.iterdir() if path.is_file()}
+        done = run(*words, folder=self.folder)
+        self.assertEqual((2, f"gcrecord: {said}\n"), (done.returncode, done.stderr))
+        self.assertEqual(before, {path.name: path.read_bytes() for path in self.folder.iterdir() if path.is_file()})
+
+    def test_a_program_is_not_overwritten(self) -> None:
+        name = self.folder.resolve() / "prog.py"
+        self.refuse(f"{name} is the name of a program: give another file after -o", "-o", "prog.py", "prog.py")
+
+    def test_only_records_are_overwritten(self) -> None:
+        self.write("notes", "record 2\nof my own\nend\n")
+        says = " holds something else than gcrecord writes: remove it, or give another file after -o"
+        self.refuse(f"{self.folder.resolve() / 'notes'}{says}", "-o", "notes", "prog.py")
+        for name, text in (("out.objects", "notes"), ("out.2", "notes"), ("out.2.objects", "graph one\n")):
+            self.write("out.2", "end\n")
+            self.write(name, text)
+            self.refuse(f"{self.folder.resolve() / name}{says}", "--more-files", "-o", "out", "prog.py")
+            (self.folder / name).unlink()
+
+    def test_records_are_overwritten(self) -> None:
+        for _ in range(2):
+            self.assertEqual("", run("-o", "out", "prog.py", folder=self.folder).stderr)
+        self.assertRegex(verdict((self.folder / "out").read_text()), r"^yes \d+$")
+
+    def test_what_an_earlier_run_left_is_taken_away(self) -> None:
+        self.write("prog.py", "import gc; l = [[] for _ in range(1000)]; gc.collect(0); gc.collect(1); gc.collect(1)")
+        run("--limit", 30_000, "--more-files", "-o", "out", "prog.py", folder=self.folder)
+        self.assertTrue((self.folder / "out.2.objects").exists())
+        run("--most", 1, "--more-files", "-o", "out", "prog.py", folder=self.folder)
+        self.assertEqual({"prog.py", "out", "out.objects"}, {path.name for path in self.folder.iterdir()})
+        run("--no-objects", "-o", "out", "prog.py", folder=self.folder)
+        self.assertEqual({"prog.py", "out"}, {path.name for path in self.folder.iterdir()})
+
+    def test_a_program_that_is_not_there(self) -> None:
+        self.refuse("there is no program missing.py", "-o", "out", "missing.py")
+        self.refuse("there is no module missing.module", "-o", "out", "-m", "missing.module")
+
+    def test_a_file_that_cannot_be_written(self) -> None:
+        name = self.folder.resolve() / "missing" / "out"
+        self.refuse(f"[Errno 2] No such file or directory: '{name}'", "-o", "missing/out", "prog.py")
+        (self.folder / "out").mkdir()
+        self.refuse(f"{self.folder.resolve() / 'out'} is a folder", "-o", "out", "prog.py")
+
+    def run_front(self, before: str) -> subprocess.CompletedProcess[str]:
+        """Records the program by a program of the test's, which begins with these lines."""
+        lines = ["import sys", before, "from halzsetor.gcrecord import main"]
+        self.write("front.py", "\n".join([*lines, "sys.argv = ['gcrecord', '-o', 'out', 'prog.py']", "main()"]))
+        return run_python("front.py", folder=self.folder)
+
+    def test_another_python(self) -> None:
+        done = self.run_front("sys.version_info = (3, 10)")
+        said = "gcrecord: CPython 3.12 is needed, and this is cpython 3.10\n"
+        self.assertEqual((2, said), (done.returncode, done.stderr))
+        self.assertFalse((self.folder / "out").exists())
+
+    def test_older_and_newer_pythons(self) -> None:
+        others = [f"python3.{minor}" for minor in (7, 8, 9, 10, 11, 13, 14)]
+        for python in filter(runs, others):
+            done = run_python("-m", "halzsetor.gcrecord", "-o", "out", "prog.py", folder=self.folder, python=python)
+            said = f"gcrecord: CPython 3.12 is needed, and this is c{python.replace('3.', ' 3.')}\n"
+            self.assertEqual((2, said), (done.returncode, done.stderr))
+
+    def test_lines_end_alike_on_every_system(self) -> None:
+        # as on Windows, where a text file has two bytes at the end of each line if `open` is not told otherwise
+        before = """import builtins, io
+def open_as_windows(name, mode="r", newline=None, **words):
+    return io.open(name, mode, newline="\\r\\n" if newline is None and "b" not in mode else newline, **words)
+builtins.open = open_as_windows
+"""
+        done = self.run_front(before)
+        self.assertEqual((0, ""), (done.returncode, done.stderr))
+        for name in ("out", "out.objects"):
+            content = (self.folder / name).read_bytes()
+            self.assertEqual((True, False), (b"\n" in content, b"\r" in content))
+
+    def test_the_folders_that_are_searched(self) -> None:
+        self.write("prog.py", "import sys; print(sys.path)")
+        # -I ignores PYTHONPATH, so the folder of the package is put behind the others
+        front = f"import sys; sys.path.append({str(PYTHON)!r}); from halzsetor.gcrecord import main; main()"
+        for flags in ([], ["-P"], ["-I"]):
+            without = run_python(*flags, "prog.py", folder=self.folder)
+            recorded = run_python(*flags, "-c", front, "-o", "out", "prog.py", folder=self.folder)
+            said = without.stdout.removesuffix("]\n") + f", {str(PYTHON)!r}]\n"
+            self.assertEqual((said, ""), (recorded.stdout, recorded.stderr), flags)
+
+    def test_a_stderr_that_is_closed(self) -> None:
+        self.write("prog.py", "import gc, sys\ngc.callbacks.append(lambda *w: gc.set_debug(1)); gc.collect(0)\n")
+        for closing in ("sys.__stderr__.close()", "sys.__stderr__ = sys.stderr = None"):
+            self.write("closing.py", (self.folder / "prog.py").read_text() + f"gc.set_debug(0); {closing}; sys.exit(7)")
+            done = run("-o", "out", "closing.py", folder=self.folder)
+            self.assertEqual((7, ""), (done.returncode, done.stdout), done.stderr)
+
+    def test_a_large_record_is_not_built(self) -> None:
+        graph, Snapshot.graph = Snapshot.graph, None
+        try:
+            with Recorder(io.StringIO(), generations=[0], limit=50) as recorder:
+                gc.collect(0)
+        finally:
+            Snapshot.graph = graph
+        self.assertEqual({"larger than what is left of the size limit": 1}, recorder.left_out)
+
+    def test_sizes_are_those_of_the_texts(self) -> None:
+        class Both(Recorder):
+            """Compares the size of each record with its text."""
+
+            def write(self, collection: Collection) -> str | None:
+                sizes.append((collection.size(), len("".join(collection.told().lines))))
+                return None
+
+        sizes: list[tuple[int, int]] = []
+        with Both(io.StringIO()):
+            for generation in (0, 2, 1):
+                cycle: list[object] = [1]
+                cycle.append(cycle)
+                del cycle
+                gc.collect(generation)
+        self.assertEqual(3, len(sizes))
+        for size, length in sizes:
+            self.assertEqual(length, size)
 
 
 class Explained(unittest.TestCase):
@@ -302,6 +466,79 @@ class Explained(unittest.TestCase):
     def test_verdicts_without_a_graph(self) -> None:
         self.assertIn("every recorded collection is right", explained("end\n", "yes 0"))
         self.assertIn("no text of records", explained("", "no", "0", "1"))
+
+    def test_a_verdict_on_another_file(self) -> None:
+        text = self.GRAPH.replace("; ", "\n") + "\n"
+        wrong = text.replace("lost 3\n", "")
+        for records, verdict_words, said in (
+            (text, "no 1 4", "graph 1 of {} has no fault, and the verdict says 4"),
+            (wrong, "no 1 3", "graph 1 of {} has a fault of code 4, and the verdict says 3"),
+            (wrong, "no 1 7", "graph 1 of {} has a fault of code 4, and the verdict says 7"),
+            (text, "no 0 4", "there is no graph 0 in {}"),
+            (text, "no 2 4", "there is no graph 2 in {}"),
+            (text, "no 0 1", "{} is a text of records: the verdict is on another file"),
+            (text, "yes 2", "the verdict is on another number of records: {} has 1"),
+            (wrong, "yes 1", "graph 1 of {} has a fault of code 4"),
+            ("notes\n", "yes 1", "{} is no text of records, so the verdict would be `no 0 1`"),
+            ("notes\n", "no 1 4", "{} is no text of records, so the verdict would be `no 0 1`"),
+            (text, "maybe", "no verdict: maybe"),
+            (text, "no 1", "no verdict: no 1"),
+            (text, "yes one", "no verdict: yes one"),
+        ):
+            message = explained(records, verdict_words)
+            self.assertRegex(message, "^gcrecord: " + re.escape(said).replace(r"\{\}", ".*") + "\n$")
+
+    def test_what_is_a_text_of_records(self) -> None:
+        for text, wanted in VERDICTS:
+            lines = (text.replace("; ", "\n") + "\n").encode()
+            self.assertEqual(wanted != "no 0 1", is_text_of_records(lines), text)
+
+
+class Judged(unittest.TestCase):
+    """`--judge`, by a stand-in for gccheck and by gccheck itself."""
+
+    def setUp(self) -> None:
+        folder = tempfile.TemporaryDirectory()
+        self.addCleanup(folder.cleanup)
+        self.folder = Path(folder.name)
+        program = self.folder / "gccheck"
+        judging = "import sys; from tests.judge import verdict; print(verdict(sys.stdin.read()))"
+        program.write_text(f"#!/bin/sh\nPYTHONPATH={PYTHON} exec {sys.executable} -c '{judging}'\n")
+        program.chmod(0o755)
+        self.programs = [program, GCCHECK] if GCCHECK.exists() else [program]
+
+    def judge(self, gccheck: Path, *words: object) -> tuple[int, str, str]:
+        """Records and judges: the status, the output and the message."""
+        done = run("--judge", "--gccheck", gccheck, *words, folder=self.folder)
+        return done.returncode, done.stdout, done.stderr
+
+    def test_a_program_that_is_right(self) -> None:
+        (self.folder / "prog.py").write_text(f"{QUIET}{OWN_LIST}; gc.collect(0); print(1)\n")
+        for gccheck in self.programs:
+            status, output, message = self.judge(gccheck, "prog.py")
+            self.assertEqual((0, "1\n"), (status, output))
+            self.assertRegex(message, r"^gcrecord: \d+ collections recorded, each of them right\n$")
+
+    def test_the_status_is_the_programs_own(self) -> None:
+        for end, wanted in (("sys.exit(7)", 7), ("sys.exit()", 0), ("1 / 0", 1), ("sys.exit('bye')", 1)):
+            (self.folder / "prog.py").write_text(f"{QUIET}{end}\n")
+            status, _, message = self.judge(self.programs[0], "prog.py")
+            self.assertEqual((wanted, True), (status, "each of them right" in message), message)
+
+    @unittest.skipUnless(shutil.which("cc"), "no C compiler")
+    def test_a_program_that_is_wrong(self) -> None:
+        build(self.folder)
+        shutil.copy(JUDGED / "two_boxes.py", self.folder)
+        for gccheck in self.programs:
+            status, _, message = self.judge(gccheck, "-o", "out", "two_boxes.py")
+            self.assertEqual(1, status)
+            self.assertRegex(message, r"^gcrecord: .*/out: no \d+ 3: graph \d+, a collection of generation \d: an in-d")
+            self.assertRegex(message, r"\n  list at 0x\w+ \(serial \d+\): in-degree 1, but 2 references, of borrowing.Box")
+
+    def test_no_gccheck(self) -> None:
+        (self.folder / "prog.py").write_text("print(1)\n")
+        said = "gcrecord: --gccheck names missing, which is no program\n"
+        self.assertEqual((2, "", said), self.judge(Path("missing"), "prog.py"))
 
 
 class Examples(unittest.TestCase):

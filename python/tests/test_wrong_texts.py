@@ -3,7 +3,7 @@ import unittest
 from random import Random
 from typing import Callable
 
-from beside.texts import seen
+from halzsetor.beside.texts import seen
 
 from .running import OTHERWISE, Case, compare_all, folder_cases, run, stored_cases
 

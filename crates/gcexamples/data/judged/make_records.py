@@ -10,12 +10,12 @@ HERE = Path(__file__).resolve().parent
 sys.path.insert(0, str(HERE.parents[3] / "python"))
 
 import cycles  # noqa: E402
-import gcrecord  # noqa: E402
+from halzsetor.recorder import Recorder  # noqa: E402
 
 ROUNDS = 18
 
 if __name__ == "__main__":
     with open(HERE / "collections.records", "w", encoding="ascii") as file:
-        with gcrecord.Recorder(file) as recorder:
+        with Recorder(file) as recorder:
             cycles.main(ROUNDS)
     (HERE / "collections.expected").write_text(f"yes {recorder.recorded}\n")
