@@ -5,3 +5,4 @@ pub mod Refusals
 pub mod Summed
 pub mod ToldExpansions
 pub mod ToldRecords
+pub mod Answered

@@ -1,10 +1,9 @@
 //! A large script from a number: it is run, and the summary of its text is written.
-ghost use Rattle.std.specs.Prelude.{◌≡◌, ◌≤◌, ◌⊎◌, map, replicate, IfSome};
+ghost use Rattle.std.specs.Prelude.{◌≡◌, ◌≤◌, map, replicate, IfSome};
 ghost use Rattle.std.specs.FinMap as fin;
-ghost use Rattle.std.specs.Io.KnownBytes.{Keeps};
-ghost use Rattle.cg_io.specs.Causes.{Rose};
 ghost use Rattle.cg_heap.specs.Boxes.{six_kinds};
-ghost use Rattle.cg_cli.specs.Summaries.{HasTally, WroteSummary, WroteSummaryFront};
+ghost use Rattle.cg_cli.specs.Jobs.{GenerateAnswers};
+ghost use Rattle.cg_cli.specs.Summaries.{HasTally};
 
 use crate::budget::USUAL;
 use crate::status::Status;
@@ -48,11 +47,7 @@ pub fn generate_job<K: Sink, B: Kind>(
     requires few { blocks ≤ 10000 }
     requires kinds { map B.kind kinds.items ≡ six_kinds }
     requires empty { map B.bodies kinds.items ≡ replicate 6 fin.empty }
-    ensures done { result ≡ Status.Done → WroteSummary blocks (K.written sink.old) (K.written sink.new) }
-    ensures write { result ≡ Status.WriteFault → WroteSummaryFront blocks (K.written sink.old) (K.written sink.new) }
-    ensures cause { result ≡ Status.WriteFault → Rose (K.faults sink.old) (K.faults sink.new) }
-    ensures memory { result ≡ Status.OutOfMemory → Keeps (K.written sink.old) (K.written sink.new) }
-    ensures only { (result ≡ Status.Done) ⊎ (result ≡ Status.WriteFault) ⊎ (result ≡ Status.OutOfMemory) }
+    ensures { GenerateAnswers blocks result (K.written sink.old) (K.written sink.new) (K.faults sink.old) (K.faults sink.new) }
 {
     match tally_of_run(alloc, blocks, kinds) {
         Some(tally) => tell_summary(&tally, sink),

@@ -1,8 +1,8 @@
 //! A record job: a source is read, its bytes are read as a script, the script is run on a heap over the kinds, and the records of
 //! the run are written.
-ghost use Rattle.std.specs.Prelude.{◌≡◌, ◌≢◌, ◌<◌, ◌⊎◌, None, length, map, replicate, IfSome, codes};
+ghost use Rattle.std.specs.Prelude.{◌≡◌, ◌<◌, ◌⊎◌, None, length, map, replicate};
 ghost use Rattle.std.specs.FinMap as fin;
-ghost use Rattle.std.specs.Io.KnownBytes.{Appends, Keeps, IsAtEnd};
+ghost use Rattle.std.specs.Io.KnownBytes.{Keeps};
 ghost use Rattle.cg_io.specs.Causes.{Rose};
 ghost use Rattle.cg_heap.specs.Boxes.{six_kinds};
 ghost use Rattle.cg_machine.specs.World.{Ended, BudgetIsSpent};
@@ -10,7 +10,8 @@ ghost use Rattle.cg_script.specs.Spelled.{IsSpelled};
 ghost use Rattle.cg_script.specs.Texts.{TextsAreKnown};
 ghost use Rattle.cg_script.specs.Reading.{reading};
 ghost use Rattle.cg_interp.specs.Recorded.{WroteRecords, WroteRecordsPart};
-ghost use Rattle.cg_cli.specs.Statuses.{RanBad, TookTooMany, AnswersScript, AnswersReading, IsCutShort, budget_of};
+ghost use Rattle.cg_cli.specs.Jobs.{RecordAnswers, outside};
+ghost use Rattle.cg_cli.specs.Statuses.{RanBad, AnswersReading, budget_of};
 ghost use Rattle.cg_cli.specs.Recordings.{RecordedWhole, RecordedPart, RecordedFront, RecordedSome};
 
 use crate::budget::budget_for;
@@ -89,20 +90,9 @@ pub fn record_job<S: Source, K: Sink, B: Kind>(
 ) -> Status
     requires kinds { map B.kind kinds.items ≡ six_kinds }
     requires empty { map B.bodies kinds.items ≡ replicate 6 fin.empty }
-    ensures done { result ≡ Status.Done → IfSome (S.left source.old) (λ bytes. RecordedWhole Ended bytes (K.written sink.old) (K.written sink.new)) }
-    ensures spent { result ≡ Status.Budget → IfSome (S.left source.old) (λ bytes. RecordedWhole BudgetIsSpent bytes (K.written sink.old) (K.written sink.new)) }
-    ensures bad_script { result ≡ Status.BadScript → IfSome (S.left source.old) (λ bytes. RanBad bytes (K.written sink.old) (K.written sink.new)) }
-    ensures read_to_end { (result ≡ Status.Done) ⊎ (result ≡ Status.Budget) ⊎ (result ≡ Status.BadScript) → IsAtEnd (S.left source.new) }
-    ensures too_large { result ≡ Status.TooLarge → Appends (K.written sink.old) (K.written sink.new) (codes "too large\n") }
-    ensures taken { result ≡ Status.TooLarge → TookTooMany (S.left source.old) (S.left source.new) }
-    ensures read_cause { result ≡ Status.ReadFault → Rose (S.faults source.old) (S.faults source.new) }
-    ensures read { result ≡ Status.ReadFault → Keeps (K.written sink.old) (K.written sink.new) }
-    ensures write_cause { result ≡ Status.WriteFault → Rose (K.faults sink.old) (K.faults sink.new) }
-    ensures write { result ≡ Status.WriteFault → IfSome (S.left source.old) (λ bytes. RecordedFront bytes (K.written sink.old) (K.written sink.new)) }
-    ensures memory { result ≡ Status.OutOfMemory → Keeps (K.written sink.old) (K.written sink.new)
-        ⊎ IfSome (S.left source.old) (λ bytes. RecordedPart bytes (K.written sink.old) (K.written sink.new)) }
-    ensures only { IsCutShort result ⊎ IfSome (S.left source.old) (λ bytes. AnswersScript bytes result) }
-    ensures words { result ≢ Status.BadWords }
+    ensures { RecordAnswers result
+        (outside (S.left source.old) (S.faults source.old) (K.written sink.old) (K.faults sink.old))
+        (outside (S.left source.new) (S.faults source.new) (K.written sink.new) (K.faults sink.new)) }
 {
     match read_whole(alloc, source, sink) {
         Ok(bytes) => record_in_hand(alloc, bytes, sink, kinds),

@@ -1,7 +1,7 @@
 //! A run job: a source is read, its bytes are read as a script, and the script is run on a heap over the kinds.
-ghost use Rattle.std.specs.Prelude.{◌≡◌, ◌≢◌, ◌≤◌, ◌<◌, ◌⊎◌, length, map, replicate, IfSome, codes};
+ghost use Rattle.std.specs.Prelude.{◌≡◌, ◌≤◌, ◌<◌, ◌⊎◌, length, map, replicate, IfSome};
 ghost use Rattle.std.specs.FinMap as fin;
-ghost use Rattle.std.specs.Io.KnownBytes.{Appends, Keeps, IsAtEnd};
+ghost use Rattle.std.specs.Io.KnownBytes.{Keeps};
 ghost use Rattle.cg_io.specs.Causes.{Rose};
 ghost use Rattle.cg_heap.specs.Boxes.{six_kinds};
 ghost use Rattle.cg_machine.specs.World.{Ended, BudgetIsSpent};
@@ -10,7 +10,8 @@ ghost use Rattle.cg_script.specs.Spelled.{IsSpelled};
 ghost use Rattle.cg_script.specs.Texts.{TextsAreKnown};
 ghost use Rattle.cg_script.specs.Reading.{reading};
 ghost use Rattle.cg_interp.specs.Written.{WroteRun, WrotePart};
-ghost use Rattle.cg_cli.specs.Statuses.{RanWhole, RanBad, TookTooMany, WroteFront, AnswersScript, AnswersReading, IsCutShort, budget_of};
+ghost use Rattle.cg_cli.specs.Jobs.{RunAnswers, outside};
+ghost use Rattle.cg_cli.specs.Statuses.{RanWhole, RanBad, WroteFront, AnswersReading, budget_of};
 
 use crate::budget::budget_for;
 use crate::input::{LIMIT, read_whole, script_of};
@@ -20,6 +21,7 @@ use cg_heap::Heap;
 use cg_interp::{RunEnd, run_script};
 use cg_io::{Sink, Source};
 use cg_kind::Kind;
+use cg_promises::{no_dead_lines, one_finalizer_each};
 use cg_script::{Script, ScriptFault};
 use std::alloc::Global;
 
@@ -93,20 +95,12 @@ pub fn run_job<S: Source, K: Sink, B: Kind>(
     requires given { IfSome given (λ n. n ≤ MOST_BUDGET) }
     requires kinds { map B.kind kinds.items ≡ six_kinds }
     requires empty { map B.bodies kinds.items ≡ replicate 6 fin.empty }
-    ensures done { result ≡ Status.Done → IfSome (S.left source.old) (λ bytes. RanWhole given Ended bytes (K.written sink.old) (K.written sink.new)) }
-    ensures spent { result ≡ Status.Budget → IfSome (S.left source.old) (λ bytes. RanWhole given BudgetIsSpent bytes (K.written sink.old) (K.written sink.new)) }
-    ensures bad_script { result ≡ Status.BadScript → IfSome (S.left source.old) (λ bytes. RanBad bytes (K.written sink.old) (K.written sink.new)) }
-    ensures read_to_end { (result ≡ Status.Done) ⊎ (result ≡ Status.Budget) ⊎ (result ≡ Status.BadScript) → IsAtEnd (S.left source.new) }
-    ensures too_large { result ≡ Status.TooLarge → Appends (K.written sink.old) (K.written sink.new) (codes "too large\n") }
-    ensures taken { result ≡ Status.TooLarge → TookTooMany (S.left source.old) (S.left source.new) }
-    ensures read_cause { result ≡ Status.ReadFault → Rose (S.faults source.old) (S.faults source.new) }
-    ensures read { result ≡ Status.ReadFault → Keeps (K.written sink.old) (K.written sink.new) }
-    ensures write_cause { result ≡ Status.WriteFault → Rose (K.faults sink.old) (K.faults sink.new) }
-    ensures write { result ≡ Status.WriteFault → IfSome (S.left source.old) (λ bytes. WroteFront given bytes (K.written sink.old) (K.written sink.new)) }
-    ensures memory { result ≡ Status.OutOfMemory → Keeps (K.written sink.old) (K.written sink.new) }
-    ensures only { IsCutShort result ⊎ IfSome (S.left source.old) (λ bytes. AnswersScript bytes result) }
-    ensures words { result ≢ Status.BadWords }
+    ensures { RunAnswers given result
+        (outside (S.left source.old) (S.faults source.old) (K.written sink.old) (K.faults sink.old))
+        (outside (S.left source.new) (S.faults source.new) (K.written sink.new) (K.faults sink.new)) }
 {
+    one_finalizer_each();
+    no_dead_lines();
     match read_whole(alloc, source, sink) {
         Ok(bytes) => run_in_hand(alloc, given, bytes, sink, kinds),
         Err(status) => status,

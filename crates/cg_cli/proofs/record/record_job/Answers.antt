@@ -1,32 +1,27 @@
-use Rattle.std.proofs.Common.{ap, inr, subst, Err}
-use Rattle.cg_machine.specs.World.{Ended, BudgetIsSpent}
-use Rattle.cg_cli.specs.Recordings.{RecordedWhole, RecordedSome, RecordedFront}
-use Rattle.cg_cli.proofs.ToldRecords.{told_recorded, told_recorded_some, told_recorded_front, many_recorded_front}
+use Rattle.std.proofs.Common.{ap, inl, inr, subst, Err}
+use Rattle.cg_cli.specs.Jobs.{RecordAnswers, outside}
+use Rattle.cg_cli.proofs.Answered.{record_answers, record_unread}
 use Rattle.cg_cli.proofs.record.record_job.Goals as goal
 
-pub returns-in-Ok-clause-done : goal.returns-in-Ok-clause-done
-returns-in-Ok-clause-done g c = λ e.
-    told_recorded (g.S.Source.left c.args.source.now) c.in-Ok.bytes.items c.in-Ok.ensures.all Ended _ _
-    (subst (λ snk. RecordedWhole Ended c.in-Ok.bytes.items (g.K.Sink.written snk) (g.K.Sink.written c.record_in_hand.new.sink)) c.in-Ok.ensures.nothing
-    (c.record_in_hand.ensures.done e))
+pub returns-in-Ok : goal.returns-in-Ok
+returns-in-Ok g c =
+    subst (λ snk. RecordAnswers c.record_in_hand.result
+        (outside (g.S.Source.left c.args.source.now) (g.S.Source.faults c.args.source.now) (g.K.Sink.written snk) (g.K.Sink.faults snk))
+        (outside (g.S.Source.left c.read_whole.new.source) (g.S.Source.faults c.read_whole.new.source) (g.K.Sink.written c.record_in_hand.new.sink) (g.K.Sink.faults c.record_in_hand.new.sink))) c.in-Ok.ensures.nothing
+    (record_answers c.record_in_hand.result
+        (outside (g.S.Source.left c.args.source.now) (g.S.Source.faults c.args.source.now) (g.K.Sink.written c.read_whole.new.sink) (g.K.Sink.faults c.read_whole.new.sink))
+        (outside (g.S.Source.left c.read_whole.new.source) (g.S.Source.faults c.read_whole.new.source) (g.K.Sink.written c.record_in_hand.new.sink) (g.K.Sink.faults c.record_in_hand.new.sink))
+        c.in-Ok.bytes.items c.in-Ok.ensures.all c.in-Ok.ensures.few c.in-Ok.ensures.end
+        c.record_in_hand.ensures.done c.record_in_hand.ensures.spent c.record_in_hand.ensures.bad_script c.record_in_hand.ensures.write c.record_in_hand.ensures.cause c.record_in_hand.ensures.memory c.record_in_hand.ensures.only)
 
-pub returns-in-Ok-clause-spent : goal.returns-in-Ok-clause-spent
-returns-in-Ok-clause-spent g c = λ e.
-    told_recorded (g.S.Source.left c.args.source.now) c.in-Ok.bytes.items c.in-Ok.ensures.all BudgetIsSpent _ _
-    (subst (λ snk. RecordedWhole BudgetIsSpent c.in-Ok.bytes.items (g.K.Sink.written snk) (g.K.Sink.written c.record_in_hand.new.sink)) c.in-Ok.ensures.nothing
-    (c.record_in_hand.ensures.spent e))
-
-pub returns-in-Ok-clause-write : goal.returns-in-Ok-clause-write
-returns-in-Ok-clause-write g c = λ e.
-    told_recorded_front (g.S.Source.left c.args.source.now) c.in-Ok.bytes.items c.in-Ok.ensures.all _ _
-    (subst (λ snk. RecordedFront c.in-Ok.bytes.items (g.K.Sink.written snk) (g.K.Sink.written c.record_in_hand.new.sink)) c.in-Ok.ensures.nothing
-    (c.record_in_hand.ensures.write e))
-
-pub returns-in-Ok-clause-memory : goal.returns-in-Ok-clause-memory
-returns-in-Ok-clause-memory g c = λ e.
-    told_recorded_some (g.S.Source.left c.args.source.now) c.in-Ok.bytes.items c.in-Ok.ensures.all _ _
-    (subst (λ snk. RecordedSome c.in-Ok.bytes.items (g.K.Sink.written snk) (g.K.Sink.written c.record_in_hand.new.sink)) c.in-Ok.ensures.nothing
-    (c.record_in_hand.ensures.memory e))
-
-pub returns-in-Err-clause-write : goal.returns-in-Err-clause-write
-returns-in-Err-clause-write g c = λ e. let failed = ap Err e in many_recorded_front (g.S.Source.left c.args.source.now) _ _ (c.in-Err.ensures.many (inr failed)) (c.in-Err.ensures.write failed)
+pub returns-in-Err : goal.returns-in-Err
+returns-in-Err g c =
+    let f = c.in-Err.ensures in
+    record_unread c.in-Err.status
+        (outside (g.S.Source.left c.args.source.now) (g.S.Source.faults c.args.source.now) (g.K.Sink.written c.args.sink.now) (g.K.Sink.faults c.args.sink.now))
+        (outside (g.S.Source.left c.read_whole.new.source) (g.S.Source.faults c.read_whole.new.source) (g.K.Sink.written c.read_whole.new.sink) (g.K.Sink.faults c.read_whole.new.sink))
+        f.only (λ e. f.too_large (ap Err e)) (λ e. f.taken (ap Err e)) (λ e. f.read_cause (ap Err e)) (λ e. f.read (ap Err e)) (λ e. f.write_cause (ap Err e)) (λ e. f.write (ap Err e)) (λ e. f.memory (ap Err e))
+        (λ e. elim e [
+          | inl is ↦ f.many (inl (ap Err is))
+          | inr is ↦ f.many (inr (ap Err is))
+        ])
