@@ -9,7 +9,7 @@ ghost use Rattle.cg_words.specs.Words.{AsksFor, Ask};
 ghost use Rattle.cg_cli.specs.Summaries.{WroteSummary, WroteSummaryFront};
 ghost use Rattle.cg_cli.specs.Expansions.{WroteExpansion, WroteFirstBad, WroteExpandFront, AnswersExpand};
 ghost use Rattle.cg_cli.specs.Recordings.{RecordedWhole, RecordedPart, RecordedFront};
-ghost use Rattle.cg_cli.specs.Statuses.{RanWhole, RanKept, RanBad, TookTooMany, WroteFront, AnswersScript, IsCutShort};
+ghost use Rattle.cg_cli.specs.Statuses.{RanWhole, RanKept, RanBad, TookTooMany, WroteFront, FrontKept, AnswersScript, IsCutShort};
 
 use crate::expand::expand_job;
 use crate::generate::generate_job;
@@ -23,7 +23,7 @@ use cg_promises::{no_dead_lines, one_finalizer_each};
 use cg_words::{Job, read_words};
 use std::alloc::{AllocError, Global};
 
-/// `gc_run` over kinds of any one type, as one that needs no boxes. Its clauses are those of `gc_run`, which adds `promises`.
+/// `gc_run` over kinds of any one type, as one that needs no boxes. Its clauses are those of `gc_run`, which adds `promises` and `promises_in_part`.
 pub fn gc_over<S: Source, K: Sink, B: Kind>(
     alloc: Global,
     words: &[String],
@@ -135,9 +135,12 @@ pub fn gc_run<S: Source, K: Sink>(
         × IfSome (S.left source.old) (λ bytes. RanWhole given BudgetIsSpent bytes (K.written sink.old) (K.written sink.new)))
         ⊎ (AsksFor (map string_bytes words.now) Job.Record × IfSome (S.left source.old) (λ bytes. RecordedWhole BudgetIsSpent bytes (K.written sink.old) (K.written sink.new))) }
 
-    // Its lines begin the finalizer of one object at most once (PEP 442), and name no object that an earlier line frees.
+    // Its lines begin the finalizer of one object at most once (PEP 442), and name no object that an earlier line frees; so do those
+    // that were written where the sink failed.
     ensures promises { (given : Option ℕ) → AsksFor (map string_bytes words.now) (Job.Run given) → (result ≡ Status.Done) ⊎ (result ≡ Status.Budget)
         → IfSome (S.left source.old) (λ bytes. RanKept bytes (K.written sink.old) (K.written sink.new)) }
+    ensures promises_in_part { (given : Option ℕ) → AsksFor (map string_bytes words.now) (Job.Run given) → result ≡ Status.WriteFault
+        → IfSome (S.left source.old) (λ bytes. FrontKept bytes (K.written sink.old) (K.written sink.new)) }
 
     // What is wrong with the words, the script or its size, and that it was told.
     ensures bad_words { result ≡ Status.BadWords → Appends (K.written sink.old) (K.written sink.new) (codes "bad words\n") }
