@@ -17,7 +17,7 @@ use Rattle.cg_cli.specs.declared.status.Status.TheVariants.{Done, BadScript, Bad
 use Rattle.cg_cli.proofs.Told.{told, told_front, told_answers, many_front, many_answers, complete}
 use Rattle.cg_cli.proofs.ToldRecords.{told_recorded, told_recorded_some, told_recorded_front, many_recorded_front}
 use Rattle.cg_cli.proofs.ToldExpansions.{told_expansion, told_first_bad, told_expand_front, told_expand_answers, many_expand_front, many_expand_answers}
-use Rattle.cg_cli.proofs.KeptLines.{told_kept}
+use Rattle.cg_cli.proofs.KeptLines.{told_kept, front_kept}
 
 -- the statuses that come once the bytes are in hand, and those that come before; memory and the sink may fail at any time
 abbrev pub IsOfBytes : Status → Type 0
@@ -93,6 +93,7 @@ module _ (s : Status) (was is : Outside) where
             | inl e ↦ told_kept one none given Ended was.left was.written is.written (done' e)
             | inr e ↦ told_kept one none given BudgetIsSpent was.left was.written is.written (spent' e)
           ];
+          promises_in_part = λ e. front_kept one none given was.left was.written is.written (told_front was.left bytes all given was.written is.written (write e));
           bad_script = λ e. told was.left bytes all (λ bs. RanBad bs was.written is.written) (bad e);
           read_to_end = λ e. end;
           reads = reads;
@@ -155,8 +156,8 @@ module _ (s : Status) (was is : Outside) where
     script_unread : IsCutShort s ⊎ IfSome was.left (λ bs. AnswersScript bs s)
     script_unread = unread_answers (λ bs. AnswersScript bs s) (λ e large. many_answers was.left large s e)
 
-    pub run_unread : (given : Option ℕ) → RunAnswers given s was is
-    run_unread given = record {
+    pub run_unread : (given : Option ℕ) → OneFinalizerEach → NoDeadLines → RunAnswers given s was is
+    run_unread given one none = record {
       done = λ e. unread _ s only (inl e);
       spent = λ e. unread _ s only (inr (inl e));
       promises = λ ended. elim ended [
@@ -170,6 +171,7 @@ module _ (s : Status) (was is : Outside) where
         | inr (inr e) ↦ unread _ s only (inr (inr (inl e)))
       ];
       reads = unread_reads;
+      promises_in_part = λ e. front_kept one none given was.left was.written is.written (many_front was.left (many (inr e)) given was.written is.written (write e));
       write = λ e. many_front was.left (many (inr e)) given was.written is.written (write e);
       memory = memory;
       answers = script_unread;

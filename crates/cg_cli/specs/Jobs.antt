@@ -5,7 +5,7 @@ use Rattle.cg_io.specs.Causes.{AppendsFront, Rose}
 use Rattle.cg_machine.specs.World.{Ended, BudgetIsSpent}
 use Rattle.cg_words.specs.Words.{AsksFor, Ask}
 use Rattle.cg_words.specs.declared.words.Job.TheVariants.{Generate}
-use Rattle.cg_cli.specs.Statuses.{RanWhole, RanKept, RanBad, TookTooMany, WroteFront, AnswersScript, IsCutShort}
+use Rattle.cg_cli.specs.Statuses.{RanWhole, RanKept, RanBad, TookTooMany, WroteFront, FrontKept, AnswersScript, IsCutShort}
 use Rattle.cg_cli.specs.Summaries.{WroteSummary, WroteSummaryFront}
 use Rattle.cg_cli.specs.Expansions.{WroteExpansion, WroteFirstBad, WroteExpandFront, AnswersExpand}
 use Rattle.cg_cli.specs.Recordings.{RecordedWhole, RecordedPart, RecordedFront}
@@ -44,6 +44,8 @@ pub record RunAnswers (given : Option ℕ) (status : Status) (was is : Outside) 
   pub spent : status ≡ Budget → IfSome was.left (λ bytes. RanWhole given BudgetIsSpent bytes was.written is.written)
   -- Its lines begin the finalizer of one object at most once (PEP 442), and name no object that an earlier line frees.
   pub promises : (status ≡ Done) ⊎ (status ≡ Budget) → IfSome was.left (λ bytes. RanKept bytes was.written is.written)
+  -- So do those that were written where the sink failed.
+  pub promises_in_part : status ≡ WriteFault → IfSome was.left (λ bytes. FrontKept bytes was.written is.written)
   pub bad_script : status ≡ BadScript → IfSome was.left (λ bytes. RanBad bytes was.written is.written)
   pub read_to_end : (status ≡ Done) ⊎ (status ≡ Budget) ⊎ (status ≡ BadScript) → IsAtEnd is.left
   pub reads : ReadsSource status was is

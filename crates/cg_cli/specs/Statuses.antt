@@ -10,7 +10,7 @@ use Rattle.cg_machine.specs.Run.{StepTaken, IsWholeRun}
 use Rattle.cg_machine.specs.Lines.{line, text_of}
 use Rattle.cg_promises.specs.Lines.{KeepPromises}
 use Rattle.cg_script.specs.Reading.{Reading, reading, spells, faulty}
-use Rattle.cg_interp.specs.Written.{WroteRun}
+use Rattle.cg_interp.specs.Written.{WroteRun, WroteKept}
 use Rattle.cg_cli.specs.declared.status.Status.{Status}
 use Rattle.cg_cli.specs.declared.status.Status.TheVariants.{Done, BadScript, TooLarge, ReadFault, WriteFault, OutOfMemory, Budget}
 use Rattle.cg_cli.specs.declared.input.TheConstants.{LIMIT}
@@ -67,6 +67,10 @@ pub record WroteFront (given : Option ℕ) (bytes : List ℕ) (before now : Opti
   pub text : List ℕ
   pub row : RowText given bytes text
   pub wrote : AppendsFront before now text
+
+-- Where few bytes spell a script, a front of lines was written that keep the promises of every run.
+abbrev pub FrontKept : List ℕ → Option (List ℕ) → Option (List ℕ) → Type 0
+FrontKept bytes before now = length bytes < LIMIT → (script : Script) → Spells bytes script → WroteKept script.names before now
 
 -- The answer to what bytes are read as, where neither source nor sink failed and memory was there: `Done` or `Budget` to a
 -- script, as its run ended.

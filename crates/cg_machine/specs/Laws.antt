@@ -292,12 +292,16 @@ EntriesLeaveOnlyBy = (script : Script) (budget : ℕ) (before : List StepTaken) 
     → (x y : Object) → Includes (world_after script budget before).objects x → Includes step.world.objects y → x.serial ≡ y.serial
     → ¬ WasFinal script budget before x.serial → ¬ IsLengthened x y → MayLoseEntries script budget before x (world_after script budget before) (world_after script budget before).stack
 
--- Each member of the final set, tuples included, has been freed when the collection stops.
-abbrev pub FinalSetIsFreed : Type 0
-FinalSetIsFreed = (script : Script) (budget : ℕ) (before : List StepTaken) (split : StepTaken) (during : List StepTaken) (stop : StepTaken)
-    → TextsAreKnown script → IsRun script budget (before ++ split ∷ during ++ stop ∷ []) → Splits (world_after script budget before)
+-- Each member of the final set, tuples included, has been freed when the collection stops: in each fit script.
+abbrev pub FinalSetIsFreedIn : (Script → Type 0) → Type 0
+FinalSetIsFreedIn Fit = (script : Script) (budget : ℕ) (before : List StepTaken) (split : StepTaken) (during : List StepTaken) (stop : StepTaken)
+    → Fit script → IsRun script budget (before ++ split ∷ during ++ stop ∷ []) → Splits (world_after script budget before)
     → count_by is_stop (events_of during) ≡ 0 → 0 < count_by is_stop stop.events
     → (o : ℕ) → Includes (final_set split) o → Includes (events_of during) (Free o)
+
+-- so it is in each that names its own texts alone
+abbrev pub FinalSetIsFreed : Type 0
+FinalSetIsFreed = FinalSetIsFreedIn TextsAreKnown
 
 -- A finalizer of one object begins at most once.
 abbrev pub OneFinalizerEach : Type 0
@@ -319,10 +323,14 @@ BeginsCommand (TopLevel (command ∷ commands) ∷ below) = Unit {0}
 BeginsCommand (Framed f ∷ below) = f.commands ≢ []
 BeginsCommand stack = ⊥
 
--- When a command begins, each object that nothing holds is dying.
-abbrev pub UnheldIsDying : Type 0
-UnheldIsDying = (script : Script) (budget : ℕ) (steps : List StepTaken) → TextsAreKnown script → IsRun script budget steps → BeginsCommand (world_after script budget steps).stack
+-- When a command begins, each object that nothing holds is dying: in each fit script.
+abbrev pub UnheldIsDyingIn : (Script → Type 0) → Type 0
+UnheldIsDyingIn Fit = (script : Script) (budget : ℕ) (steps : List StepTaken) → Fit script → IsRun script budget steps → BeginsCommand (world_after script budget steps).stack
     → (x : Object) → Includes (world_after script budget steps).objects x → in_degree (world_after script budget steps) x.serial ≡ 0 → IsTrue (is_dying (world_after script budget steps) x.serial)
+
+-- so it is in each that names its own texts alone
+abbrev pub UnheldIsDying : Type 0
+UnheldIsDying = UnheldIsDyingIn TextsAreKnown
 
 -- a collection of 2 is to start, and no object is in the permanent generation
 pub record StartsFull (w : World) : Type 0 where
@@ -341,9 +349,13 @@ IsRooted w o = IsTrue (is_dying w o) ⊎ IsOutsideHeld (holdings w) (graph_of w.
 abbrev pub NoGarbageIsLeft : World → Type 0
 NoGarbageIsLeft w = (o : ℕ) → Includes (serials w.objects) o → Reach (IsRooted w) (Includes (serials w.objects)) (edges (graph_of w.objects)) o
 
--- After a full collection in which no frame begins there is no garbage.
-abbrev pub FullCollectionLeavesNone : Type 0
-FullCollectionLeavesNone = (script : Script) (budget : ℕ) (before during : List StepTaken) (stop : StepTaken)
-    → TextsAreKnown script → IsRun script budget (before ++ during ++ stop ∷ [])
+-- After a full collection in which no frame begins there is no garbage: in each fit script.
+abbrev pub FullCollectionLeavesNoneIn : (Script → Type 0) → Type 0
+FullCollectionLeavesNoneIn Fit = (script : Script) (budget : ℕ) (before during : List StepTaken) (stop : StepTaken)
+    → Fit script → IsRun script budget (before ++ during ++ stop ∷ [])
     → StartsFull (world_after script budget before) → count_by is_enter (events_of during ++ stop.events) ≡ 0
     → count_by is_stop (events_of during) ≡ 0 → 0 < count_by is_stop stop.events → NoGarbageIsLeft stop.world
+
+-- so it is in each that names its own texts alone
+abbrev pub FullCollectionLeavesNone : Type 0
+FullCollectionLeavesNone = FullCollectionLeavesNoneIn TextsAreKnown

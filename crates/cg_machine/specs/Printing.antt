@@ -2,6 +2,7 @@
 use Rattle.std.specs.Prelude.{ℕ, ◌≤◌, List, length}
 use Rattle.std.specs.List.{All}
 use Rattle.cg_script.specs.declared.Script.{Script}
+use Rattle.cg_script.specs.ReadScripts.{WasRead}
 use Rattle.cg_script.specs.Texts.{TextsAreKnown}
 use Rattle.cg_graph.specs.Member.{Includes}
 use Rattle.cg_machine.specs.declared.event.Event.{Event}
@@ -11,4 +12,9 @@ use Rattle.cg_machine.specs.Run.{StepTaken, IsRun, events_of}
 -- Where a script names its own texts alone, and none has more than 1,024 bytes, each line of each run of it can be printed.
 abbrev pub LinesArePrintable : Type 0
 LinesArePrintable = (script : Script) (budget : ℕ) (steps : List StepTaken) → TextsAreKnown script → All (λ text. length text ≤ 1024) script.names → IsRun script budget steps
+    → (event : Event) → Includes (events_of steps) event → IsPrintable script.names event
+
+-- So it is of each script that was read.
+abbrev pub ReadLinesArePrintable : Type 0
+ReadLinesArePrintable = (script : Script) (budget : ℕ) (steps : List StepTaken) → WasRead script → IsRun script budget steps
     → (event : Event) → Includes (events_of steps) event → IsPrintable script.names event

@@ -4,7 +4,7 @@ ghost use Rattle.cg_machine.specs.Locals.{LocalsLive};
 ghost use Rattle.cg_machine.specs.Made.{SerialsAreFew};
 ghost use Rattle.cg_machine.specs.Newest.{DeathsClearNewestFirst};
 ghost use Rattle.cg_machine.specs.Origins.{WorldsHaveOrigins};
-ghost use Rattle.cg_machine.specs.Printing.{LinesArePrintable};
+ghost use Rattle.cg_machine.specs.Printing.{LinesArePrintable, ReadLinesArePrintable};
 ghost use Rattle.cg_machine.specs.Lawful.{RunsStayLawful};
 ghost use Rattle.cg_machine.specs.Laws.{DyingIsUnheld, NoRunIsStuck, FrontsBeginWholeTexts, StepsLeaveWhatIsBelow, WorldsAreOrderly};
 
@@ -69,7 +69,9 @@ pub fn runs_stay_lawful()
     ensures { RunsStayLawful }
 {}
 
-/// Where a script names its own texts alone, and none has more than 1,024 bytes, each line of each run of it can be printed.
+/// Where a script names its own texts alone, and none has more than 1,024 bytes, each line of each run of it can be printed. Each
+/// script that was read is so.
 pub fn lines_are_printable()
-    ensures { LinesArePrintable }
+    ensures known { LinesArePrintable }
+    ensures read { ReadLinesArePrintable }
 {}

@@ -1,5 +1,6 @@
 //! What every run does to the final set of a collection that does not save all. Each law is the contract of a function that does nothing.
-ghost use Rattle.cg_machine.specs.Laws.{FinalSetIsFreed, OnlyFreesNameMembers, Sealing};
+ghost use Rattle.cg_script.specs.ReadScripts.{WasRead};
+ghost use Rattle.cg_machine.specs.Laws.{FinalSetIsFreed, FinalSetIsFreedIn, OnlyFreesNameMembers, Sealing};
 
 /// In every run, from the second detection of a collection that does not save all up to its stop, only members of the final
 /// set, the collection and releases hold a member that lives, nothing refers to it weakly, nor does it, no finalizer of it is
@@ -16,5 +17,6 @@ pub fn only_frees_name_members()
 /// In every run each member of the final set of a collection that does not save all, tuples included, has been freed when the
 /// collection stops.
 pub fn final_sets_are_freed()
-    ensures { FinalSetIsFreed }
+    ensures known { FinalSetIsFreed }
+    ensures read { FinalSetIsFreedIn WasRead }
 {}

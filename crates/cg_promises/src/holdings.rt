@@ -1,10 +1,12 @@
 //! What every run keeps of what holds what. Each law is the contract of a function that does nothing.
-ghost use Rattle.cg_machine.specs.Laws.{EntriesLeaveOnlyBy, UnheldIsDying};
+ghost use Rattle.cg_script.specs.ReadScripts.{WasRead};
+ghost use Rattle.cg_machine.specs.Laws.{EntriesLeaveOnlyBy, UnheldIsDying, UnheldIsDyingIn};
 ghost use Rattle.cg_promises.specs.Slack.{UntrackedAreSlack};
 
 /// In every run, when a command begins, each object that nothing holds is dying.
 pub fn unheld_is_dying()
-    ensures { UnheldIsDying }
+    ensures known { UnheldIsDying }
+    ensures read { UnheldIsDyingIn WasRead }
 {}
 
 /// In every run an untracked object, but for the garbage list and what is dying, is a tuple or a dictionary that refers to

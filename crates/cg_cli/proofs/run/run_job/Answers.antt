@@ -24,4 +24,4 @@ returns-in-Err g c =
         (λ e. elim e [
           | inl is ↦ f.many (inl (ap Err is))
           | inr is ↦ f.many (inr (ap Err is))
-        ]) c.args.given
+        ]) c.args.given c.one_finalizer_each.ensures c.no_dead_lines.ensures
