@@ -1,5 +1,5 @@
 -- What each job that reads its source answers: of the bytes in hand it is the answer to the source that told them.
-use Rattle.std.proofs.Common.{◌≡◌, ◌≢◌, ◌⊎◌, inl, inr, ◌<◌, ℕ, ◌≤◌, List, length, Option, None, Some, IfSome, codes, arith}
+use Rattle.std.proofs.Common.{◌≡◌, ◌⊎◌, inl, inr, ◌<◌, ℕ, ◌≤◌, List, length, Option, None, Some, IfSome, codes, arith}
 use Rattle.std.specs.Io.KnownBytes.{Appends, Keeps, IsAtEnd}
 use Rattle.cg_io.specs.Causes.{AppendsFront, Rose}
 use Rattle.cg_script.specs.Reading.{Reading, reading, spells, faulty}
@@ -10,7 +10,7 @@ use Rattle.cg_weakcoll.specs.Expansion.{first_bad}
 use Rattle.cg_cli.specs.Jobs.{Outside, ReadsSource, ComesWithoutFaults, RunAnswers, ExpandAnswers, RecordAnswers}
 use Rattle.cg_cli.specs.Statuses.{RanWhole, RanBad, TookTooMany, WroteFront, AnswersReading, AnswersScript, IsCutShort}
 use Rattle.cg_cli.specs.Expansions.{WroteExpansion, WroteFirstBad, WroteExpandFront, AnswersFirstBad, AnswersExpand}
-use Rattle.cg_cli.specs.Recordings.{RecordedWhole, RecordedPart, RecordedSome, RecordedFront}
+use Rattle.cg_cli.specs.Recordings.{RecordedWhole, RecordedSome, RecordedFront}
 use Rattle.cg_cli.specs.declared.input.TheConstants.{LIMIT}
 use Rattle.cg_cli.specs.declared.status.Status.{Status}
 use Rattle.cg_cli.specs.declared.status.Status.TheVariants.{Done, BadScript, BadWords, ReadFault, WriteFault, OutOfMemory, Budget, TooLarge}

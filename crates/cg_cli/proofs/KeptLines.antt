@@ -1,16 +1,13 @@
 -- The lines of a run that was written keep the promises of every run.
-use Rattle.std.proofs.Common.{◌≡◌, sym, ◌∙◌, subst, ℕ, ◌<◌, List, length, flat_map, Option, None, Some, IfSome, arith}
+use Rattle.std.proofs.Common.{◌≡◌, sym, ◌∙◌, subst, ℕ, List, Option, None, Some, IfSome, arith}
 use Rattle.cg_io.specs.Causes.{AppendsFront}
-use Rattle.cg_script.specs.declared.Script.{Script}
-use Rattle.cg_script.specs.Reading.{reading, spells}
+use Rattle.cg_script.specs.Reading.{spells}
 use Rattle.cg_machine.specs.World.{Outcome}
 use Rattle.cg_machine.specs.Run.{events_of}
 use Rattle.cg_machine.specs.Laws.{OneFinalizerEach}
-use Rattle.cg_machine.specs.Lines.{line}
 use Rattle.cg_promises.specs.Lines.{NoDeadLines}
 use Rattle.cg_interp.specs.Written.{WroteKept}
 use Rattle.cg_cli.specs.Statuses.{RanWhole, RanKept, RowText, run_text, bad_text, large_text, WroteFront, FrontKept, budget_of}
-use Rattle.cg_cli.specs.declared.input.TheConstants.{LIMIT}
 
 module _ (one : OneFinalizerEach) (none_dead : NoDeadLines) where
   ran_kept : (given : Option ℕ) (outcome : Outcome) (bytes : List ℕ) (before now : Option (List ℕ)) → RanWhole given outcome bytes before now → RanKept bytes before now

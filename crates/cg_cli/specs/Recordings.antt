@@ -5,10 +5,7 @@ use Rattle.cg_io.specs.Causes.{AppendsFront}
 use Rattle.cg_script.specs.declared.Script.{Script}
 use Rattle.cg_script.specs.Reading.{reading, faulty}
 use Rattle.cg_machine.specs.World.{Outcome}
-use Rattle.cg_machine.specs.Run.{StepTaken, IsWholeRun}
-use Rattle.cg_records.specs.declared.graph.Rec.{Rec}
-use Rattle.cg_records.specs.Text.{text}
-use Rattle.cg_interp.specs.Recorded.{HasRecords, WroteRecords, WroteRecordsPart}
+use Rattle.cg_interp.specs.Recorded.{WroteRecords, WroteRecordsPart}
 use Rattle.cg_cli.specs.Statuses.{Spells, budget_of, bad_script_text}
 use Rattle.cg_cli.specs.declared.input.TheConstants.{LIMIT}
 
