@@ -1,5 +1,5 @@
 //! What the commands that inspect tell of two lists, one in the other, as `a = list; b = list a` leaves them.
-ghost use Rattle.std.specs.Prelude.{◌≡◌, map, replicate, slice_get, IfSome, None, Some};
+ghost use Rattle.std.specs.Prelude.{◌≡◌, ◌<◌, map, replicate, slice_get, IfSome, None, Some};
 ghost use Rattle.std.specs.FinMap as fin;
 ghost use Rattle.cg_heap.specs.Boxes.{six_kinds};
 ghost use Rattle.cg_inspect.specs.Inspection.{IsIdle};
@@ -10,15 +10,16 @@ use crate::inspections::{explanation, referents, referrers};
 use crate::lines::Lines;
 use crate::locals::Locals;
 use cg_any_kind::six;
-use cg_heap::{Heap, HeapFault};
+use cg_heap::{Heap, HeapFault, Steps};
 use cg_inspect::why;
 use cg_kind::Kind;
 use cg_machine::{Event, FrameSort};
 use cg_script::Operand;
 use cg_value::{KindCode, Place, Val};
 use std::alloc::{AllocError, Global};
-use std::marker::Model;
+use std::marker::{Brand, Model};
 use std::process::Abort;
+use std::sync::ledger::{Blank, Ledger};
 use std::test::Fail;
 
 /// A heap, and the holds that a test has. No more than `count` holds and objects were given.
@@ -160,9 +161,25 @@ impl<B: Kind> Scene<B> {
     /// The lines of `why`.
     fn why(&self, rt: &impl Abort, alloc: Global, object: u64) -> Result<Lines, AllocError> {
         assert_idle(rt, &self.heap);
-        let reason = why(alloc, &self.heap, object)?;
-        explanation(alloc, &reason)
+        explained::<B, Brand>(alloc, &self.heap, object, Blank::new(1))
     }
+}
+
+/// The lines of `why`, with a counter of its own.
+fn explained<B: Kind, L: Ledger>(
+    alloc: Global,
+    heap: &Heap<B>,
+    object: u64,
+    blank: Blank,
+) -> Result<Lines, AllocError>
+    requires name { blank.name ≡ L.name }
+    requires parts { blank.parts ≡ L.parts }
+    requires some { 0 < blank.parts }
+    requires idle { IsIdle heap.now }
+{
+    let mut steps = Steps::<L>::new(blank);
+    let reason = why(alloc, heap, object, &mut steps)?;
+    explanation(alloc, &reason)
 }
 
 /// The lines of an answer.

@@ -1,4 +1,5 @@
 mod Trails
 mod Objects
 mod Holdings
+mod Looks
 mod Scenes

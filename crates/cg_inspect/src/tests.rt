@@ -1,5 +1,5 @@
 //! Small graphs in a heap over six kinds. What refers to what, and the paths, are found by hand.
-ghost use Rattle.std.specs.Prelude.{◌≡◌, map, replicate, slice_get, IfSome, None};
+ghost use Rattle.std.specs.Prelude.{◌≡◌, ◌<◌, map, replicate, slice_get, IfSome, None};
 ghost use Rattle.std.specs.FinMap as fin;
 ghost use Rattle.cg_graph.specs.Store.{IsLive};
 ghost use Rattle.cg_heap.specs.Boxes.{six_kinds};
@@ -9,12 +9,13 @@ ghost use Rattle.cg_inspect.specs.Inspection.{IsIdle};
 
 use crate::{Why, referents, referrers, why};
 use cg_any_kind::six;
-use cg_heap::{Heap, HeapFault};
+use cg_heap::{Heap, HeapFault, Steps};
 use cg_kind::Kind;
 use cg_value::{KindCode, Place, Val};
 use std::alloc::{AllocError, Global};
-use std::marker::Model;
+use std::marker::{Brand, Model};
 use std::process::Abort;
+use std::sync::ledger::{Blank, Ledger};
 use std::test::Fail;
 
 /// A heap with two names, and the holds that a test has. No more than `count` holds and objects were given.
@@ -175,7 +176,7 @@ impl<B: Kind> Scene<B> {
 
     fn why(&self, rt: &impl Abort, alloc: Global, object: u64) -> Result<Why, AllocError> {
         assert_idle(rt, &self.heap);
-        why(alloc, &self.heap, object)
+        why_counted::<B, Brand>(alloc, &self.heap, object, Blank::new(1))
     }
 
     fn referents(
@@ -185,7 +186,7 @@ impl<B: Kind> Scene<B> {
         object: u64,
     ) -> Result<Vec<u64>, AllocError> {
         self.assert_held(rt, object);
-        referents(alloc, &self.heap, object)
+        referents_counted::<B, Brand>(alloc, &self.heap, object, Blank::new(1))
     }
 
     fn referrers(
@@ -195,8 +196,53 @@ impl<B: Kind> Scene<B> {
         object: u64,
     ) -> Result<Vec<u64>, AllocError> {
         assert_idle(rt, &self.heap);
-        referrers(alloc, &self.heap, object)
+        referrers_counted::<B, Brand>(alloc, &self.heap, object, Blank::new(1))
     }
+}
+
+/// `why`, with a counter of its own.
+fn why_counted<B: Kind, L: Ledger>(
+    alloc: Global,
+    heap: &Heap<B>,
+    object: u64,
+    blank: Blank,
+) -> Result<Why, AllocError>
+    requires name { blank.name ≡ L.name }
+    requires parts { blank.parts ≡ L.parts }
+    requires some { 0 < blank.parts }
+    requires idle { IsIdle heap.now }
+{
+    why(alloc, heap, object, &mut Steps::<L>::new(blank))
+}
+
+/// `referents`, with a counter of its own.
+fn referents_counted<B: Kind, L: Ledger>(
+    alloc: Global,
+    heap: &Heap<B>,
+    object: u64,
+    blank: Blank,
+) -> Result<Vec<u64>, AllocError>
+    requires name { blank.name ≡ L.name }
+    requires parts { blank.parts ≡ L.parts }
+    requires some { 0 < blank.parts }
+    requires live { IsLive heap.now object }
+{
+    referents(alloc, heap, object, &mut Steps::<L>::new(blank))
+}
+
+/// `referrers`, with a counter of its own.
+fn referrers_counted<B: Kind, L: Ledger>(
+    alloc: Global,
+    heap: &Heap<B>,
+    object: u64,
+    blank: Blank,
+) -> Result<Vec<u64>, AllocError>
+    requires name { blank.name ≡ L.name }
+    requires parts { blank.parts ≡ L.parts }
+    requires some { 0 < blank.parts }
+    requires idle { IsIdle heap.now }
+{
+    referrers(alloc, heap, object, &mut Steps::<L>::new(blank))
 }
 
 /// Which items the lists #2 to #6 get, which of them stay held, which two the names have, which the garbage list gets, and
