@@ -1,10 +1,14 @@
 //! What tells of objects, in several lines, and changes nothing: what an object refers to, what refers to it, and why it is
 //! alive. Each is refused while a collection is running.
-ghost use Rattle.std.specs.Prelude.{◌≡◌, ◌<◌, ◌++◌, ◌∷◌, [], false, IfOk, IfErr, length, map};
+ghost use Rattle.std.specs.Prelude.{◌≡◌, ◌<◌, ◌++◌, ◌∷◌, [], false, IfOk, IfErr, filter, length, map};
 ghost use Rattle.std.specs.List.{All};
 ghost use Rattle.cg_script.specs.Texts.{operand_texts};
 ghost use Rattle.cg_script.specs.declared.command.Command.TheVariants as command;
-ghost use Rattle.cg_inspect.specs.Inspection.{IsIdle};
+ghost use Rattle.cg_graph.specs.Value.{references};
+ghost use Rattle.cg_graph.specs.Object.{serials};
+ghost use Rattle.cg_graph.specs.Path.{refers_to};
+ghost use Rattle.cg_graph.specs.Store.{IsLive, entries_of, objects_of};
+ghost use Rattle.cg_inspect.specs.Inspection.{IsIdle, IsReason};
 ghost use Rattle.cg_machine.specs.declared.event.Event.TheVariants as event;
 ghost use Rattle.cg_machine.specs.Commands.{effect, path_lines};
 ghost use Rattle.cg_commands.specs.Inspections.{Inspects, IsInspected, IsNotInspected, line_of};
@@ -15,12 +19,14 @@ use crate::done::{Done, Refusal};
 use crate::lines::Lines;
 use crate::locals::Locals;
 use crate::operands::{Wanted, object, value};
-use cg_heap::Heap;
+use cg_heap::{Heap, Steps};
 use cg_inspect::Why;
 use cg_kind::Kind;
 use cg_machine::Event;
 use cg_script::Operand;
 use std::alloc::{AllocError, Global};
+use std::marker::Brand;
+use std::sync::ledger::{Blank, Ledger};
 
 /// `referents v`: the objects to which the entries of an object refer.
 #[inline(never)]
@@ -37,7 +43,7 @@ pub(crate) fn referents<B: Kind>(
     ensures { Inspects heap.now running locals.now (λ w. effect w (command.Referents operand.now)) result }
 {
     let target = inspected(heap, running, locals, operand)?;
-    let Ok(objects) = cg_inspect::referents(alloc, heap, target) else {
+    let Ok(objects) = referents_of::<B, Brand>(alloc, heap, target, Blank::new(1)) else {
         return Err(Refusal::OutOfMemory);
     };
     let Ok(lines) = listing(alloc, &objects, Listed::Referents) else {
@@ -61,7 +67,7 @@ pub(crate) fn referrers<B: Kind>(
     ensures { Inspects heap.now running locals.now (λ w. effect w (command.Referrers operand.now)) result }
 {
     let target = inspected(heap, running, locals, operand)?;
-    let Ok(objects) = cg_inspect::referrers(alloc, heap, target) else {
+    let Ok(objects) = referrers_of::<B, Brand>(alloc, heap, target, Blank::new(1)) else {
         return Err(Refusal::OutOfMemory);
     };
     let Ok(lines) = listing(alloc, &objects, Listed::Referrers) else {
@@ -85,13 +91,64 @@ pub(crate) fn why<B: Kind>(
     ensures { Inspects heap.now running locals.now (λ w. effect w (command.Why name)) result }
 {
     let target = inspected(heap, running, locals, &Operand::Name(name))?;
-    let Ok(reason) = cg_inspect::why(alloc, heap, target) else {
+    let Ok(reason) = reason_of::<B, Brand>(alloc, heap, target, Blank::new(1)) else {
         return Err(Refusal::OutOfMemory);
     };
     let Ok(lines) = explanation(alloc, &reason) else {
         return Err(Refusal::OutOfMemory);
     };
     Ok(Done::Tells(lines))
+}
+
+/// What an object refers to. How often entries are looked at is counted by contracts alone, and by a counter of its own.
+fn referents_of<B: Kind, L: Ledger>(
+    alloc: Global,
+    heap: &Heap<B>,
+    object: u64,
+    blank: Blank,
+) -> Result<Vec<u64>, AllocError>
+    requires name { blank.name ≡ L.name }
+    requires parts { blank.parts ≡ L.parts }
+    requires some { 0 < blank.parts }
+    requires live { IsLive heap.now object }
+    ensures { IfOk result (λ listed. listed.items ≡ references (entries_of heap.now object)) }
+{
+    let mut steps = Steps::<L>::new(blank);
+    cg_inspect::referents(alloc, heap, object, &mut steps)
+}
+
+/// What refers to an object, with a counter of its own.
+fn referrers_of<B: Kind, L: Ledger>(
+    alloc: Global,
+    heap: &Heap<B>,
+    object: u64,
+    blank: Blank,
+) -> Result<Vec<u64>, AllocError>
+    requires name { blank.name ≡ L.name }
+    requires parts { blank.parts ≡ L.parts }
+    requires some { 0 < blank.parts }
+    requires idle { IsIdle heap.now }
+    ensures { IfOk result (λ listed. listed.items ≡ serials (filter (refers_to object) (objects_of heap.now))) }
+{
+    let mut steps = Steps::<L>::new(blank);
+    cg_inspect::referrers(alloc, heap, object, &mut steps)
+}
+
+/// Why an object is alive, with a counter of its own.
+fn reason_of<B: Kind, L: Ledger>(
+    alloc: Global,
+    heap: &Heap<B>,
+    object: u64,
+    blank: Blank,
+) -> Result<Why, AllocError>
+    requires name { blank.name ≡ L.name }
+    requires parts { blank.parts ≡ L.parts }
+    requires some { 0 < blank.parts }
+    requires idle { IsIdle heap.now }
+    ensures { IfOk result (IsReason heap.now object) }
+{
+    let mut steps = Steps::<L>::new(blank);
+    cg_inspect::why(alloc, heap, object, &mut steps)
 }
 
 /// The object that the operand refers to. Any is refused while a collection is running.

@@ -37,7 +37,8 @@ use std::marker::Model;
 ///
 /// Every call that takes a serial wants it live, every call that takes a name wants it below the number that `new` was
 /// given, and every call that takes a place wants a generation of at most 2. No call but `new`, `make`, `append` and
-/// `put` takes memory.
+/// `put` can be refused memory. `take` and `take_key` may ask for some, for an order of many keys, and do without where
+/// it is refused.
 #[derive(Drop)]
 pub struct Heap<B: Kind> {
     boxes: Boxes<B>,

@@ -1,17 +1,66 @@
 //! Small graphs in a heap over six kinds. What refers to what, and the paths, are found by hand.
-ghost use Rattle.std.specs.Prelude.{◌≡◌, map, replicate};
+ghost use Rattle.std.specs.Prelude.{◌≡◌, ◌<◌, map, replicate};
 ghost use Rattle.std.specs.FinMap as fin;
+ghost use Rattle.cg_graph.specs.Store.{IsLive};
 ghost use Rattle.cg_heap.specs.Boxes.{six_kinds};
+ghost use Rattle.cg_inspect.specs.Inspection.{IsIdle};
 
 use crate::scene::{Scene, assert_idle};
 use cg_any_kind::six;
-use cg_heap::{Heap, HeapFault};
+use cg_heap::{Heap, HeapFault, Steps};
 use cg_inspect::{Why, referents, referrers, why};
 use cg_kind::Kind;
 use cg_value::Val;
 use std::alloc::{AllocError, Global};
+use std::marker::Brand;
 use std::process::Abort;
+use std::sync::ledger::{Blank, Ledger};
 use std::test::Fail;
+
+/// `why`, with a counter of its own.
+fn why_counted<B: Kind, L: Ledger>(
+    alloc: Global,
+    heap: &Heap<B>,
+    object: u64,
+    blank: Blank,
+) -> Result<Why, AllocError>
+    requires name { blank.name ≡ L.name }
+    requires parts { blank.parts ≡ L.parts }
+    requires some { 0 < blank.parts }
+    requires idle { IsIdle heap.now }
+{
+    why(alloc, heap, object, &mut Steps::<L>::new(blank))
+}
+
+/// `referents`, with a counter of its own.
+fn referents_counted<B: Kind, L: Ledger>(
+    alloc: Global,
+    heap: &Heap<B>,
+    object: u64,
+    blank: Blank,
+) -> Result<Vec<u64>, AllocError>
+    requires name { blank.name ≡ L.name }
+    requires parts { blank.parts ≡ L.parts }
+    requires some { 0 < blank.parts }
+    requires live { IsLive heap.now object }
+{
+    referents(alloc, heap, object, &mut Steps::<L>::new(blank))
+}
+
+/// `referrers`, with a counter of its own.
+fn referrers_counted<B: Kind, L: Ledger>(
+    alloc: Global,
+    heap: &Heap<B>,
+    object: u64,
+    blank: Blank,
+) -> Result<Vec<u64>, AllocError>
+    requires name { blank.name ≡ L.name }
+    requires parts { blank.parts ≡ L.parts }
+    requires some { 0 < blank.parts }
+    requires idle { IsIdle heap.now }
+{
+    referrers(alloc, heap, object, &mut Steps::<L>::new(blank))
+}
 
 /// Why an object is alive.
 fn reason<B: Kind>(
@@ -21,7 +70,7 @@ fn reason<B: Kind>(
     object: u64,
 ) -> Result<Why, AllocError> {
     assert_idle(rt, heap);
-    why(alloc, heap, object)
+    why_counted::<B, Brand>(alloc, heap, object, Blank::new(1))
 }
 
 /// The objects to which its entries refer.
@@ -32,7 +81,7 @@ fn forwards<B: Kind>(
     object: u64,
 ) -> Result<Vec<u64>, AllocError> {
     assert!(rt; heap.has(object));
-    referents(alloc, heap, object)
+    referents_counted::<B, Brand>(alloc, heap, object, Blank::new(1))
 }
 
 /// The objects whose entries refer to it.
@@ -43,7 +92,7 @@ fn backwards<B: Kind>(
     object: u64,
 ) -> Result<Vec<u64>, AllocError> {
     assert_idle(rt, heap);
-    referrers(alloc, heap, object)
+    referrers_counted::<B, Brand>(alloc, heap, object, Blank::new(1))
 }
 
 /// Which items the lists #2 to #6 get, which of them stay held, which two the names have, which the garbage list gets, and

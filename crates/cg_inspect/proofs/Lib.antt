@@ -1,3 +1,4 @@
 mod Trails
 mod Objects
 mod Holdings
+mod Looks

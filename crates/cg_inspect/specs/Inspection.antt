@@ -1,6 +1,6 @@
 -- What is asked of a heap where no collection is on: who holds what otherwise than by an entry, and why an object is alive.
 -- (Ours.)
-use Rattle.std.specs.Prelude.{◌≡◌, ℕ, ◌+◌, List, [], ◌∷◌, ◌++◌}
+use Rattle.std.specs.Prelude.{◌≡◌, ℕ, ◌+◌, List, [], ◌∷◌, ◌++◌, length, sum_by}
 use Rattle.cg_value.specs.declared.Place.TheVariants.{Untracked, Gen, Frozen, Cand, Seen, Back, Legacy, Pend}
 use Rattle.cg_graph.specs.declared.Edge.{Edge}
 use Rattle.cg_graph.specs.Holdings.{occurrences, name_holdings, graph_of}
@@ -21,6 +21,10 @@ pub record IsIdle (store : Store) : Type 0 where
 -- the objects of the other places
 abbrev pub idle_lists : Store → List ℕ
 idle_lists store = list_at store Untracked ++ list_at store (Gen 0) ++ list_at store (Gen 1) ++ list_at store (Gen 2) ++ list_at store Frozen
+
+-- the number of entries of all objects
+abbrev pub entry_number_in_all : Store → ℕ
+entry_number_in_all store = sum_by (λ x. length x.entries) (objects_of store)
 
 -- how often names, the garbage root and outside holds hold an object
 abbrev pub holdings_but_entries : Store → ℕ → ℕ

@@ -1,12 +1,13 @@
 //! What an object refers to.
-ghost use Rattle.std.specs.Prelude.{◌≡◌, ◌++◌, IfOk, OnOk, Some};
+ghost use Rattle.std.specs.Prelude.{◌≡◌, ◌+◌, ◌≤◌, ◌++◌, IfOk, OnOk, Some, length};
 ghost use Rattle.cg_graph.specs.Value.{references, references_of_value};
 ghost use Rattle.cg_graph.specs.Store.{IsLive, entries_of};
 
-use cg_heap::Heap;
+use cg_heap::{Heap, Steps};
 use cg_kind::Kind;
 use cg_value::Val;
 use std::alloc::{AllocError, Global};
+use std::sync::ledger::Ledger;
 
 /// Appends the object that a value refers to, if it does.
 fn push_reference(listed: &mut Vec<u64>, value: Val) -> Result<(), AllocError>
@@ -21,18 +22,20 @@ fn push_reference(listed: &mut Vec<u64>, value: Val) -> Result<(), AllocError>
 /// The objects that a live object refers to, in the order of its entries and by the value before the key in each; one
 /// that stands there twice is told twice. (`gc` manual, `gc.get_referents`.)
 ///
-/// It answers `AllocError` for want of memory alone.
-pub fn referents<B: Kind>(
+/// Each entry is looked at once. It answers `AllocError` for want of memory alone.
+pub fn referents<B: Kind, L: Ledger>(
     alloc: Global,
     heap: &Heap<B>,
     object: u64,
+    steps: &mut Steps<L>,
 ) -> Result<Vec<u64>, AllocError>
     requires { IsLive heap.now object }
-    ensures { IfOk result (λ listed. listed.items ≡ references (entries_of heap.now object)) }
+    ensures listed { IfOk result (λ listed. listed.items ≡ references (entries_of heap.now object)) }
+    ensures looks { steps.new ≤ steps.old + length (entries_of heap.now object) }
 {
     let mut listed = Vec::new(alloc);
     'entries: for i in 0..heap.len(object) {
-        let entry = heap.entry_at(object, i);
+        let entry = heap.look(object, i, steps);
         push_reference(&mut listed, entry.val)?;
         push_reference(&mut listed, entry.key)?;
     }

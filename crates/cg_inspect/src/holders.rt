@@ -1,20 +1,21 @@
 //! Which objects are held otherwise than by an entry.
-ghost use Rattle.std.specs.Prelude.{◌≡◌, ◌<◌, ◌∷◌, ◌↔◌, [], ℕ, Some, IsTrue, IfOk, OnOk, ◌==◌, if◌then◌else◌};
+ghost use Rattle.std.specs.Prelude.{◌≡◌, ◌+◌, ◌≤◌, ◌<◌, ◌∷◌, ◌↔◌, [], ℕ, Some, IsTrue, IfOk, OnOk, ◌==◌, if◌then◌else◌};
 ghost use Rattle.cg_graph.specs.Member.{Includes};
 ghost use Rattle.cg_graph.specs.Holdings.{occurrences};
 ghost use Rattle.cg_graph.specs.Object.{serials};
 ghost use Rattle.cg_graph.specs.Store.{IsLive, count_of, objects_of};
-ghost use Rattle.cg_inspect.specs.Inspection.{HeldElse, holdings_but_entries};
+ghost use Rattle.cg_inspect.specs.Inspection.{HeldElse, holdings_but_entries, entry_number_in_all};
 ghost use Rattle.cg_inspect.specs.Numbers.{AreNumbers, AreLowered, number_of};
 ghost use Rattle.cg_inspect.specs.Search.{IsStart};
 
 use crate::forwards::referents;
 use crate::search::{Found, find};
-use cg_heap::Heap;
+use cg_heap::{Heap, Steps};
 use cg_kind::Kind;
 use cg_serial::{SerialHashing, serial_hashing};
 use indexmap::IndexMap;
 use std::alloc::{AllocError, Global};
+use std::sync::ledger::Ledger;
 
 /// A number of each object.
 type Numbers = IndexMap<u64, u64, SerialHashing>;
@@ -65,17 +66,19 @@ fn lower_all(numbers: &mut Numbers, references: &[u64]) -> Result<(), AllocError
 }
 
 /// How often each live object is held otherwise than by an entry. The objects are all live ones.
-fn other_holdings<B: Kind>(
+fn other_holdings<B: Kind, L: Ledger>(
     alloc: Global,
     heap: &Heap<B>,
     objects: &[u64],
+    steps: &mut Steps<L>,
 ) -> Result<Numbers, AllocError>
     requires { objects.now ≡ serials (objects_of heap.now) }
-    ensures { IfOk result (λ numbers. AreNumbers (holdings_but_entries heap.now) objects.now numbers.entries) }
+    ensures looks { steps.new ≤ steps.old + entry_number_in_all heap.now }
+    ensures numbers { IfOk result (λ numbers. AreNumbers (holdings_but_entries heap.now) objects.now numbers.entries) }
 {
     let mut numbers = in_degrees(alloc, heap, objects)?;
     'objects: for object in objects.iter() {
-        let references = referents(alloc, heap, *object)?;
+        let references = referents(alloc, heap, *object, steps)?;
         lower_all(&mut numbers, &references)?;
     }
     Ok(numbers)
@@ -94,17 +97,19 @@ fn is_held_else(numbers: &Numbers, holder: u64, object: u64) -> bool
 
 /// Which objects are held otherwise than by an entry, and than by the name that is asked about, which holds the object.
 /// The objects are all live ones.
-pub fn held_else<B: Kind>(
+pub fn held_else<B: Kind, L: Ledger>(
     alloc: Global,
     heap: &Heap<B>,
     objects: &[u64],
     object: u64,
+    steps: &mut Steps<L>,
 ) -> Result<Found, AllocError>
     requires { objects.now ≡ serials (objects_of heap.now) }
-    ensures { IfOk result (λ found. IsStart (HeldElse heap.now object) found.entries) }
+    ensures looks { steps.new ≤ steps.old + entry_number_in_all heap.now }
+    ensures found { IfOk result (λ found. IsStart (HeldElse heap.now object) found.entries) }
 {
     heap.sound();
-    let numbers = other_holdings(alloc, heap, objects)?;
+    let numbers = other_holdings(alloc, heap, objects, steps)?;
     let mut found = IndexMap::with_hasher(alloc, serial_hashing());
     'objects: for holder in objects.iter() {
         if is_held_else(&numbers, *holder, object) {

@@ -1,14 +1,15 @@
 //! The search for a path of holders.
-ghost use Rattle.std.specs.Prelude.{◌<◌, ℕ, List, IfOk, length};
-ghost use Rattle.cg_inspect.specs.Inspection.{IsIdle, IsReason};
+ghost use Rattle.std.specs.Prelude.{◌+◌, ◌*◌, ◌≤◌, ◌<◌, ℕ, List, IfOk, length};
+ghost use Rattle.cg_inspect.specs.Inspection.{IsIdle, IsReason, entry_number_in_all};
 ghost use Rattle.cg_inspect.specs.Search.{HaveTrails, IsPathBack};
 
 use crate::live::live_objects;
 use crate::reason::Why;
 use crate::search::{Found, found_at, search};
-use cg_heap::Heap;
+use cg_heap::{Heap, Steps};
 use cg_kind::Kind;
 use std::alloc::{AllocError, Global};
+use std::sync::ledger::Ledger;
 
 /// The path by which the object at a place was found.
 fn path_back(alloc: Global, found: &Found, last: usize) -> Result<Vec<u64>, AllocError>
@@ -35,13 +36,20 @@ fn path_back(alloc: Global, found: &Found, last: usize) -> Result<Vec<u64>, Allo
 /// Where something else than an entry and one name holds the object, the path is the object alone. Which of several
 /// shortest paths is answered is free.
 ///
-/// No collection is on. It answers `AllocError` for want of memory alone.
-pub fn why<B: Kind>(alloc: Global, heap: &Heap<B>, object: u64) -> Result<Why, AllocError>
+/// No collection is on. Each entry is looked at twice at most: to find out what is held otherwise, and in the search. It answers
+/// `AllocError` for want of memory alone.
+pub fn why<B: Kind, L: Ledger>(
+    alloc: Global,
+    heap: &Heap<B>,
+    object: u64,
+    steps: &mut Steps<L>,
+) -> Result<Why, AllocError>
     requires { IsIdle heap.now }
-    ensures { IfOk result (IsReason heap.now object) }
+    ensures reason { IfOk result (IsReason heap.now object) }
+    ensures looks { steps.new ≤ steps.old + 2 * entry_number_in_all heap.now }
 {
     let objects = live_objects(alloc, heap)?;
-    let found = search(alloc, heap, &objects, object)?;
+    let found = search(alloc, heap, &objects, object, steps)?;
     match found.get_index_of(&object) {
         Some(last) => Ok(Why::Path(path_back(alloc, &found, last)?)),
         None => Ok(Why::Unreachable),

@@ -1,17 +1,18 @@
 //! A search by breadth: what is held otherwise comes first, and then what it leads to, the nearest first.
-ghost use Rattle.std.specs.Prelude.{◌≡◌, ◌∷◌, [], Some, IfOk, OnOk, slice_get};
+ghost use Rattle.std.specs.Prelude.{◌≡◌, ◌+◌, ◌*◌, ◌≤◌, ◌∷◌, [], Some, IfOk, OnOk, slice_get};
 ghost use Rattle.cg_graph.specs.Object.{serials};
 ghost use Rattle.cg_graph.specs.Store.{objects_of};
-ghost use Rattle.cg_inspect.specs.Inspection.{HeldElse, arrows_of};
+ghost use Rattle.cg_inspect.specs.Inspection.{HeldElse, arrows_of, entry_number_in_all};
 ghost use Rattle.cg_inspect.specs.Search.{Finds, IsOver};
 
 use crate::forwards::referents;
 use crate::holders::held_else;
-use cg_heap::Heap;
+use cg_heap::{Heap, Steps};
 use cg_kind::Kind;
 use cg_serial::SerialHashing;
 use indexmap::IndexMap;
 use std::alloc::{AllocError, Global};
+use std::sync::ledger::Ledger;
 
 /// The objects that were found, in the order in which they were, each with the place of its holder among them; one that is
 /// held otherwise than by an entry has none.
@@ -49,20 +50,22 @@ pub fn found_at(found: &Found, at: usize) -> Option<(u64, Option<usize>)>
 
 /// Finds what is held otherwise than by an entry, and than by the name that is asked about, which holds the object; and
 /// all that it leads to. The objects are all live ones.
-pub fn search<B: Kind>(
+pub fn search<B: Kind, L: Ledger>(
     alloc: Global,
     heap: &Heap<B>,
     objects: &[u64],
     object: u64,
+    steps: &mut Steps<L>,
 ) -> Result<Found, AllocError>
     requires { objects.now ≡ serials (objects_of heap.now) }
-    ensures { IfOk result (λ found. IsOver (HeldElse heap.now object) (arrows_of heap.now) found.entries) }
+    ensures looks { steps.new ≤ steps.old + 2 * entry_number_in_all heap.now }
+    ensures found { IfOk result (λ found. IsOver (HeldElse heap.now object) (arrows_of heap.now) found.entries) }
 {
     heap.sound();
-    let mut found = held_else(alloc, heap, objects, object)?;
+    let mut found = held_else(alloc, heap, objects, object, steps)?;
     let mut at = 0;
     'turns: while let Some((holder, _)) = found_at(&found, at) {
-        let references = referents(alloc, heap, holder)?;
+        let references = referents(alloc, heap, holder, steps)?;
         find_all(&mut found, &references, at)?;
         at += 1;
     }

@@ -36,7 +36,6 @@ pub mod ExpandedStores
 pub mod WorkedCache
 pub mod MissLaws
 pub mod WorkedFinalizers
-pub mod WorkedAlive
 pub mod FreeNames
 pub mod Stretches
 pub mod Passages

@@ -21,7 +21,7 @@ use Rattle.cg_weakcoll.specs.Expansion.{expansion}
 use Rattle.cg_weakcoll.specs.Exits.{AllOther, AreOthers, Exit, IsExit, IsOther, names_of}
 use Rattle.cg_weakcoll.specs.WorkedExits.{HasBoth, the_first, the_second, their_script, two_finalizers}
 
-pub spelled : reading (expansion two_finalizers) ≡ spells their_script.names their_script.items
+spelled : reading (expansion two_finalizers) ≡ spells their_script.names their_script.items
 unfolding digits expansion atoms openers bindings meaning meant
 spelled = refl
 

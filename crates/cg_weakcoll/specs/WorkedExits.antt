@@ -1,16 +1,13 @@
 -- A worked script with two exit finalizers: what its expansion spells has them, as the laws of `Exits` ask, though a string of it is
--- written like a name of the first one; and a run of it finds the object of the second one alive. (Ours.)
-use Rattle.std.specs.Prelude.{◌≡◌, ℕ, pos, List, [], ◌∷◌, ◌++◌, None, codes}
+-- written like a name of the first one. (Ours.)
+use Rattle.std.specs.Prelude.{◌≡◌, ℕ, pos, List, [], ◌∷◌, None, codes}
 use Rattle.cg_script.specs.declared.Script.{Script}
 use Rattle.cg_script.specs.declared.Operand.TheVariants.{Int as IntWord, Name, Str as StrWord}
 use Rattle.cg_script.specs.declared.Item.TheVariants.{Run as Line, Class, Def}
 use Rattle.cg_script.specs.declared.Command.TheVariants.{Bind, Call, Del, MakeFunc, MakeInst, MakeRef, Print}
 use Rattle.cg_script.specs.Reading.{reading, spells}
-use Rattle.cg_script.specs.Texts.{TextsAreKnown}
-use Rattle.cg_machine.specs.World.{Activity, Frame}
-use Rattle.cg_machine.specs.Run.{StepTaken, IsRun, world_after}
 use Rattle.cg_weakcoll.specs.Expansion.{expansion}
-use Rattle.cg_weakcoll.specs.Exits.{AreExits, Exit, FindsAlive, NoneRefused, calls_from, exit_body}
+use Rattle.cg_weakcoll.specs.Exits.{AreExits, Exit, exit_body}
 
 -- the extended script
 abbrev pub two_finalizers : List ℕ
@@ -37,16 +34,3 @@ their_script = record {
 pub record HasBoth : Type 0 where
   pub spelled : reading (expansion two_finalizers) ≡ spells their_script.names their_script.items
   pub exits : AreExits their_script (the_first ∷ the_second ∷ [])
-
--- A run of it in which the procedure of the second finalizer asks for its object, which lives, and the function's frame begins: what
--- the law on finalizers that begin alive asks is met.
-pub record FindsOneAlive : Type 0 where
-  pub known : TextsAreKnown their_script
-  pub before : List StepTaken
-  pub during : List StepTaken
-  pub run : IsRun their_script 100 (before ++ during)
-  pub frame : Frame
-  pub below : List Activity
-  pub finds : FindsAlive the_second (world_after their_script 100 before) frame below
-  pub none_refused : NoneRefused below (world_after their_script 100 before) during
-  pub begins : calls_from the_second.function (world_after their_script 100 before) during ≡ 1

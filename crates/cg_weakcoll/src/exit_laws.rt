@@ -2,7 +2,7 @@
 ghost use Rattle.cg_script.specs.ReadScripts.{WasRead};
 ghost use Rattle.cg_weakcoll.specs.Exits.{ExitsAreCalledLastFirst, ExitsAreCalledLastFirstIn, ExitsBeginAlive, ExitsBeginAliveIn, ExitsBeginOnce, ExitsBeginOnceIn};
 ghost use Rattle.cg_weakcoll.specs.ExpandedExits.{ExpandedExitsAreThere};
-ghost use Rattle.cg_weakcoll.specs.WorkedExits.{FindsOneAlive, HasBoth};
+ghost use Rattle.cg_weakcoll.specs.WorkedExits.{HasBoth};
 
 /// In every run of a script with an exit finalizer, the callback frames of its weak reference and the frames that its procedure's
 /// call begins are together at most one.
@@ -27,11 +27,6 @@ pub fn exits_begin_alive()
 /// The expansion of a worked script with two `finalize` lines spells a script that has both exit finalizers, as these laws ask.
 pub fn two_finalizers_are_there()
     ensures { HasBoth }
-{}
-
-/// A run of that script meets what the law on finalizers that begin alive asks, and the second function's frame begins in it.
-pub fn the_second_begins_alive()
-    ensures { FindsOneAlive }
 {}
 
 /// In the script that an expansion spells each `finalize` line of the extended script has its exit finalizer, as these laws ask.

@@ -4,12 +4,12 @@ use Rattle.cg_inspect.proofs.Trails.{no_path, not_looked_up, shortest_path, plac
 use Rattle.cg_inspect.specs.Search.{objects_in}
 use Rattle.cg_inspect.proofs.path.why.Goals as goal
 
-pub returns-in-Some : goal.returns-in-Some
-returns-in-Some g c =
-    shortest_path (HeldElse c.args.heap.now c.args.object) (arrows_of c.args.heap.now) c.in_ok-found.found.entries c.in_ok-found.ensures c.args.object c.in-Some.last c.in_ok-path_back-in-Some.field-0.items
+pub returns-in-Some-clause-reason : goal.returns-in-Some-clause-reason
+returns-in-Some-clause-reason g c =
+    shortest_path (HeldElse c.args.heap.now c.args.object) (arrows_of c.args.heap.now) c.in_ok-found.found.entries c.in_ok-found.ensures.found c.args.object c.in-Some.last c.in_ok-path_back-in-Some.field-0.items
     (placed c.args.object (objects_in c.in_ok-found.found.entries) c.in-Some.last (sym c.get_index_of.ensures.index ∙ c.in-Some.is)) c.in_ok-path_back-in-Some.ensures
 
-pub returns : goal.returns
-returns g c =
-    no_path (HeldElse c.args.heap.now c.args.object) (arrows_of c.args.heap.now) c.in_ok-found.found.entries c.in_ok-found.ensures c.args.object
+pub returns-clause-reason : goal.returns-clause-reason
+returns-clause-reason g c =
+    no_path (HeldElse c.args.heap.now c.args.object) (arrows_of c.args.heap.now) c.in_ok-found.found.entries c.in_ok-found.ensures.found c.args.object
     (not_looked_up c.in_ok-found.found.entries c.args.object (sym c.in-None.ensures.found))
