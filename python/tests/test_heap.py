@@ -191,7 +191,8 @@ class Heaps(unittest.TestCase):
             def graph(seed):
                 pick = random.Random(seed)
                 nodes = [Node() for _ in range(pick.randrange(3, 40))]
-                for _ in range(pick.randrange(len(nodes), 3 * len(nodes))): pick.choice(nodes).append(pick.choice(nodes))
+                edges = pick.randrange(len(nodes), 3 * len(nodes))
+                for _ in range(edges): pick.choice(nodes).append(pick.choice(nodes))
                 return Node([pick.choice(nodes) for _ in range(3)])
             gc.disable()
             for seed in range(4):

@@ -550,7 +550,7 @@ class Judged(unittest.TestCase):
             status, _, message = self.judge(gccheck, "-o", "out", "two_boxes.py")
             self.assertEqual(1, status)
             self.assertRegex(message, r"^gcrecord: .*/out: no \d+ 3: graph \d+, a collection of generation \d: an in-d")
-            self.assertRegex(message, r"\n  list at 0x\w+ \(serial \d+\): in-degree 1, but 2 references, of borrowing.Box")
+            self.assertRegex(message, r"\n  list at 0x\w+ \(serial \d+\): in-degree 1, but 2 references, of borrowing")
 
     def test_no_gccheck(self) -> None:
         (self.folder / "prog.py").write_text("print(1)\n")

@@ -1,6 +1,5 @@
 """What a program asks of its own heap. Each question takes the heap anew, in a child that is forked off."""
 from collections import Counter
-from typing import Callable
 
 from ..programs import find
 from .asking import ask

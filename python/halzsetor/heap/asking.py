@@ -10,7 +10,13 @@ FAULTS = {
     3: "a count is below the references that are known",
     4: "a count is below the references that are known and the untold words",
 }
-STATUSES = {2: "bad words", 3: "its input failed", 4: "its output failed", 5: "out of memory", 7: "the heap is too large"}
+STATUSES = {
+    2: "bad words",
+    3: "its input failed",
+    4: "its output failed",
+    5: "out of memory",
+    7: "the heap is too large",
+}
 
 
 def ask(program: str, heap: Iterable[str], questions: list[str]) -> list[list[str]]:

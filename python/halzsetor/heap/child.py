@@ -4,11 +4,9 @@ import gc
 import json
 import operator
 import os
-import signal
-import sys
 import traceback
 from functools import partial
-from typing import Callable
+from typing import Callable, NoReturn
 
 from .frames import Frame, running
 from .whole import Whole
@@ -69,11 +67,10 @@ def forked(whole: Whole, work: Work, frames: list[Frame]) -> dict[str, object]:
     return answer_of(numbers[0] if numbers else -1, reading)
 
 
-def child(writing: int, work: Callable[[], object], fault: BaseException | None) -> None:
+def child(writing: int, work: Callable[[], object], fault: BaseException | None) -> NoReturn:
     """Does the work in the child, writes the answer, and ends it: nothing of the program's runs there."""
     status = 1
     try:
-        signal.set_wakeup_fd(-1) if _is_main() else None
         if fault is not None:
             raise fault
         text = json.dumps({"answer": work()})
@@ -88,13 +85,6 @@ def child(writing: int, work: Callable[[], object], fault: BaseException | None)
                 file.write(text)
         finally:
             os._exit(status)
-
-
-def _is_main() -> bool:
-    """Whether signals may be set."""
-    import threading
-
-    return threading.current_thread() is threading.main_thread()
 
 
 def answer_of(number: int, reading: int) -> dict[str, object]:

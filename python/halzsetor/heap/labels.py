@@ -8,7 +8,7 @@ CACHE = "functools._lru_cache_wrapper"
 DICTIONARY = ".__dict__"
 CLOSURE, CONTENTS = ".__closure__", ".cell_contents"
 SIZED = (list, tuple, set, frozenset, dict)
-FUNCTION_PARTS = ("__globals__", CLOSURE[1:], "__defaults__", "__kwdefaults__", DICTIONARY[1:], "__code__", "__builtins__")
+FUNCTION_PARTS = ("__globals__", "__closure__", "__defaults__", "__kwdefaults__", "__dict__", "__code__", "__builtins__")
 UNKNOWN = "(a reference)"
 
 
@@ -119,7 +119,7 @@ class Link(NamedTuple):
 
 
 def shortened(links: list[Link], path: list[object]) -> list[Link]:
-    """A path as a person would write it: attributes without their dictionaries, variables of closures by their names."""
+    """A path as a person would write it: attributes without their dictionaries, variables of closures by name."""
     found: list[Link] = []
     at = 0
     while at < len(links):
