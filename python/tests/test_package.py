@@ -16,7 +16,7 @@ from .recording import JUDGED, PYTHON, run_python, verdict
 
 # CPython 3.12 has these among its tests
 WHEELS = [str(wheel) for name in ("setuptools", "wheel") for wheel in Path(test.__file__).parent.glob(f"{name}-*.whl")]
-COMMANDS = ("gcplay", "gcrecord", "gcscript")
+COMMANDS = ("gcheap", "gcplay", "gcrecord", "gcscript")
 # pip never asks a server
 ALONE = ("-m", "pip", "install", "--quiet", "--no-index", "--disable-pip-version-check")
 

@@ -12,7 +12,7 @@ from pathlib import Path
 from halzsetor.recorder import Recorder
 from halzsetor.recorder.explain import is_text_of_records
 from halzsetor.recorder.recorder import Collection
-from halzsetor.recorder.snapshot import Snapshot
+from halzsetor.recorder.snapshot import OWN_REFERENCES, Snapshot
 
 from .recording import GCCHECK, JUDGED, PYTHON, explained, record, run, run_python, verdict
 from .test_judge import VERDICTS
@@ -122,6 +122,23 @@ for _ in range(20):
         recorded = record(QUIET + program)
         self.assertEqual(recorded.all_right, recorded.verdict)
         self.assertIn("gcrecord: left out 20: another collection began before it had ended\n", recorded.message)
+
+    def test_what_is_listed_last_is_not_held(self) -> None:
+        self.addCleanup(gc.enable)
+        gc.disable()
+        kind = type("C", (), {})
+        gc.collect()
+        last = kind()
+        # to the end of the oldest generation
+        gc.collect(1)
+        snapshot = Snapshot(2)
+        before = sys.getrefcount(kind), sys.getrefcount(last)
+        snapshot.take("", "")
+        self.assertEqual(id(last), snapshot.addresses[-1])
+        self.assertEqual(before, (sys.getrefcount(kind), sys.getrefcount(last)))
+        counts = dict(zip(snapshot.addresses, snapshot.counts))
+        # as many as the argument of `getrefcount` and the recorder's own two
+        self.assertEqual(before, (counts[id(kind)] - OWN_REFERENCES + 1, counts[id(last)] - OWN_REFERENCES + 1))
 
     def test_the_free_list_of_asyncio(self) -> None:
         program = "import asyncio, gc\nasync def run(): await asyncio.gather(*map(asyncio.sleep, [0] * 3))\n"
@@ -533,7 +550,7 @@ class Judged(unittest.TestCase):
             status, _, message = self.judge(gccheck, "-o", "out", "two_boxes.py")
             self.assertEqual(1, status)
             self.assertRegex(message, r"^gcrecord: .*/out: no \d+ 3: graph \d+, a collection of generation \d: an in-d")
-            self.assertRegex(message, r"\n  list at 0x\w+ \(serial \d+\): in-degree 1, but 2 references, of borrowing.Box")
+            self.assertRegex(message, r"\n  list at 0x\w+ \(serial \d+\): in-degree 1, but 2 references, of borrowing")
 
     def test_no_gccheck(self) -> None:
         (self.folder / "prog.py").write_text("print(1)\n")

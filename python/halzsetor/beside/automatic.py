@@ -5,7 +5,7 @@ CPython's are off in a comparison, and those that the text shows are started whe
 show tell the place. That one is due there is checked by the counts, which the text's own lines give.
 """
 from .reader import Command
-from .texts import Line, is_debug_line, seen
+from .texts import is_debug_line, seen
 
 USUAL_THRESHOLDS = (700, 10, 10)
 

@@ -1,0 +1,329 @@
+"""gcheap: what is recorded of a heap, and the answers in words; the plain judge stands for the built program."""
+import shutil
+import subprocess
+import sys
+import sysconfig
+import tempfile
+import textwrap
+import unittest
+from pathlib import Path
+
+from . import ask
+from .recording import PYTHON, run_python
+
+EXT = Path(__file__).resolve().parent / "ext"
+# begins a program that asks
+IMPORTS = "import functools, gc, sys\nfrom halzsetor import gcheap\nclass Thing: pass\n"
+
+
+class Judge(unittest.TestCase):
+    """The plain judge, on a graph that was drawn by hand."""
+
+    # 0 is held from outside and refers to 1 and 2; 1 refers to 3, and 2 to 3 and 4; 5 and 6 refer to each other, and
+    # 5 to 7, which is not tracked; 8 holds itself by an untold word
+    HEAP = """
+        heap
+        m 1 10 1 0 1 2
+        m 1 20 1 0 3
+        m 1 30 1 0 3 4
+        m 2 40 1 0
+        m 1 50 1 0
+        m 1 60 1 0 6 7
+        m 1 70 1 0 5
+        m 1 80 0 0
+        m 1 90 1 0
+        u 8
+        end
+    """
+
+    def answers(self, *questions: str) -> dict[str, list[str]]:
+        """The answer to each question."""
+        lines = textwrap.dedent(self.HEAP).strip().splitlines()
+        graph, words = ask.read([*lines, *questions])
+        self.assertIsNone(graph.fault(True))
+        return {" ".join(question): list(ask.answer(graph, question)) for question in words}
+
+    def test_each_question(self) -> None:
+        wanted = {
+            "why 4": ["held 0 1", "via 2", "via 4"],
+            "why 3 but 1": ["held 0 1", "via 2", "via 3"],
+            "why 3 but 1 2": ["none"],
+            "why 6": ["none"],
+            "referrers 3": ["referrer 1 1", "referrer 2 1", "outside 0"],
+            "hidden": ["hidden 0 1 1", "hidden 8 1 0"],
+            "lost": ["lost 5 0", "lost 6 0", "lost 7 0"],
+            "drop 2": ["gone 2 1", "gone 4 1", "total 2 80 2 80"],
+            "drop 1 2": ["gone 1 1", "gone 2 1", "gone 3 1", "gone 4 1", "total 4 140 4 140"],
+            "untold": ["kept 8"],
+        }
+        self.assertEqual(wanted, self.answers(*wanted))
+
+    def test_lines_that_are_bad(self) -> None:
+        for text, line in (
+            ("end", 1),
+            ("heap\nm 1 1 1\nend", 2),
+            ("heap\nm 01 1 1 0\nend", 2),
+            ("heap\nu 0\nend", 2),
+            ("heap\nm 1 1 1 0", 3),
+            ("heap\nm 1 1 1 0\nend\nwhy 1", 4),
+            ("heap\nm 1 1 1 0\nend\nwhy 0 but 0", 4),
+            ("heap\nm 1 1 1 0\nend\nwhat", 4),
+        ):
+            with self.assertRaises(ask.BadLine) as raised:
+                ask.read(text.split("\n"))
+            self.assertEqual((line,), raised.exception.args, text)
+
+
+class Heaps(unittest.TestCase):
+    """Programs that ask of their own heaps, in processes of their own."""
+
+    def setUp(self) -> None:
+        folder = tempfile.TemporaryDirectory()
+        self.addCleanup(folder.cleanup)
+        self.folder = Path(folder.name)
+        program = self.folder / "gcheap"
+        program.write_text(f"#!/bin/sh\nPYTHONPATH={PYTHON} exec {sys.executable} -m tests.ask\n")
+        program.chmod(0o755)
+        self.program = program
+
+    def run_program(self, text: str, *words: object) -> subprocess.CompletedProcess[str]:
+        """Runs a program, by gcheap if words for that are given."""
+        (self.folder / "prog.py").write_text(IMPORTS + textwrap.dedent(text).replace("GCHEAP", repr(str(self.program))))
+        front = ("-m", "halzsetor.gcheap", *words) if words else ()
+        return run_python(*front, "prog.py", folder=self.folder)
+
+    def output(self, text: str) -> str:
+        """What a program writes that asks; addresses are left out."""
+        done = self.run_program(text)
+        self.assertEqual((0, ""), (done.returncode, done.stderr))
+        return "".join(f"{line.partition(' at 0x')[0]}\n" for line in done.stdout.splitlines())
+
+    def test_a_path_of_attributes_keys_and_items(self) -> None:
+        said = self.output(
+            """
+            class Holder: pass
+            app = Holder()
+            app.cache = {"k": [1, 2, 3, Thing()]}
+            print(gcheap.why(app.cache["k"][3], gcheap=GCHEAP))
+            """
+        )
+        self.assertEqual(
+            "module __main__ (held from outside once)\n"
+            "  .app                     -> __main__.Holder\n"
+            "  .cache                   -> dict of 1\n"
+            "  ['k']                    -> list of 4\n"
+            "  [3]                      -> __main__.Thing\n\n",
+            said,
+        )
+
+    def test_variables_of_closures_and_of_frames(self) -> None:
+        said = self.output(
+            """
+            def outer():
+                kept = Thing()
+                return lambda: kept
+            f = outer()
+            print(gcheap.why(f(), gcheap=GCHEAP))
+            def g():
+                a = Thing()
+                return ask(a)
+            def ask(x):
+                return gcheap.why(x, gcheap=GCHEAP)
+            print(g())
+            """
+        )
+        self.assertIn("  .f                       -> function outer.<locals>.<lambda>\n  cell 'kept' ", said)
+        # that `ask` holds it by `x` is left out
+        self.assertIn("frame of g, line 12 of prog.py (runs)\n  local 'a'                -> __main__.Thing\n", said)
+
+    def test_the_cache_of_a_method(self) -> None:
+        said = self.output(
+            """
+            class Handler(Thing):
+                @functools.lru_cache(maxsize=None)
+                def work(self, x): return x
+            def handle():
+                handler = Handler()
+                handler.work(1)
+            handle()
+            (handler,) = [one for one in gc.get_objects() if type(one) is Handler]
+            address = id(handler)
+            del handler
+            import ctypes
+            print(gcheap.why(ctypes.cast(address, ctypes.py_object).value, gcheap=GCHEAP))
+            """
+        )
+        self.assertIn("-> lru_cache of Handler.work\n", said)
+        self.assertIn("-> __main__.Handler\n", said)
+
+    def test_no_path_and_objects_left_out(self) -> None:
+        said = self.output(
+            """
+            a = Thing(); b = [a]; c = [b]
+            print(bool(gcheap.why(a, gcheap=GCHEAP)), bool(gcheap.why(a, vars(sys.modules["__main__"]), gcheap=GCHEAP)))
+            """
+        )
+        self.assertEqual("True False\n", said)
+
+    def test_other_threads_go_on(self) -> None:
+        said = self.output(
+            """
+            import threading
+            def work():
+                mine = Thing()
+                begun.set()
+                while not done: sum(range(100))
+            done, begun = False, threading.Event()
+            thread = threading.Thread(target=work); thread.start(); begun.wait()
+            (mine,) = [one for one in gc.get_objects() if type(one) is Thing]
+            answer = gcheap.why(mine, vars(sys.modules["__main__"]), gcheap=GCHEAP)
+            done = True; thread.join()
+            print(answer)
+            """
+        )
+        self.assertRegex(said, r"^frame of work, line \d+ of prog.py \(runs\)\n  local 'mine' +-> __main__.Thing\n")
+
+    def test_what_would_go_is_what_goes(self) -> None:
+        rows = self.output(
+            """
+            import random, re, weakref
+            class Node(list): __hash__ = object.__hash__
+            def graph(seed):
+                pick = random.Random(seed)
+                nodes = [Node() for _ in range(pick.randrange(3, 40))]
+                edges = pick.randrange(len(nodes), 3 * len(nodes))
+                for _ in range(edges): pick.choice(nodes).append(pick.choice(nodes))
+                return Node([pick.choice(nodes) for _ in range(3)])
+            gc.disable()
+            for seed in range(4):
+                root = graph(seed); gc.collect()
+                said = gcheap.drop(root, gcheap=GCHEAP)
+                first = lambda: sum(type(one) is Node for one in gc.get_objects())
+                before = first(); del root; by_count = before - first(); gc.collect(); gone = before - first()
+                count = sum(int(n) for n in re.findall(r"by count: (\\d+) __main__.Node", said))
+                later = sum(int(n) for n in re.findall(r"by a collection: (\\d+) __main__.Node", said))
+                print(count == by_count, count + later == gone, gone > 0)
+            """
+        )
+        self.assertEqual("True True True\n" * 4, rows)
+
+    def test_no_count_is_too_low(self) -> None:
+        # of many modules: the judge would say `fault`
+        modules = "asyncio, sqlite3, xml.dom.minidom, decimal, logging, json, email, http.server, csv, ssl, ctypes"
+        said = self.output(f"import {modules}\nprint(gcheap.lost(gcheap=GCHEAP) is not None)")
+        self.assertEqual("True\n", said)
+
+    def test_what_was_made_since(self) -> None:
+        said = self.output(
+            """
+            kept = []
+            with gcheap.since() as made:
+                kept.append(Thing()); Thing()
+            print([type(one).__name__ for one in made.objects if type(one) is Thing])
+            """
+        )
+        self.assertEqual("['Thing']\n", said)
+
+    @unittest.skipUnless(shutil.which("cc"), "no C compiler")
+    def test_planted_faults(self) -> None:
+        module = self.folder / f"faulty{sysconfig.get_config_var('EXT_SUFFIX')}"
+        include = sysconfig.get_paths()["include"]
+        subprocess.run(["cc", "-shared", "-fPIC", "-O1", f"-I{include}", EXT / "faulty.c", "-o", module], check=True)
+        said = self.output(
+            """
+            import faulty
+            class A: pass
+            class B: pass
+            class C: pass
+            class E: pass
+            for _ in range(40): a = A(); a.h = faulty.Hider([], a)
+            for _ in range(30): b = B(); b.l = faulty.Loose(b, None)
+            for _ in range(20): c = C(); c.p = faulty.Plain(c, None)
+            for _ in range(5): faulty.leak(E())
+            del a, b, c
+            gc.collect()
+            print(gcheap.untold(gcheap=GCHEAP))
+            print(gcheap.lost(gcheap=GCHEAP))
+            print(gcheap.hidden(gcheap=GCHEAP))
+            """
+        )
+        # 40 cycles through a reference that `tp_traverse` hides, 20 through a type that the collector does not know
+        for line in ("40 __main__.A", "40 faulty.Hider", "20 __main__.C", "20 faulty.Plain"):
+            self.assertIn(f"  kept by untold references: {line}\n", said)
+        # 30 cycles through an object that is never tracked: garbage that no collection takes
+        for line in ("30 __main__.B", "30 faulty.Loose"):
+            self.assertIn(f"  no collection takes: {line}\n", said)
+        self.assertIn("  5 __main__.E held from outside, by 5 references that nothing explains\n", said)
+
+    def test_leaks_of_cpython(self) -> None:
+        said = self.output(
+            """
+            import sqlite3, cProfile, time, ctypes
+            class Function:
+                def __init__(self): self.db = sqlite3.connect(":memory:"); self.db.create_function("f", 1, self.f)
+                def f(self, x): return x
+            class Collation:
+                def __init__(self): self.db = sqlite3.connect(":memory:"); self.db.create_collation("f", self.f)
+                def f(self, x, y): return 0
+            class Trace:
+                def __init__(self): self.db = sqlite3.connect(":memory:"); self.db.set_trace_callback(self.f)
+                def f(self, x): return x
+            class Timer:
+                def __init__(self): self.p = cProfile.Profile(self.t)
+                def t(self): return time.perf_counter()
+            Function(); Collation(); Trace(); Timer()
+            gc.collect()
+            for kind in Function, Collation, Trace, Timer:
+                left = [one for one in gc.get_objects() if type(one) is kind]
+                print(kind.__name__, len(left))
+                if left:
+                    address = id(left.pop())
+                    print(gcheap.why(ctypes.cast(address, ctypes.py_object).value, gcheap=GCHEAP))
+            print(gcheap.untold(gcheap=GCHEAP))
+            """
+        )
+        self.assertIn("Function 1\nmethod Function.f (held from outside once)\n  .__self__ ", said)
+        self.assertIn("Collation 1\nmethod Collation.f (held from outside once)\n  .__self__ ", said)
+        # the callback of a trace is told
+        self.assertIn("Trace 0\n", said)
+        self.assertIn("Timer 1\nmethod Timer.t (held from outside once)\n  .__self__ ", said)
+        self.assertIn("  kept by untold references: 1 __main__.Timer\n", said)
+
+    def test_a_program_whose_heap_is_written(self) -> None:
+        done = self.run_program("kept = Thing()\nprint(sys.argv, __name__)\nsys.exit(7)", "-o", "out")
+        self.assertEqual((7, "['prog.py'] __main__\n"), (done.returncode, done.stdout))
+        self.assertRegex(done.stderr, r"^gcheap: \d+ members in .*/out\n$")
+        names = (self.folder / "out.objects").read_text().splitlines()
+        (position,) = [line.split()[0] for line in names if " __main__.Thing at " in line]
+        words = ("--gcheap", self.program, "--ask", "out", f"why {position}", f"referrers {position}")
+        asked = run_python("-m", "halzsetor.gcheap", *words, folder=self.folder)
+        self.assertRegex(asked.stdout, rf"^why {position}\n  held (.*\n)*  via {position}  __main__.Thing at 0x\w+\n")
+        self.assertRegex(asked.stdout, r"\n  referrer \d+ 1  globals of __main__\n  outside 0\n$")
+
+    def test_a_heap_at_a_signal(self) -> None:
+        program = "import os, signal\nos.kill(os.getpid(), signal.SIGUSR1); print(os.getpid())"
+        done = self.run_program(program, "-o", "out", "--on-signal", "USR1")
+        self.assertEqual((0, ""), (done.returncode, done.stderr))
+        self.assertTrue((self.folder / f"out.{done.stdout.strip()}.1").read_text().startswith("heap\nm "))
+
+    def test_what_a_user_can_do_wrong(self) -> None:
+        for words, said in (
+            ([], "a program is missing"),
+            (["prog.py"], "-o OUT is missing"),
+            (["-o", "prog.py", "prog.py"], "is the name of a program"),
+            (["-o", "out", "missing.py"], "there is no program missing.py"),
+            (["-o", "missing/out", "prog.py"], "there is no folder"),
+            (["--ask", "missing", "lost"], "gcheap is not found"),
+            (["-o", "out", "--on-signal", "NONE", "prog.py"], "there is no signal NONE"),
+        ):
+            (self.folder / "prog.py").write_text("print(1)\n")
+            done = run_python("-m", "halzsetor.gcheap", *words, folder=self.folder)
+            self.assertEqual((2, True), (done.returncode, said in done.stderr), (words, done.stderr))
+            self.assertNotIn("Traceback", done.stderr)
+        (self.folder / "out").write_text("notes\n")
+        done = run_python("-m", "halzsetor.gcheap", "-o", "out", "prog.py", folder=self.folder)
+        self.assertIn("holds something else than a heap", done.stderr)
+
+
+if __name__ == "__main__":
+    unittest.main()
