@@ -97,12 +97,11 @@ fn each_byte_in_each_place(rt: HostRuntime) -> Result<(), Fail> {
     Ok(())
 }
 
-/// The lines of a script with a finalizer that makes a weak reference in a collection. Under each byte stands what is wrong with the
-/// front that ends there: the code of its last line, 7 where it ends inside a procedure, which the next line would have to end, and a dot
-/// where nothing is.
+/// A script with a finalizer that makes a weak reference in a collection. Under each byte stands what the script that ends there is: good
+/// (a dot); or bad in its last line, with this code; or bad with 7 in the line after, where a procedure is still open.
 ///
-/// A line without `=` in the second place is unknown until its first word is that of a form (2), and then has too few words (3). A line
-/// with it has too few words (3) until a third is there, which is a variable until it is the word of a form.
+/// A line without `=` as its second word is of no form (2) until its first word is complete, and then has too few words (3). One with it has
+/// too few (3) until there is a third word, which is a variable as long as it is not the word of a form.
 const FRONTS: [(&str, &str); 17] = [
     ("def cb\n", "2233777"),
     ("end\n", "22.."),
