@@ -57,9 +57,10 @@ fn policy_of(running: bool) -> Policy
     ensures { IsBounded (with_one_made result.numbers) }
 {
     let mut policy = Policy::new();
-    if running {
-        policy.begin(0);
+    if !running {
+        return policy;
     }
+    policy.begin(0);
     policy
 }
 
