@@ -57,10 +57,9 @@ fn policy_of(running: bool) -> Policy
     ensures { IsBounded (with_one_made result.numbers) }
 {
     let mut policy = Policy::new();
-    if !running {
-        return policy;
+    if running {
+        policy.begin(0);
     }
-    policy.begin(0);
     policy
 }
 

@@ -151,12 +151,12 @@ fn one_key_too_many_for_a_list_keeps_the_order(rt: HostRuntime) -> Result<(), Fa
     go_over(&rt, alloc, &mut instances, 46)
 }
 
-/// Steps at random: how many, the greatest key, and after about how many of them all entries are looked at, one more than this.
+/// Steps at random: how many, over how many keys, and after each how many of them all entries are looked at.
 #[derive(Clone, Copy, Drop)]
 struct RandomWalk {
     steps: u32,
-    last_key: u32,
-    between_looks: u32,
+    keys: u64,
+    between_looks: u64,
 }
 
 /// One step at random, of a dictionary and of a plain list.
@@ -167,21 +167,21 @@ fn step<K: Kind>(
     at: usize,
     plain: &mut Vec<Entry>,
     number: u64,
-    last_key: u32,
+    keys: u64,
 ) -> Result<(), Fail>
     requires { Holds (K.bodies kind.old) at }
     ensures { Holds (K.bodies kind.new) at }
 {
-    let drawn = number / 6 % (u64::from(last_key) + 1);
+    let drawn = (number / 6 % keys.clamp(1, 1000)) as i64;
     if number % 6 == 0 {
-        take_key_of_both(rt, kind, at, plain, drawn as i64)?;
+        take_key_of_both(rt, kind, at, plain, drawn)
     } else if number % 6 == 3 {
         take_both(kind, at, plain, drawn as usize);
+        Ok(())
     } else {
         let val = Val::Int((number % 1000) as i64);
-        put_both(rt, alloc, kind, at, plain, Val::Int(drawn as i64), val)?;
+        put_both(rt, alloc, kind, at, plain, Val::Int(drawn), val)
     }
-    Ok(())
 }
 
 /// Takes an object without entries through steps at random, and compares it with a plain list. It answers the list.
@@ -191,17 +191,17 @@ fn walk<K: Kind>(
     kind: &mut K,
     at: usize,
     first: u64,
-    by: RandomWalk,
+    walk: RandomWalk,
 ) -> Result<Vec<Entry>, Fail>
     requires { Holds (K.bodies kind.old) at }
     ensures { Holds (K.bodies kind.new) at }
 {
     let mut plain = Vec::new(alloc);
     let mut draw = first;
-    'steps: for _ in 0..by.steps {
+    'steps: for _ in 0..walk.steps {
         draw = next(draw);
-        step(rt, alloc, kind, at, &mut plain, draw >> 20, by.last_key)?;
-        if draw % (u64::from(by.between_looks) + 1) == 0 {
+        step(rt, alloc, kind, at, &mut plain, draw >> 20, walk.keys)?;
+        if draw % walk.between_looks.max(1) == 0 {
             assert_has(rt, alloc, kind, at, plain.as_slice())?;
         }
     }
@@ -214,8 +214,8 @@ fn steps_about_the_limit_of_a_list_are_those_of_a_plain_list(rt: HostRuntime) ->
     let mut kind = DictKind::new(alloc);
     let short = RandomWalk {
         steps: 200,
-        last_key: 31,
-        between_looks: 0,
+        keys: 32,
+        between_looks: 1,
     };
     'walks: for first in 1..=20 {
         let at = make(&mut kind, &[])?;
@@ -230,8 +230,8 @@ fn walk_and_empty<K: Kind>(rt: &impl Abort, alloc: Global, kind: &mut K) -> Resu
 {
     let long = RandomWalk {
         steps: 6_000,
-        last_key: 599,
-        between_looks: 15,
+        keys: 600,
+        between_looks: 16,
     };
     let at = make(kind, &[])?;
     let mut plain = walk(rt, alloc, kind, at, 1, long)?;
@@ -246,35 +246,40 @@ fn steps_at_random_are_those_of_a_plain_list(rt: HostRuntime) -> Result<(), Fail
     walk_and_empty(&rt, alloc, &mut DictKind::new(alloc))
 }
 
-/// Puts a key with ten times itself.
+/// Puts keys, each with ten times itself.
 fn put_tenfold<K: Kind>(
     rt: &impl Abort,
     alloc: Global,
     kind: &mut K,
     at: usize,
     plain: &mut Vec<Entry>,
-    key: i64,
+    keys: &[i64],
 ) -> Result<(), Fail>
     requires { Holds (K.bodies kind.old) at }
     ensures { Holds (K.bodies kind.new) at }
 {
-    let tenfold = Val::Int(key.wrapping_mul(10));
-    put_both(rt, alloc, kind, at, plain, Val::Int(key), tenfold)
+    'keys: for key in keys {
+        let tenfold = Val::Int(key.wrapping_mul(10));
+        put_both(rt, alloc, kind, at, plain, Val::Int(*key), tenfold)?;
+    }
+    Ok(())
 }
 
-/// Takes a key, which is not there then.
-fn take_away<K: Kind>(
+/// Takes keys.
+fn take_keys<K: Kind>(
     rt: &impl Abort,
     kind: &mut K,
     at: usize,
     plain: &mut Vec<Entry>,
-    key: i64,
+    keys: &[i64],
 ) -> Result<(), Fail>
     requires { Holds (K.bodies kind.old) at }
     ensures { Holds (K.bodies kind.new) at }
 {
-    take_key_of_both(rt, kind, at, plain, key)?;
-    assert_eq!(rt; take_key(kind, at, Val::Int(key)), Answer::Nothing);
+    'keys: for key in keys {
+        take_key_of_both(rt, kind, at, plain, *key)?;
+        assert_eq!(rt; take_key(kind, at, Val::Int(*key)), Answer::Nothing);
+    }
     Ok(())
 }
 
@@ -284,17 +289,12 @@ fn take_and_put_again<K: Kind>(rt: &impl Abort, alloc: Global, kind: &mut K) -> 
 {
     let at = make(kind, &[])?;
     let mut plain = Vec::new(alloc);
-    'keys: for key in 0..48i64 {
-        put_tenfold(rt, alloc, kind, at, &mut plain, key)?;
-    }
+    let keys = Vec::from_iter(alloc, 0..48i64)?;
+    put_tenfold(rt, alloc, kind, at, &mut plain, keys.as_slice())?;
     // The newest goes while the map keeps the order, the others from an order that the oldest brought.
-    'gone: for key in [47i64, 0, 12, 1, 46] {
-        take_away(rt, kind, at, &mut plain, key)?;
-    }
-    'again: for key in [12i64, 0] {
-        put_tenfold(rt, alloc, kind, at, &mut plain, key)?;
-    }
-    take_away(rt, kind, at, &mut plain, 44)?;
+    take_keys(rt, kind, at, &mut plain, &[47, 0, 12, 1, 46])?;
+    put_tenfold(rt, alloc, kind, at, &mut plain, &[12, 0])?;
+    take_keys(rt, kind, at, &mut plain, &[44])?;
     // The keys that are left: 2 to 45 without 12 and 44, and then 12 and 0.
     assert_eq!(rt; plain.len(), 44);
     assert_has(rt, alloc, kind, at, plain.as_slice())
