@@ -109,15 +109,13 @@ fn push(kinds: &mut Vec<Box<dyn Kind>>, made: Box<dyn Kind>) -> Result<(), Alloc
     Ok(())
 }
 
-/// Six kinds, of which the lists are these.
-fn six_with(alloc: Global, lists: Box<dyn Kind>) -> Result<Vec<Box<dyn Kind>>, AllocError>
-    requires kind { kind lists ≡ code.List }
-    requires empty { bodies lists ≡ fin.empty }
+/// Six empty kinds.
+pub fn six(alloc: Global) -> Result<Vec<Box<dyn Kind>>, AllocError>
     ensures kinds { IfOk result (λ kinds. map (λ b. kind b) kinds.items ≡ six_kinds) }
     ensures empty { IfOk result (λ kinds. map (λ b. bodies b) kinds.items ≡ replicate 6 fin.empty) }
 {
     let mut kinds: Vec<Box<dyn Kind>> = Vec::new(alloc);
-    push(&mut kinds, lists)?;
+    push(&mut kinds, boxed(alloc, KindCode::List)?)?;
     push(&mut kinds, boxed(alloc, KindCode::Tuple)?)?;
     push(&mut kinds, boxed(alloc, KindCode::Dict)?)?;
     push(&mut kinds, boxed(alloc, KindCode::Inst)?)?;
@@ -126,18 +124,17 @@ fn six_with(alloc: Global, lists: Box<dyn Kind>) -> Result<Vec<Box<dyn Kind>>, A
     Ok(kinds)
 }
 
-/// Six empty kinds.
-pub fn six(alloc: Global) -> Result<Vec<Box<dyn Kind>>, AllocError>
-    ensures kinds { IfOk result (λ kinds. map (λ b. kind b) kinds.items ≡ six_kinds) }
-    ensures empty { IfOk result (λ kinds. map (λ b. bodies b) kinds.items ≡ replicate 6 fin.empty) }
-{
-    six_with(alloc, boxed(alloc, KindCode::List)?)
-}
-
 /// Six empty kinds, of which the lists refuse one call of `make`, after so many.
 pub fn six_refusing(alloc: Global, before: usize) -> Result<Vec<Box<dyn Kind>>, AllocError>
     ensures kinds { IfOk result (λ kinds. map (λ b. kind b) kinds.items ≡ six_kinds) }
     ensures empty { IfOk result (λ kinds. map (λ b. bodies b) kinds.items ≡ replicate 6 fin.empty) }
 {
-    six_with(alloc, refusing_lists(alloc, before)?)
+    let mut kinds: Vec<Box<dyn Kind>> = Vec::new(alloc);
+    push(&mut kinds, refusing_lists(alloc, before)?)?;
+    push(&mut kinds, boxed(alloc, KindCode::Tuple)?)?;
+    push(&mut kinds, boxed(alloc, KindCode::Dict)?)?;
+    push(&mut kinds, boxed(alloc, KindCode::Inst)?)?;
+    push(&mut kinds, boxed(alloc, KindCode::Func)?)?;
+    push(&mut kinds, boxed(alloc, KindCode::Weak)?)?;
+    Ok(kinds)
 }
