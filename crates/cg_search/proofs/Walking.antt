@@ -1,5 +1,5 @@
 -- The search by breadth: what each call adds to what was found.
-use Rattle.std.proofs.Common.{◌≡◌, refl, sym, ◌∙◌, ap, subst, ℕ, zero, suc, ◌+◌, ◌<◌, ◌≤◌, Bool, true, false, cond, not, ◌⊎◌, inl, inr, List, [], ◌∷◌, ◌++◌, length, take, map, Option, Some, None, arith, get_or, set, replicate, append_assoc, append-nil, length-append}
+use Rattle.std.proofs.Common.{◌≡◌, refl, sym, ◌∙◌, ap, subst, ℕ, zero, suc, ◌+◌, ◌<◌, ◌≤◌, Bool, true, false, cond, not, ◌⊎◌, inl, inr, List, [], ◌∷◌, ◌++◌, length, take, Option, Some, None, arith, get_or, set, replicate, append_assoc, append-nil, length-append}
 use Rattle.std.specs.Prelude.{slice_get, count_by, filter, position, ◌==◌}
 use Rattle.std.specs.List.{position_from}
 use Rattle.std.proofs.lemmas.Iterator.Adapters.{position_from-zero}
@@ -7,12 +7,12 @@ use Rattle.std.proofs.lemmas.Bool.{cases_eq, eqb-true, eq-eqb}
 use Rattle.std.proofs.lemmas.List.{take_more, length-set, length-replicate}
 use Rattle.std.proofs.lemmas.List.Elements.{filter-append}
 use Rattle.std.proofs.lemmas.List.Sums.{sum_by-set, sum_by-cons}
-use Rattle.std.proofs.lemmas.Option.{slice_get_within, slice_get_read, slice_get-get_or, get_or_from_slice_get}
+use Rattle.std.proofs.lemmas.Option.{slice_get_within, slice_get_read, get_or_from_slice_get}
 use Rattle.cg_graph.specs.Member.{Includes}
 use Rattle.cg_graph.proofs.Members.{either, cases_of, Includes-append_left, Includes-append_right, Includes-append_cases, Includes-map}
 use Rattle.cg_search.specs.Places.{Marks, is_marked, StartsAt, steps_of}
-use Rattle.cg_search.specs.Walks.{Findings, objects_in, AreOnce, Finds, IsStart, HasSpread, IsOver, Agree}
-use Rattle.cg_search.proofs.Places.{slice_get-set_same, slice_get-set_other, unmarked, includes_at}
+use Rattle.cg_search.specs.Walks.{Findings, objects_in, Finds, IsStart, HasSpread, IsOver, Agree}
+use Rattle.cg_search.proofs.Places.{slice_get-set_same, slice_get-set_other, unmarked}
 use Rattle.cg_search.proofs.Trails.{finds_none, finds_new, finds_present, start_more, start_same, start_none, spread_more, objects_append, get_in}
 use Rattle.cg_search.proofs.Edges.{step_in, step_out, marks_of_is, is_of_marks}
 

@@ -1,4 +1,4 @@
-use Rattle.std.proofs.Common.{take, get_or, length, ◌≤◌, ◌≡◌, ◌<◌, ◌+◌, ◌^◌, arith, refl}
+use Rattle.std.proofs.Common.{take, get_or, length, ◌≡◌, ◌<◌, arith, refl}
 use Rattle.std.proofs.lemmas.List.{length-take-le, get_or_read_under}
 use Rattle.cg_search.proofs.Counting.{few_occurrences}
 use Rattle.cg_search.proofs.count.add_row.Goals as goal

@@ -1,6 +1,6 @@
-use Rattle.std.proofs.Common.{◌≡◌, sym, ◌∙◌, ◌<◌, subst, List, ℕ, Bool, length, map, arith, ◌+◌}
+use Rattle.std.proofs.Common.{sym, ◌∙◌, ◌<◌, length, map, arith}
 use Rattle.std.proofs.lemmas.List.{length-map}
-use Rattle.cg_search.proofs.Counting.{CountsTo, counts_first, counts_room, counts_more, counts_skip, counts_all, row_of_node}
+use Rattle.cg_search.proofs.Counting.{counts_first, counts_room, counts_more, counts_skip, row_of_node}
 use Rattle.cg_search.proofs.count.count_targets.Goals as goal
 use Rattle.cg_search.proofs.count.count_targets.Goals.{then-marks-at, else-marks-at}
 

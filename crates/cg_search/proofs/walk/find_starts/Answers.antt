@@ -1,6 +1,4 @@
-use Rattle.std.proofs.Common.{subst, sym, List, Bool, ℕ, Option, ◌+◌}
-use Rattle.cg_search.specs.Walks.{Agree, IsStart, Findings}
-use Rattle.cg_search.proofs.Walking.{StartsBelow, starts_none, starts_more, starts_skip, starts_all}
+use Rattle.cg_search.proofs.Walking.{starts_more, starts_skip, starts_all}
 use Rattle.cg_search.proofs.walk.find_starts.Goals as goal
 use Rattle.cg_search.proofs.walk.find_starts.Goals.{then-starts-at+in_ok-find, else-starts-at}
 

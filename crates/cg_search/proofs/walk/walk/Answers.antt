@@ -1,4 +1,4 @@
-use Rattle.std.proofs.Common.{sym, ◌∙◌, ap, subst, List, ℕ, length, ◌<◌, arith, Some, map, refl, take}
+use Rattle.std.proofs.Common.{sym, ◌∙◌, ap, subst, List, ℕ, length, ◌<◌, arith, Some, map, refl}
 use Rattle.std.proofs.lemmas.Option.{slice_get_read}
 use Rattle.cg_graph.specs.Member.{Includes}
 use Rattle.cg_search.specs.Places.{StartsAt, steps_of}

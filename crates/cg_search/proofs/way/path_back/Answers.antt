@@ -1,4 +1,4 @@
-use Rattle.std.proofs.Common.{subst, ℕ, Option, Some, length, refl}
+use Rattle.std.proofs.Common.{subst, ℕ, Option, length, refl}
 use Rattle.std.proofs.lemmas.Option.{slice_get_read}
 use Rattle.cg_search.proofs.Trails.{HasGoneBack, back_more}
 use Rattle.cg_search.proofs.way.path_back.Goals as goal
