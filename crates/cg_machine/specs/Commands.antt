@@ -19,7 +19,7 @@ use Rattle.cg_machine.specs.World.{World, Activity, TopLevel, Framed, Releasing,
 use Rattle.cg_machine.specs.Holdings.{in_degree, is_collecting, other_holdings}
 use Rattle.cg_machine.specs.Frame.{procedure_of, Transition, Yields, start_frame}
 use Rattle.cg_machine.specs.Refusals.{bad_generation, in_collection, no_attribute, no_index, no_key, no_memory, not_callable, not_weak, unhashable, wrong_kind, unless, ◌>>=◌}
-use Rattle.cg_machine.specs.Operands.{any_object, is_dict, is_list, is_script_list, is_sequence, is_weak, object, object_of, value, values}
+use Rattle.cg_machine.specs.Operands.{any_object, is_dict, is_list, is_script_list, is_sequence, is_weak, object, object_of, value}
 use Rattle.cg_machine.specs.Effects.{Calls, Changes, Collects, Effect, Explains, Quits, binds, bound, callback_entries, frozen, gens_line, given_up_by, has_room, is_hashable, lists, makes, makes_of, valid_index, prints, puts, referrers, replaced, sets_entries, sets_numbers, unfrozen}
 use Rattle.cg_machine.specs.Weak.{has_weak_references, is_function, is_instance}
 

@@ -1,6 +1,6 @@
 -- Steps and runs of the machine. Only the activity on top steps. (Ours. That an automatic collection starts only between
 -- two commands models the points at which CPython's evaluation loop checks for one.)
-use Rattle.std.specs.Prelude.{◌≡◌, ◌≢◌, ℕ, List, [], ◌∷◌, ◌++◌, Bool, false, Option, Some, None}
+use Rattle.std.specs.Prelude.{◌≡◌, ◌≢◌, ℕ, List, [], ◌∷◌, ◌++◌, false, Option, Some, None}
 use Rattle.cg_script.specs.declared.Script.{Script}
 use Rattle.cg_script.specs.declared.Command.{Command}
 use Rattle.cg_machine.specs.declared.event.Event.{Event}
