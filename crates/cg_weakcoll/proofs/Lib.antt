@@ -36,6 +36,7 @@ pub mod ExpandedStores
 pub mod WorkedCache
 pub mod MissLaws
 pub mod WorkedFinalizers
+pub mod WorkedAlive
 pub mod FreeNames
 pub mod ItemsOfLines
 pub mod Passages
