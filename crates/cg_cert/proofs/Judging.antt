@@ -10,10 +10,11 @@ use Rattle.cg_graph.specs.Member.{Includes}
 use Rattle.cg_graph.specs.Holdings.{occurrences}
 use Rattle.cg_graph.specs.Reach.{Reach, first, next}
 use Rattle.cg_graph.proofs.Members.{either, Includes-append_left, Includes-append_right, Includes-append_cases, Includes-map, Includes-map_cases}
+use Rattle.cg_search.specs.Places.{Marks, Leads, begins, follows}
+use Rattle.cg_search.proofs.Places.{includes_at, place_in, occurrences-same, occurrences-other}
 use Rattle.cg_records.specs.declared.graph.Member.{Member}
 use Rattle.cg_cert.specs.Judged.{serials_of, references_of, edges_of, IsHeld, IsMarked, CoversReferences}
-use Rattle.cg_cert.specs.Positions.{ArePlacedOnce, names_in, IsRowOf, AreRowsOf, Marks, MarksAll, Leads, begins, follows, Leaves, IsTooLow, degrees_of}
-use Rattle.cg_cert.proofs.Places.{includes_at, place_in, occurrences-same, occurrences-other}
+use Rattle.cg_cert.specs.Positions.{ArePlacedOnce, names_in, IsRowOf, AreRowsOf, MarksAll, Leaves, IsTooLow, degrees_of}
 
 -- an element that a function was applied to
 some_mapped : {A B : Type 0} (f : A → B) (o : Option A) (y : B) → option_map f o ≡ Some y → (x : A) × (o ≡ Some x) × (f x ≡ y)

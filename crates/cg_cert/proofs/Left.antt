@@ -8,10 +8,10 @@ use Rattle.std.proofs.lemmas.List.Folds.{concat-append}
 use Rattle.cg_graph.specs.Member.{Includes}
 use Rattle.cg_graph.specs.Holdings.{occurrences}
 use Rattle.cg_graph.proofs.Members.{either}
+use Rattle.cg_search.proofs.Places.{occurrences-append, occurrences-same, occurrences-other}
+use Rattle.cg_search.proofs.Visited.{includes_concat, row_here}
 use Rattle.cg_records.specs.declared.graph.Member.{Member}
 use Rattle.cg_cert.specs.Positions.{Leaves, IsTooLow, rows_in, degrees_of}
-use Rattle.cg_cert.proofs.Places.{occurrences-append, occurrences-same, occurrences-other}
-use Rattle.cg_cert.proofs.Visited.{includes_concat, row_here}
 
 -- no target
 pub leaves_all : (numbers : List ℕ) → Leaves numbers [] numbers
@@ -92,5 +92,5 @@ too_low_row numbers left rows k v row within read is h low =
 pub row_within : (members : List Member) (left : List ℕ) (targets : List ℕ) (rows : List (Vec ℕ)) (k : ℕ) (v : Vec ℕ) (row : List ℕ) → k < length rows → v ≡ get_or rows k v → row ≡ v.items → Leaves (degrees_of members) targets left
     → ((i : ℕ) → Includes (concat (rows_in rows)) i → i < length members) → (i : ℕ) → Includes row i → i < length left
 row_within members left targets rows k v row within read is h all i r =
-    let below = all i (includes_concat (rows_in rows) k v.items i (row_here rows k v within read) (subst (λ (xs : List ℕ). Includes xs i) is r)) in
+    let below = all i (includes_concat (rows_in rows) k v.items i (row_here (λ (w : Vec ℕ). w.items) rows k v within read) (subst (λ (xs : List ℕ). Includes xs i) is r)) in
     omega (arith, below, h.len, length-map members (λ (m : Member). m.degree))

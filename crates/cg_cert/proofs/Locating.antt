@@ -11,7 +11,8 @@ use Rattle.cg_cert.specs.declared.table.Places.{Places}
 use Rattle.cg_cert.specs.Judged.{serials_of, references_of, IsWellNamed, CoversReferences, FindsLost, FindsSetAside, IsRight, HasFault, too_low, loses, sets_aside, part}
 use Rattle.cg_cert.specs.Positions.{Tells, AreNames, IsSetOf, AreRowsOf, MarksAll, IsLocated, Leaves, IsTooLow, degrees_of, rows_in}
 use Rattle.cg_cert.proofs.Ascending.{told_once}
-use Rattle.cg_cert.proofs.Places.{once_from_placed, includes_at}
+use Rattle.cg_search.proofs.Places.{includes_at}
+use Rattle.cg_cert.proofs.Places.{once_from_placed}
 use Rattle.cg_cert.proofs.Judging.{targets_within, covers, covers_not, named_row, rows_joined}
 
 pub differs : ◌≡◌ {A = Bool} false true → ⊥

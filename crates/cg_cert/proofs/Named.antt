@@ -14,7 +14,8 @@ use Rattle.cg_graph.proofs.Members.{either, Includes-append_left, Includes-appen
 use Rattle.cg_records.specs.declared.graph.Member.{Member}
 use Rattle.cg_cert.specs.Judged.{IsOnceEach, serials_of, references_of}
 use Rattle.cg_cert.specs.Positions.{Locates, IsPositionOf, AreNames, IsSetOf, names_in, IsRowOf, AreRowsOf, MarksAll, rows_in}
-use Rattle.cg_cert.proofs.Places.{snoc_cases, snoc_old, snoc_new, includes_at, place_in, twice, includes_more, includes_first, includes_last, slice_get-set_same, slice_get-set_other, unmarked, occurs_in, occurrences-append, occurrences-same, occurrences-other}
+use Rattle.cg_cert.proofs.Places.{twice}
+use Rattle.cg_search.proofs.Places.{snoc_cases, snoc_old, snoc_new, includes_at, place_in, includes_more, includes_first, includes_last, slice_get-set_same, slice_get-set_other, unmarked, occurs_in, occurrences-append, occurrences-same, occurrences-other}
 
 -- one more name
 locates_one : (names : List ℕ) (s : ℕ) (table now : BTreeMap ℕ ℕ) → Locates names table → get nat_cmp table s ≡ None → Updates nat_cmp table now s (Some (length names)) → Locates (names ++ s ∷ []) now

@@ -8,12 +8,13 @@ use Rattle.std.proofs.lemmas.Option.{slice_get-get_or, slice_get_within}
 use Rattle.cg_graph.specs.declared.Edge.{Edge}
 use Rattle.cg_graph.specs.Member.{Includes}
 use Rattle.cg_graph.specs.Reach.{Reach, first, next}
+use Rattle.cg_search.specs.Places.{Marks, Leads}
+use Rattle.cg_search.proofs.Places.{includes_at}
 use Rattle.cg_records.specs.declared.graph.Member.{Member}
 use Rattle.cg_records.specs.declared.graph.Graph.{Graph}
 use Rattle.cg_cert.specs.declared.graph.Located.{Located}
 use Rattle.cg_cert.specs.Judged.{serials_of, edges_of, IsMember, IsHeld, IsMarked, IsLost, IsSetAside, FindsLost, FindsSetAside}
-use Rattle.cg_cert.specs.Positions.{IsLocated, Marks, Leads, Leaves, degrees_of, rows_in}
-use Rattle.cg_cert.proofs.Places.{includes_at}
+use Rattle.cg_cert.specs.Positions.{IsLocated, Leaves, degrees_of, rows_in}
 use Rattle.cg_cert.proofs.Judging.{mapped_at, from_mapped, something_at, held_there, held_back, marked_there, marked_back, led_there, reach_back, finds_same, targets_within}
 
 all_marked : (n i : ℕ) → i < n → Marks (replicate n true) i

@@ -1,6 +1,5 @@
--- A recorded graph by the positions of its members: marks and rows of positions, what is left of in-degrees, and what
--- paths by rows lead to. (Ours.)
-use Rattle.std.specs.Prelude.{◌≡◌, ℕ, ◌+◌, ◌<◌, Bool, true, not, List, length, map, count_by, Option, Some, ◌↔◌, ◌⊎◌, slice_get, slice_index_or}
+-- A recorded graph by the positions of its members: marks and rows of positions, and what is left of in-degrees. (Ours.)
+use Rattle.std.specs.Prelude.{◌≡◌, ℕ, ◌+◌, ◌<◌, Bool, List, length, map, Option, Some, ◌↔◌, slice_get, slice_index_or}
 use Rattle.std.specs.List.{All}
 use Rattle.std.specs.List.Sorted.{IsStrictlyIncreasing}
 use Rattle.std.specs.Ordering.{nat_cmp}
@@ -8,6 +7,7 @@ use Rattle.std.specs.BTreeMap.{BTreeMap, get}
 use Rattle.std.specs.Global.{Vec}
 use Rattle.cg_graph.specs.Member.{Includes}
 use Rattle.cg_graph.specs.Holdings.{occurrences}
+use Rattle.cg_search.specs.Places.{Marks}
 use Rattle.cg_records.specs.declared.graph.Member.{Member}
 use Rattle.cg_records.specs.declared.graph.Graph.{Graph}
 use Rattle.cg_records.specs.declared.graph.Rec.{Rec}
@@ -60,10 +60,6 @@ AreRowsOf names members rows = map (names_in names) rows ≡ map (λ m. map Some
 abbrev pub rows_in : List (Vec ℕ) → List (List ℕ)
 rows_in rows = map (λ v. v.items) rows
 
--- a position is marked
-abbrev pub Marks : List Bool → ℕ → Type 0
-Marks marks i = slice_get marks i ≡ Some true
-
 -- just the positions of these serials are marked
 pub record MarksAll (names serials : List ℕ) (marks : List Bool) : Type 0 where
   pub len : length marks ≡ length names
@@ -91,21 +87,6 @@ pub record IsTooLow (numbers targets : List ℕ) : Type 0 where
   pub at : ℕ
   pub within : at < length numbers
   pub below : slice_index_or numbers at 0 < occurrences at targets
-
--- Paths by rows: from a start, along rows, by positions that are allowed.
-pub data Leads (starts allowed : List Bool) (rows : List (List ℕ)) : ℕ → Type 0 where
-  begins : (i : ℕ) → Marks starts i → Marks allowed i → Leads starts allowed rows i
-  follows : (i j : ℕ) (row : List ℕ) → Leads starts allowed rows i → slice_get rows i ≡ Some row → Includes row j → Marks allowed j → Leads starts allowed rows j
-
--- Some targets were looked at: those that are allowed are marked now, and those that were not marked before wait.
-pub record Visits (Target : ℕ → Type 0) (allowed old : List Bool) (waits : List ℕ) (new : List Bool) (wait : List ℕ) : Type 0 where
-  pub len : length new ≡ length old
-  pub marked : (i : ℕ) → Target i → Marks allowed i → Marks new i
-  pub stay : (i : ℕ) → Marks old i → Marks new i
-  pub only : (i : ℕ) → Marks new i → Marks old i ⊎ (Target i × Marks allowed i × Includes wait i)
-  pub still_wait : (i : ℕ) → Includes waits i → Includes wait i
-  pub only_wait : (i : ℕ) → Includes wait i → Includes waits i ⊎ Marks new i
-  pub left : count_by not new + length wait ≡ count_by not old + length waits
 
 -- the verdict on records that were read
 abbrev pub JudgesRecords : List Rec → Verdict → Type 0

@@ -5,9 +5,9 @@ ghost use Rattle.cg_cert.specs.Judged.{IsWellNamed, FindsLost, FindsSetAside, Is
 ghost use Rattle.cg_cert.specs.Positions.{IsLocated, Leaves, degrees_of, rows_in};
 
 use crate::degrees::outside_degrees;
-use crate::search::search;
 use crate::table::{marks_of, places_of, rows_of};
 use cg_records::{Graph, Member};
+use cg_search::reached;
 use std::alloc::{AllocError, Global};
 
 /// A graph whose names are right, by the positions of its members.
@@ -83,7 +83,7 @@ fn finds_lost(
 {
     let held = held_of(alloc, left)?;
     let all = Vec::from_elem(alloc, true, graph.members.as_slice().len())?;
-    let found = search(alloc, &held, &all, &located.rows)?;
+    let found = reached(alloc, &held, &all, &located.rows)?;
     let unreachable = opposite(alloc, &found)?;
     Ok(are_same(&unreachable, &located.lost))
 }
@@ -95,7 +95,7 @@ fn finds_set_aside(alloc: Global, graph: &Graph, located: &Located) -> Result<bo
     ensures { IfOk result (λ right. (right ≡ true) ↔ FindsSetAside graph.now) }
 {
     let marked = marked_of(alloc, graph.members.as_slice())?;
-    let found = search(alloc, &marked, &located.lost, &located.rows)?;
+    let found = reached(alloc, &marked, &located.lost, &located.rows)?;
     Ok(are_same(&found, &located.legacy))
 }
 

@@ -5,7 +5,6 @@
 //!
 //! - `table`: the serials of a graph, turned into positions of its members.
 //! - `degrees`: in-degrees, less the references of members.
-//! - `search`: what paths by rows of positions lead to.
 //! - `graph`: the fault of one graph; `check`: the verdict on all graphs of records.
 //! - `laws`: no bytes have two verdicts.
 //! - `input`, `tell`, `status`, `run`: the checker as a top call, over a source and a sink.
@@ -18,7 +17,6 @@ mod degrees;
 mod graph;
 mod laws;
 mod run;
-mod search;
 mod status;
 mod table;
 mod tell;

@@ -1,5 +1,5 @@
 use Rattle.std.proofs.Common.{◌<◌, length, get_or, arith}
-use Rattle.cg_cert.proofs.Places.{includes_next}
+use Rattle.cg_search.proofs.Places.{includes_next}
 use Rattle.cg_cert.proofs.Left.{leaves_next, too_low_here}
 use Rattle.cg_cert.proofs.degrees.take_off.Goals as goal
 

@@ -3,8 +3,8 @@ use Rattle.std.proofs.lemmas.List.{length-replicate}
 use Rattle.cg_cert.proofs.Sets.{lost_answer, search_within}
 use Rattle.cg_cert.proofs.graph.finds_lost.Goals as goal
 
-pub search-requires-clause-within : goal.search-requires-clause-within
-search-requires-clause-within c =
+pub reached-requires-clause-within : goal.reached-requires-clause-within
+reached-requires-clause-within c =
     search_within c.args.graph.now c.args.located.now c.requires.located c.deref-2.result.now c.deref-3.result.now c.deref-3.ensures.value
     (ap length (c.deref-2.ensures.value ∙ c.in_ok-all.ensures.items_if_clones_equal (λ y e. e)) ∙ length-replicate (length c.as_slice.result.now) true ∙ ap length c.as_slice.ensures)
 
