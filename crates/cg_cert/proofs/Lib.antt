@@ -1,4 +1,3 @@
-pub mod Places
 pub mod Ascending
 pub mod Named
 pub mod Left

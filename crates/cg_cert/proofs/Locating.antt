@@ -1,22 +1,40 @@
 -- A graph whose names are right, by positions, and the faults of a graph.
-use Rattle.std.proofs.Common.{◌≡◌, sym, ◌∙◌, ap, subst, ℕ, ◌<◌, Bool, true, false, List, length, arith}
+use Rattle.std.proofs.Common.{◌≡◌, refl, sym, ◌∙◌, ap, subst, ℕ, zero, suc, ◌+◌, ◌<◌, Bool, true, false, List, [], ◌∷◌, Some, length, arith}
 use Rattle.std.specs.Prelude.{◌↔◌}
 use Rattle.std.specs.List.{concat}
 use Rattle.std.specs.Global.{Vec}
+use Rattle.std.proofs.lemmas.Bool.{cases_eq}
 use Rattle.cg_graph.specs.Member.{Includes}
+use Rattle.cg_graph.specs.Holdings.{occurrences}
+use Rattle.cg_graph.proofs.Members.{either}
+use Rattle.cg_search.proofs.Places.{includes_at, place_in, occurrences-same, occurrences-other, occurs_in}
 use Rattle.cg_records.specs.declared.graph.Member.{Member}
 use Rattle.cg_records.specs.declared.graph.Graph.{Graph}
 use Rattle.cg_cert.specs.declared.graph.Located.{Located}
 use Rattle.cg_cert.specs.declared.table.Places.{Places}
-use Rattle.cg_cert.specs.Judged.{serials_of, references_of, IsWellNamed, CoversReferences, FindsLost, FindsSetAside, IsRight, HasFault, too_low, loses, sets_aside, part}
-use Rattle.cg_cert.specs.Positions.{Tells, AreNames, IsSetOf, AreRowsOf, MarksAll, IsLocated, Leaves, IsTooLow, degrees_of, rows_in}
+use Rattle.cg_cert.specs.Judged.{serials_of, references_of, IsOnceEach, IsWellNamed, CoversReferences, FindsLost, FindsSetAside, IsRight, HasFault, too_low, loses, sets_aside, part}
+use Rattle.cg_cert.specs.Positions.{Tells, ArePlacedOnce, AreNames, IsSetOf, AreRowsOf, MarksAll, IsLocated, Leaves, IsTooLow, degrees_of, rows_in}
 use Rattle.cg_cert.proofs.Ascending.{told_once}
-use Rattle.cg_search.proofs.Places.{includes_at}
-use Rattle.cg_cert.proofs.Places.{once_from_placed}
 use Rattle.cg_cert.proofs.Judging.{targets_within, covers, covers_not, named_row, rows_joined}
 
 pub differs : ◌≡◌ {A = Bool} false true → ⊥
 differs e = absurd (cc)
+
+-- where each stands at one place, each stands there once
+once_from_placed : (xs : List ℕ) → ArePlacedOnce xs → IsOnceEach xs
+once_from_placed [] placed o = omega arith
+once_from_placed (x ∷ xs) placed o = either (cases_eq x o) same
+    (λ n. omega (arith, occurrences-other o x xs n, once_from_placed xs (λ p i j a b. let e = placed p (suc i) (suc j) a b in omega (arith, e)) o))
+  where
+    none : (n : ℕ) → occurrences o xs ≡ n → x ≡ o → n ≡ 0
+    none zero is e = refl
+    none (suc n) is e =
+        let found = place_in xs o (occurs_in xs o (omega (arith, is))) in
+        let clash : 0 ≡ suc found.0 = placed o 0 (suc found.0) (ap Some e) found.1 in
+        absurd (omega (arith, clash))
+
+    same : x ≡ o → occurrences o (x ∷ xs) < 2
+    same e = omega (arith, occurrences-same o x xs e, none (occurrences o xs) refl e)
 
 -- the sets of a graph whose names are right
 pub lost_set : (g : Graph) → IsWellNamed g → IsSetOf (serials_of g.members) g.lost

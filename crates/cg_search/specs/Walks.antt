@@ -1,4 +1,4 @@
--- How a search by breadth stands: what was found, in which order, and by which trails. (Ours.)
+-- How far a breadth-first search has come: what was found, in which order, and by which trails. (Ours.)
 use Rattle.std.specs.Prelude.{◌≡◌, ℕ, ◌+◌, ◌<◌, ◌≤◌, suc, Bool, not, count_by, List, [], ◌∷◌, ◌++◌, Option, Some, None, map, length, take, slice_get, reverse}
 use Rattle.cg_graph.specs.declared.Edge.{Edge}
 use Rattle.cg_graph.specs.Member.{Includes}
@@ -25,13 +25,13 @@ pub record Finds (old : Findings) (objects : List ℕ) (holder : Option ℕ) (ne
   pub all : (o : ℕ) → Includes objects o → Includes (objects_in new) o
   pub once : AreOnce old → AreOnce new
 
--- what is found before any entry is looked at: what is held otherwise
+-- what is found before any edge is followed: the starts
 pub record IsStart (Held : ℕ → Type 0) (found : Findings) : Type 0 where
   pub only : (e : ℕ × Option ℕ) → Includes found e → Held e.0 × (e.1 ≡ None)
   pub all : (o : ℕ) → Held o → Includes (objects_in found) o
   pub once : AreOnce found
 
--- A trail leads back from an object: each next one holds the one before, and the last is held otherwise.
+-- A trail leads back from an object: each next one refers to the one before, and the last is a start.
 abbrev pub IsTrail : (ℕ → Type 0) → List Edge → List ℕ → Type 0
 IsTrail Held arrows [] = ⊥
 IsTrail Held arrows (last ∷ []) = Held last
@@ -62,7 +62,7 @@ abbrev pub Lengthen : List (List ℕ) → Type 0
 Lengthen [] = Unit {0}
 Lengthen (trail ∷ trails) = ((other : List ℕ) → Includes trails other → length trail ≤ length other) × Lengthen trails
 
--- The search has come to a place: what the objects before it refer to was found, by trails that are the shortest.
+-- The search has come to a place: what the objects before it refer to was found, by shortest trails.
 pub record HasSpread (Held : ℕ → Type 0) (arrows : List Edge) (found : Findings) (place : ℕ) : Type 0 where
   pub trails : List (List ℕ)
   pub have : HaveTrails found trails

@@ -35,7 +35,7 @@ fn path_back(alloc: Global, found: &Found, last: usize) -> Result<Vec<usize>, Al
 
 /// A shortest path from a start to a place, by places that are allowed; `None` exactly where there is no path.
 ///
-/// It takes time linear in the nodes and their targets. `AllocError` is for want of memory alone.
+/// It takes time linear in the nodes and their targets. `AllocError` is an allocation failure.
 pub fn shortest_way<N: Node>(
     alloc: Global,
     starts: &[bool],

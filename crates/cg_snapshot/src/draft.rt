@@ -35,7 +35,7 @@ fn all_below(count: usize, places: &[usize]) -> bool
     places.iter().all(|place| *place < count)
 }
 
-/// Whether a question is about members, of which there are so many, and no path is to avoid its own end.
+/// Whether a question is about members, of which there are so many, and no path is asked to avoid its own end.
 fn is_asked_of(count: usize, question: &Question) -> bool
     ensures { result ≡ is_asked count question.now }
 {
@@ -49,6 +49,7 @@ fn is_asked_of(count: usize, question: &Question) -> bool
     }
 }
 
+/// A line before the heap.
 fn step_before(members: Members, questions: Questions, line: Line) -> Option<Draft>
     ensures { result ≡ before members questions line }
 {
@@ -62,7 +63,7 @@ fn step_before(members: Members, questions: Questions, line: Line) -> Option<Dra
     }
 }
 
-/// A line among the members, or behind them.
+/// A line among the members, or the one behind them.
 fn step_inside(
     alloc: Global,
     mut members: Members,
@@ -108,6 +109,7 @@ fn step_inside(
     }
 }
 
+/// A line among the questions.
 fn step_behind(
     members: Members,
     mut questions: Questions,

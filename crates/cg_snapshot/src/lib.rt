@@ -1,9 +1,9 @@
 //! A recorded heap and the questions about it, as data and as text.
 //!
-//! The layer above rests on one contract: the text of a snapshot is a definition (`specs/Text`), reading is exactly that,
-//! and where the bytes are no such text, the first line at which they leave it is told.
+//! The text of a snapshot is a definition (`specs/Text`). The layer above relies on one contract: reading is exactly that,
+//! and where the bytes are no such text, the first bad line is told.
 //!
-//! - `places`: places of members in order; `heap`: members; `question`: what is asked of them.
+//! - `places`: places of members in order; `heap`: members; `question`: what is asked about them.
 //! - `number`, `row`: a number, and the words of a line; `line`: what a line says; `draft`: what was read so far, and which
 //!   lines may follow; `reading`: the loop over the lines.
 //! - `writing`: the line of a question.

@@ -1,4 +1,4 @@
-//! What is asked of a heap.
+//! Questions about a heap.
 ghost use Rattle.std.specs.Prelude.{◌≡◌, ◌++◌, ◌∷◌, [], OnOk};
 
 use crate::places::Places;
@@ -8,9 +8,9 @@ use std::marker::Model;
 /// A question about a heap.
 #[derive(Drop)]
 pub enum Question {
-    /// Why the member is alive: by which path of members, other than these.
+    /// Why the member is alive: by which path of members other than these.
     Why(usize, Places),
-    /// Which members refer to it.
+    /// Which members refer to the member.
     Referrers(usize),
     /// Which members are held from outside.
     Hidden,

@@ -23,11 +23,11 @@ pub struct Snapshot {
 pub enum Reading {
     /// They are the text of a snapshot.
     Read(Snapshot),
-    /// They are no such text; the first line at which they leave it, from 1.
+    /// They are no such text; the number of the first bad line, from 1.
     BadLine(u64),
 }
 
-/// The snapshot of a draft, where its text may end there.
+/// The snapshot of a draft whose text may end here.
 fn snapshot_of(draft: Draft) -> Option<Snapshot>
     ensures found { IfSome result (λ s. draft ≡ draft_of s.members s.questions Behind) }
     ensures none { IfNone result (draft.stage ≡ Behind → ⊥) }
@@ -43,9 +43,9 @@ fn snapshot_of(draft: Draft) -> Option<Snapshot>
     }
 }
 
-/// Reads the snapshot that the bytes are the text of, or tells the first line at which they leave every such text.
+/// Reads the snapshot whose text the bytes are, or tells the first line with which no such text goes on.
 ///
-/// It takes time linear in the bytes, and memory of a constant factor of them. `AllocError` is for want of memory alone.
+/// It takes time linear in the bytes, and memory of a constant factor of them. `AllocError` is an allocation failure.
 pub fn read_snapshot(alloc: Global, bytes: &[u8]) -> Result<Reading, AllocError>
     ensures { IfOk result (λ reading. Reads bytes.now reading) }
 {
