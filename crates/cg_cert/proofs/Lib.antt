@@ -1,6 +1,6 @@
 pub mod Ascending
 pub mod Named
-pub mod Left
+pub mod Counted
 pub mod Judging
 pub mod Sets
 pub mod Locating

@@ -64,6 +64,13 @@ targets_next marks rows k row within long is =
     let one : k + 1 ≡ suc k = omega arith in
     ap (λ n. targets_from (take n marks) (take n rows)) one ∙ targets_suc marks rows k row within long is
 
+-- the targets of all nodes
+pub targets_all : (rows : List (List ℕ)) (n : ℕ) → n ≡ length rows → targets_from (replicate n true) rows ≡ concat rows
+targets_all [] zero long = refl
+targets_all [] (suc n) long = absurd (omega (arith, long))
+targets_all (r ∷ rows) zero long = absurd (omega (arith, long))
+targets_all (r ∷ rows) (suc n) long = ap (λ t. r ++ t) (targets_all rows n (omega (arith, long)))
+
 chosen : (m : Bool) (r : List ℕ) → length (if m then r else []) ≤ length r
 chosen true r = omega arith
 chosen false r = omega arith
