@@ -1,7 +1,6 @@
 //! How often members stand among the references, and what that says of their in-degrees.
 ghost use Rattle.std.specs.Prelude.{◌≡◌, ◌<◌, ◌^◌, length, true, IfOk, ◌↔◌};
 ghost use Rattle.std.specs.List.{concat};
-ghost use Rattle.cg_graph.specs.Member.{Includes};
 ghost use Rattle.cg_cert.specs.Judged.{CoversReferences};
 ghost use Rattle.cg_cert.specs.Positions.{rows_in, CountTargets, CountReferences, ExceedEach};
 
