@@ -13,7 +13,7 @@ use Rattle.cg_snapshot.specs.declared.line.Line.TheVariants as lines
 use Rattle.cg_snapshot.specs.Rows.{raw_of, AreSmall, IsRow}
 use Rattle.cg_snapshot.specs.Text.{flag}
 use Rattle.cg_snapshot.specs.Lines.{row, row_of, raw_line, IsLine, IsSmallQuestion}
-use Rattle.cg_snapshot.specs.Meant.{mark_in, only, bare, told, meant_member, meant_plain, meant_but, meant}
+use Rattle.cg_snapshot.specs.Meant.{mark_in, only, bare_line, told, meant_member, meant_plain, meant_but, meant}
 use Rattle.cg_snapshot.proofs.Rowed.{one_row}
 
 flag_back : (b : Bool) → mark_in (flag b) ≡ Some b
@@ -106,7 +106,7 @@ member_says (a ∷ b ∷ []) line small e = absurd (cc)
 member_says (a ∷ b ∷ c ∷ []) line small e = absurd (cc)
 member_says (d ∷ s ∷ t ∷ l ∷ refs) line small e = told_says d s t l refs line small e
 
-bare_says : (k : Kind) (a : Line) → Reads k [] [] a → (ns : List ℕ) (line : Line) → bare a ns ≡ Some line → Reads k ns [] line
+bare_says : (k : Kind) (a : Line) → Reads k [] [] a → (ns : List ℕ) (line : Line) → bare_line a ns ≡ Some line → Reads k ns [] line
 bare_says k a h [] line e = moved k [] [] a line e h
 bare_says k a h (n ∷ ns) line e = absurd (cc)
 

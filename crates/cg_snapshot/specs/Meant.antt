@@ -21,8 +21,8 @@ only (n ∷ []) = Some n
 only (n ∷ m ∷ ns) = None
 
 -- a line that has no numbers
-abbrev pub bare : Line → List ℕ → Option Line
-bare line ns = cond (none_in ns) (Some line) None
+abbrev pub bare_line : Line → List ℕ → Option Line
+bare_line line ns = cond (none_in ns) (Some line) None
 
 -- in-degree, bytes, two marks and references
 abbrev pub told : ℕ → ℕ → ℕ → ℕ → List ℕ → Option Line
@@ -37,16 +37,16 @@ meant_member (degree ∷ size ∷ tracked ∷ legacy ∷ refs) = told degree siz
 
 -- a word and numbers
 abbrev pub meant_plain : Kind → List ℕ → Option Line
-meant_plain kinds.Heap ns = bare lines.Opens ns
+meant_plain kinds.Heap ns = bare_line lines.Opens ns
 meant_plain kinds.Member ns = meant_member ns
 meant_plain kinds.Words ns = cond (none_in ns) None (Some (lines.Adds ns))
-meant_plain kinds.End ns = bare lines.Closes ns
+meant_plain kinds.End ns = bare_line lines.Closes ns
 meant_plain kinds.Why ns = option_map (λ n. lines.Asks (Why n [])) (only ns)
 meant_plain kinds.Referrers ns = option_map (λ n. lines.Asks (Referrers n)) (only ns)
-meant_plain kinds.Hidden ns = bare (lines.Asks Hidden) ns
-meant_plain kinds.Lost ns = bare (lines.Asks Lost) ns
+meant_plain kinds.Hidden ns = bare_line (lines.Asks Hidden) ns
+meant_plain kinds.Lost ns = bare_line (lines.Asks Lost) ns
 meant_plain kinds.Dropped ns = cond (none_in ns) None (Some (lines.Asks (Dropped ns)))
-meant_plain kinds.Untold ns = bare (lines.Asks Untold) ns
+meant_plain kinds.Untold ns = bare_line (lines.Asks Untold) ns
 
 -- a word, numbers, and numbers behind a word `but`
 abbrev pub meant_but : Kind → List ℕ → List ℕ → Option Line

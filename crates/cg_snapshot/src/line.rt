@@ -2,7 +2,7 @@
 ghost use Rattle.std.specs.Prelude.{◌≡◌, ◌≢◌, ℕ, List, IfOk, IfSome, IfNone};
 ghost use Rattle.cg_snapshot.specs.Rows.{IsRow};
 ghost use Rattle.cg_snapshot.specs.Lines.{raw_line, IsLine};
-ghost use Rattle.cg_snapshot.specs.Meant.{mark_in, only, bare as bare_lem, meant_member, meant_plain, meant_but, meant};
+ghost use Rattle.cg_snapshot.specs.Meant.{mark_in, only, bare_line, meant_member, meant_plain, meant_but, meant};
 
 use crate::places::Places;
 use crate::question::Question;
@@ -53,7 +53,7 @@ fn only_of(numbers: &[usize]) -> Option<usize>
 
 /// A line that has no numbers.
 fn bare(numbers: &Places, line: Line) -> Option<Line>
-    ensures { result ≡ bare_lem line numbers.now }
+    ensures { result ≡ bare_line line numbers.now }
 {
     if numbers.is_empty() { Some(line) } else { None }
 }
