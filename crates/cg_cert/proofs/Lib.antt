@@ -1,8 +1,6 @@
-pub mod Places
 pub mod Ascending
 pub mod Named
-pub mod Visited
-pub mod Left
+pub mod Counted
 pub mod Judging
 pub mod Sets
 pub mod Locating
