@@ -1,0 +1,84 @@
+//! Reading decimal numbers.
+ghost use Rattle.std.specs.Prelude.{◌≡◌, ◌≢◌, ◌<◌, ◌≤◌, ◌+◌, ◌-◌, ◌*◌, ◌^◌, ◌++◌, ◌∷◌, ℕ, List, length, slice_index, decimal, IfSome, IfNone, MatchOption};
+ghost use Rattle.std.specs.Int.{IsInRange};
+ghost use Rattle.cg_records.specs.Number.{is_plain};
+ghost use Rattle.cg_snapshot.specs.Rows.{spaced, IsTail, Lacks};
+
+/// The first place of a byte, or the number of bytes where there is none.
+pub(crate) fn place_of(bytes: &[u8], byte: u8) -> usize
+    ensures within { result ≤ length bytes.now }
+    ensures before { (k : ℕ) → k < result → slice_index bytes.now k ≢ byte }
+    ensures found { result < length bytes.now → slice_index bytes.now result ≡ byte }
+{
+    'bytes: for (place, other) in bytes.iter().enumerate() {
+        if *other == byte {
+            return place;
+        }
+    }
+    bytes.len()
+}
+
+/// Whether there are bytes, and no zero stands before others.
+fn is_plain_word(word: &[u8]) -> bool
+    ensures { result ≡ is_plain word.now }
+{
+    !word.is_empty() && (word.len() == 1 || word[0] != b'0')
+}
+
+/// The number with a digit behind it, where the byte is one and the number is not too large.
+fn with_digit(number: u64, byte: u8) -> Option<u64>
+    ensures found { IfSome result (λ more. IsInRange 48 57 byte × (more ≡ number * 10 + (byte - 48))) }
+    ensures fits { IfSome result (λ more. more < 2 ^ 64) }
+    ensures none { IfNone result (IsInRange 48 57 byte → 2 ^ 64 ≤ number * 10 + (byte - 48)) }
+{
+    if byte < b'0' || byte > b'9' {
+        return None;
+    }
+    number.checked_mul(10)?.checked_add(u64::from(byte - b'0'))
+}
+
+/// The number that a word writes, without leading zeros.
+fn number_of_word(word: &[u8]) -> Option<u64>
+    ensures found { IfSome result (λ number. word.now ≡ decimal number) }
+    ensures fits { IfSome result (λ number. number < 2 ^ 64) }
+    ensures none { IfNone result ((number : ℕ) → number < 2 ^ 64 → word.now ≢ decimal number) }
+{
+    if !is_plain_word(word) {
+        return None;
+    }
+    let mut number: u64 = 0;
+    'digits: for digit in word {
+        number = with_digit(number, *digit)?;
+    }
+    Some(number)
+}
+
+/// The word at the front, up to a space, and what follows it.
+pub(crate) fn cut_word(bytes: &[u8]) -> (&[u8], &[u8])
+    ensures whole { bytes.now ≡ result.0.now ++ result.1.now }
+    ensures word { Lacks 32 result.0.now }
+    ensures tail { IsTail result.1.now }
+{
+    let end = place_of(bytes, b' ');
+    (&bytes[..end], &bytes[end..])
+}
+
+/// What follows some bytes that others begin with.
+pub(crate) fn after<'a>(prefix: &[u8], bytes: &'a [u8]) -> Option<&'a [u8]>
+    ensures { MatchOption result ((rest : List ℕ) → bytes.now ≢ prefix.now ++ rest) (λ rest. bytes.now ≡ prefix.now ++ rest.now) }
+{
+    bytes.strip_prefix(prefix)
+}
+
+/// The number behind a space at the front, and what follows it.
+pub(crate) fn read_spaced(bytes: &[u8]) -> Option<(u64, &[u8])>
+    ensures found { IfSome result (λ read. bytes.now ≡ spaced read.0 ++ read.1.now) }
+    ensures tail { IfSome result (λ read. IsTail read.1.now) }
+    ensures fits { IfSome result (λ read. read.0 < 2 ^ 64) }
+    ensures none { IfNone result ((number : ℕ) (rest : List ℕ) → number < 2 ^ 64 → IsTail rest → bytes.now ≢ spaced number ++ rest) }
+{
+    let behind = after(b" ", bytes)?;
+    let (word, rest) = cut_word(behind);
+    let number = number_of_word(word)?;
+    Some((number, rest))
+}
