@@ -39,12 +39,12 @@ bits false true h x r s t le = omega (arith, occurrences-append x r t, le)
 bits false false h x r s t le = le
 
 -- those of more are more
-pub targets_mono : (x : ℕ) (as bs : List Bool) (rows : List (List ℕ)) → length bs ≡ length rows → ((i : ℕ) → Marks as i → Marks bs i) → occurrences x (targets_from as rows) ≤ occurrences x (targets_from bs rows)
-targets_mono x [] bs rows long h = omega arith
-targets_mono x (a ∷ as) bs [] long h = omega arith
-targets_mono x (a ∷ as) [] (r ∷ rows) long h = absurd (omega (arith, long))
-targets_mono x (a ∷ as) (b ∷ bs) (r ∷ rows) long h =
-    bits a b (λ e. some_is b (h 0 (ap Some e))) x r (targets_from as rows) (targets_from bs rows) (targets_mono x as bs rows (omega (arith, long)) (λ i m. h (suc i) m))
+pub targets_mono : (x : ℕ) (marks others : List Bool) (rows : List (List ℕ)) → length others ≡ length rows → ((i : ℕ) → Marks marks i → Marks others i) → occurrences x (targets_from marks rows) ≤ occurrences x (targets_from others rows)
+targets_mono x [] others rows long h = omega arith
+targets_mono x (a ∷ marks) others [] long h = omega arith
+targets_mono x (a ∷ marks) [] (r ∷ rows) long h = absurd (omega (arith, long))
+targets_mono x (a ∷ marks) (b ∷ others) (r ∷ rows) long h =
+    bits a b (λ e. some_is b (h 0 (ap Some e))) x r (targets_from marks rows) (targets_from others rows) (targets_mono x marks others rows (omega (arith, long)) (λ i m. h (suc i) m))
   where
     some_is : (c : Bool) → Some c ≡ Some true → c ≡ true
     some_is c e = cc
@@ -156,6 +156,10 @@ told_each ms all counts is long each = record {
   each = λ i within. each i within ∙ ap (λ (bs : List Bool). occurrences i (targets_from bs (rows_of ms))) is ∙ ap (occurrences i) (targets_all (rows_of ms) (length ms) (sym (length-map ms (λ (m : Member). m.refs))));
 }
 
+-- a count that is read
+pub count_read : (count : ℕ) (targets counts : List ℕ) (at read : ℕ) → CountEach count targets counts → at < count → read ≡ get_or counts at read → read ≡ occurrences at targets
+count_read count targets counts at read h within is = get_or_read_under counts at (length counts) read 0 is (omega (arith, within, h.len)) refl ∙ h.each at within
+
 -- outside holds, one after the other
 pub record OutsideSo (ms : List Member) (at : ℕ) (outside : List ℕ) : Type 0 where
   pub len : length outside ≡ at
@@ -174,7 +178,7 @@ outside_next ms c at outside new m told holds counts within is read less pushed 
   where
     value : holds ≡ outside_at ms at
     value =
-        let told_is : told ≡ occurrences at (references_of ms) = get_or_read_under c.told.items at (length c.told.items) told 0 read (omega (arith, within, counts.told.len)) refl ∙ counts.told.each at within in
+        let told_is = count_read (length ms) (references_of ms) c.told.items at told counts.told within read in
         less ∙ ap (λ n. m.degree - n) told_is ∙ ap (λ n. n - occurrences at (references_of ms)) (sym (degree_read ms at m within is))
 
     last : (xs : List ℕ) (y i : ℕ) → i ≡ length xs → get_or (xs ++ y ∷ []) i 0 ≡ y

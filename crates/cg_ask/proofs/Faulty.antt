@@ -1,8 +1,8 @@
 -- What is wrong with a heap, and what follows where nothing is.
-use Rattle.std.proofs.Common.{◌≡◌, ◌≢◌, refl, sym, ◌∙◌, ap, subst, ℕ, zero, suc, ◌+◌, ◌-◌, ◌<◌, ◌≤◌, ◌^◌, Bool, true, false, ◌⊎◌, inl, inr, List, [], ◌∷◌, ◌++◌, length, map, Option, Some, None, arith, get_or}
+use Rattle.std.proofs.Common.{◌≡◌, ◌≢◌, refl, sym, ◌∙◌, ap, subst, ℕ, zero, suc, ◌+◌, ◌-◌, ◌<◌, ◌≤◌, ◌^◌, Bool, true, false, ◌⊎◌, inl, inr, List, [], ◌∷◌, ◌++◌, length, map, Option, Some, None, arith, get_or, nat_lt, ◌&&◌}
 use Rattle.std.specs.Prelude.{slice_get, IfSome, IfNone}
 use Rattle.std.specs.List.{concat}
-use Rattle.std.proofs.lemmas.Bool.{cases_eq, cases_lt}
+use Rattle.std.proofs.lemmas.Bool.{cases_eq, cases_lt, ltb-true, lt-ltb}
 use Rattle.std.proofs.lemmas.List.{length-map}
 use Rattle.std.proofs.lemmas.Option.{slice_get_within, get_or_from_slice_get}
 use Rattle.cg_graph.specs.Member.{Includes}
@@ -12,12 +12,28 @@ use Rattle.cg_search.proofs.Places.{occurs, occurs_in, absent_from}
 use Rattle.cg_snapshot.specs.declared.heap.Member.{Member}
 use Rattle.cg_snapshot.specs.Text.{AreMembers}
 use Rattle.cg_snapshot.specs.Reading.{are_below}
-use Rattle.cg_snapshot.proofs.Machine.{below_of, of_below}
 use Rattle.cg_ask.specs.Asked.{rows_of, words_of, references_of, all_words_of, degree_at}
 use Rattle.cg_ask.specs.Counted.{CountEach, IsCounts}
 use Rattle.cg_ask.specs.Faults.{IsWellNamed, IsCovered, IsCoveredWithWords, IsRight, HasFault, misnamed, too_low, low_with_words, IsFirstFault, AreRight}
 use Rattle.cg_ask.proofs.Counting.{concat_row, row_few, degree_read, no_degree, row_read, words_read}
 use Rattle.cg_ask.proofs.Marking.{member_of}
+
+-- the numbers are those of members just where the test says so
+below_of : (count : ℕ) (ns : List ℕ) → AreMembers count ns → are_below count ns ≡ true
+below_of count [] h = refl
+below_of count (n ∷ ns) h = are_true (nat_lt n count) (are_below count ns) (lt-ltb n count h.0) (below_of count ns h.1)
+  where
+    are_true : (a b : Bool) → a ≡ true → b ≡ true → (a && b) ≡ true
+    are_true true b p q = q
+    are_true false b p q = absurd (cc)
+
+of_below : (count : ℕ) (ns : List ℕ) → are_below count ns ≡ true → AreMembers count ns
+of_below count [] h = tt
+of_below count (n ∷ ns) h = let parts = both (nat_lt n count) (are_below count ns) h in (ltb-true n count parts.0, of_below count ns parts.1)
+  where
+    both : (a b : Bool) → (a && b) ≡ true → (a ≡ true) × (b ≡ true)
+    both true b e = (refl, e)
+    both false b e = absurd (cc)
 
 -- a heap of which nothing is wrong
 module _ (ms : List Member) (with_words : Bool) (right : AreRight ms with_words) where
@@ -60,33 +76,38 @@ module _ (ms : List Member) (with_words : Bool) (at : ℕ) (m : Member) (within 
   clash p q = absurd (cc)
 
   pub misnamed_refs : are_below (length ms) m.refs ≡ false → HasFault ms with_words at 2
-  misnamed_refs no = misnamed (λ named. clash (below_of (length ms) m.refs (subst (λ (r : List ℕ). AreMembers (length ms) r) refs_are named.0)) no)
+  misnamed_refs off = misnamed (λ named. clash (below_of (length ms) m.refs (subst (λ (r : List ℕ). AreMembers (length ms) r) refs_are named.0)) off)
 
   pub misnamed_words : are_below (length ms) m.untold ≡ false → HasFault ms with_words at 2
-  misnamed_words no = misnamed (λ named. clash (below_of (length ms) m.untold (subst (λ (r : List ℕ). AreMembers (length ms) r) words_are named.1)) no)
+  misnamed_words off = misnamed (λ named. clash (below_of (length ms) m.untold (subst (λ (r : List ℕ). AreMembers (length ms) r) words_are named.1)) off)
 
-  module _ (told words : ℕ) (told_is : told ≡ occurrences at (references_of ms)) (words_is : words ≡ occurrences at (all_words_of ms)) (named : IsWellNamed ms at) where
+  module _ (told : ℕ) (told_is : told ≡ occurrences at (references_of ms)) (named : IsWellNamed ms at) where
     degree : degree_at ms at ≡ m.degree
     degree = degree_read ms at m within is
 
     pub low_fault : m.degree < told → HasFault ms with_words at 3
     low_fault low = too_low named (λ le. omega (arith, low, le, told_is, degree))
 
-    pub covers : told ≤ m.degree → IsCovered ms at
+    covers : told ≤ m.degree → IsCovered ms at
     covers le = omega (arith, le, told_is, degree)
 
-    pub low_words : told ≤ m.degree → with_words ≡ true → m.degree - told < words → HasFault ms with_words at 4
-    low_words le asked low = low_with_words named (covers le) asked (λ all. omega (arith, le, low, all, told_is, words_is, degree))
+    pub low_words : (words : ℕ) → words ≡ occurrences at (all_words_of ms) → told ≤ m.degree → with_words ≡ true → m.degree - told < words → HasFault ms with_words at 4
+    low_words words words_is le asked low = low_with_words named (covers le) asked (λ all. omega (arith, le, low, all, told_is, words_is, degree))
 
-    pub is_right : told ≤ m.degree → (with_words ≡ true → words ≤ m.degree - told) → IsRight ms with_words at
-    is_right le more = record { names = named; covered = covers le; covered_with = λ asked. let w = more asked in omega (arith, w, le, told_is, words_is, degree) }
+    -- where untold words are asked for
+    pub is_right : (words : ℕ) → words ≡ occurrences at (all_words_of ms) → told ≤ m.degree → words ≤ m.degree - told → IsRight ms with_words at
+    is_right words words_is le more = record { names = named; covered = covers le; covered_with = λ asked. omega (arith, more, le, told_is, words_is, degree) }
+
+    -- where they are not
+    pub is_right_alone : told ≤ m.degree → with_words ≡ false → IsRight ms with_words at
+    is_right_alone le off = record { names = named; covered = covers le; covered_with = λ asked. absurd (clash asked off) }
 
 -- The members so far are right.
 pub right_more : (ms : List Member) (with_words : Bool) (at : ℕ) → ((i : ℕ) → i < at → IsRight ms with_words i) → IsRight ms with_words at → (i : ℕ) → i < at + 1 → IsRight ms with_words i
 right_more ms with_words at h r i below = either (cases_eq i at) (λ e. subst (λ j. IsRight ms with_words j) (sym e) r) (λ n. h i (omega (arith, below, n)))
 
 pub if_some : {A : Type 0} (o : Option A) (x : A) (P : A → Type 0) → o ≡ Some x → IfSome o P → P x
-if_some o x P e h = go o e h
+if_some {A = A} o x P e h = go o e h
   where
     go : (p : Option A) → p ≡ Some x → IfSome p P → P x
     go None f k = absurd (cc)
@@ -96,7 +117,7 @@ if_some o x P e h = go o e h
         same a b g = cc
 
 pub if_none : {A : Type 0} (o : Option A) (P : Type 0) → o ≡ None → IfNone o P → P
-if_none o P e h = go o e h
+if_none {A = A} o P e h = go o e h
   where
     go : (p : Option A) → p ≡ None → IfNone p P → P
     go None f k = k

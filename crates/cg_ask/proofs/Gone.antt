@@ -25,7 +25,7 @@ use Rattle.cg_ask.specs.Faults.{AreRight}
 use Rattle.cg_ask.specs.Marked.{MarkJust, flags_of}
 use Rattle.cg_ask.specs.Totals.{AppendsGone, totals_from}
 use Rattle.cg_ask.specs.declared.sets.Totals.{Totals}
-use Rattle.cg_ask.proofs.Rows.{RowsBelow, rows_first, rows_push, rows_push-rows, rows_skip, rows_skip-rows, rows_all}
+use Rattle.cg_ask.proofs.Rows.{RowsBelow, rows_first, rows_push, rows_skip, rows_all}
 use Rattle.cg_ask.proofs.Counting.{targets_few, targets_set, row_few, no_degree}
 use Rattle.cg_ask.proofs.Faulty.{covered_all}
 use Rattle.cg_ask.proofs.Marking.{is_or_not}
@@ -76,8 +76,8 @@ module _ (ms : List Member) (dropped : List ℕ) where
     given = λ z d m. slice_get-set_other s.closed y z false (λ e. other.1 (subst (λ w. Includes dropped w) e d)) ∙ s.given z d m;
     out = set_not s.closed y;
     keeps = λ z within not_in. either (cases_eq z y)
-        (λ e. inr (x, (λ m. s.out (set_less s.closed y x m), (row, at, subst (λ w. Includes row w) (sym e) leads))))
-        (λ n. either (s.keeps z within (λ m. not_in (slice_get-set_other s.closed y z false n ∙ m))) (λ h. inl h) (λ k. inr (k.0, ((λ m. k.1 (set_less s.closed y k.0 m)), k.2, k.3, k.4))));
+        (λ e. inr (x, (λ m. s.out (set_less s.closed y x m)), row, at, subst (λ w. Includes row w) (sym e) leads))
+        (λ n. either (s.keeps z within (λ m. not_in (slice_get-set_other s.closed y z false n ∙ m))) (λ h. inl h) (λ k. inr (k.0, (λ m. k.1 (set_less s.closed y k.0 m)), k.2, k.3, k.4)));
   }
 
   stays : (o : ℕ) → Reach (IsHeld ms) (IsOther ms dropped) (edges ms) o → Stays ms dropped o

@@ -2,7 +2,7 @@
 use Rattle.std.proofs.Common.{◌≡◌, ◌≢◌, refl, sym, ◌∙◌, ap, subst, ℕ, zero, suc, ◌+◌, ◌-◌, ◌<◌, ◌≤◌, Bool, true, false, ◌⊎◌, inl, inr, List, [], ◌∷◌, ◌++◌, length, map, Option, Some, None, arith, get_or}
 use Rattle.std.specs.Prelude.{slice_get, codes}
 use Rattle.std.proofs.lemmas.Bool.{cases_lt}
-use Rattle.std.proofs.lemmas.List.{length-map, get_or_read_under}
+use Rattle.std.proofs.lemmas.List.{length-map}
 use Rattle.cg_graph.specs.Holdings.{occurrences}
 use Rattle.cg_graph.proofs.Members.{either}
 use Rattle.cg_snapshot.specs.declared.heap.Member.{Member}
@@ -11,7 +11,7 @@ use Rattle.cg_ask.specs.Answers.{line, TellsReferrer, TellsHidden}
 use Rattle.cg_ask.specs.Counted.{IsCounts, AreOutside}
 use Rattle.cg_ask.specs.declared.counts.Counts.{Counts}
 use Rattle.cg_ask.specs.Marked.{AppendsRows}
-use Rattle.cg_ask.proofs.Counting.{row_read, no_degree}
+use Rattle.cg_ask.proofs.Counting.{row_read, no_degree, count_read}
 use Rattle.cg_ask.proofs.Rows.{RowsBelow, rows_push, rows_skip, rows_all}
 
 past_rows : (rows : List (List ℕ)) (i : ℕ) → length rows ≤ i → get_or rows i [] ≡ []
@@ -48,7 +48,7 @@ module _ (ms : List Member) (c : Counts) (outside : List ℕ) (counts : IsCounts
       → RowsBelow (TellsHidden ms) (codes "hidden") (at + 1) old new
   hidden_push new holds words left read_holds read_words less some put h =
       let value : holds ≡ outside_at ms at = read_holds ∙ out.each at within in
-      let word : words ≡ occurrences at (all_words_of ms) = get_or_read_under c.words.items at (length c.words.items) words 0 read_words (omega (arith, within, counts.words.len)) refl ∙ counts.words.each at within in
+      let word : words ≡ occurrences at (all_words_of ms) = count_read (length ms) (all_words_of ms) c.words.items at words counts.words within read_words in
       let numbers : holds ∷ left ∷ [] ≡ outside_at ms at ∷ (outside_at ms at - occurrences at (all_words_of ms)) ∷ [] = ap (λ n. holds ∷ n ∷ []) (less ∙ ap (λ n. holds - n) word) ∙ ap (λ n. n ∷ (n - occurrences at (all_words_of ms)) ∷ []) value in
       rows_push (TellsHidden ms) (codes "hidden") at old mid new (holds ∷ left ∷ []) (record { some = omega (arith, some, value); numbers = numbers }) (λ ns t. t.numbers ∙ sym numbers) put h
 

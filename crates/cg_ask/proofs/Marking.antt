@@ -24,28 +24,28 @@ is_or_not marks i = by (is_marked marks i) refl
 
 -- two lists of marks, place by place
 abbrev pub zipped : (Bool → Bool → Bool) → List Bool → List Bool → List Bool
-zipped f [] bs = []
-zipped f (a ∷ as) [] = []
-zipped f (a ∷ as) (b ∷ bs) = f a b ∷ zipped f as bs
+zipped f [] others = []
+zipped f (a ∷ marks) [] = []
+zipped f (a ∷ marks) (b ∷ others) = f a b ∷ zipped f marks others
 
-zipped_suc : (f : Bool → Bool → Bool) (as bs : List Bool) (k : ℕ) (d : Bool) → k < length as → length as ≡ length bs → zipped f (take (suc k) as) (take (suc k) bs) ≡ zipped f (take k as) (take k bs) ++ f (get_or as k d) (get_or bs k d) ∷ []
-zipped_suc f [] bs k d within long = absurd (omega (arith, within))
-zipped_suc f (a ∷ as) [] k d within long = absurd (omega (arith, long))
-zipped_suc f (a ∷ as) (b ∷ bs) zero d within long = refl
-zipped_suc f (a ∷ as) (b ∷ bs) (suc k) d within long = ap (λ t. f a b ∷ t) (zipped_suc f as bs k d (omega (arith, within)) (omega (arith, long)))
+zipped_suc : (f : Bool → Bool → Bool) (marks others : List Bool) (k : ℕ) (d : Bool) → k < length marks → length marks ≡ length others → zipped f (take (suc k) marks) (take (suc k) others) ≡ zipped f (take k marks) (take k others) ++ f (get_or marks k d) (get_or others k d) ∷ []
+zipped_suc f [] others k d within long = absurd (omega (arith, within))
+zipped_suc f (a ∷ marks) [] k d within long = absurd (omega (arith, long))
+zipped_suc f (a ∷ marks) (b ∷ others) zero d within long = refl
+zipped_suc f (a ∷ marks) (b ∷ others) (suc k) d within long = ap (λ t. f a b ∷ t) (zipped_suc f marks others k d (omega (arith, within)) (omega (arith, long)))
 
-pub zipped_next : (f : Bool → Bool → Bool) (as bs : List Bool) (k : ℕ) (d : Bool) → k < length as → length as ≡ length bs → zipped f (take (k + 1) as) (take (k + 1) bs) ≡ zipped f (take k as) (take k bs) ++ f (get_or as k d) (get_or bs k d) ∷ []
-zipped_next f as bs k d within long =
+pub zipped_next : (f : Bool → Bool → Bool) (marks others : List Bool) (k : ℕ) (d : Bool) → k < length marks → length marks ≡ length others → zipped f (take (k + 1) marks) (take (k + 1) others) ≡ zipped f (take k marks) (take k others) ++ f (get_or marks k d) (get_or others k d) ∷ []
+zipped_next f marks others k d within long =
     let one : k + 1 ≡ suc k = omega arith in
-    ap (λ n. zipped f (take n as) (take n bs)) one ∙ zipped_suc f as bs k d within long
+    ap (λ n. zipped f (take n marks) (take n others)) one ∙ zipped_suc f marks others k d within long
 
-pub zipped_all : (f : Bool → Bool → Bool) (as bs left : List Bool) (k : ℕ) → length as ≤ k → length as ≡ length bs → left ≡ zipped f (take k as) (take k bs) → left ≡ zipped f as bs
-zipped_all f as bs left k end long is = is ∙ ap (λ xs. zipped f xs (take k bs)) (take_all k as end) ∙ ap (zipped f as) (take_all k bs (omega (arith, end, long)))
+pub zipped_all : (f : Bool → Bool → Bool) (marks others left : List Bool) (k : ℕ) → length marks ≤ k → length marks ≡ length others → left ≡ zipped f (take k marks) (take k others) → left ≡ zipped f marks others
+zipped_all f marks others left k end long is = is ∙ ap (λ xs. zipped f xs (take k others)) (take_all k marks end) ∙ ap (zipped f marks) (take_all k others (omega (arith, end, long)))
 
-length-zipped : (f : Bool → Bool → Bool) (as bs : List Bool) → length as ≡ length bs → length (zipped f as bs) ≡ length as
-length-zipped f [] bs long = refl
-length-zipped f (a ∷ as) [] long = absurd (omega (arith, long))
-length-zipped f (a ∷ as) (b ∷ bs) long = ap suc (length-zipped f as bs (omega (arith, long)))
+length-zipped : (f : Bool → Bool → Bool) (marks others : List Bool) → length marks ≡ length others → length (zipped f marks others) ≡ length marks
+length-zipped f [] others long = refl
+length-zipped f (a ∷ marks) [] long = absurd (omega (arith, long))
+length-zipped f (a ∷ marks) (b ∷ others) long = ap suc (length-zipped f marks others (omega (arith, long)))
 
 only_true : (a b : Bool) → (a && not b) ≡ true → (a ≡ true) × (b ≡ true → ⊥)
 only_true true true h = absurd (cc)
@@ -66,11 +66,11 @@ any a b = a || b
 some_is : (a b : Bool) → Some a ≡ Some b → a ≡ b
 some_is a b e = cc
 
-pub only_at : (as bs : List Bool) (i : ℕ) → length as ≡ length bs → Marks (zipped only as bs) i ↔ (Marks as i × ¬ Marks bs i)
-only_at [] bs i long = (λ m. absurd (cc), λ m. absurd (let h = m.0 in cc))
-only_at (a ∷ as) [] i long = absurd (omega (arith, long))
-only_at (a ∷ as) (b ∷ bs) zero long = (λ m. let p = only_true a b (some_is (a && not b) true m) in (ap Some p.0, λ e. p.1 (some_is b true e)), λ m. ap Some (true_only a b (some_is a true m.0) (λ e. m.1 (ap Some e))))
-only_at (a ∷ as) (b ∷ bs) (suc i) long = only_at as bs i (omega (arith, long))
+pub only_at : (marks others : List Bool) (i : ℕ) → length marks ≡ length others → Marks (zipped only marks others) i ↔ (Marks marks i × ¬ Marks others i)
+only_at [] others i long = (λ m. absurd (cc), λ m. absurd (let h = m.0 in cc))
+only_at (a ∷ marks) [] i long = absurd (omega (arith, long))
+only_at (a ∷ marks) (b ∷ others) zero long = (λ m. let p = only_true a b (some_is (a && not b) true m) in (ap Some p.0, λ e. p.1 (some_is b true e)), λ m. ap Some (true_only a b (some_is a true m.0) (λ e. m.1 (ap Some e))))
+only_at (a ∷ marks) (b ∷ others) (suc i) long = only_at marks others i (omega (arith, long))
 
 any_true : (a b : Bool) → (a || b) ≡ true → (a ≡ true) ⊎ (b ≡ true)
 any_true true b h = inl refl
@@ -81,21 +81,21 @@ true_any true b h = refl
 true_any false b (inl h) = absurd (cc)
 true_any false b (inr h) = h
 
-pub any_at : (as bs : List Bool) (i : ℕ) → length as ≡ length bs → Marks (zipped any as bs) i ↔ (Marks as i ⊎ Marks bs i)
+pub any_at : (marks others : List Bool) (i : ℕ) → length marks ≡ length others → Marks (zipped any marks others) i ↔ (Marks marks i ⊎ Marks others i)
 any_at [] [] i long = (λ m. absurd (cc), λ m. either m (λ e. absurd (cc)) (λ e. absurd (cc)))
-any_at [] (b ∷ bs) i long = absurd (omega (arith, long))
-any_at (a ∷ as) [] i long = absurd (omega (arith, long))
-any_at (a ∷ as) (b ∷ bs) zero long = (
+any_at [] (b ∷ others) i long = absurd (omega (arith, long))
+any_at (a ∷ marks) [] i long = absurd (omega (arith, long))
+any_at (a ∷ marks) (b ∷ others) zero long = (
   λ m. either (any_true a b (some_is (a || b) true m)) (λ e. inl (ap Some e)) (λ e. inr (ap Some e)),
   λ m. ap Some (true_any a b (either m (λ e. inl (some_is a true e)) (λ e. inr (some_is b true e)))),
 )
-any_at (a ∷ as) (b ∷ bs) (suc i) long = any_at as bs i (omega (arith, long))
+any_at (a ∷ marks) (b ∷ others) (suc i) long = any_at marks others i (omega (arith, long))
 
-pub just_only : (as bs left : List Bool) → length as ≡ length bs → left ≡ zipped only as bs → MarkJust (length as) (λ i. Marks as i × ¬ Marks bs i) left
-just_only as bs left long is = subst (λ (ms : List Bool). MarkJust (length as) (λ i. Marks as i × ¬ Marks bs i) ms) (sym is) (record { len = length-zipped only as bs long; just = λ i. only_at as bs i long })
+pub just_only : (marks others left : List Bool) → length marks ≡ length others → left ≡ zipped only marks others → MarkJust (length marks) (λ i. Marks marks i × ¬ Marks others i) left
+just_only marks others left long is = subst (λ (ms : List Bool). MarkJust (length marks) (λ i. Marks marks i × ¬ Marks others i) ms) (sym is) (record { len = length-zipped only marks others long; just = λ i. only_at marks others i long })
 
-pub just_any : (as bs left : List Bool) → length as ≡ length bs → left ≡ zipped any as bs → MarkJust (length as) (λ i. Marks as i ⊎ Marks bs i) left
-just_any as bs left long is = subst (λ (ms : List Bool). MarkJust (length as) (λ i. Marks as i ⊎ Marks bs i) ms) (sym is) (record { len = length-zipped any as bs long; just = λ i. any_at as bs i long })
+pub just_any : (marks others left : List Bool) → length marks ≡ length others → left ≡ zipped any marks others → MarkJust (length marks) (λ i. Marks marks i ⊎ Marks others i) left
+just_any marks others left long is = subst (λ (ms : List Bool). MarkJust (length marks) (λ i. Marks marks i ⊎ Marks others i) ms) (sym is) (record { len = length-zipped any marks others long; just = λ i. any_at marks others i long })
 
 -- marks that stand for the same set
 pub just_same : (count : ℕ) (P Q : ℕ → Type 0) (marks : List Bool) → MarkJust count P marks → ((i : ℕ) → i < count → P i → Q i) → ((i : ℕ) → Q i → P i) → MarkJust count Q marks

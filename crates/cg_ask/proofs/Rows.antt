@@ -23,16 +23,16 @@ pub record RowsBelow (P : ℕ → List ℕ → Type 0) (word : List ℕ) (at : �
   pub all : (m : ℕ) (ns : List ℕ) → m < at → P m ns → Includes rows (m, ns)
   pub text : new ≡ old ++ rows_text word rows
 
-rise_push : (rows : List Row) (s : Row) → Rise rows → ((r : Row) → Includes rows r → r.0 < s.0) → Rise (rows ++ s ∷ [])
+pub rise_push : (rows : List Row) (s : Row) → Rise rows → ((r : Row) → Includes rows r → r.0 < s.0) → Rise (rows ++ s ∷ [])
 rise_push [] s h below = (λ r m. absurd m, tt)
 rise_push (r ∷ rows) s h below = (λ t m. either (Includes-append_cases rows (s ∷ []) t m) (λ k. h.0 t k) (λ k. either k (λ e. subst (λ (u : Row). r.0 < u.0) e (below r (inl refl))) (λ f. absurd f)), rise_push rows s h.1 (λ t m. below t (inr m)))
 
 module _ (P : ℕ → List ℕ → Type 0) (word : List ℕ) where
-  pub rows_first : (old : List ℕ) → RowsBelow P word 0 old old
+  unfoldable pub rows_first : (old : List ℕ) → RowsBelow P word 0 old old
   rows_first old = record { rows = []; rise = tt; below = λ r m. absurd m; told = λ r m. absurd m; all = λ m ns low p. absurd (omega (arith, low)); text = sym (append-nil old) }
 
   -- a member of which there is something to be told
-  pub rows_push : (at : ℕ) (old mid new ns : List ℕ) → P at ns → ((ms : List ℕ) → P at ms → ms ≡ ns) → new ≡ mid ++ line word (at ∷ ns) → RowsBelow P word at old mid → RowsBelow P word (at + 1) old new
+  unfoldable pub rows_push : (at : ℕ) (old mid new ns : List ℕ) → P at ns → ((ms : List ℕ) → P at ms → ms ≡ ns) → new ≡ mid ++ line word (at ∷ ns) → RowsBelow P word at old mid → RowsBelow P word (at + 1) old new
   rows_push at old mid new ns is one put h = record {
     rows = h.rows ++ (at, ns) ∷ [];
     rise = rise_push h.rows (at, ns) h.rise h.below;
@@ -51,12 +51,8 @@ module _ (P : ℕ → List ℕ → Type 0) (word : List ℕ) where
       same : (m : ℕ) (ms : List ℕ) → m ≡ at → ms ≡ ns → ◌≡◌ {A = Row} (at, ns) (m, ms)
       same m ms e f = ap (λ k. (k, ns)) (sym e) ∙ ap (λ (ks : List ℕ). (m, ks)) (sym f)
 
-  pub rows_push-rows : (at : ℕ) (old mid new ns : List ℕ) (is : P at ns) (one : (ms : List ℕ) → P at ms → ms ≡ ns) (put : new ≡ mid ++ line word (at ∷ ns)) (h : RowsBelow P word at old mid) → (rows_push at old mid new ns is one put h).rows ≡ h.rows ++ (at, ns) ∷ []
-  unfolding rows_push
-  rows_push-rows at old mid new ns is one put h = refl
-
   -- a member of which there is nothing
-  pub rows_skip : (at : ℕ) (old new : List ℕ) → ((ns : List ℕ) → ¬ P at ns) → RowsBelow P word at old new → RowsBelow P word (at + 1) old new
+  unfoldable pub rows_skip : (at : ℕ) (old new : List ℕ) → ((ns : List ℕ) → ¬ P at ns) → RowsBelow P word at old new → RowsBelow P word (at + 1) old new
   rows_skip at old new none h = record {
     rows = h.rows;
     rise = h.rise;
@@ -66,12 +62,8 @@ module _ (P : ℕ → List ℕ → Type 0) (word : List ℕ) where
     text = h.text;
   }
 
-  pub rows_skip-rows : (at : ℕ) (old new : List ℕ) (none : (ns : List ℕ) → ¬ P at ns) (h : RowsBelow P word at old new) → (rows_skip at old new none h).rows ≡ h.rows
-  unfolding rows_skip
-  rows_skip-rows at old new none h = refl
-
   -- all members
-  pub rows_all : (at : ℕ) (old new : List ℕ) → ((m : ℕ) (ns : List ℕ) → P m ns → m < at) → RowsBelow P word at old new → AppendsRows P word old new
+  unfoldable pub rows_all : (at : ℕ) (old new : List ℕ) → ((m : ℕ) (ns : List ℕ) → P m ns → m < at) → RowsBelow P word at old new → AppendsRows P word old new
   rows_all at old new within h = record {
     rows = h.rows;
     tells = record { rise = h.rise; just = λ m ns. (λ k. h.told (m, ns) k, λ p. h.all m ns (within m ns p) p) };

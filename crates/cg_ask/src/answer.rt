@@ -1,5 +1,5 @@
 //! The answer to a question.
-ghost use Rattle.std.specs.Prelude.{◌≡◌, ◌<◌, ◌^◌, true, length, OnOk, IfOk};
+ghost use Rattle.std.specs.Prelude.{false, ◌≡◌, ◌<◌, ◌^◌, true, length, OnOk, IfOk};
 ghost use Rattle.std.specs.List.{AllByRecursion};
 ghost use Rattle.cg_snapshot.specs.Text.{IsAsked, IsSmallMember};
 ghost use Rattle.cg_ask.specs.Asked.{references_of};

@@ -1,5 +1,5 @@
 //! What the next full collection clears, and what it will never take.
-ghost use Rattle.std.specs.Prelude.{◌≡◌, ◌<◌, ◌^◌, ℕ, length, map, IfOk};
+ghost use Rattle.std.specs.Prelude.{false, ◌≡◌, ◌<◌, ◌^◌, ℕ, length, map, IfOk};
 ghost use Rattle.cg_search.specs.Places.{Marks};
 ghost use Rattle.cg_ask.specs.Asked.{references_of, tracked_of, legacy_of, IsHeldElsewhere, IsUnreachable, IsSetAside, IsCleared, IsStuck, IsLost};
 ghost use Rattle.cg_ask.specs.Faults.{AreRight};

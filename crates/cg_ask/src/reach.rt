@@ -1,5 +1,5 @@
 //! What paths from outside-held members reach.
-ghost use Rattle.std.specs.Prelude.{◌≡◌, ◌<◌, ℕ, length, map, nat_lt, IfOk};
+ghost use Rattle.std.specs.Prelude.{false, ◌≡◌, ◌<◌, ℕ, length, map, nat_lt, IfOk};
 ghost use Rattle.cg_graph.specs.Reach.{Reach};
 ghost use Rattle.cg_snapshot.specs.Text.{AreMembers};
 ghost use Rattle.cg_ask.specs.Asked.{IsHeld, IsMember, IsReached, IsOther, IsLost, edges};

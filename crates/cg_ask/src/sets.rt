@@ -1,5 +1,5 @@
 //! Sets of members: what is lost, what would go, and what untold words keep.
-ghost use Rattle.std.specs.Prelude.{◌≡◌, ◌≤◌, ◌<◌, ◌+◌, ◌^◌, ℕ, length, map, codes, cond, IfOk, OnOk};
+ghost use Rattle.std.specs.Prelude.{false, ◌≡◌, ◌≤◌, ◌<◌, ◌+◌, ◌^◌, ℕ, length, map, codes, cond, IfOk, OnOk};
 ghost use Rattle.std.specs.List.{AllByRecursion};
 ghost use Rattle.cg_graph.specs.Member.{Includes};
 ghost use Rattle.cg_snapshot.specs.Text.{AreMembers, IsSmallMember};

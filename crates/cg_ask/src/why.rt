@@ -1,5 +1,5 @@
 //! Why a member is alive.
-ghost use Rattle.std.specs.Prelude.{◌≡◌, ◌++◌, ◌∷◌, [], ℕ, length, map, flat_map, codes, IfOk, IfSome, IfNone, OnOk};
+ghost use Rattle.std.specs.Prelude.{false, ◌≡◌, ◌++◌, ◌∷◌, [], ℕ, length, map, flat_map, codes, IfOk, IfSome, IfNone, OnOk};
 ghost use Rattle.cg_snapshot.specs.Text.{AreMembers};
 ghost use Rattle.cg_ask.specs.Asked.{IsShortest, HasNone};
 ghost use Rattle.cg_ask.specs.Answers.{line, way_text};

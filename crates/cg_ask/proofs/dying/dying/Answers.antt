@@ -4,6 +4,7 @@ use Rattle.std.proofs.lemmas.Option.{MatchOption-at_none}
 use Rattle.cg_graph.specs.Member.{Includes}
 use Rattle.cg_graph.specs.Holdings.{occurrences}
 use Rattle.cg_search.proofs.Visited.{empty_of}
+use Rattle.cg_snapshot.specs.declared.heap.Member.{Member}
 use Rattle.cg_ask.specs.Asked.{rows_of}
 use Rattle.cg_ask.specs.Released.{Releases}
 use Rattle.cg_ask.proofs.Counting.{row_read}
@@ -29,7 +30,7 @@ release_all-requires-clause-within c = λ i h.
     let popped = c.pop.ensures.items ∙ ap (λ o. c.pop.new.self.items ++ option_to_list o) c.in-Some.is in
     let inside = at_within c.args.members.now c.args.given.now c.requires.right c.requires.long c.turns.left.items c.turns.dead.items c.turns.waits.items c.pop.new.self.items c.in-Some.at c.turns.invariant popped in
     let row = row_read c.args.members.now c.in-Some.at c.index-members-at.result inside c.index-members-at.is in
-    let within = row_at_within c.args.members.now c.args.given.now c.requires.right c.requires.long c.turns.left.items c.turns.dead.items c.turns.waits.items c.pop.new.self.items c.in-Some.at c.turns.invariant popped i (subst (λ (ns : List ℕ). Includes ns i) (c.as_slice.ensures ∙ sym row) h) in
+    let within = row_at_within c.args.members.now c.args.given.now c.requires.right c.requires.long c.turns.left.items c.turns.dead.items c.turns.waits.items c.pop.new.self.items c.in-Some.at c.turns.invariant popped i (subst (λ (ns : List ℕ). Includes ns i) (c.as_slice.ensures ∙ ap (λ (m : Member). m.refs) (sym c.index-members-at.is) ∙ sym row) h) in
     omega (arith, within, c.turns.invariant.len)
 
 pub release_all-requires-clause-long : goal.release_all-requires-clause-long
@@ -40,7 +41,7 @@ release_all-requires-clause-some c = λ i.
     let popped = c.pop.ensures.items ∙ ap (λ o. c.pop.new.self.items ++ option_to_list o) c.in-Some.is in
     let inside = at_within c.args.members.now c.args.given.now c.requires.right c.requires.long c.turns.left.items c.turns.dead.items c.turns.waits.items c.pop.new.self.items c.in-Some.at c.turns.invariant popped in
     let row = row_read c.args.members.now c.in-Some.at c.index-members-at.result inside c.index-members-at.is in
-    subst (λ (ns : List ℕ). occurrences i ns ≤ get_or c.turns.left.items i 0) (row ∙ sym c.as_slice.ensures)
+    subst (λ (ns : List ℕ). occurrences i ns ≤ get_or c.turns.left.items i 0) (row ∙ sym (c.as_slice.ensures ∙ ap (λ (m : Member). m.refs) (sym c.index-members-at.is)))
     (row_some c.args.members.now c.args.given.now c.requires.right c.requires.long c.turns.left.items c.turns.dead.items c.turns.waits.items c.pop.new.self.items c.in-Some.at c.turns.invariant popped i)
 
 pub turns-preserved : goal.turns-preserved
@@ -49,7 +50,7 @@ turns-preserved c =
     let inside = at_within c.args.members.now c.args.given.now c.requires.right c.requires.long c.turns.left.items c.turns.dead.items c.turns.waits.items c.pop.new.self.items c.in-Some.at c.turns.invariant popped in
     let row = row_read c.args.members.now c.in-Some.at c.index-members-at.result inside c.index-members-at.is in
     died_more c.args.members.now c.args.given.now c.requires.right c.requires.long c.turns.left.items c.turns.dead.items c.turns.waits.items c.pop.new.self.items c.in-Some.at c.turns.invariant popped c.release_all.new.left.items c.release_all.new.dead.items c.release_all.new.waits.items
-    (subst (λ (ns : List ℕ). Releases ns c.turns.left.items c.turns.dead.items c.pop.new.self.items c.release_all.new.left.items c.release_all.new.dead.items c.release_all.new.waits.items) (c.as_slice.ensures ∙ sym row) c.in_ok-release_all.ensures)
+    (subst (λ (ns : List ℕ). Releases ns c.turns.left.items c.turns.dead.items c.pop.new.self.items c.release_all.new.left.items c.release_all.new.dead.items c.release_all.new.waits.items) (c.as_slice.ensures ∙ ap (λ (m : Member). m.refs) (sym c.index-members-at.is) ∙ sym row) c.in_ok-release_all.ensures)
 
 pub turns-smaller : goal.turns-smaller
 turns-smaller c =

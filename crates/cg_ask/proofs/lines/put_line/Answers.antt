@@ -7,5 +7,5 @@ numbers-init c = line_first c.args.out.now.items c.extend_from_slice.new.self.it
 pub numbers-preserved : goal.numbers-preserved
 numbers-preserved c = line_next c.args.out.now.items c.numbers.out.items c.put_spaced.new.out.items c.args.word.now c.args.numbers.now c.numbers.number-index c.numbers-test.true c.numbers.invariant c.in_ok-put_spaced.ensures
 
-pub returns-in_ok-push : goal.returns-in_ok-push
-returns-in_ok-push c = line_end c.args.out.now.items c.numbers.out.items c.push.new.self.items c.args.word.now c.args.numbers.now c.numbers.number-index c.numbers-test.false c.numbers.invariant c.in_ok-push.ensures.items
+pub returns : goal.returns
+returns c = line_end c.args.out.now.items c.numbers.out.items c.push.new.self.items c.args.word.now c.args.numbers.now c.numbers.number-index c.numbers-test.false c.numbers.invariant c.in_ok-push.ensures.items

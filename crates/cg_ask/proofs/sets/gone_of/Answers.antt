@@ -5,10 +5,10 @@ use Rattle.cg_ask.proofs.Gone.{gone_just}
 use Rattle.cg_ask.proofs.sets.gone_of.Goals as goal
 
 pub marked-requires : goal.marked-requires
-marked-requires c = rw c.len.ensures c.requires.places
+marked-requires c = c.requires.places
 
 pub dying-requires-clause-long : goal.dying-requires-clause-long
-dying-requires-clause-long c = omega (arith, ap (λ (bs : List Bool). length bs) c.deref.ensures.value, c.in_ok-given.ensures.len, c.len.ensures)
+dying-requires-clause-long c = omega (arith, ap (λ (bs : List Bool). length bs) c.deref.ensures.value, c.in_ok-given.ensures.len)
 
 pub without-requires : goal.without-requires
 without-requires c = omega (arith, ap (λ (bs : List Bool). length bs) c.deref-2.ensures.value, ap (λ (bs : List Bool). length bs) c.deref-3.ensures.value, c.in_ok-before.ensures.len, c.in_ok-after.ensures.len)
@@ -18,7 +18,7 @@ joined-requires c = omega (arith, ap (λ (bs : List Bool). length bs) c.deref-2.
 
 pub returns-clause-gone : goal.returns-clause-gone
 returns-clause-gone c =
-    let given = rw c.len.ensures at c.in_ok-given.ensures in
+    let given = c.in_ok-given.ensures in
     let dies = rw (c.deref.ensures.value) at c.in_ok-dead.ensures in
     let dead = dead_just c.args.members.now c.in_ok-given.given.items c.in_ok-dead.dead.items (Includes c.args.places.now) given dies in
     let left = rw (c.deref-2.ensures.value, c.deref-3.ensures.value) at c.in_ok-let_go.ensures in
@@ -27,6 +27,6 @@ returns-clause-gone c =
 
 pub returns-clause-dead : goal.returns-clause-dead
 returns-clause-dead c =
-    let given = rw c.len.ensures at c.in_ok-given.ensures in
+    let given = c.in_ok-given.ensures in
     let dies = rw (c.deref.ensures.value) at c.in_ok-dead.ensures in
     dead_just c.args.members.now c.in_ok-given.given.items c.in_ok-dead.dead.items (Includes c.args.places.now) given dies
