@@ -2,7 +2,7 @@
 use Rattle.std.proofs.Common.{◌≡◌, ◌≢◌, refl, sym, ◌∙◌, ap, subst, ℕ, zero, suc, ◌+◌, ◌<◌, ◌≤◌, Bool, true, false, not, nat_lt, ◌&&◌, ◌||◌, ◌⊎◌, inl, inr, List, [], ◌∷◌, ◌++◌, length, take, map, Option, Some, None, arith, get_or, set, replicate, take_all, length-append}
 use Rattle.std.specs.Prelude.{◌↔◌, slice_get}
 use Rattle.std.proofs.lemmas.Bool.{cases_eq, cases_lt, ltb-true, lt-ltb}
-use Rattle.std.proofs.lemmas.List.{take_more, length-set, length-replicate}
+use Rattle.std.proofs.lemmas.List.{take_more, length-set, length-replicate, get_or_read_under}
 use Rattle.std.proofs.lemmas.Option.{slice_get_within, slice_get-get_or, same_Some}
 use Rattle.cg_graph.specs.Member.{Includes}
 use Rattle.cg_graph.proofs.Members.{either, Includes-append_left, Includes-append_right, Includes-append_cases}
@@ -148,6 +148,14 @@ pub next_member : (count : ℕ) (ns : List ℕ) (k : ℕ) → AreMembers count n
 next_member count [] k h within = absurd (omega (arith, within))
 next_member count (n ∷ ns) zero h within = h.0
 next_member count (n ∷ ns) (suc k) h within = next_member count ns k h.1 (omega (arith, within))
+
+pub members_of : (count : ℕ) (ns : List ℕ) → ((x : ℕ) → Includes ns x → x < count) → AreMembers count ns
+members_of count [] h = tt
+members_of count (n ∷ ns) h = (h n (inl refl), members_of count ns (λ x m. h x (inr m)))
+
+-- a mark that is read
+pub mark_read : (marks : List Bool) (at : ℕ) (mark : Bool) → at < length marks → mark ≡ get_or marks at mark → get_or marks at false ≡ mark
+mark_read marks at mark within is = sym (get_or_read_under marks at (length marks) mark false is within refl)
 
 -- Marks that are computed one after the other.
 pub record MarksSo (at : ℕ) (f : ℕ → Bool) (marks : List Bool) : Type 0 where
