@@ -11,3 +11,4 @@ pub mod Marking
 pub mod Reaching
 pub mod Released
 pub mod Rows
+pub mod Sizes

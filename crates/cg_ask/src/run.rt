@@ -59,12 +59,12 @@ fn write_answers<K: Sink>(
     };
     'questions: for question in questions {
         let mut text = Vec::new(alloc);
-        if put_answer(alloc, members, counts, &outside, question, &mut text).is_err() {
+        let Ok(()) = put_answer(alloc, members, counts, &outside, question, &mut text) else {
             return AskStatus::OutOfMemory;
-        }
-        if sink.write(&text).is_err() {
+        };
+        let Ok(()) = sink.write(&text) else {
             return AskStatus::WriteFault;
-        }
+        };
     }
     AskStatus::Answered
 }
