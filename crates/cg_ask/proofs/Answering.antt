@@ -1,5 +1,5 @@
 -- Answers that are appended.
-use Rattle.std.proofs.Common.{◌≡◌, refl, sym, ◌∙◌, ap, subst, ℕ, ◌<◌, Bool, List, [], ◌∷◌, ◌++◌, length, map, arith, append_assoc, append-nil}
+use Rattle.std.proofs.Common.{◌≡◌, refl, sym, ◌∙◌, ap, subst, ℕ, Bool, List, [], ◌∷◌, ◌++◌, length, append_assoc, append-nil}
 use Rattle.std.specs.Prelude.{codes}
 use Rattle.cg_graph.specs.Member.{Includes}
 use Rattle.cg_search.specs.Places.{Marks}
@@ -9,7 +9,7 @@ use Rattle.cg_snapshot.specs.declared.question.Question.TheVariants as questions
 use Rattle.cg_snapshot.specs.Text.{question_text}
 use Rattle.cg_ask.specs.Dying.{Dies}
 use Rattle.cg_ask.specs.Asked.{outside_at, IsGone, IsShortest, HasNone}
-use Rattle.cg_ask.specs.Answers.{Row, Tells, rows_text, line, totals_of, nothing_more, way_text, IsReason, by_path, by_none, IsTold, IsAnswer, Answers, TellsReferrer, TellsHidden, TellsLost, TellsGone, TellsKept}
+use Rattle.cg_ask.specs.Answers.{rows_text, line, totals_of, nothing_more, way_text, IsReason, by_path, by_none, IsTold, TellsReferrer, TellsHidden, TellsLost, TellsGone, TellsKept}
 use Rattle.cg_ask.specs.Marked.{AppendsRows, MarkJust, flags_of}
 use Rattle.cg_ask.specs.Told.{AppendsReason, AppendsTold, AppendsAnswer, AppendsWhole}
 use Rattle.cg_ask.specs.Totals.{AppendsGone}

@@ -1,9 +1,9 @@
 -- Facts of the top call, where the source tells its bytes.
-use Rattle.std.proofs.Common.{◌≡◌, ◌≢◌, ◌⊎◌, inl, inr, refl, sym, ◌∙◌, ap, subst, ◌<◌, ◌≤◌, ◌+◌, ◌^◌, ℕ, zero, suc, Bool, true, false, List, [], ◌∷◌, ◌++◌, length, take, drop, get_or, Option, None, Some, IfSome, arith, length-append, append-nil, append_assoc, take-append-drop, take_all}
+use Rattle.std.proofs.Common.{◌≡◌, ◌⊎◌, inl, inr, refl, sym, ◌∙◌, ap, subst, ◌<◌, ◌≤◌, ◌+◌, ℕ, zero, suc, List, [], ◌∷◌, ◌++◌, length, take, drop, get_or, Option, None, Some, IfSome, arith, length-append, append-nil, append_assoc, take-append-drop, take_all}
 use Rattle.std.specs.Prelude.{codes}
-use Rattle.std.specs.List.{AllByRecursion, concat}
+use Rattle.std.specs.List.{AllByRecursion}
 use Rattle.std.proofs.lemmas.Bool.{cases_lt}
-use Rattle.std.proofs.lemmas.List.{take_more, drop_more}
+use Rattle.std.proofs.lemmas.List.{take_more}
 use Rattle.std.specs.Io.KnownBytes.{Appends, Keeps, Consumes, IsAtEnd}
 use Rattle.std.proofs.KnownBytes.{Appends-trans, Appends-nil}
 use Rattle.cg_io.specs.Causes.{AppendsFront, Rose}
@@ -15,7 +15,7 @@ use Rattle.cg_snapshot.specs.Text.{Spells, IsBadLine, IsAsked}
 use Rattle.cg_ask.specs.Answers.{line, Answers, AnswersAll}
 use Rattle.cg_ask.specs.Faults.{IsFirstFault, AreRight}
 use Rattle.cg_ask.specs.Told.{AppendsWhole}
-use Rattle.cg_ask.specs.Statuses.{asks_untold, OfSnapshot, fault, answers, IsOutcome, bad_line, of_snapshot, large, WritesOutcome, WritesSnapshot, IsBegunOf, nothing, whole, some, IsBegun, nothing_yet, whole_bytes, begun_snapshot, WritesFront, WritesFrontOf, HasOutcome, AnswersSo, IsCutShort}
+use Rattle.cg_ask.specs.Statuses.{asks_untold, fault, answers, IsOutcome, bad_line, of_snapshot, large, WritesOutcome, WritesSnapshot, nothing, whole, some, IsBegun, nothing_yet, whole_bytes, begun_snapshot, WritesFront, WritesFrontOf, HasOutcome, AnswersSo, IsCutShort}
 use Rattle.cg_ask.specs.declared.run.TheConstants.{LIMIT}
 use Rattle.cg_ask.specs.declared.status.AskStatus.{AskStatus}
 use Rattle.cg_ask.specs.declared.status.AskStatus.TheVariants as status
@@ -33,6 +33,18 @@ pub record WroteAnswers (ms : List Member) (qs : List Question) (before now : Op
 
 pub wrote_none : (ms : List Member) (before : Option (List ℕ)) → WroteAnswers ms [] before before
 wrote_none ms before = record { text = []; answers_are = refl; wrote = Appends-nil before }
+
+-- The answers so far were written, and the count of faults did not fall.
+pub record HasWritten (ms : List Member) (qs : List Question) (before now : Option (List ℕ)) (faults later : ℕ) : Type 0 where
+  pub answers : WroteAnswers ms qs before now
+  pub not_less : faults ≤ later
+
+pub written_first : (ms : List Member) (qs : List Question) (before : Option (List ℕ)) (faults : ℕ) → HasWritten ms (take 0 qs) before before faults faults
+written_first ms qs before faults = record { answers = wrote_none ms before; not_less = omega arith }
+
+-- a count that rose later rose
+pub rose_later : (a b c : ℕ) → a ≤ b → Rose b c → Rose a c
+rose_later a b c le rose = grind (arith, le, rose)
 
 pub wrote_next : (ms : List Member) (qs : List Question) (k : ℕ) (q : Question) (before mid now : Option (List ℕ)) (text : List ℕ) → k < length qs → q ≡ get_or qs k q → WroteAnswers ms (take k qs) before mid → Answers ms q text → Appends mid now text → WroteAnswers ms (take (k + 1) qs) before now
 wrote_next ms qs k q before mid now text within is so a more = record {

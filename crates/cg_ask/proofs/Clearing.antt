@@ -1,17 +1,15 @@
 -- What the next full collection finds, sets aside and clears.
-use Rattle.std.proofs.Common.{◌≡◌, ◌≢◌, refl, sym, ◌∙◌, ap, subst, ℕ, zero, suc, ◌+◌, ◌-◌, ◌<◌, ◌≤◌, Bool, true, false, nat_lt, ◌⊎◌, inl, inr, List, [], ◌∷◌, ◌++◌, length, map, Option, Some, None, arith, get_or}
-use Rattle.std.specs.Prelude.{◌↔◌, slice_get}
-use Rattle.std.proofs.lemmas.Bool.{cases_eq, cases_lt, ltb-true, lt-ltb}
+use Rattle.std.proofs.Common.{◌≡◌, refl, sym, ◌∙◌, ap, subst, ℕ, ◌<◌, Bool, true, List, length, arith, get_or}
+use Rattle.std.specs.Prelude.{◌↔◌}
+use Rattle.std.proofs.lemmas.Bool.{cases_lt}
 use Rattle.std.proofs.lemmas.List.{length-map}
-use Rattle.std.proofs.lemmas.Option.{slice_get_within, slice_get-get_or, get_or_from_slice_get}
+use Rattle.std.proofs.lemmas.Option.{slice_get_within}
 use Rattle.cg_graph.specs.Holdings.{occurrences}
-use Rattle.cg_graph.specs.Reach.{Reach}
 use Rattle.cg_graph.proofs.Members.{either}
-use Rattle.cg_search.specs.Places.{Marks, is_marked, edges_of, Leads}
+use Rattle.cg_search.specs.Places.{Marks, Leads}
 use Rattle.cg_search.specs.Counts.{targets_from}
-use Rattle.cg_search.proofs.Edges.{marks_of_is, is_of_marks}
 use Rattle.cg_snapshot.specs.declared.heap.Member.{Member}
-use Rattle.cg_ask.specs.Asked.{rows_of, edges, degrees_of, degree_at, tracked_of, legacy_of, IsCandidate, IsHeldElsewhere, IsUnreachable, IsSetAside, IsCleared, IsLost, IsStuck}
+use Rattle.cg_ask.specs.Asked.{rows_of, edges, degrees_of, tracked_of, legacy_of, IsCandidate, IsHeldElsewhere, IsUnreachable, IsCleared, IsLost, IsStuck}
 use Rattle.cg_ask.specs.Dying.{Dies}
 use Rattle.cg_ask.specs.Marked.{MarkJust}
 use Rattle.cg_ask.proofs.Counting.{no_degree}

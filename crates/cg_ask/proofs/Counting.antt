@@ -1,20 +1,19 @@
 -- Numbers of members, and how often they stand in lists.
-use Rattle.std.proofs.Common.{◌≡◌, ◌≢◌, refl, sym, ◌∙◌, ap, subst, ℕ, zero, suc, ◌+◌, ◌-◌, ◌<◌, ◌≤◌, ◌^◌, Bool, true, false, cond, ◌⊎◌, inl, inr, List, [], ◌∷◌, ◌++◌, length, take, drop, map, Option, Some, None, arith, get_or, set, replicate, take_all, append-nil, append_assoc, length-append}
+use Rattle.std.proofs.Common.{◌≡◌, refl, sym, ◌∙◌, ap, ℕ, zero, suc, ◌+◌, ◌-◌, ◌<◌, ◌≤◌, ◌^◌, Bool, true, false, ◌⊎◌, inl, inr, List, [], ◌∷◌, ◌++◌, length, take, drop, map, Some, arith, get_or, set, replicate, take_all, append-nil, length-append}
 use Rattle.std.specs.Prelude.{if◌then◌else◌, slice_get}
 use Rattle.std.specs.List.{concat}
 use Rattle.std.proofs.lemmas.Bool.{cases_eq, cases_lt}
-use Rattle.std.proofs.lemmas.List.{take_more, take-append-drop, length-map, length-replicate, get_or-map, map-append, get_or_read_under}
+use Rattle.std.proofs.lemmas.List.{take_more, take-append-drop, length-map, length-replicate, get_or-map, get_or_read_under}
 use Rattle.std.proofs.lemmas.List.Folds.{concat-append}
-use Rattle.std.proofs.lemmas.Option.{slice_get_within, slice_get-get_or}
 use Rattle.cg_graph.specs.Member.{Includes}
 use Rattle.cg_graph.specs.Holdings.{occurrences}
 use Rattle.cg_graph.proofs.Members.{either, Includes-append_cases}
 use Rattle.cg_search.specs.Places.{Marks, is_marked}
 use Rattle.cg_search.specs.Counts.{Adds, targets_from}
-use Rattle.cg_search.proofs.Places.{occurrences-append, occurs, occurs_in, absent_from}
-use Rattle.cg_search.proofs.Counting.{few_occurrences, adds_none, adds_more}
+use Rattle.cg_search.proofs.Places.{occurrences-append}
+use Rattle.cg_search.proofs.Counting.{few_occurrences}
 use Rattle.cg_snapshot.specs.declared.heap.Member.{Member}
-use Rattle.cg_ask.specs.Asked.{rows_of, words_of, references_of, all_words_of, degrees_of, degree_at, outside_at, all_told, with_words}
+use Rattle.cg_ask.specs.Asked.{rows_of, words_of, references_of, all_words_of, degrees_of, degree_at, outside_at, all_told}
 use Rattle.cg_ask.specs.Counted.{CountEach, IsCounts, AreOutside}
 use Rattle.cg_ask.specs.declared.counts.Counts.{Counts}
 

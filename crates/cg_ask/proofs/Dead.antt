@@ -1,23 +1,20 @@
 -- What dies by count: the members that are found are the least closed set.
-use Rattle.std.proofs.Common.{◌≡◌, ◌≢◌, refl, sym, ◌∙◌, ap, subst, ℕ, zero, suc, ◌+◌, ◌-◌, ◌<◌, ◌≤◌, Bool, true, false, cond, not, ◌⊎◌, inl, inr, List, [], ◌∷◌, ◌++◌, length, map, Option, Some, None, arith, get_or, set, replicate, length-append}
-use Rattle.std.specs.Prelude.{slice_get, count_by, option_to_list}
-use Rattle.std.specs.List.{concat}
-use Rattle.std.proofs.lemmas.Bool.{cases_eq}
+use Rattle.std.proofs.Common.{◌≡◌, refl, sym, ◌∙◌, ap, subst, ℕ, zero, suc, ◌+◌, ◌<◌, ◌≤◌, Bool, true, false, cond, ◌⊎◌, inl, inr, List, [], ◌∷◌, ◌++◌, length, arith, get_or, set, replicate}
 use Rattle.std.proofs.lemmas.List.{length-set, length-map, length-replicate}
-use Rattle.std.proofs.lemmas.Option.{slice_get_within, slice_get-get_or, slice_get-map}
+use Rattle.std.proofs.lemmas.Option.{slice_get_within, slice_get-get_or}
 use Rattle.cg_graph.specs.Member.{Includes}
 use Rattle.cg_graph.specs.Holdings.{occurrences}
-use Rattle.cg_graph.proofs.Members.{either, Includes-append_right}
+use Rattle.cg_graph.proofs.Members.{either}
 use Rattle.cg_search.specs.Places.{Marks, is_marked}
 use Rattle.cg_search.specs.Counts.{targets_from}
-use Rattle.cg_search.proofs.Places.{occurrences-append, occurrences-same, occurs, occurs_in, absent_from, unmarked}
+use Rattle.cg_search.proofs.Places.{occurrences-append, occurrences-same, occurs, occurs_in, unmarked}
 use Rattle.cg_snapshot.specs.declared.heap.Member.{Member}
 use Rattle.cg_ask.specs.Asked.{rows_of, references_of, degrees_of, degree_at}
 use Rattle.cg_ask.specs.Dying.{IsClosed, Dies}
 use Rattle.cg_ask.specs.Faults.{AreRight}
 use Rattle.cg_ask.specs.Marked.{MarkJust}
 use Rattle.cg_ask.specs.Released.{Releases, WaitOnce, mark_at}
-use Rattle.cg_ask.proofs.Counting.{targets_few, targets_mono, targets_none, targets_set, row_few, row_read}
+use Rattle.cg_ask.proofs.Counting.{targets_few, targets_mono, targets_none, targets_set, row_few}
 use Rattle.cg_ask.proofs.Faulty.{covered_all, refs_within}
 use Rattle.cg_ask.proofs.Released.{mark_on, mark_off, on_mark, mark_few, mark_set}
 

@@ -1,21 +1,19 @@
 -- What is wrong with a heap, and what follows where nothing is.
-use Rattle.std.proofs.Common.{◌≡◌, ◌≢◌, refl, sym, ◌∙◌, ap, subst, ℕ, zero, suc, ◌+◌, ◌-◌, ◌<◌, ◌≤◌, ◌^◌, Bool, true, false, ◌⊎◌, inl, inr, List, [], ◌∷◌, ◌++◌, length, map, Option, Some, None, arith, get_or, nat_lt, ◌&&◌}
-use Rattle.std.specs.Prelude.{slice_get, IfSome, IfNone}
-use Rattle.std.specs.List.{concat}
+use Rattle.std.proofs.Common.{◌≡◌, refl, sym, subst, ℕ, ◌+◌, ◌-◌, ◌<◌, ◌≤◌, Bool, true, false, List, [], ◌∷◌, length, Option, Some, None, arith, get_or, nat_lt, ◌&&◌}
+use Rattle.std.specs.Prelude.{IfSome, IfNone}
 use Rattle.std.proofs.lemmas.Bool.{cases_eq, cases_lt, ltb-true, lt-ltb}
 use Rattle.std.proofs.lemmas.List.{length-map}
 use Rattle.std.proofs.lemmas.Option.{slice_get_within, get_or_from_slice_get}
 use Rattle.cg_graph.specs.Member.{Includes}
 use Rattle.cg_graph.specs.Holdings.{occurrences}
 use Rattle.cg_graph.proofs.Members.{either}
-use Rattle.cg_search.proofs.Places.{occurs, occurs_in, absent_from}
+use Rattle.cg_search.proofs.Places.{absent_from}
 use Rattle.cg_snapshot.specs.declared.heap.Member.{Member}
 use Rattle.cg_snapshot.specs.Text.{AreMembers}
 use Rattle.cg_snapshot.specs.Reading.{are_below}
 use Rattle.cg_ask.specs.Asked.{rows_of, words_of, references_of, all_words_of, degree_at}
-use Rattle.cg_ask.specs.Counted.{CountEach, IsCounts}
-use Rattle.cg_ask.specs.Faults.{IsWellNamed, IsCovered, IsCoveredWithWords, IsRight, HasFault, misnamed, too_low, low_with_words, IsFirstFault, AreRight}
-use Rattle.cg_ask.proofs.Counting.{concat_row, row_few, degree_read, no_degree, row_read, words_read}
+use Rattle.cg_ask.specs.Faults.{IsWellNamed, IsCovered, IsRight, HasFault, misnamed, too_low, low_with_words, AreRight}
+use Rattle.cg_ask.proofs.Counting.{concat_row, degree_read, row_read, words_read}
 use Rattle.cg_ask.proofs.Marking.{member_of}
 
 -- the numbers are those of members just where the test says so

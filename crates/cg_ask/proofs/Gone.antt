@@ -1,13 +1,12 @@
 -- What would go: its members, their totals, and that what dies by count and was reached is let go.
-use Rattle.std.proofs.Common.{◌≡◌, ◌≢◌, refl, sym, ◌∙◌, ap, subst, ℕ, zero, suc, ◌+◌, ◌-◌, ◌*◌, ◌<◌, ◌≤◌, ◌^◌, Bool, true, false, cond, not, ◌⊎◌, inl, inr, List, [], ◌∷◌, ◌++◌, length, map, Option, Some, None, arith, get_or, set, replicate, append_assoc, append-nil, length-append}
-use Rattle.std.specs.Prelude.{◌↔◌, ◌==◌, slice_get, filter, sum_by, codes}
+use Rattle.std.proofs.Common.{◌≡◌, refl, sym, ◌∙◌, ap, subst, ℕ, zero, suc, ◌+◌, ◌*◌, ◌<◌, ◌≤◌, ◌^◌, Bool, true, false, cond, ◌⊎◌, inl, inr, List, [], ◌∷◌, ◌++◌, length, map, Option, Some, arith, get_or, set, replicate, append-nil, length-append}
+use Rattle.std.specs.Prelude.{◌==◌, slice_get, codes}
 use Rattle.std.specs.List.{concat, AllByRecursion}
 use Rattle.std.proofs.lemmas.Bool.{cases_eq, cases_lt}
 use Rattle.std.proofs.lemmas.List.{length-map, length-set, length-replicate, get_or-map}
 use Rattle.std.proofs.lemmas.List.Elements.{filter-append}
 use Rattle.std.proofs.lemmas.List.Sums.{sum_by-append, sum_by-cons}
-use Rattle.std.proofs.lemmas.Option.{slice_get_within, slice_get-get_or, get_or_from_slice_get}
-use Rattle.cg_graph.specs.declared.Edge.{Edge}
+use Rattle.std.proofs.lemmas.Option.{slice_get_within, get_or_from_slice_get}
 use Rattle.cg_graph.specs.Member.{Includes}
 use Rattle.cg_graph.specs.Holdings.{occurrences}
 use Rattle.cg_graph.specs.Reach.{Reach, first, next}
@@ -15,18 +14,18 @@ use Rattle.cg_graph.proofs.Members.{either}
 use Rattle.cg_search.specs.Places.{Marks, is_marked}
 use Rattle.cg_search.specs.Counts.{targets_from}
 use Rattle.cg_search.proofs.Edges.{edge_out, marks_of_is, is_of_marks}
-use Rattle.cg_search.proofs.Places.{slice_get-set_same, slice_get-set_other, occurs, occurs_in}
+use Rattle.cg_search.proofs.Places.{slice_get-set_same, slice_get-set_other, occurs}
 use Rattle.cg_snapshot.specs.declared.heap.Member.{Member}
 use Rattle.cg_snapshot.specs.Text.{IsSmallMember}
-use Rattle.cg_ask.specs.Asked.{rows_of, references_of, degree_at, IsHeld, IsMember, IsOther, edges, IsReached, IsLetGo, IsGone}
-use Rattle.cg_ask.specs.Answers.{Row, rows_text, line, flagged, bytes_of, totals_of}
-use Rattle.cg_ask.specs.Dying.{IsClosed, Dies}
+use Rattle.cg_ask.specs.Asked.{rows_of, degree_at, IsHeld, IsMember, IsOther, edges, IsReached, IsGone}
+use Rattle.cg_ask.specs.Answers.{Row, line, flagged, bytes_of}
+use Rattle.cg_ask.specs.Dying.{Dies}
 use Rattle.cg_ask.specs.Faults.{AreRight}
 use Rattle.cg_ask.specs.Marked.{MarkJust, flags_of}
 use Rattle.cg_ask.specs.Totals.{AppendsGone, totals_from}
 use Rattle.cg_ask.specs.declared.sets.Totals.{Totals}
 use Rattle.cg_ask.proofs.Rows.{RowsBelow, rows_first, rows_push, rows_skip, rows_all}
-use Rattle.cg_ask.proofs.Counting.{targets_few, targets_set, row_few, no_degree}
+use Rattle.cg_ask.proofs.Counting.{targets_few, targets_set, no_degree}
 use Rattle.cg_ask.proofs.Faulty.{covered_all}
 use Rattle.cg_ask.proofs.Marking.{is_or_not}
 

@@ -1,12 +1,12 @@
 -- Rows of referrers, and of members with outside holds.
-use Rattle.std.proofs.Common.{◌≡◌, ◌≢◌, refl, sym, ◌∙◌, ap, subst, ℕ, zero, suc, ◌+◌, ◌-◌, ◌<◌, ◌≤◌, Bool, true, false, ◌⊎◌, inl, inr, List, [], ◌∷◌, ◌++◌, length, map, Option, Some, None, arith, get_or}
-use Rattle.std.specs.Prelude.{slice_get, codes}
+use Rattle.std.proofs.Common.{◌≡◌, refl, sym, ◌∙◌, ap, ℕ, zero, suc, ◌+◌, ◌-◌, ◌<◌, ◌≤◌, List, [], ◌∷◌, ◌++◌, length, arith, get_or}
+use Rattle.std.specs.Prelude.{codes}
 use Rattle.std.proofs.lemmas.Bool.{cases_lt}
 use Rattle.std.proofs.lemmas.List.{length-map}
 use Rattle.cg_graph.specs.Holdings.{occurrences}
 use Rattle.cg_graph.proofs.Members.{either}
 use Rattle.cg_snapshot.specs.declared.heap.Member.{Member}
-use Rattle.cg_ask.specs.Asked.{rows_of, all_words_of, degree_at, outside_at, times_at}
+use Rattle.cg_ask.specs.Asked.{rows_of, all_words_of, outside_at, times_at}
 use Rattle.cg_ask.specs.Answers.{line, TellsReferrer, TellsHidden}
 use Rattle.cg_ask.specs.Counted.{IsCounts, AreOutside}
 use Rattle.cg_ask.specs.declared.counts.Counts.{Counts}

@@ -1,11 +1,10 @@
 -- What untold words keep.
-use Rattle.std.proofs.Common.{◌≡◌, ◌≢◌, refl, sym, ◌∙◌, ap, subst, ℕ, zero, suc, ◌+◌, ◌-◌, ◌<◌, ◌≤◌, Bool, true, false, ◌⊎◌, inl, inr, List, [], ◌∷◌, ◌++◌, length, map, take, Option, Some, None, arith, get_or, take_all, length-append}
-use Rattle.std.specs.Prelude.{◌↔◌, slice_get}
+use Rattle.std.proofs.Common.{◌≡◌, refl, sym, ◌∙◌, ap, subst, ℕ, zero, suc, ◌+◌, ◌<◌, ◌≤◌, Bool, true, false, ◌⊎◌, inl, inr, List, [], ◌∷◌, ◌++◌, length, map, take, arith, get_or, take_all}
+use Rattle.std.specs.Prelude.{◌↔◌}
 use Rattle.std.specs.List.{concat}
 use Rattle.std.proofs.lemmas.Bool.{cases_lt}
 use Rattle.std.proofs.lemmas.List.{take_more, length-map, map-append}
 use Rattle.std.proofs.lemmas.Option.{slice_get_within}
-use Rattle.cg_graph.specs.declared.Edge.{Edge}
 use Rattle.cg_graph.specs.Member.{Includes}
 use Rattle.cg_graph.specs.Holdings.{occurrences}
 use Rattle.cg_graph.specs.Reach.{Reach}
@@ -13,7 +12,7 @@ use Rattle.cg_graph.proofs.Members.{either}
 use Rattle.cg_search.specs.Places.{Marks, edges_of, Leads}
 use Rattle.cg_search.proofs.Places.{occurs, occurs_in}
 use Rattle.cg_snapshot.specs.declared.heap.Member.{Member}
-use Rattle.cg_ask.specs.Asked.{rows_of, references_of, all_words_of, degrees_of, degree_at, outside_at, IsMember, IsHeld, edges, IsReached, IsLost, all_told, with_words, IsKeptByWords}
+use Rattle.cg_ask.specs.Asked.{rows_of, references_of, all_words_of, degree_at, IsMember, IsHeld, edges, IsReached, all_told, with_words, IsKeptByWords}
 use Rattle.cg_ask.specs.Counted.{IsCounts, AreOutside}
 use Rattle.cg_ask.specs.declared.counts.Counts.{Counts}
 use Rattle.cg_ask.specs.Faults.{AreRight}

@@ -1,11 +1,11 @@
 -- Marks that stand for sets of members.
-use Rattle.std.proofs.Common.{◌≡◌, ◌≢◌, refl, sym, ◌∙◌, ap, subst, ℕ, zero, suc, ◌+◌, ◌<◌, ◌≤◌, Bool, true, false, not, nat_lt, ◌&&◌, ◌||◌, ◌⊎◌, inl, inr, List, [], ◌∷◌, ◌++◌, length, take, map, Option, Some, None, arith, get_or, set, replicate, take_all, length-append}
-use Rattle.std.specs.Prelude.{◌↔◌, slice_get}
+use Rattle.std.proofs.Common.{◌≡◌, refl, sym, ◌∙◌, ap, subst, ℕ, zero, suc, ◌+◌, ◌<◌, ◌≤◌, Bool, true, false, not, nat_lt, ◌&&◌, ◌||◌, ◌⊎◌, inl, inr, List, [], ◌∷◌, ◌++◌, length, take, Some, arith, get_or, set, replicate, take_all, length-append}
+use Rattle.std.specs.Prelude.{◌↔◌}
 use Rattle.std.proofs.lemmas.Bool.{cases_eq, cases_lt, ltb-true, lt-ltb}
-use Rattle.std.proofs.lemmas.List.{take_more, length-set, length-replicate, get_or_read_under}
-use Rattle.std.proofs.lemmas.Option.{slice_get_within, slice_get-get_or, same_Some}
+use Rattle.std.proofs.lemmas.List.{length-set, length-replicate, get_or_read_under}
+use Rattle.std.proofs.lemmas.Option.{slice_get_within}
 use Rattle.cg_graph.specs.Member.{Includes}
-use Rattle.cg_graph.proofs.Members.{either, Includes-append_left, Includes-append_right, Includes-append_cases}
+use Rattle.cg_graph.proofs.Members.{either}
 use Rattle.cg_search.specs.Places.{Marks, is_marked}
 use Rattle.cg_search.proofs.Places.{slice_get-set_same, slice_get-set_other, unmarked, includes_more, includes_first, includes_last}
 use Rattle.cg_search.proofs.Edges.{marks_of_is, is_of_marks}

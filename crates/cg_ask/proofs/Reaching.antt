@@ -1,26 +1,24 @@
 -- What paths reach, by marks.
-use Rattle.std.proofs.Common.{◌≡◌, ◌≢◌, refl, sym, ◌∙◌, ap, subst, ℕ, zero, suc, ◌+◌, ◌-◌, ◌<◌, ◌≤◌, ◌^◌, Bool, true, false, nat_lt, ◌⊎◌, inl, inr, List, [], ◌∷◌, ◌++◌, length, map, Option, Some, None, arith, get_or}
-use Rattle.std.specs.Prelude.{◌↔◌, slice_get, option_map, IfSome, IfNone}
+use Rattle.std.proofs.Common.{◌≡◌, refl, sym, ◌∙◌, ap, subst, ℕ, zero, suc, ◌<◌, Bool, true, nat_lt, inl, inr, List, [], ◌∷◌, length, map, Option, Some, None, arith, get_or}
+use Rattle.std.specs.Prelude.{◌↔◌, IfSome, IfNone}
 use Rattle.std.specs.Global.{Vec}
-use Rattle.std.specs.List.{concat, AllByRecursion}
+use Rattle.std.specs.List.{AllByRecursion}
 use Rattle.std.proofs.lemmas.Bool.{cases_lt, ltb-true, lt-ltb}
-use Rattle.std.proofs.lemmas.List.{length-map, get_or-map}
-use Rattle.std.proofs.lemmas.Option.{slice_get_within, slice_get-get_or, slice_get-map, get_or_from_slice_get}
+use Rattle.std.proofs.lemmas.List.{length-map}
+use Rattle.std.proofs.lemmas.Option.{slice_get_within}
 use Rattle.cg_graph.specs.declared.Edge.{Edge}
 use Rattle.cg_graph.specs.Member.{Includes}
-use Rattle.cg_graph.specs.Holdings.{occurrences}
-use Rattle.cg_graph.specs.Reach.{Reach, Unreachable, first, next}
-use Rattle.cg_graph.specs.Path.{IsPath, LeadsTo}
+use Rattle.cg_graph.specs.Reach.{Reach}
+use Rattle.cg_graph.specs.Path.{IsPath}
 use Rattle.cg_graph.proofs.Members.{either}
-use Rattle.cg_search.specs.Places.{Marks, is_marked, edges_of, Leads, IsShortestWay, HasNoWay}
+use Rattle.cg_search.specs.Places.{Marks, edges_of, Leads, IsShortestWay, HasNoWay}
 use Rattle.cg_search.specs.Places.{IsWay as IsWayByMarks}
-use Rattle.cg_search.proofs.Edges.{marks_of_is, is_of_marks, reach_of_leads, leads_of_reach, edge_out}
+use Rattle.cg_search.proofs.Edges.{reach_of_leads, leads_of_reach}
 use Rattle.cg_snapshot.specs.declared.heap.Member.{Member}
-use Rattle.cg_ask.specs.Asked.{rows_of, references_of, degree_at, outside_at, IsMember, IsHeld, edges, IsReached, IsLost, IsOther, IsWay, IsShortest, HasNone}
+use Rattle.cg_ask.specs.Asked.{rows_of, IsHeld, edges, IsReached, IsLost, IsOther, IsWay, IsShortest, HasNone}
 use Rattle.cg_ask.specs.Counted.{AreOutside}
 use Rattle.cg_ask.specs.Marked.{MarkJust}
 use Rattle.cg_ask.proofs.Counting.{no_degree}
-use Rattle.cg_ask.proofs.Marking.{is_or_not, just_same}
 
 above : (numbers : List ℕ) (i : ℕ) → (Marks (map (λ n. nat_lt 0 n) numbers) i → 0 < get_or numbers i 0) × (0 < get_or numbers i 0 → Marks (map (λ n. nat_lt 0 n) numbers) i)
 above [] i = (λ m. absurd (cc), λ h. absurd (omega (arith, h)))

@@ -1,15 +1,15 @@
 -- References that are given up, one after the other.
-use Rattle.std.proofs.Common.{◌≡◌, ◌≢◌, refl, sym, ◌∙◌, ap, subst, ℕ, zero, suc, ◌+◌, ◌-◌, ◌<◌, ◌≤◌, Bool, true, false, cond, not, ◌⊎◌, inl, inr, List, [], ◌∷◌, ◌++◌, length, take, drop, map, Option, Some, None, arith, get_or, set, replicate, take_all, length-append}
+use Rattle.std.proofs.Common.{◌≡◌, refl, sym, ◌∙◌, ap, subst, ℕ, zero, suc, ◌+◌, ◌-◌, ◌<◌, ◌≤◌, Bool, true, false, cond, not, ◌⊎◌, inl, inr, List, [], ◌∷◌, ◌++◌, length, take, drop, Some, arith, get_or, set, take_all, length-append}
 use Rattle.std.specs.Prelude.{slice_get, count_by}
 use Rattle.std.proofs.lemmas.Bool.{cases_eq, cases_lt}
 use Rattle.std.proofs.lemmas.List.{take_more, drop_more, take-append-drop, length-set, get_or-set_same, get_or-set_other, get_or_read_under}
 use Rattle.std.proofs.lemmas.List.Sums.{sum_by-set}
-use Rattle.std.proofs.lemmas.Option.{slice_get_within, slice_get_read, slice_get-get_or, get_or_from_slice_get}
+use Rattle.std.proofs.lemmas.Option.{slice_get_within, slice_get_read, get_or_from_slice_get}
 use Rattle.cg_graph.specs.Member.{Includes}
 use Rattle.cg_graph.specs.Holdings.{occurrences}
 use Rattle.cg_graph.proofs.Members.{either, Includes-append_left, Includes-append_right, Includes-append_cases}
 use Rattle.cg_search.specs.Places.{Marks, is_marked}
-use Rattle.cg_search.proofs.Places.{occurrences-append, occurrences-same, occurrences-other, slice_get-set_same, slice_get-set_other, occurs, occurs_in, absent_from}
+use Rattle.cg_search.proofs.Places.{occurrences-append, occurrences-same, occurrences-other, slice_get-set_same, slice_get-set_other, occurs_in}
 use Rattle.cg_search.proofs.Edges.{marks_of_is, is_of_marks}
 use Rattle.cg_ask.specs.Released.{Releases, WaitOnce, mark_at}
 

@@ -1,6 +1,6 @@
 -- Rows that tell just what is to be told, one after the other.
-use Rattle.std.proofs.Common.{◌≡◌, ◌≢◌, refl, sym, ◌∙◌, ap, subst, ℕ, zero, suc, ◌+◌, ◌<◌, ◌≤◌, Bool, true, false, cond, ◌⊎◌, inl, inr, List, [], ◌∷◌, ◌++◌, length, take, map, Option, Some, None, arith, get_or, append_assoc, append-nil, take_all}
-use Rattle.std.specs.Prelude.{◌↔◌, slice_get, flat_map, codes}
+use Rattle.std.proofs.Common.{◌≡◌, refl, sym, ◌∙◌, ap, subst, ℕ, ◌+◌, ◌<◌, ◌≤◌, Bool, true, false, cond, ◌⊎◌, inl, inr, List, [], ◌∷◌, ◌++◌, length, take, arith, get_or, append_assoc, append-nil, take_all}
+use Rattle.std.specs.Prelude.{◌↔◌, flat_map, codes}
 use Rattle.std.proofs.lemmas.Bool.{cases_eq}
 use Rattle.std.proofs.lemmas.List.{take_more}
 use Rattle.std.proofs.lemmas.Option.{slice_get_within}
@@ -12,7 +12,6 @@ use Rattle.cg_search.proofs.Edges.{marks_of_is, is_of_marks}
 use Rattle.cg_snapshot.specs.Rows.{spaced, all_spaced}
 use Rattle.cg_ask.specs.Answers.{Row, Rise, Tells, IsFlag, yes, no, row_line, rows_text, line}
 use Rattle.cg_ask.specs.Marked.{AppendsRows, MarkJust, flags_of}
-use Rattle.cg_ask.proofs.Marking.{is_or_not}
 
 -- The rows of the members below a place.
 pub record RowsBelow (P : ℕ → List ℕ → Type 0) (word : List ℕ) (at : ℕ) (old new : List ℕ) : Type 0 where

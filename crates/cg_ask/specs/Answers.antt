@@ -1,5 +1,5 @@
 -- The answers, as text. (Ours.)
-use Rattle.std.specs.Prelude.{◌≡◌, ℕ, ◌-◌, ◌<◌, ◌==◌, Bool, List, [], ◌∷◌, ◌++◌, map, flat_map, filter, length, sum_by, slice_index, codes, ◌↔◌}
+use Rattle.std.specs.Prelude.{◌≡◌, ℕ, ◌-◌, ◌<◌, ◌==◌, List, [], ◌∷◌, ◌++◌, map, flat_map, filter, length, sum_by, slice_index, codes, ◌↔◌}
 use Rattle.cg_graph.specs.Member.{Includes}
 use Rattle.cg_graph.specs.Holdings.{occurrences}
 use Rattle.cg_snapshot.specs.declared.heap.Member.{Member}

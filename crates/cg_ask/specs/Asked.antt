@@ -1,6 +1,6 @@
 -- What is asked of a recorded heap, over its members by place. (Developer guide, "identifying reference cycles"; the questions
 -- are ours.)
-use Rattle.std.specs.Prelude.{◌≡◌, ℕ, ◌+◌, ◌-◌, ◌<◌, ◌≤◌, Bool, true, List, [], ◌∷◌, ◌++◌, map, length, slice_get, slice_index, slice_index_or, Some, ◌⊎◌}
+use Rattle.std.specs.Prelude.{ℕ, ◌-◌, ◌<◌, ◌≤◌, Bool, List, [], ◌++◌, map, length, slice_index, slice_index_or, ◌⊎◌}
 use Rattle.std.specs.List.{concat}
 use Rattle.cg_graph.specs.declared.Edge.{Edge}
 use Rattle.cg_graph.specs.Member.{Includes}

@@ -1,4 +1,4 @@
-use Rattle.std.proofs.Common.{◌≡◌, refl, sym, ◌∙◌, ap, length, Bool, List, ℕ, arith, false}
+use Rattle.std.proofs.Common.{ap, length, Bool, List, arith, false}
 use Rattle.cg_ask.proofs.Clearing.{cleared_just, legacy_long}
 use Rattle.cg_ask.proofs.Faulty.{refs_within}
 use Rattle.cg_ask.proofs.collection.cleared_of.Goals as goal

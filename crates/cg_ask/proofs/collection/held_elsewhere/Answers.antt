@@ -1,4 +1,4 @@
-use Rattle.std.proofs.Common.{◌≡◌, refl, sym, ◌∙◌, ap, length, Bool, List, ℕ, arith, map}
+use Rattle.std.proofs.Common.{◌∙◌, ap, length, Bool, List, ℕ, arith}
 use Rattle.std.proofs.lemmas.List.{length-map}
 use Rattle.cg_search.specs.Counts.{targets_from}
 use Rattle.cg_snapshot.specs.declared.heap.Member.{Member}

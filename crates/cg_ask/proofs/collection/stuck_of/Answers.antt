@@ -1,4 +1,4 @@
-use Rattle.std.proofs.Common.{◌≡◌, refl, sym, ◌∙◌, ap, length, Bool, List, ℕ, arith, false}
+use Rattle.std.proofs.Common.{ap, length, Bool, List, arith}
 use Rattle.cg_ask.proofs.Clearing.{stuck_just}
 use Rattle.cg_ask.proofs.collection.stuck_of.Goals as goal
 

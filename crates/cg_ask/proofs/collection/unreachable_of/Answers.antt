@@ -1,6 +1,4 @@
-use Rattle.std.proofs.Common.{◌≡◌, refl, sym, ◌∙◌, ap, length, Bool, List, ℕ, arith, false}
-use Rattle.std.proofs.lemmas.List.{length-map}
-use Rattle.cg_snapshot.specs.declared.heap.Member.{Member}
+use Rattle.std.proofs.Common.{◌∙◌, ap, length, Bool, List, arith, false}
 use Rattle.cg_ask.proofs.Clearing.{unreachable_just, candidates_long}
 use Rattle.cg_ask.proofs.Faulty.{refs_within}
 use Rattle.cg_ask.proofs.collection.unreachable_of.Goals as goal

@@ -1,9 +1,5 @@
-use Rattle.std.proofs.Common.{◌≡◌, refl, sym, ◌∙◌, ap, length, Bool, List, ℕ, arith, replicate, true}
-use Rattle.std.proofs.lemmas.List.{length-replicate, length-map}
-use Rattle.cg_graph.specs.Holdings.{occurrences}
-use Rattle.cg_search.specs.Counts.{targets_from}
-use Rattle.cg_snapshot.specs.declared.heap.Member.{Member}
-use Rattle.cg_ask.specs.Asked.{rows_of}
+use Rattle.std.proofs.Common.{◌∙◌, ap, length, Bool, List, true}
+use Rattle.std.proofs.lemmas.List.{length-replicate}
 use Rattle.cg_ask.proofs.Counting.{told_each}
 use Rattle.cg_ask.proofs.counts.count_told.Goals as goal
 

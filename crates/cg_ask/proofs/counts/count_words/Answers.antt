@@ -1,4 +1,4 @@
-use Rattle.std.proofs.Common.{◌≡◌, refl, sym, ◌∙◌, ap, length, List, ℕ, arith, ◌<◌, get_or}
+use Rattle.std.proofs.Common.{length, arith, ◌<◌}
 use Rattle.std.proofs.lemmas.List.{length-map}
 use Rattle.cg_snapshot.specs.declared.heap.Member.{Member}
 use Rattle.cg_ask.specs.Asked.{words_of}

@@ -1,11 +1,10 @@
-use Rattle.std.proofs.Common.{◌≡◌, sym, ◌∙◌, ap, subst, List, ℕ, length, ◌<◌, ◌≤◌, arith, ◌++◌, get_or, [], ◌∷◌, length-append}
+use Rattle.std.proofs.Common.{sym, ◌∙◌, ap, subst, List, ℕ, length, ◌≤◌, arith, ◌++◌, get_or, [], ◌∷◌, length-append}
 use Rattle.std.specs.Prelude.{option_to_list}
 use Rattle.std.proofs.lemmas.Option.{MatchOption-at_none}
 use Rattle.cg_graph.specs.Member.{Includes}
 use Rattle.cg_graph.specs.Holdings.{occurrences}
 use Rattle.cg_search.proofs.Visited.{empty_of}
 use Rattle.cg_snapshot.specs.declared.heap.Member.{Member}
-use Rattle.cg_ask.specs.Asked.{rows_of}
 use Rattle.cg_ask.specs.Released.{Releases}
 use Rattle.cg_ask.proofs.Counting.{row_read}
 use Rattle.cg_ask.proofs.Dead.{died_first, at_within, row_at_within, row_some, died_more, died_all}

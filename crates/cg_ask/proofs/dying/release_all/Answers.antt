@@ -1,4 +1,4 @@
-use Rattle.std.proofs.Common.{◌<◌, length, get_or, arith}
+use Rattle.std.proofs.Common.{get_or, arith}
 use Rattle.cg_search.proofs.Places.{includes_next}
 use Rattle.cg_ask.proofs.Released.{releases_none, releases_next, releases_all, one_left}
 use Rattle.cg_ask.proofs.dying.release_all.Goals as goal

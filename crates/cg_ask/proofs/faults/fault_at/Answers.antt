@@ -1,4 +1,4 @@
-use Rattle.std.proofs.Common.{◌≡◌, sym, ◌∙◌, ap, ◌<◌, ◌≤◌, length, true, false, List, ℕ, arith}
+use Rattle.std.proofs.Common.{sym, ◌∙◌, ap, length, List, ℕ}
 use Rattle.cg_snapshot.specs.Reading.{are_below}
 use Rattle.cg_ask.specs.Asked.{references_of, all_words_of}
 use Rattle.cg_ask.proofs.Counting.{count_read}

@@ -1,4 +1,4 @@
-use Rattle.std.proofs.Common.{◌≡◌, sym, ◌∙◌, ap, length, Bool, List, ℕ, arith}
+use Rattle.std.proofs.Common.{ap, length, Bool, List, arith}
 use Rattle.cg_ask.proofs.Reaching.{lost_just}
 use Rattle.cg_ask.proofs.reach.lost_of.Goals as goal
 

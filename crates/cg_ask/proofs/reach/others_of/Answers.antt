@@ -1,6 +1,4 @@
-use Rattle.std.proofs.Common.{◌≡◌, sym, ◌∙◌, ap, length, Bool, List, ℕ, arith}
-use Rattle.cg_graph.specs.Member.{Includes}
-use Rattle.cg_ask.specs.Marked.{MarkJust}
+use Rattle.std.proofs.Common.{ap, length, Bool, List, arith}
 use Rattle.cg_ask.proofs.Reaching.{others_just}
 use Rattle.cg_ask.proofs.reach.others_of.Goals as goal
 

@@ -1,6 +1,5 @@
-use Rattle.std.proofs.Common.{◌≡◌, refl, sym, ◌∙◌, ap, length, Bool, List, ℕ, arith, false, map}
-use Rattle.cg_graph.specs.Reach.{Reach}
-use Rattle.cg_ask.specs.Asked.{IsHeld, IsMember, IsOther, edges, rows_of}
+use Rattle.std.proofs.Common.{refl, ◌∙◌, ap, length, Bool, List, arith, false}
+use Rattle.cg_ask.specs.Asked.{IsHeld, IsMember, edges, rows_of}
 use Rattle.cg_ask.proofs.Faulty.{refs_within}
 use Rattle.cg_ask.proofs.Reaching.{found_just}
 use Rattle.cg_ask.proofs.reach.reached_of.Goals as goal

@@ -1,6 +1,3 @@
-use Rattle.std.proofs.Common.{◌∙◌, ap, List}
-use Rattle.cg_snapshot.specs.declared.question.Question.{Question}
-use Rattle.cg_ask.specs.Statuses.{asks_untold}
 use Rattle.cg_ask.proofs.Asking.{kept_here, fault_told, fault_cut, snapshot_told, snapshot_cut}
 use Rattle.cg_ask.proofs.run.ask_snapshot.Goals as goal
 

@@ -1,4 +1,4 @@
-use Rattle.std.proofs.Common.{◌≡◌, refl, sym, ◌∙◌, ap, length, Bool, List, ℕ, arith}
+use Rattle.std.proofs.Common.{ap, length, Bool, List, arith}
 use Rattle.cg_graph.specs.Member.{Includes}
 use Rattle.cg_ask.proofs.Dead.{dead_just}
 use Rattle.cg_ask.proofs.Gone.{gone_just}

@@ -1,4 +1,4 @@
-use Rattle.std.proofs.Common.{◌≡◌, refl, sym, ◌∙◌, ap, length, Bool, List, ℕ, arith}
+use Rattle.std.proofs.Common.{ap, length, List, ℕ, arith}
 use Rattle.cg_ask.proofs.Kept.{held_with_just}
 use Rattle.cg_ask.proofs.sets.held_with_words.Goals as goal
 

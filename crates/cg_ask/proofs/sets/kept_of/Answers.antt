@@ -1,7 +1,5 @@
-use Rattle.std.proofs.Common.{◌≡◌, refl, sym, ◌∙◌, ap, subst, length, map, Bool, List, ℕ, arith}
-use Rattle.std.proofs.lemmas.List.{length-map}
-use Rattle.cg_ask.specs.Asked.{with_words, rows_of, all_told}
-use Rattle.cg_ask.proofs.Kept.{all_within, kept_just, length-all_told, plain_rows, same_rows, rows_long}
+use Rattle.std.proofs.Common.{◌∙◌, ap, length, map, Bool, List, ℕ, arith}
+use Rattle.cg_ask.proofs.Kept.{all_within, kept_just, plain_rows, same_rows, rows_long}
 use Rattle.cg_ask.proofs.sets.kept_of.Goals as goal
 
 pub reached-requires-clause-as_many : goal.reached-requires-clause-as_many

@@ -1,4 +1,3 @@
-use Rattle.std.proofs.Common.{sym, ◌∙◌}
 use Rattle.cg_ask.proofs.Answering.{gone_told}
 use Rattle.cg_ask.proofs.sets.put_dropped.Goals as goal
 

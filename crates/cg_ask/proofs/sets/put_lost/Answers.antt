@@ -1,4 +1,4 @@
-use Rattle.std.proofs.Common.{◌≡◌, refl, sym, ◌∙◌, ap, length, Bool, List, ℕ, arith}
+use Rattle.std.proofs.Common.{ap, length, Bool, List, arith}
 use Rattle.std.specs.Prelude.{codes}
 use Rattle.cg_ask.specs.Asked.{IsLost, IsStuck}
 use Rattle.cg_ask.specs.Answers.{TellsLost}

@@ -1,6 +1,4 @@
-use Rattle.std.proofs.Common.{◌≡◌, refl, sym, ◌∙◌, ap, length, Bool, List, ℕ, arith, false, Option}
-use Rattle.std.specs.Prelude.{IfSome, IfNone}
-use Rattle.cg_ask.specs.Asked.{rows_of, IsShortest, HasNone}
+use Rattle.std.proofs.Common.{ap, length, Bool, List, arith, false}
 use Rattle.cg_ask.proofs.Faulty.{refs_within}
 use Rattle.cg_ask.proofs.Reaching.{found_way, found_none}
 use Rattle.cg_ask.proofs.why.path_to.Goals as goal

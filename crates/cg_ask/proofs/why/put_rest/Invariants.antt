@@ -1,4 +1,4 @@
-use Rattle.std.proofs.Common.{◌≡◌, ◌++◌, ◌∷◌, [], take, List, ℕ}
+use Rattle.std.proofs.Common.{◌≡◌, ◌++◌, ◌∷◌, [], take}
 use Rattle.std.specs.Prelude.{codes, flat_map}
 use Rattle.cg_ask.specs.Answers.{line}
 use Rattle.cg_ask.proofs.why.put_rest.Given as goal

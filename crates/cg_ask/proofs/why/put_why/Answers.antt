@@ -1,4 +1,4 @@
-use Rattle.std.proofs.Common.{◌≡◌, sym, ◌∙◌, ap, subst, List, ℕ, length, ◌++◌}
+use Rattle.std.proofs.Common.{sym, ◌∙◌, ap, subst, List, ℕ, length, ◌++◌}
 use Rattle.cg_snapshot.specs.Text.{AreMembers}
 use Rattle.cg_ask.specs.Asked.{IsShortest}
 use Rattle.cg_ask.specs.Answers.{way_text}
