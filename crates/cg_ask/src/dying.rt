@@ -85,7 +85,12 @@ pub(crate) fn dying(
     let mut dead = Vec::from_slice(alloc, given)?;
     let mut waits = places_of(alloc, given)?;
     'turns: while let Some(at) = waits.pop() {
-        release_all(&mut left, members[at].refs.as_slice(), &mut dead, &mut waits)?;
+        release_all(
+            &mut left,
+            members[at].refs.as_slice(),
+            &mut dead,
+            &mut waits,
+        )?;
     }
     Ok(dead)
 }

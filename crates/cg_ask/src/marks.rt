@@ -54,11 +54,7 @@ pub(crate) fn joined(
 }
 
 /// Marks where a number is below the other.
-pub(crate) fn below(
-    alloc: Global,
-    numbers: &[u64],
-    others: &[u64],
-) -> Result<Vec<bool>, AllocError>
+pub(crate) fn below(alloc: Global, numbers: &[u64], others: &[u64]) -> Result<Vec<bool>, AllocError>
     requires { length numbers.now ≡ length others.now }
     ensures { IfOk result (λ marks. MarkJust (length numbers.now) (λ i. slice_index numbers.now i < slice_index others.now i) marks.items) }
 {
@@ -70,11 +66,7 @@ pub(crate) fn below(
 }
 
 /// Marks these of so many places.
-pub(crate) fn marked(
-    alloc: Global,
-    count: usize,
-    places: &[usize],
-) -> Result<Vec<bool>, AllocError>
+pub(crate) fn marked(alloc: Global, count: usize, places: &[usize]) -> Result<Vec<bool>, AllocError>
     requires { AreMembers count places.now }
     ensures { IfOk result (λ marks. MarkJust count (Includes places.now) marks.items) }
 {

@@ -50,7 +50,11 @@ fn fault_line(alloc: Global, fault: Fault) -> Result<Vec<u8>, AllocError>
     ensures { IfOk result (λ text. text.items ≡ line (codes "fault") (fault.code ∷ fault.member ∷ [])) }
 {
     let mut text = Vec::new(alloc);
-    put_line(&mut text, b"fault", &[u64::from(fault.code), fault.member as u64])?;
+    put_line(
+        &mut text,
+        b"fault",
+        &[u64::from(fault.code), fault.member as u64],
+    )?;
     Ok(text)
 }
 

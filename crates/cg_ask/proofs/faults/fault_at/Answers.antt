@@ -9,9 +9,9 @@ use Rattle.cg_ask.proofs.faults.fault_at.Goals.{then-not-all_below-via-then-not-
 pub returns-then-not-all_below-clause-fault : goal.returns-then-not-all_below-clause-fault
 returns-then-not-all_below-clause-fault c = elim c.then-not-all_below.branch [
   | then-not-all_below-via-then-not-all_below w ↦ misnamed_refs c.args.members.now c.args.with_words c.args.at c.index-members-at.result c.requires.within c.index-members-at.is
-    (sym (c.all_below.ensures ∙ ap (λ (ns : List ℕ). are_below (length c.args.members.now) ns) c.as_slice.ensures) ∙ w.if-not-all_below.true)
+      (sym (c.all_below.ensures ∙ ap (λ (ns : List ℕ). are_below (length c.args.members.now) ns) c.as_slice.ensures) ∙ w.if-not-all_below.true)
   | then-not-all_below-via-else-not-all_below+then-not-all_below-2 w ↦ misnamed_words c.args.members.now c.args.with_words c.args.at c.index-members-at.result c.requires.within c.index-members-at.is
-    (sym (w.all_below-else-not-all_below.ensures ∙ ap (λ (ns : List ℕ). are_below (length c.args.members.now) ns) w.as_slice-else-not-all_below.ensures) ∙ w.if-not-all_below-2.true)
+      (sym (w.all_below-else-not-all_below.ensures ∙ ap (λ (ns : List ℕ). are_below (length c.args.members.now) ns) w.as_slice-else-not-all_below.ensures) ∙ w.if-not-all_below-2.true)
 ]
 
 pub returns-then-degree-told-clause-fault : goal.returns-then-degree-told-clause-fault
@@ -39,7 +39,7 @@ returns-clause-right c =
     let named = named_of c.args.members.now c.args.with_words c.args.at c.index-members-at.result c.requires.within c.index-members-at.is refs untold in
     elim c.else-with_words.branch [
       | else-with_words-via-then-with_words+else-degree-told-2 w ↦
-        let words = count_read (length c.args.members.now) (all_words_of c.args.members.now) c.args.counts.now.words.items c.args.at w.index.result.now c.requires.counts.words c.requires.within w.index.ensures in
-        is_right c.args.members.now c.args.with_words c.args.at c.index-members-at.result c.requires.within c.index-members-at.is c.index-told.result.now told named w.index.result.now words c.if-degree-told.false w.if-degree-told-2.false
+          let words = count_read (length c.args.members.now) (all_words_of c.args.members.now) c.args.counts.now.words.items c.args.at w.index.result.now c.requires.counts.words c.requires.within w.index.ensures in
+          is_right c.args.members.now c.args.with_words c.args.at c.index-members-at.result c.requires.within c.index-members-at.is c.index-told.result.now told named w.index.result.now words c.if-degree-told.false w.if-degree-told-2.false
       | else-with_words-via-else-with_words w ↦ is_right_alone c.args.members.now c.args.with_words c.args.at c.index-members-at.result c.requires.within c.index-members-at.is c.index-told.result.now told named c.if-degree-told.false w.if-with_words.false
     ]

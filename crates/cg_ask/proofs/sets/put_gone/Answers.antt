@@ -17,7 +17,7 @@ members-preserved c =
     let on = mark_read c.args.gone.now.gone.items c.members.at c.index.result.now gone_within c.index.ensures in
     elim c.if-index.branch [
       | then-index+in_ok-put_line w ↦ rw (w.out-is, w.totals-is, w.add_gone-totals.ensures)
-        (gone_push c.args.members.now c.args.gone.now.gone.items c.args.gone.now.dead.items c.members.at c.args.out.now.items c.members.out.items w.put_line.new.out.items c.members.totals w.index-by_count.result.now (get_or c.args.members.now c.members.at w.index-members-at.result).size
+          (gone_push c.args.members.now c.args.gone.now.gone.items c.args.gone.now.dead.items c.members.at c.args.out.now.items c.members.out.items w.put_line.new.out.items c.members.totals w.index-by_count.result.now (get_or c.args.members.now c.members.at w.index-members-at.result).size
           (on ∙ w.if-index.true) (mark_read c.args.gone.now.dead.items c.members.at w.index-by_count.result.now dead_within w.index-by_count.ensures)
           (size_read c.args.members.now c.members.at w.index-members-at.result c.members-test.true w.index-members-at.is ∙ ap (λ (m : Member). m.size) w.index-members-at.is)
           (subst (λ (m : Member). m.size < 2 ^ 36) w.index-members-at.is (small_size c.args.members.now c.members.at w.index-members-at.result c.requires.small c.members-test.true w.index-members-at.is))
