@@ -5,4 +5,4 @@ pub mod Judging
 pub mod Sets
 pub mod Locating
 pub mod Verdicts
-pub mod Told
+pub mod CheckFacts

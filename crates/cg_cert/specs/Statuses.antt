@@ -27,7 +27,7 @@ pub record ToldVerdict (status : CheckStatus) (bytes : List ℕ) (before now : O
   pub status_is : status ≡ status_of verdict
   pub wrote : Appends before now (verdict_text verdict)
 
--- As many bytes as show that there are too many were taken, and no more.
+-- One byte more than records may have was taken, and no further one.
 pub record TookTooMany (left after : Option (List ℕ)) : Type 0 where
   pub bytes : List ℕ
   pub number : length bytes ≡ LIMIT
