@@ -55,6 +55,6 @@ pub record AnswersVerdict (bytes : List ℕ) (status : CheckStatus) : Type 0 whe
 abbrev pub AnswersRecords : List ℕ → CheckStatus → Type 0
 AnswersRecords bytes status = (length bytes < LIMIT → AnswersVerdict bytes status) × (LIMIT ≤ length bytes → status ≡ TooLarge)
 
--- a fault of the source or of the sink, or want of memory
+-- a fault of the source or of the sink, or lack of memory
 abbrev pub IsCutShort : CheckStatus → Type 0
 IsCutShort status = (status ≡ ReadFault) ⊎ (status ≡ WriteFault) ⊎ (status ≡ OutOfMemory)

@@ -45,7 +45,7 @@ met_for_referent store o = length (weak_references_in store.rows o) + 1
 abbrev pub met_for_member : Store → ℕ → ℕ
 met_for_member store o = length (beside store o) + 1
 
--- A detection passes over the objects that it is about twice. In the start survivors are passed over twice more, to be untracked, and
+-- A detection goes over its objects twice. The start goes over survivors twice more, to untrack them, and
 -- what is set aside once, to find what it leads to: so no entry is looked at more than four times. In the turn of a member the entry
 -- that is taken out is looked at once, and so is a callback that is called.
 -- A walk of the weak phase asks a weak reference for the next older one, for its referent, and twice for its callback, which is its

@@ -34,7 +34,7 @@ use std::sync::ledger::Ledger;
 /// Looks at the next weak reference of the walk, or at the next condemned object.
 ///
 /// For each condemned object all weak references to it are looked at, from the newest on; for a weak reference that is
-/// condemned and is to lose its referent, all to its referent. So each list is gone through once or twice.
+/// condemned and is to lose its referent, all to its referent. So each list is walked once or twice.
 pub fn clear_one<B: Kind, L: Ledger>(
     heap: &mut Heap<B>,
     profile: u8,
@@ -263,7 +263,7 @@ pub fn after_callback(weak: u64) -> Turn
     Turn::gives_up(Release::of(weak), Phase::AfterRelease(weak))
 }
 
-/// One that has died since it was given up is counted as collected; another gets older.
+/// One that has died since it was given up counts as collected; one that lives gets older.
 pub fn after_release<B: Kind>(facts: Facts, heap: &mut Heap<B>, weak: u64) -> Turn
     requires generation { facts.generation ≤ 2 }
     requires ready { IsReadyForCollectionAt heap.old facts.generation (phase_of.AfterRelease weak) }
