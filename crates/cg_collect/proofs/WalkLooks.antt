@@ -1,6 +1,6 @@
 -- The looks that a walk over weak references has still to take, as it goes on with one of them, or with the next object.
 use Rattle.std.proofs.Common.{◌≡◌, refl, sym, ◌∙◌, ap, subst, ℕ, ◌+◌, ◌*◌, ◌≤◌, ◌<◌, Bool, true, false, cond, List, [], ◌∷◌, length, map, Option, Some, None, sum_by, arith}
-use Rattle.std.specs.Prelude.{not, ◌==◌, if◌then◌else◌, filter, option_and_then, slice_get, unwrap_or}
+use Rattle.std.specs.Prelude.{not, ◌==◌, if◌then◌else◌, filter, unwrap_or}
 use Rattle.std.proofs.lemmas.List.{length-map, length-reverse}
 use Rattle.std.proofs.lemmas.List.Sums.{sum_by-cons}
 use Rattle.cg_value.specs.declared.Place.TheVariants.{Cand}
@@ -18,7 +18,6 @@ use Rattle.cg_collect.specs.declared.phase.Turn.{Turn}
 use Rattle.cg_collect.specs.Phases.{from_on, references_in, to_look_at}
 use Rattle.cg_collect.specs.Ready.{loses_at, looked_at_for}
 use Rattle.cg_collect.specs.Looks.{beside, looks_left, met_for_condemned, met_for_member, met_for_referent, most_looks}
-use Rattle.cg_collect.proofs.RowFilters.{newest_left}
 use Rattle.cg_collect.proofs.RowWalks.{looks_here, looks_on_without, older_ones}
 
 -- a phase that is this one

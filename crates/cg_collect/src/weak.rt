@@ -83,12 +83,7 @@ fn look_at<B: Kind, L: Ledger>(
 }
 
 /// Whether a weak reference is to lose its referent: it has one, and one of the two is condemned.
-fn loses<B: Kind, L: Ledger>(
-    heap: &Heap<B>,
-    profile: u8,
-    weak: u64,
-    steps: &mut Steps<L>,
-) -> bool
+fn loses<B: Kind, L: Ledger>(heap: &Heap<B>, profile: u8, weak: u64, steps: &mut Steps<L>) -> bool
     requires { IsLive heap.now weak }
     ensures loses { result ≡ loses_at profile heap.now weak }
     ensures looks { steps.new ≤ steps.old + 2 }

@@ -1,24 +1,24 @@
 -- The worked script with one exit finalizer, by computation: the plain executor takes its steps.
-use Rattle.std.proofs.Common.{◌≡◌, ◌≢◌, refl, sym, ap, subst, ℕ, zero, suc, ◌+◌, Bool, true, false, ◌&&◌, List, [], ◌∷◌, Some, inl, inr, arith}
+use Rattle.std.proofs.Common.{◌≡◌, refl, ℕ, zero, suc, Bool, true, ◌&&◌, List, [], ◌∷◌, Some, inl, inr, arith}
 use Rattle.std.specs.Prelude.{◌==◌, count_by}
 use Rattle.std.specs.Fmt.{digits}
 use Rattle.std.proofs.lemmas.Bool.{eqb-true}
-use Rattle.cg_script.specs.declared.ClassDef.{ClassDef}
 use Rattle.cg_script.specs.declared.Command.TheVariants.{MakeFunc, MakeInst}
 use Rattle.cg_script.specs.Texts.{operand_names}
 use Rattle.cg_script.specs.Words.{atoms}
 use Rattle.cg_script.specs.Forms.{bindings, openers}
 use Rattle.cg_script.specs.Meanings.{meaning}
 use Rattle.cg_script.specs.Reading.{meant, reading, spells}
-use Rattle.cg_graph.specs.Member.{Includes}
+use Rattle.cg_script.proofs.ReadScripts.{read_known}
 use Rattle.cg_graph.proofs.Members.{true_and}
-use Rattle.cg_machine.specs.Program.{classes, procedures}
-use Rattle.cg_machine.specs.World.{World, Activity, Framed, Frame, opening}
+use Rattle.cg_machine.specs.Program.{procedures}
+use Rattle.cg_machine.specs.World.{World, Activity, Frame, TopLevel, opening}
+use Rattle.cg_machine.specs.declared.event.FrameSort.TheVariants.{Call as CallFrame}
 use Rattle.cg_machine.specs.Run.{StepTaken, world_after}
 use Rattle.cg_machine.specs.Refusals.{◌>>=◌}
 use Rattle.cg_machine.proofs.Plain.{first_steps_run, next}
 use Rattle.cg_weakcoll.specs.Expansion.{expansion}
-use Rattle.cg_weakcoll.specs.Exits.{IsExit, FindsAlive, NoneRefused, calls_from, is_refusal}
+use Rattle.cg_weakcoll.specs.Exits.{IsExit, FindsAlive, NoneRefused, exit_body, is_refusal}
 use Rattle.cg_weakcoll.specs.WorkedExits.{FindsAliveAndCalls, one_finalizer, one_script, the_exit}
 use Rattle.cg_weakcoll.proofs.WorkedFinalizers.{all_told, bodies_told, classes_told, others_told}
 
@@ -78,21 +78,26 @@ none_told below w (step ∷ steps) none =
     let both = true_and (count_by is_refusal step.events == 0) (none_in steps) none in
     (λ frame is. eqb-true (count_by is_refusal step.events) 0 both.0, none_told below step.world steps both.1)
 
-alive : FindsAlive the_exit (world_after one_script 100 before) _ []
-unfolding ◌>>=◌
+-- the frame of the procedure, the function #4, over the script's own commands, which are all done
+the_frame : Frame
+the_frame = record { sort = CallFrame; subject = 4; function = Some 4; commands = exit_body the_exit }
+
+alive : FindsAlive the_exit (world_after one_script 100 before) the_frame (TopLevel [] ∷ [])
+unfolding ◌>>=◌ the_frame
 alive = record { stack = refl; commands = refl; no_collection = refl; weak = _; member = inr (inr (inr (inr (inl refl)))); named = refl; refers = λ i. cc }
 
 pub alive_and_calls : FindsAliveAndCalls
-unfolding ◌>>=◌
+unfolding ◌>>=◌ the_frame
 alive_and_calls = record {
   spelled = spelled;
+  known = read_known one_script (expansion one_finalizer, spelled);
   exit = there;
   before = before;
   during = during;
   run = first_steps_run one_script 31 start tt;
-  frame = _;
-  below = _;
+  frame = the_frame;
+  below = TopLevel [] ∷ [];
   alive = alive;
-  none_refused = none_told _ (world_after one_script 100 before) during refl;
+  none_refused = none_told (TopLevel [] ∷ []) (world_after one_script 100 before) during refl;
   calls = refl;
 }

@@ -6,6 +6,7 @@ use Rattle.cg_script.specs.declared.Operand.TheVariants.{Int as IntWord, Name, S
 use Rattle.cg_script.specs.declared.Item.TheVariants.{Run as Line, Class, Def}
 use Rattle.cg_script.specs.declared.Command.TheVariants.{Bind, Call, Del, MakeFunc, MakeInst, MakeRef, Print}
 use Rattle.cg_script.specs.Reading.{reading, spells}
+use Rattle.cg_script.specs.Texts.{TextsAreKnown}
 use Rattle.cg_weakcoll.specs.Expansion.{expansion}
 use Rattle.cg_machine.specs.World.{Activity, Frame}
 use Rattle.cg_machine.specs.Run.{StepTaken, IsRun, world_after}
@@ -57,6 +58,7 @@ one_script = record {
 -- function's frame begins.
 pub record FindsAliveAndCalls : Type 0 where
   pub spelled : reading (expansion one_finalizer) ≡ spells one_script.names one_script.items
+  pub known : TextsAreKnown one_script
   pub exit : IsExit one_script the_exit
   pub before : List StepTaken
   pub during : List StepTaken
