@@ -13,7 +13,9 @@ pub fn remark(rt: &HostRuntime, text: &str) {
 /// Where standard input is a terminal, says what is awaited there.
 pub fn remark_that_input_is_awaited(rt: &HostRuntime, program: &str, what: &str) {
     if rt.stdin().is_terminal() {
-        let _ = eprintln!(rt; "{program}: {what} is read from this terminal; end it with Control-D");
+        let _ = eprintln!(rt;
+            "{program}: {what} is read from this terminal; end it with Control-D"
+        );
     }
 }
 
@@ -21,7 +23,11 @@ pub fn remark_that_input_is_awaited(rt: &HostRuntime, program: &str, what: &str)
 fn printable(alloc: Global, bytes: &[u8]) -> Result<String, AllocError> {
     let mut text = String::new(alloc);
     for byte in bytes {
-        let shown = if byte.is_ascii_graphic() || *byte == b' ' { *byte } else { b'?' };
+        let shown = if byte.is_ascii_graphic() || *byte == b' ' {
+            *byte
+        } else {
+            b'?'
+        };
         text.push(char::from(shown))?;
     }
     Ok(text)

@@ -12,8 +12,14 @@ pub fn remark_verdict(rt: &HostRuntime, text: &[u8]) {
     }
     match number_at(text, 2) {
         Some(1) => remark(rt, "the input is not the text of some records"),
-        Some(2) => remark(rt, "a member stands twice, or a reference or a set names no member"),
-        Some(3) => remark(rt, "an in-degree is below the member's occurrences among the references"),
+        Some(2) => remark(
+            rt,
+            "a member stands twice, or a reference or a set names no member",
+        ),
+        Some(3) => remark(
+            rt,
+            "an in-degree is below the member's occurrences among the references",
+        ),
         Some(4) => remark(rt, "what was found unreachable is not just what is"),
         Some(5) => remark(rt, "what was set aside is not just what is to be"),
         _ => {}

@@ -14,9 +14,18 @@ pub fn remark_bad_heap(rt: &HostRuntime, input: &[u8], text: &[u8]) {
         return;
     }
     match number_at(text, 1) {
-        Some(2) => remark(rt, "a reference or an untold word of the member names no member"),
-        Some(3) => remark(rt, "the member's in-degree is below its occurrences among the references"),
-        Some(4) => remark(rt, "the member's in-degree is below its occurrences among references and untold words"),
+        Some(2) => remark(
+            rt,
+            "a reference or an untold word of the member names no member",
+        ),
+        Some(3) => remark(
+            rt,
+            "the member's in-degree is below its occurrences among the references",
+        ),
+        Some(4) => remark(
+            rt,
+            "the member's in-degree is below its occurrences among references and untold words",
+        ),
         _ => {}
     }
 }

@@ -20,7 +20,8 @@ pub fn remark_before(rt: &HostRuntime, words: &[String]) {
 fn meaning_of(code: u64) -> &'static str {
     match code {
         1 => "a byte that is no printable ASCII: a tab, a CRLF line end, a byte order mark",
-        2 => "no command of this form; what has weak maps or exit finalizers is expanded first, by `gcrun expand`",
+        2 =>
+            "no command of this form; what has weak maps or exit finalizers is expanded first, by `gcrun expand`",
         3 => "the number of words does not fit the command",
         4 => "a word has not the form that its place asks for, or is out of range",
         5 => "a line of more than 1,024 bytes or 64 words, or more than 400,000 lines",
