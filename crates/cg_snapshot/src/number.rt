@@ -4,54 +4,7 @@ ghost use Rattle.std.specs.Int.{IsInRange};
 ghost use Rattle.cg_records.specs.Number.{is_plain};
 ghost use Rattle.cg_snapshot.specs.Rows.{spaced, IsTail, Lacks};
 
-/// The first place of a byte, or the number of bytes where there is none.
-pub(crate) fn place_of(bytes: &[u8], byte: u8) -> usize
-    ensures within { result ≤ length bytes.now }
-    ensures before { (k : ℕ) → k < result → slice_index bytes.now k ≢ byte }
-    ensures found { result < length bytes.now → slice_index bytes.now result ≡ byte }
-{
-    'bytes: for (place, other) in bytes.iter().enumerate() {
-        if *other == byte {
-            return place;
-        }
-    }
-    bytes.len()
-}
-
-/// Whether there are bytes, and no zero stands before others.
-fn is_plain_word(word: &[u8]) -> bool
-    ensures { result ≡ is_plain word.now }
-{
-    !word.is_empty() && (word.len() == 1 || word[0] != b'0')
-}
-
-/// The number with a digit behind it, where the byte is one and the number is not too large.
-fn with_digit(number: u64, byte: u8) -> Option<u64>
-    ensures found { IfSome result (λ more. IsInRange 48 57 byte × (more ≡ number * 10 + (byte - 48))) }
-    ensures fits { IfSome result (λ more. more < 2 ^ 64) }
-    ensures none { IfNone result (IsInRange 48 57 byte → 2 ^ 64 ≤ number * 10 + (byte - 48)) }
-{
-    if byte < b'0' || byte > b'9' {
-        return None;
-    }
-    number.checked_mul(10)?.checked_add(u64::from(byte - b'0'))
-}
-
-/// The number that a word writes, without leading zeros.
-fn number_of_word(word: &[u8]) -> Option<u64>
-    ensures found { IfSome result (λ number. word.now ≡ decimal number) }
-    ensures fits { IfSome result (λ number. number < 2 ^ 64) }
-    ensures none { IfNone result ((number : ℕ) → number < 2 ^ 64 → word.now ≢ decimal number) }
-{
-    if !is_plain_word(word) {
-        return None;
-    }
-    let mut number: u64 = 0;
-    'digits: for digit in word {
-        number = with_digit(number, *digit)?;
-    }
-    Some(number)
-}
+use cg_records::{number_of_word, place_of};
 
 /// The word at the front, up to a space, and what follows it.
 pub(crate) fn cut_word(bytes: &[u8]) -> (&[u8], &[u8])

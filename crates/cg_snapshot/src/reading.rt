@@ -7,8 +7,8 @@ ghost use Rattle.cg_snapshot.specs.declared.draft.Stage.TheVariants.{Behind};
 use crate::draft::{Draft, Stage, take_line};
 use crate::heap::Members;
 use crate::line::read_line;
-use crate::number::place_of;
 use crate::question::Questions;
+use cg_records::place_of;
 use std::alloc::{AllocError, Global};
 
 /// A recorded heap, and what is asked of it.
