@@ -1,7 +1,5 @@
 //! Reading decimal numbers.
-ghost use Rattle.std.specs.Prelude.{◌≡◌, ◌≢◌, ◌<◌, ◌≤◌, ◌+◌, ◌-◌, ◌*◌, ◌^◌, ◌++◌, ◌∷◌, ℕ, List, length, slice_index, decimal, IfSome, IfNone, MatchOption};
-ghost use Rattle.std.specs.Int.{IsInRange};
-ghost use Rattle.cg_records.specs.Number.{is_plain};
+ghost use Rattle.std.specs.Prelude.{◌≡◌, ◌≢◌, ◌<◌, ◌^◌, ◌++◌, ℕ, List, IfSome, IfNone, MatchOption};
 ghost use Rattle.cg_snapshot.specs.Rows.{spaced, IsTail, Lacks};
 
 use cg_records::{number_of_word, place_of};
