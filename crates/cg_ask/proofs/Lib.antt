@@ -12,3 +12,4 @@ pub mod Reaching
 pub mod Released
 pub mod Rows
 pub mod Sizes
+pub mod Ways

@@ -8,7 +8,7 @@
 //! - `reach`, `dying`, `collection`: what paths reach, what dies by count, what a full collection clears.
 //! - `why`, `holds`, `sets`: the answers; `answer`: the answer to any question.
 //! - `tell`, `status`, `run`: the questions as a top call, over a source and a sink.
-//! - `laws`: what dies by count and was reached is let go.
+//! - `laws`: paths and reach, what is lost, and that what dies by count and was reached is let go.
 #![tactic(auto)]
 
 mod answer;
@@ -27,6 +27,6 @@ mod status;
 mod tell;
 mod why;
 
-pub use laws::dead_is_let_go;
+pub use laws::{dead_is_let_go, held_has_outside_holds, lost_has_none, ways_are_reach};
 pub use run::ask_run;
 pub use status::AskStatus;
