@@ -11,20 +11,13 @@ use Rattle.cg_graph.proofs.Members.{either, Includes-append_cases}
 use Rattle.cg_search.specs.Places.{Marks, is_marked}
 use Rattle.cg_search.specs.Counts.{Adds, targets_from}
 use Rattle.cg_search.proofs.Places.{occurrences-append}
-use Rattle.cg_search.proofs.Counting.{few_occurrences}
+use Rattle.cg_search.proofs.Counting.{few_occurrences, targets_all}
 use Rattle.cg_snapshot.specs.declared.heap.Member.{Member}
 use Rattle.cg_ask.specs.Asked.{rows_of, words_of, references_of, all_words_of, degrees_of, degree_at, outside_at, all_told}
 use Rattle.cg_ask.specs.Counted.{CountEach, IsCounts, AreOutside}
 use Rattle.cg_ask.specs.declared.counts.Counts.{Counts}
 
--- the targets of all nodes
-pub targets_all : (rows : List (List ℕ)) (n : ℕ) → n ≡ length rows → targets_from (replicate n true) rows ≡ concat rows
-targets_all [] zero long = refl
-targets_all [] (suc n) long = absurd (omega (arith, long))
-targets_all (r ∷ rows) zero long = absurd (omega (arith, long))
-targets_all (r ∷ rows) (suc n) long = ap (λ t. r ++ t) (targets_all rows n (omega (arith, long)))
-
--- those of some are fewer
+-- the targets of some nodes are fewer than those of all
 pub targets_few : (x : ℕ) (marks : List Bool) (rows : List (List ℕ)) → occurrences x (targets_from marks rows) ≤ occurrences x (concat rows)
 targets_few x [] rows = omega arith
 targets_few x (m ∷ marks) [] = omega arith

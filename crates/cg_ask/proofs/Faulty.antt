@@ -1,7 +1,7 @@
 -- What is wrong with a heap, and what follows where nothing is.
-use Rattle.std.proofs.Common.{◌≡◌, refl, sym, subst, ℕ, ◌+◌, ◌-◌, ◌<◌, ◌≤◌, Bool, true, false, List, [], ◌∷◌, length, Option, Some, None, arith, get_or, nat_lt, ◌&&◌}
+use Rattle.std.proofs.Common.{◌≡◌, sym, subst, ℕ, ◌+◌, ◌-◌, ◌<◌, ◌≤◌, Bool, true, false, List, [], length, Option, Some, None, arith, get_or}
 use Rattle.std.specs.Prelude.{IfSome, IfNone}
-use Rattle.std.proofs.lemmas.Bool.{cases_eq, cases_lt, ltb-true, lt-ltb}
+use Rattle.std.proofs.lemmas.Bool.{cases_eq, cases_lt}
 use Rattle.std.proofs.lemmas.List.{length-map}
 use Rattle.std.proofs.lemmas.Option.{slice_get_within, get_or_from_slice_get}
 use Rattle.cg_graph.specs.Member.{Includes}
@@ -11,27 +11,11 @@ use Rattle.cg_search.proofs.Places.{absent_from}
 use Rattle.cg_snapshot.specs.declared.heap.Member.{Member}
 use Rattle.cg_snapshot.specs.Text.{AreMembers}
 use Rattle.cg_snapshot.specs.Reading.{are_below}
+use Rattle.cg_snapshot.proofs.Machine.{below_of, of_below}
 use Rattle.cg_ask.specs.Asked.{rows_of, words_of, references_of, all_words_of, degree_at}
 use Rattle.cg_ask.specs.Faults.{IsWellNamed, IsCovered, IsRight, HasFault, misnamed, too_low, low_with_words, AreRight}
 use Rattle.cg_ask.proofs.Counting.{concat_row, degree_read, row_read, words_read}
 use Rattle.cg_ask.proofs.Marking.{member_of}
-
--- the numbers are those of members just where the test says so
-below_of : (count : ℕ) (ns : List ℕ) → AreMembers count ns → are_below count ns ≡ true
-below_of count [] h = refl
-below_of count (n ∷ ns) h = are_true (nat_lt n count) (are_below count ns) (lt-ltb n count h.0) (below_of count ns h.1)
-  where
-    are_true : (a b : Bool) → a ≡ true → b ≡ true → (a && b) ≡ true
-    are_true true b p q = q
-    are_true false b p q = absurd (cc)
-
-of_below : (count : ℕ) (ns : List ℕ) → are_below count ns ≡ true → AreMembers count ns
-of_below count [] h = tt
-of_below count (n ∷ ns) h = let parts = both (nat_lt n count) (are_below count ns) h in (ltb-true n count parts.0, of_below count ns parts.1)
-  where
-    both : (a b : Bool) → (a && b) ≡ true → (a ≡ true) × (b ≡ true)
-    both true b e = (refl, e)
-    both false b e = absurd (cc)
 
 -- a heap of which nothing is wrong
 module _ (ms : List Member) (with_words : Bool) (right : AreRight ms with_words) where

@@ -93,11 +93,12 @@ both : (a b : Bool) → (a && b) ≡ true → (a ≡ true) × (b ≡ true)
 both true b h = (refl, h)
 both false b h = absurd (cc)
 
-below_of : (count : ℕ) (ns : List ℕ) → AreMembers count ns → are_below count ns ≡ true
+-- the numbers are those of members just where the test says so
+pub below_of : (count : ℕ) (ns : List ℕ) → AreMembers count ns → are_below count ns ≡ true
 below_of count [] h = refl
 below_of count (n ∷ ns) h = are_true (nat_lt n count) (are_below count ns) (lt-ltb n count h.0) (below_of count ns h.1)
 
-of_below : (count : ℕ) (ns : List ℕ) → are_below count ns ≡ true → AreMembers count ns
+pub of_below : (count : ℕ) (ns : List ℕ) → are_below count ns ≡ true → AreMembers count ns
 of_below count [] h = tt
 of_below count (n ∷ ns) h = let parts = both (nat_lt n count) (are_below count ns) h in (ltb-true n count parts.0, of_below count ns parts.1)
 
