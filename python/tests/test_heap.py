@@ -1,7 +1,6 @@
 """gcheap: what is recorded of a heap, and the answers in words; the plain judge stands for the built program."""
 import shutil
 import subprocess
-import sys
 import sysconfig
 import tempfile
 import textwrap
@@ -9,7 +8,7 @@ import unittest
 from pathlib import Path
 
 from . import ask
-from .recording import PYTHON, run_python
+from .recording import run_python, stand_in
 
 EXT = Path(__file__).resolve().parent / "ext"
 # begins a program that asks
@@ -81,10 +80,7 @@ class Heaps(unittest.TestCase):
         folder = tempfile.TemporaryDirectory()
         self.addCleanup(folder.cleanup)
         self.folder = Path(folder.name)
-        program = self.folder / "gcheap"
-        program.write_text(f"#!/bin/sh\nPYTHONPATH={PYTHON} exec {sys.executable} -m tests.ask\n")
-        program.chmod(0o755)
-        self.program = program
+        self.program = stand_in(self.folder, "gcheap", "-m", "tests.ask")
 
     def run_program(self, text: str, *words: object) -> subprocess.CompletedProcess[str]:
         """Runs a program, by gcheap if words for that are given."""
@@ -313,7 +309,7 @@ class Heaps(unittest.TestCase):
             (["-o", "prog.py", "prog.py"], "is the name of a program"),
             (["-o", "out", "missing.py"], "there is no program missing.py"),
             (["-o", "missing/out", "prog.py"], "there is no folder"),
-            (["--ask", "missing", "lost"], "gcheap is not found"),
+            (["--gcheap", "missing", "--ask", "out", "lost"], "--gcheap names missing, which is no program"),
             (["-o", "out", "--on-signal", "NONE", "prog.py"], "there is no signal NONE"),
         ):
             (self.folder / "prog.py").write_text("print(1)\n")

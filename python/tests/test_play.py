@@ -14,7 +14,7 @@ from halzsetor.play.show import Columns, Screen
 from halzsetor.programs import NotFound, find
 
 from .generator import Generator
-from .recording import PYTHON, run_python
+from .recording import PYTHON, run_python, stand_in
 from .running import EXAMPLES, OTHERWISE, PROCESSES, example_cases, folder_cases, run_all
 
 GENERATED = 500
@@ -277,10 +277,7 @@ class Commands(unittest.TestCase):
         folder = tempfile.TemporaryDirectory()
         self.addCleanup(folder.cleanup)
         self.folder = Path(folder.name)
-        program = self.folder / "gcrun"
-        program.write_text(f'#!/bin/sh\nPYTHONPATH={PYTHON} exec {sys.executable} -S -m tests.stand_in "$@"\n')
-        program.chmod(0o755)
-        self.program = str(program)
+        self.program = str(stand_in(self.folder, "gcrun", "-S", "-m", "tests.stand_in"))
 
     def play(self, script: str, *words: str, program: str | None = None) -> tuple[int, str, str]:
         """Plays a script: the status, the output and the message."""

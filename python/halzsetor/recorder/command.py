@@ -10,7 +10,6 @@ import importlib.util
 import os
 import runpy
 import shutil
-import subprocess
 import sys
 import tempfile
 from typing import Iterable, NoReturn
@@ -21,6 +20,7 @@ from .files import Files, Refused
 from .output import LIMIT
 from .recorder import Recorder
 from .stand import write_to
+from .verdict import RIGHT, verdict_on
 
 
 def at_least_one(word: str) -> int:
@@ -125,8 +125,8 @@ class Judge:
 
     def are_right(self, names: Iterable[str]) -> bool:
         """Whether all records are right; this is said on standard error, as standard output is the program's."""
-        verdicts = {name: self.verdict(name) for name in names}
-        wrong = {name: verdict for name, verdict in verdicts.items() if not verdict.startswith("yes ")}
+        verdicts = {name: verdict_on(name, self.program) for name in names}
+        wrong = {name: verdict for name, verdict in verdicts.items() if not verdict.startswith(RIGHT)}
         for name, verdict in wrong.items():
             write_to(sys.__stderr__, f"gcrecord: {name}: {verdict}: {Records(name).explain([verdict])}")
         if not wrong:
@@ -135,16 +135,6 @@ class Judge:
         if not wrong and self.folder is not None:
             shutil.rmtree(self.folder, ignore_errors=True)
         return not wrong
-
-    def verdict(self, name: str) -> str:
-        """The verdict on a file."""
-        with open(name, "rb") as file:
-            done = subprocess.run([self.program], stdin=file, capture_output=True, text=True)
-        verdict = done.stdout.strip()
-        if not verdict.startswith(("yes ", "no ")):
-            said = verdict or done.stderr.strip()
-            raise Refused(f"{self.program} ended with status {done.returncode} on {name}: {said}")
-        return verdict
 
 
 def record(given: argparse.Namespace) -> NoReturn:
