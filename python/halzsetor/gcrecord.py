@@ -1,4 +1,4 @@
-"""The command `gcrecord`: see docs/REFEREE.md."""
+"""The command `gcrecord`: see docs/RECORDS.md."""
 from .front import run
 
 

@@ -1,4 +1,4 @@
-"""Records the collections of a running CPython 3.12: see docs/REFEREE.md.
+"""Records the collections of a running CPython 3.12: see docs/RECORDS.md.
 
 In a program: `with halzsetor.recorder.Recorder(file): ..`.
 
