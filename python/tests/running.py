@@ -14,6 +14,7 @@ HERE = Path(__file__).resolve().parent
 PROGRAM = ("-m", "halzsetor.gcscript")
 EXAMPLES = HERE.parent.parent / "examples"
 OTHERWISE = EXAMPLES / "otherwise"
+PLAIN = EXAMPLES / "plain"
 TEXTS = HERE / "texts.jsonl"
 POINTS = HERE / "points.json"
 BOTH_BAD = "agrees: the script is bad, and nothing was run"

@@ -309,9 +309,9 @@ class Commands(unittest.TestCase):
         self.assertEqual((0, "differs in finalized: "), (status, output.splitlines()[-1][:22]))
 
     def test_what_cpython_cannot_do(self) -> None:
-        status, output, message = self.play("shutdown\na = list\n", "--cpython")
+        status, output, message = self.play("profile 2\na = list\n", "--cpython")
         self.assertEqual((2, ""), (status, output))
-        said = "^gcplay: line 1: `shutdown` can't be carried out by CPython: .*; play it without --cpython"
+        said = "^gcplay: line 1: `profile` can't be carried out by CPython: .*; play it without --cpython"
         self.assertRegex(message, said)
 
     def test_a_bad_script(self) -> None:
