@@ -15,9 +15,11 @@ HERE = Path(__file__).resolve().parent
 # where the package is
 PYTHON = HERE.parent
 JUDGED = PYTHON.parent / "examples" / "judged"
+# how many seconds a program may take: a starved machine is slow
+LONGEST = 600
 # where Debian has its Python's packages
 DEBIAN = Path("/usr/lib/python3/dist-packages")
-GCCHECK = PYTHON.parent / "crates" / "gccheck" / "out" / "gccheck"
+GCCHECK, GCHEAP = (PYTHON.parent / "crates" / name / "out" / name for name in ("gccheck", "gcheap"))
 
 
 class Recorded(NamedTuple):
@@ -55,7 +57,7 @@ def verdict(text: str) -> str:
     """The verdict of the plain judge; where gccheck has been built, it must say the same."""
     answer = judge.verdict(text)
     if GCCHECK.exists():
-        done = subprocess.run([GCCHECK], input=text, capture_output=True, text=True, timeout=120)
+        done = subprocess.run([GCCHECK], input=text, capture_output=True, text=True, timeout=LONGEST)
         if done.stdout != answer + "\n":
             raise AssertionError(f"gccheck says {done.stdout.strip()}, the plain judge {answer}")
     return answer
@@ -97,7 +99,7 @@ def run_python(
         capture_output=True,
         text=True,
         cwd=folder,
-        timeout=120,
+        timeout=LONGEST,
         env=os.environ | {"PYTHONPATH": os.pathsep.join(map(str, [PYTHON, *paths]))} | variables,
     )
 

@@ -19,7 +19,7 @@ TEXTS = HERE / "texts.jsonl"
 POINTS = HERE / "points.json"
 BOTH_BAD = "agrees: the script is bad, and nothing was run"
 # how many seconds a run may take
-LONGEST = 60
+LONGEST = 600
 PROCESSES = min(4, os.cpu_count() or 1)
 
 

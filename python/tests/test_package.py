@@ -12,7 +12,7 @@ import test
 
 from halzsetor import programs
 
-from .recording import JUDGED, PYTHON, folder_of_pytest, run_python, verdict
+from .recording import JUDGED, LONGEST, PYTHON, folder_of_pytest, run_python, verdict
 
 # CPython 3.12 has these among its tests
 WHEELS = [str(wheel) for name in ("setuptools", "wheel") for wheel in Path(test.__file__).parent.glob(f"{name}-*.whl")]
@@ -44,7 +44,7 @@ class Installed(unittest.TestCase):
     def run_there(cls, command: str, *words: object) -> str:
         """What a command of the environment writes."""
         done = subprocess.run(
-            [cls.bin / command, *map(str, words)], capture_output=True, text=True, cwd=cls.folder, timeout=120
+            [cls.bin / command, *map(str, words)], capture_output=True, text=True, cwd=cls.folder, timeout=LONGEST
         )
         if done.returncode != 0:
             raise AssertionError(f"{command} {words} ended with {done.returncode}: {done.stdout}{done.stderr}")

@@ -9,7 +9,7 @@ from pathlib import Path
 
 from halzsetor.dot import Picture
 
-from .recording import run, run_python, stand_in
+from .recording import LONGEST, run, run_python, stand_in
 
 # 1 is held from outside and refers to 2; 3 and 4 refer to each other, and 4 to 2; 5 has a legacy finalizer and holds 6
 RECORDS = """\
@@ -109,7 +109,7 @@ class Pictures(unittest.TestCase):
         self.assertRegex(first, r'^digraph ".*" \{\n$')
         self.assertEqual("}\n", rest.pop())
         if shutil.which("dot"):
-            done = subprocess.run(["dot", "-Tsvg"], input=picture, capture_output=True, text=True, timeout=60)
+            done = subprocess.run(["dot", "-Tsvg"], input=picture, capture_output=True, text=True, timeout=LONGEST)
             self.assertEqual((0, ""), (done.returncode, done.stderr))
             self.assertIn("</svg>", done.stdout)
         return "".join(rest[2:])

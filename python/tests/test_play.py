@@ -14,7 +14,7 @@ from halzsetor.play.show import Columns, Screen
 from halzsetor.programs import NotFound, find
 
 from .generator import Generator
-from .recording import PYTHON, run_python, stand_in
+from .recording import LONGEST, PYTHON, run_python, stand_in
 from .running import EXAMPLES, OTHERWISE, PROCESSES, example_cases, folder_cases, run_all
 
 GENERATED = 500
@@ -244,7 +244,7 @@ class Unchanged(unittest.TestCase):
 
     def output(self, program: str, word: str, script: str) -> str:
         """What the program writes."""
-        return subprocess.run([program, word], input=script, capture_output=True, text=True, timeout=60).stdout
+        return subprocess.run([program, word], input=script, capture_output=True, text=True, timeout=LONGEST).stdout
 
 
 class Shown(unittest.TestCase):
@@ -334,7 +334,7 @@ class Commands(unittest.TestCase):
             player.stdin.flush()
             self.assertEqual("1  a = list             made list #2  = a\n", player.stdout.readline())
             self.assertIsNone(player.poll())
-            self.assertIn("del a", player.communicate("\n", timeout=60)[0])
+            self.assertIn("del a", player.communicate("\n", timeout=LONGEST)[0])
 
     def test_what_a_user_can_do_wrong(self) -> None:
         missing = str(self.folder / "missing")
@@ -350,7 +350,7 @@ class Commands(unittest.TestCase):
         script.write_text("a = list\n" * 3000)
         words = f"{sys.executable} -m halzsetor.gcplay --gcrun {self.program} {script} | head -1"
         environment = os.environ | {"PYTHONPATH": str(PYTHON)}
-        done = subprocess.run(words, shell=True, capture_output=True, text=True, env=environment, timeout=60)
+        done = subprocess.run(words, shell=True, capture_output=True, text=True, env=environment, timeout=LONGEST)
         self.assertEqual("", done.stderr)
 
 
