@@ -2,6 +2,7 @@
 
     from halzsetor import gctest
     class Tests(gctest.Judged, unittest.TestCase): ..
+    unittest.main(testRunner=gctest.Runner)
 """
 import sys
 
@@ -9,6 +10,7 @@ from .front import run
 
 if sys.implementation.name == "cpython" and sys.version_info[:2] == (3, 12):
     from .testing.runner import Judged, LeavesNothing, Runner
+    from .testing.trials import Asked
 
 
 def main():

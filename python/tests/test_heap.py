@@ -1,5 +1,7 @@
 """gcheap: what is recorded of a heap, and the answers in words; the plain judge stands for the built program."""
+import contextlib
 import importlib.util
+import io
 import shutil
 import subprocess
 import sysconfig
@@ -9,7 +11,7 @@ import unittest
 from pathlib import Path
 
 from . import ask
-from .recording import run_python, stand_in
+from .recording import GCHEAP, run_python, stand_in
 
 EXT = Path(__file__).resolve().parent / "ext"
 # begins a program that asks
@@ -43,35 +45,49 @@ class Judge(unittest.TestCase):
         self.assertIsNone(graph.fault(True))
         return {" ".join(question): list(ask.answer(graph, question)) for question in words}
 
+    WANTED = {
+        "why 4": ["held 0 1", "via 2", "via 4"],
+        "why 3 but 1": ["held 0 1", "via 2", "via 3"],
+        "why 3 but 1 2": ["none"],
+        "why 6": ["none"],
+        "referrers 3": ["referrer 1 1", "referrer 2 1", "outside 0"],
+        "hidden": ["hidden 0 1 1", "hidden 8 1 0"],
+        "lost": ["lost 5 0", "lost 6 0", "lost 7 0"],
+        "drop 2": ["gone 2 1", "gone 4 1", "total 2 80 2 80"],
+        "drop 1 2": ["gone 1 1", "gone 2 1", "gone 3 1", "gone 4 1", "total 4 140 4 140"],
+        "untold": ["kept 8"],
+    }
+    # texts with their first bad line
+    BAD = (
+        ("end", 1),
+        ("heap\nm 1 1 1\nend", 2),
+        ("heap\nm 01 1 1 0\nend", 2),
+        ("heap\nu 0\nend", 2),
+        ("heap\nm 1 1 1 0", 3),
+        ("heap\nm 1 1 1 0\nend\nwhy 1", 4),
+        ("heap\nm 1 1 1 0\nend\nwhy 0 but 0", 4),
+        ("heap\nm 1 1 1 0\nend\nwhat", 4),
+    )
+
     def test_each_question(self) -> None:
-        wanted = {
-            "why 4": ["held 0 1", "via 2", "via 4"],
-            "why 3 but 1": ["held 0 1", "via 2", "via 3"],
-            "why 3 but 1 2": ["none"],
-            "why 6": ["none"],
-            "referrers 3": ["referrer 1 1", "referrer 2 1", "outside 0"],
-            "hidden": ["hidden 0 1 1", "hidden 8 1 0"],
-            "lost": ["lost 5 0", "lost 6 0", "lost 7 0"],
-            "drop 2": ["gone 2 1", "gone 4 1", "total 2 80 2 80"],
-            "drop 1 2": ["gone 1 1", "gone 2 1", "gone 3 1", "gone 4 1", "total 4 140 4 140"],
-            "untold": ["kept 8"],
-        }
-        self.assertEqual(wanted, self.answers(*wanted))
+        self.assertEqual(self.WANTED, self.answers(*self.WANTED))
 
     def test_lines_that_are_bad(self) -> None:
-        for text, line in (
-            ("end", 1),
-            ("heap\nm 1 1 1\nend", 2),
-            ("heap\nm 01 1 1 0\nend", 2),
-            ("heap\nu 0\nend", 2),
-            ("heap\nm 1 1 1 0", 3),
-            ("heap\nm 1 1 1 0\nend\nwhy 1", 4),
-            ("heap\nm 1 1 1 0\nend\nwhy 0 but 0", 4),
-            ("heap\nm 1 1 1 0\nend\nwhat", 4),
-        ):
+        for text, line in self.BAD:
             with self.assertRaises(ask.BadLine) as raised:
                 ask.read(text.split("\n"))
             self.assertEqual((line,), raised.exception.args, text)
+
+    def test_gcheap_says_the_same(self) -> None:
+        if not GCHEAP.exists():
+            how = "cd crates/gcheap && rt run < /dev/null"
+            self.skipTest(f"gcheap is not built ({how}): the plain judge alone answers in these tests")
+        asked = "\n".join([textwrap.dedent(self.HEAP).strip(), *self.WANTED])
+        for text in (asked, *(text for text, _ in self.BAD)):
+            with contextlib.redirect_stdout(io.StringIO()) as answers:
+                status = ask.main(text + "\n")
+            done = subprocess.run([GCHEAP], input=text + "\n", capture_output=True, text=True)
+            self.assertEqual((status, answers.getvalue()), (done.returncode, done.stdout), text)
 
 
 class Heaps(unittest.TestCase):

@@ -151,6 +151,14 @@ class Leaks(Running):
         for kind in ("the test itself", "lists of subclasses", "caches of abc", "1 of caches of re"):
             self.assertIn(kind, last)
 
+    def test_the_runner_of_a_program(self) -> None:
+        front = "import unittest, leaking as tests; from halzsetor import gctest as gc; "
+        front += "unittest.main(tests, testRunner=gc.Runner)"
+        done = run_python("-c", front, "Tests.test_c_leaks", folder=self.folder)
+        self.assertEqual(0, done.returncode)
+        self.assertIn("gc-leaks: leaking.Tests.test_c_leaks leaves 5 objects\n", done.stderr)
+        self.assertNotIn("gc-judge", done.stderr)
+
     def test_all_is_told_where_it_is_asked_for(self) -> None:
         status, told = self.gctest("--gc-leaks-all", "leaking.Tests.test_b_module", "leaking.Tests.test_d_caches")
         said = part(told, "gc-leaks")
@@ -212,6 +220,11 @@ class Judged(Running):
         self.assertIn("\nRan 2 tests", told.replace("Ran 3", "Ran 2"))
         self.assertIn("FAILED (failures=1, skipped=1)\n", told)
         self.assertRegex(part(told, "gc-judge"), r"^\d+ collections judged, wrong ones in 1 tests\n$")
+
+    def test_a_gccheck_that_fails(self) -> None:
+        self.gccheck.write_text("#!/bin/sh\nexit 3\n")
+        status, told = self.gctest("--gc-judge", "--gccheck", self.gccheck, "wrong.Tests.test_one")
+        self.assertEqual((1, True), (status, "AssertionError: the collections could not be judged: " in told))
 
     def test_tests_that_are_right(self) -> None:
         status, told = self.gctest("--gc-judge", "--gccheck", self.gccheck, "wrong.Tests.test_one")

@@ -8,7 +8,7 @@ from typing import TextIO
 from ..programs import find
 from ..recorder import Recorder
 from ..recorder.explain import Records
-from ..recorder.files import BESIDE
+from ..recorder.files import BESIDE, Refused
 from ..recorder.verdict import RIGHT, verdict_on
 
 
@@ -40,7 +40,10 @@ class Judging:
         if recorded == 0:
             return None
         self.judged += recorded
-        verdict = verdict_on(self.out, find("gccheck", self.gccheck))
+        try:
+            verdict = verdict_on(self.out, find("gccheck", self.gccheck))
+        except Refused as fault:
+            return f"the collections could not be judged: {fault}"
         if verdict.startswith(RIGHT):
             return None
         self.wrong += 1

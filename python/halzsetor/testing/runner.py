@@ -29,8 +29,8 @@ class Runner(unittest.TextTestRunner):
     """A runner whose tests are judged and watched, and that tells at the end what was seen."""
 
     resultclass = Result
-    # what is asked of the tests
-    asked = Asked(judge=True, leaks=True)
+    # what is asked of the tests; a class of one's own may ask for more
+    asked = Asked(leaks=True)
 
     def _makeResult(self) -> Result:
         result = super()._makeResult()
