@@ -5,7 +5,7 @@ import tempfile
 from collections import Counter
 from typing import TextIO
 
-from ..programs import find
+from ..programs import NotFound, find
 from ..recorder import Recorder
 from ..recorder.explain import Records
 from ..recorder.files import BESIDE, Refused
@@ -42,7 +42,7 @@ class Judging:
         self.judged += recorded
         try:
             verdict = verdict_on(self.out, find("gccheck", self.gccheck))
-        except Refused as fault:
+        except (Refused, NotFound) as fault:
             return f"the collections could not be judged: {fault}"
         if verdict.startswith(RIGHT):
             return None

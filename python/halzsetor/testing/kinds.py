@@ -67,8 +67,8 @@ def is_entry_of_subclasses(one: object) -> bool:
 
 
 def is_of(one: object, packages: tuple[str, ...]) -> bool:
-    """Whether an object's type, or a base of it, is of one of these packages."""
-    modules = [str(type.__getattribute__(base, "__module__")) for base in type.mro(type(one))]
+    """Whether an object's type, or a base of it, is of one of these packages; mocks are made by tests."""
+    modules = {str(type.__getattribute__(base, "__module__")) for base in type.mro(type(one))} - {"unittest.mock"}
     return any(module.partition(".")[0] in packages for module in modules)
 
 

@@ -7,7 +7,7 @@ from ..heap.scan import IMMORTAL
 from .graph import Made
 from .holders import Before
 from .kinds import COUNTED, MODULES, ORDER, TEST, kind_by_holder, kind_of
-from .stack import words_of_stack
+from .stack import running
 
 # further collections for what finalizers made
 ROUNDS = 3
@@ -107,7 +107,7 @@ class Ended:
         self.watch = watch
         # what is held by the watch itself at this moment
         self.own = watch.own | {id(self), id(vars(self)), id(made), id(vars(made)), id(made.objects)}
-        self.stack = words_of_stack()
+        self.running = running()
         self.kinds: dict[int, str] = {}
         # who held a head before, and what these belong to
         self.holders: dict[int, list[tuple[object, str]]] = {}
@@ -139,7 +139,7 @@ class Ended:
 
     def elsewhere(self, head: int) -> int:
         """How often a head is held by nothing that is known."""
-        known = len(self.holders.get(head, [])) + self.stack[id(self.made.objects[head])]
+        known = len(self.holders.get(head, [])) + self.running.holds(self.made.objects[head])
         return self.made.outside[head] - known
 
     def kind(self, head: int) -> str:

@@ -18,9 +18,7 @@ class Result(unittest.TextTestResult):
 
     def stopTest(self, test: unittest.TestCase) -> None:
         """A test has ended."""
-        complaint = self.trials.judged()
-        if complaint is not None:
-            self.addFailure(test, (AssertionError, AssertionError(complaint), None))
+        complain(test, self, self.trials.judged())
         super().stopTest(test)
         self.trials.leaves(test.id(), test)
 
@@ -53,37 +51,34 @@ class Judged:
     gccheck: str | None = None
 
     def run(self, result: unittest.TestResult | None = None) -> unittest.TestResult | None:
-        """Runs the test; it is judged by the last of its clean-ups, if it is not skipped."""
+        """Runs the test, and judges it."""
         judging = Judging(self.gccheck)
-        self.addCleanup(self.must_be_right, judging)
         judging.begin()
         try:
-            return super().run(result)
+            result = super().run(result)
+            complain(self, result, judging.end())
         finally:
             judging.close()
-
-    def must_be_right(self, judging: Judging) -> None:
-        """Fails where a collection was wrong."""
-        complaint = judging.end()
-        if complaint is not None:
-            self.fail(complaint)
+        return result
 
 
 class LeavesNothing:
     """A mixin for test cases, before `unittest.TestCase`: a test fails where it leaves objects that are counted."""
 
     def run(self, result: unittest.TestResult | None = None) -> unittest.TestResult | None:
-        """Runs the test; what it leaves is seen by the last of its clean-ups, if it is not skipped."""
+        """Runs the test, and sees what it leaves."""
         watch = Watch()
-        self.addCleanup(self.must_leave_nothing, watch)
         watch.begin()
         try:
-            return super().run(result)
+            result = super().run(result)
+            left = watch.end(self.id(), self)
+            complain(self, result, "\n".join(left.lines()) if left.number or left.unknown is not None else None)
         finally:
             watch.close()
+        return result
 
-    def must_leave_nothing(self, watch: Watch) -> None:
-        """Fails where something is left."""
-        left = watch.end(self.id(), self)
-        if left.number or left.unknown is not None:
-            self.fail("\n".join(left.lines()))
+
+def complain(test: unittest.TestCase, result: unittest.TestResult, complaint: str | None) -> None:
+    """Has a test fail that has run, where there is a complaint."""
+    if complaint is not None:
+        result.addFailure(test, (test.failureException, test.failureException(complaint), None))
