@@ -147,6 +147,13 @@ class Shutdown(unittest.TestCase):
         for script in (frozen, legacy):
             self.assertIn("left 2\n", run(script.replace("; ", "\n")).output)
 
+    def test_frames_that_run_when_the_names_are_gone(self) -> None:
+        script = "shutdown; def d; y = self; print x; end; class C legacy=d; a = new C; "
+        script += "l = list a; append l l; x = 1; del a"
+        outcome = run(script.replace("; ", "\n"))
+        self.assertEqual(0, outcome.status, outcome.message)
+        self.assertRegex(outcome.output, r"enter legacy #2\nrefused 1\nleave\ngc stop 2 1 0\nleft 1\nend\n$")
+
     def test_flags_at_the_end(self) -> None:
         outcome = run("shutdown\ndebug saveall\n")
         self.assertEqual((2, "", True), (outcome.status, outcome.output, "ends with debug flags" in outcome.message))

@@ -13,6 +13,7 @@ since that one might lie where an object of the script was.
 import ctypes
 import gc
 import sys
+import weakref
 from typing import Callable, Iterable, NoReturn, Protocol
 
 from .collector import Collector
@@ -42,8 +43,8 @@ UNHASHABLE = 9
 IN_A_COLLECTION = 13
 # the answer of `quit none`, which is no refusal
 QUIT = 0
-# what the names stand under in their own dictionary: no name of a script
-GLOBALS = "globals()"
+# what the names stand under in their own dictionary, and what tells that it is gone: no names of a script
+GLOBALS, SIGN = "globals()", "gone()"
 
 # how often the reader itself holds what a frame is about: see `finalizer_of`, `Function.__call__` and `Frame`; the
 # arguments of a callback are a tuple of CPython's
@@ -94,6 +95,8 @@ class Machine:
         self.bound_names: dict[str, object] = {}
         # the address of the dictionary of names while that is garbage
         self.thrown_away: int | None = None
+        # tells when that dictionary is cleared
+        self.sign: weakref.ref | None = None
         self.registry = Registry()
         self.held: dict[int, int] = {}
         self.attributes: dict[type, set[str]] = {}
@@ -143,14 +146,22 @@ class Machine:
         self.give_names_up(holder)
         gc.collect()
         self.collector.own = 0
-        self.thrown_away, self.bound_names = None, {}
+        if self.thrown_away is not None:
+            self.begin_new_names()
         self.emit(f"left {self.registry.left()}")
+
+    def begin_new_names(self, _: object = None) -> None:
+        """The dictionary of names is gone: what is bound from now on stands in a new one."""
+        self.thrown_away, self.bound_names = None, {}
 
     def give_names_up(self, holder: list[dict[str, object]]) -> None:
         """Gives the names up, as those of a module are when it goes."""
         if self.script.procedures:
             # functions hold their module's globals, so these are garbage together with all that only they hold
             self.names[GLOBALS] = self.names
+            # the collector does not track code, so this dies when the dictionary is cleared, and no sooner
+            self.names[SIGN] = compile("", SIGN, "exec")
+            self.sign = weakref.ref(self.names[SIGN], self.begin_new_names)
             self.collector.own = 1
         else:
             # the globals die, and give up their first entry first
