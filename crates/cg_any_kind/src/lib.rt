@@ -126,7 +126,7 @@ impl AnyKind {
     }
 }
 
-/// Six kinds without objects, in the order of their codes. It is refused only for want of memory.
+/// Six kinds without objects, in the order of their codes. It is refused only where memory runs out.
 pub fn six(alloc: Global) -> Result<Vec<AnyKind>, AllocError>
     ensures kinds { IfOk result (λ kinds. map ⟦<AnyKind as Kind>⟧.kind kinds.items ≡ six_kinds) }
     ensures empty { IfOk result (λ kinds. map ⟦<AnyKind as Kind>⟧.bodies kinds.items ≡

@@ -33,7 +33,7 @@ abbrev pub all_placed : List ℕ → Place → Slab Slot → Slab Slot
 all_placed [] place s = s
 all_placed (k ∷ ks) place s = all_placed ks place (rewritten (with_place place) k s)
 
--- the slots that the links name in turn, so many at most
+-- the slots that the links name one after the other, up to a number of them
 abbrev pub chain_from : Slab Slot → ℕ → Option ℕ → List ℕ
 chain_from s zero at = []
 chain_from s (suc n) None = []

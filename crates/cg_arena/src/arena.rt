@@ -162,7 +162,7 @@ impl Arena {
 
     /// Makes room for one more node, so that `add_reserved` may be called.
     ///
-    /// It answers `AllocError` for want of memory alone. The nodes and lists stay as they are either way.
+    /// It answers `AllocError` only where memory runs out. The nodes and lists stay as they are either way.
     pub fn reserve(&mut self) -> Result<(), AllocError>
         ensures ok { OnOk result (0 < self.new.room) }
         ensures stays { self.new ≡ with_room self.new.room self.old }
@@ -176,7 +176,7 @@ impl Arena {
     /// Adds a node for a new serial, last in the list of its place: its count is 0, it is not finalized, and the
     /// collector's number is 0.
     ///
-    /// It answers `AllocError` for want of memory alone, and then the nodes and lists are as they were.
+    /// It answers `AllocError` only where memory runs out, and then the nodes and lists are as they were.
     pub fn add(
         &mut self,
         serial: u64,

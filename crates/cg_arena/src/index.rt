@@ -226,7 +226,7 @@ impl SlotIndex {
     }
 }
 
-/// The index of all nodes by other guesses, of which none is told, with room for so many rows more.
+/// The index of all nodes by new guesses, none of them set yet, with room for `room` more rows.
 fn index_by(
     alloc: Global,
     slots: &Slab<Slot>,

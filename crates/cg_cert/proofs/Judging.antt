@@ -1,19 +1,20 @@
--- A graph by positions is the graph: rows and edges, what is left of in-degrees, paths, and the sets that were found.
-use Rattle.std.proofs.Common.{◌≡◌, refl, sym, ◌∙◌, ap, subst, ℕ, zero, suc, ◌<◌, Bool, true, false, nat_lt, inl, inr, List, [], ◌∷◌, ◌++◌, length, Option, Some, None, arith, get_or, map}
+-- A graph by positions is the graph: rows and edges, counts, paths, and the sets that were found.
+use Rattle.std.proofs.Common.{◌≡◌, refl, sym, ◌∙◌, ap, subst, ℕ, zero, suc, ◌<◌, Bool, true, false, inl, inr, List, [], ◌∷◌, ◌++◌, length, Option, Some, None, arith, map}
 use Rattle.std.specs.Prelude.{◌↔◌, slice_get, option_map}
 use Rattle.std.specs.List.{concat}
 use Rattle.std.proofs.lemmas.Bool.{cases_eq}
 use Rattle.std.proofs.lemmas.List.{map-append, length-map}
-use Rattle.std.proofs.lemmas.Option.{same_Some, none-some, slice_get-map, slice_get-get_or, slice_get_within, get_or_from_slice_get}
+use Rattle.std.proofs.lemmas.Option.{same_Some, none-some, slice_get-map, slice_get_within}
 use Rattle.cg_graph.specs.declared.Edge.{Edge}
 use Rattle.cg_graph.specs.Member.{Includes}
 use Rattle.cg_graph.specs.Holdings.{occurrences}
 use Rattle.cg_graph.specs.Reach.{Reach, first, next}
 use Rattle.cg_graph.proofs.Members.{either, Includes-append_left, Includes-append_right, Includes-append_cases, Includes-map, Includes-map_cases}
+use Rattle.cg_search.specs.Places.{Marks, Leads, begins, follows}
+use Rattle.cg_search.proofs.Places.{includes_at, place_in, occurrences-same, occurrences-other}
 use Rattle.cg_records.specs.declared.graph.Member.{Member}
-use Rattle.cg_cert.specs.Judged.{serials_of, references_of, edges_of, IsHeld, IsMarked, CoversReferences}
-use Rattle.cg_cert.specs.Positions.{ArePlacedOnce, names_in, IsRowOf, AreRowsOf, Marks, MarksAll, Leads, begins, follows, Leaves, IsTooLow, degrees_of}
-use Rattle.cg_cert.proofs.Places.{includes_at, place_in, occurrences-same, occurrences-other}
+use Rattle.cg_cert.specs.Judged.{serials_of, references_of, edges_of, IsHeld, IsMarked}
+use Rattle.cg_cert.specs.Positions.{ArePlacedOnce, names_in, IsRowOf, AreRowsOf, MarksAll, CountTargets, CountReferences, ExceedEach}
 
 -- an element that a function was applied to
 some_mapped : {A B : Type 0} (f : A → B) (o : Option A) (y : B) → option_map f o ≡ Some y → (x : A) × (o ≡ Some x) × (f x ≡ y)
@@ -109,37 +110,25 @@ module _ (members : List Member) (rows : List (List ℕ)) (once : ArePlacedOnce 
   occurrences-at : (i : ℕ) (m : Member) → slice_get members i ≡ Some m → occurrences i (concat rows) ≡ occurrences m.serial (references_of members)
   occurrences-at i m at = counted (serials_of members) once (references_of members) (concat rows) (rows_joined (serials_of members) members rows are) i m.serial (mapped_at (λ (n : Member). n.serial) members i m at)
 
-  degree_at : (i : ℕ) (m : Member) → slice_get members i ≡ Some m → get_or (degrees_of members) i 0 ≡ m.degree
-  degree_at i m at = get_or_from_slice_get (degrees_of members) i m.degree 0 (mapped_at (λ (n : Member). n.degree) members i m at)
+  -- counts of positions are counts of references
+  pub counts_there : (counts : List ℕ) → CountTargets rows counts → CountReferences members counts
+  counts_there counts h = record {
+    len = h.len ∙ rows_long;
+    each = λ i m at. h.each i (omega (arith, slice_get_within members i m at, rows_long)) ∙ occurrences-at i m at;
+  }
 
-  pub covers : (left : List ℕ) → Leaves (degrees_of members) (concat rows) left → CoversReferences members
-  covers left h m among =
-      let found = place_in members m among in
-      omega (arith, h.leaves found.0, occurrences-at found.0 m found.1, degree_at found.0 m found.1)
-
-  pub covers_not : IsTooLow (degrees_of members) (concat rows) → CoversReferences members → ⊥
-  covers_not low all =
-      let found = something_at members low.at (omega (arith, low.within, length-map members (λ (m : Member). m.degree))) in
-      absurd (omega (arith, low.below, all found.0 (includes_at members low.at found.0 found.1), occurrences-at low.at found.0 found.1, degree_at low.at found.0 found.1))
-
-  -- one that is held from outside has something left
-  module _ (left : List ℕ) (h : Leaves (degrees_of members) (concat rows) left) where
-    pub held_there : (i o : ℕ) → slice_get (serials_of members) i ≡ Some o → Marks (map (λ n. nat_lt 0 n) left) i → IsHeld members o
+  -- one that is held from outside is marked
+  module _ (marks : List Bool) (h : ExceedEach members marks) where
+    pub held_there : (i o : ℕ) → slice_get (serials_of members) i ≡ Some o → Marks marks i → IsHeld members o
     held_there i o at mark =
         let (m, here, named) = from_mapped (λ (n : Member). n.serial) members i o at in
-        let (n, there, some) = from_mapped (λ n. nat_lt 0 n) left i true mark in
-        let value = get_or_from_slice_get left i n 0 there in
-        let positive : 0 < n = grind (arith, some) in
-        record { member = m; among = includes_at members i m here; serial = named; exceeds = omega (arith, h.leaves i, occurrences-at i m here, degree_at i m here, value, positive, ap (λ s. occurrences s (references_of members)) named) }
+        record { member = m; among = includes_at members i m here; serial = named; exceeds = subst (λ s. occurrences s (references_of members) < m.degree) named ((h.each i m here).0 mark) }
 
-    pub held_back : (i o : ℕ) → slice_get (serials_of members) i ≡ Some o → IsHeld members o → Marks (map (λ n. nat_lt 0 n) left) i
+    pub held_back : (i o : ℕ) → slice_get (serials_of members) i ≡ Some o → IsHeld members o → Marks marks i
     held_back i o at held =
         let (j, here) = place_in members held.member held.among in
         let same : j ≡ i = once o j i (mapped_at (λ (n : Member). n.serial) members j held.member here ∙ ap Some held.serial) at in
-        let inside : j < length left = omega (arith, h.len, slice_get_within members j held.member here, length-map members (λ (m : Member). m.degree)) in
-        let positive : 0 < get_or left j 0 = omega (arith, h.leaves j, occurrences-at j held.member here, degree_at j held.member here, held.exceeds, ap (λ s. occurrences s (references_of members)) held.serial) in
-        let mark : nat_lt 0 (get_or left j 0) ≡ true = grind (arith, positive) in
-        subst (λ k. Marks (map (λ n. nat_lt 0 n) left) k) same (mapped_at (λ n. nat_lt 0 n) left j (get_or left j 0) (slice_get-get_or left j 0 inside) ∙ ap Some mark)
+        subst (λ k. Marks marks k) same ((h.each j held.member here).1 (subst (λ s. occurrences s (references_of members) < held.member.degree) (sym held.serial) held.exceeds))
 
   pub marked_there : (i o : ℕ) → slice_get (serials_of members) i ≡ Some o → Marks (map (λ (m : Member). m.legacy) members) i → IsMarked members o
   marked_there i o at mark =

@@ -1,10 +1,8 @@
-pub mod Places
 pub mod Ascending
 pub mod Named
-pub mod Visited
-pub mod Left
+pub mod Counted
 pub mod Judging
 pub mod Sets
 pub mod Locating
 pub mod Verdicts
-pub mod Told
+pub mod CheckFacts

@@ -1,21 +1,38 @@
 -- A graph whose names are right, by positions, and the faults of a graph.
-use Rattle.std.proofs.Common.{◌≡◌, sym, ◌∙◌, ap, subst, ℕ, ◌<◌, Bool, true, false, List, length, arith}
+use Rattle.std.proofs.Common.{◌≡◌, refl, sym, ◌∙◌, ap, subst, ℕ, zero, suc, ◌<◌, Bool, true, false, List, [], ◌∷◌, Some, arith}
 use Rattle.std.specs.Prelude.{◌↔◌}
 use Rattle.std.specs.List.{concat}
 use Rattle.std.specs.Global.{Vec}
-use Rattle.cg_graph.specs.Member.{Includes}
-use Rattle.cg_records.specs.declared.graph.Member.{Member}
+use Rattle.std.proofs.lemmas.Bool.{cases_eq}
+use Rattle.cg_graph.specs.Holdings.{occurrences}
+use Rattle.cg_graph.proofs.Members.{either}
+use Rattle.cg_search.proofs.Places.{includes_at, place_in, occurrences-same, occurrences-other, occurs_in}
 use Rattle.cg_records.specs.declared.graph.Graph.{Graph}
 use Rattle.cg_cert.specs.declared.graph.Located.{Located}
 use Rattle.cg_cert.specs.declared.table.Places.{Places}
-use Rattle.cg_cert.specs.Judged.{serials_of, references_of, IsWellNamed, CoversReferences, FindsLost, FindsSetAside, IsRight, HasFault, too_low, loses, sets_aside, part}
-use Rattle.cg_cert.specs.Positions.{Tells, AreNames, IsSetOf, AreRowsOf, MarksAll, IsLocated, Leaves, IsTooLow, degrees_of, rows_in}
+use Rattle.cg_cert.specs.Judged.{serials_of, references_of, IsOnceEach, IsWellNamed, CoversReferences, FindsLost, FindsSetAside, IsRight, HasFault, too_low, loses, sets_aside, part}
+use Rattle.cg_cert.specs.Positions.{Tells, ArePlacedOnce, AreNames, IsSetOf, AreRowsOf, MarksAll, IsLocated, CountTargets, CountReferences, rows_in}
 use Rattle.cg_cert.proofs.Ascending.{told_once}
-use Rattle.cg_cert.proofs.Places.{once_from_placed, includes_at}
-use Rattle.cg_cert.proofs.Judging.{targets_within, covers, covers_not, named_row, rows_joined}
+use Rattle.cg_cert.proofs.Judging.{counts_there, named_row, rows_joined}
 
 pub differs : ◌≡◌ {A = Bool} false true → ⊥
 differs e = absurd (cc)
+
+-- where each stands at one place, each stands there once
+once_from_placed : (xs : List ℕ) → ArePlacedOnce xs → IsOnceEach xs
+once_from_placed [] placed o = omega arith
+once_from_placed (x ∷ xs) placed o = either (cases_eq x o) same
+    (λ n. omega (arith, occurrences-other o x xs n, once_from_placed xs (λ p i j a b. let e = placed p (suc i) (suc j) a b in omega (arith, e)) o))
+  where
+    none : (n : ℕ) → occurrences o xs ≡ n → x ≡ o → n ≡ 0
+    none zero is e = refl
+    none (suc n) is e =
+        let found = place_in xs o (occurs_in xs o (omega (arith, is))) in
+        let clash : 0 ≡ suc found.0 = placed o 0 (suc found.0) (ap Some e) found.1 in
+        absurd (omega (arith, clash))
+
+    same : x ≡ o → occurrences o (x ∷ xs) < 2
+    same e = omega (arith, occurrences-same o x xs e, none (occurrences o xs) refl e)
 
 -- the sets of a graph whose names are right
 pub lost_set : (g : Graph) → IsWellNamed g → IsSetOf (serials_of g.members) g.lost
@@ -51,29 +68,18 @@ located_all g places l tells rows lost lost_is legacy legacy_is =
     }
 
 module _ (g : Graph) (l : Located) (located : IsLocated g l) where
-  pub degrees_within : (members : List Member) (vecs : List (Vec ℕ)) → members ≡ g.members → vecs ≡ l.rows.items → (i : ℕ) → Includes (concat (rows_in vecs)) i → i < length members
-  degrees_within members vecs e f i h =
-      let below = targets_within g.members (rows_in l.rows.items) located.once located.rows i (subst (λ (vs : List (Vec ℕ)). Includes (concat (rows_in vs)) i) f h) in
-      omega (arith, below, ap length e)
+  -- the counts of these rows
+  pub counts_of : (vecs : List (Vec ℕ)) (counts : List ℕ) → vecs ≡ l.rows.items → CountTargets (rows_in vecs) counts → CountReferences g.members counts
+  counts_of vecs counts e h = counts_there g.members (rows_in l.rows.items) located.once located.rows counts (subst (λ (vs : List (Vec ℕ)). CountTargets (rows_in vs) counts) e h)
 
-  -- what is left, and that a number is too low, of these members and rows
-  pub leaves_of : (members : List Member) (vecs : List (Vec ℕ)) (left : List ℕ) → members ≡ g.members → vecs ≡ l.rows.items → Leaves (degrees_of members) (concat (rows_in vecs)) left → Leaves (degrees_of g.members) (concat (rows_in l.rows.items)) left
-  leaves_of members vecs left e f h =
-      subst (λ (ms : List Member). Leaves (degrees_of ms) (concat (rows_in l.rows.items)) left) e (subst (λ (vs : List (Vec ℕ)). Leaves (degrees_of members) (concat (rows_in vs)) left) f h)
+  pub fault_of_degrees : (is_first : Bool) (right : Bool) → (right ≡ true) ↔ CoversReferences g.members → right ≡ false → HasFault (part is_first g) 3
+  fault_of_degrees is_first right answer off = too_low located.names (λ covers. differs (sym off ∙ answer.1 covers))
 
-  pub covers_of : (left : List ℕ) → Leaves (degrees_of g.members) (concat (rows_in l.rows.items)) left → CoversReferences g.members
-  covers_of left h = covers g.members (rows_in l.rows.items) located.once located.rows left h
+  pub fault_of_lost : (is_first : Bool) (right : Bool) → CoversReferences g.members → (right ≡ true) ↔ FindsLost g → right ≡ false → HasFault (part is_first g) 4
+  fault_of_lost is_first right covers answer off = loses located.names covers (λ finds. differs (sym off ∙ answer.1 finds))
 
-  pub fault_of_degrees : (is_first : Bool) (members : List Member) (vecs : List (Vec ℕ)) → members ≡ g.members → vecs ≡ l.rows.items → IsTooLow (degrees_of members) (concat (rows_in vecs)) → HasFault (part is_first g) 3
-  fault_of_degrees is_first members vecs e f low =
-      too_low located.names (covers_not g.members (rows_in l.rows.items) located.once located.rows
-      (subst (λ (ms : List Member). IsTooLow (degrees_of ms) (concat (rows_in l.rows.items))) e (subst (λ (vs : List (Vec ℕ)). IsTooLow (degrees_of members) (concat (rows_in vs))) f low)))
+  pub fault_of_legacy : (is_first : Bool) (right : Bool) → is_first ≡ true → CoversReferences g.members → FindsLost g → (right ≡ true) ↔ FindsSetAside g → right ≡ false → HasFault (part is_first g) 5
+  fault_of_legacy is_first right is covers finds answer off = sets_aside located.names covers finds is (λ found. differs (sym off ∙ answer.1 found))
 
-  pub fault_of_lost : (is_first : Bool) (left : List ℕ) (right : Bool) → Leaves (degrees_of g.members) (concat (rows_in l.rows.items)) left → (right ≡ true) ↔ FindsLost g → right ≡ false → HasFault (part is_first g) 4
-  fault_of_lost is_first left right h answer off = loses located.names (covers_of left h) (λ finds. differs (sym off ∙ answer.1 finds))
-
-  pub fault_of_legacy : (is_first : Bool) (left : List ℕ) (right : Bool) → is_first ≡ true → Leaves (degrees_of g.members) (concat (rows_in l.rows.items)) left → FindsLost g → (right ≡ true) ↔ FindsSetAside g → right ≡ false → HasFault (part is_first g) 5
-  fault_of_legacy is_first left right is h finds answer off = sets_aside located.names (covers_of left h) finds is (λ found. differs (sym off ∙ answer.1 found))
-
-  pub right_of : (is_first : Bool) (left : List ℕ) → Leaves (degrees_of g.members) (concat (rows_in l.rows.items)) left → FindsLost g → (is_first ≡ true → FindsSetAside g) → IsRight (part is_first g)
-  right_of is_first left h finds aside = record { names = located.names; degrees = covers_of left h; lost = finds; set_aside = aside }
+  pub right_of : (is_first : Bool) → CoversReferences g.members → FindsLost g → (is_first ≡ true → FindsSetAside g) → IsRight (part is_first g)
+  right_of is_first covers finds aside = record { names = located.names; degrees = covers; lost = finds; set_aside = aside }

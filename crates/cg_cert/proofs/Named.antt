@@ -1,20 +1,30 @@
 -- Names and their positions: the table, rows and marks.
-use Rattle.std.proofs.Common.{◌≡◌, refl, sym, ◌∙◌, ap, subst, ℕ, zero, suc, ◌+◌, ◌<◌, Bool, true, false, cond, ◌⊎◌, inl, inr, List, [], ◌∷◌, ◌++◌, length, take, Option, Some, None, is_some, arith, get_or, map, set, replicate}
+use Rattle.std.proofs.Common.{◌≡◌, refl, sym, ◌∙◌, ap, subst, ℕ, zero, suc, ◌+◌, ◌<◌, Bool, true, false, cond, ◌⊎◌, inl, inr, List, [], ◌∷◌, ◌++◌, length, take, drop, Option, Some, None, is_some, arith, get_or, map, set, replicate}
 use Rattle.std.specs.Prelude.{slice_get, IfSome, IfNone}
 use Rattle.std.specs.Global.{Vec}
 use Rattle.std.specs.Ordering.{nat_cmp}
 use Rattle.std.specs.Cmp.{unsigned_tied}
 use Rattle.std.specs.BTreeMap.{BTreeMap, get, Updates}
 use Rattle.std.proofs.lemmas.Bool.{cases_eq, eq-eqb, ne_eqb}
-use Rattle.std.proofs.lemmas.List.{take_more, map-append, get_or-map, take-map, length-replicate, length-map, length-take, length-set}
+use Rattle.std.proofs.lemmas.List.{take-append-drop, take_more, drop_more, map-append, get_or-map, take-map, length-replicate, length-map, length-take, length-set}
 use Rattle.std.proofs.lemmas.Option.{same_Some, slice_get_within, slice_get_read, none-some}
 use Rattle.cg_graph.specs.Member.{Includes}
 use Rattle.cg_graph.specs.Holdings.{occurrences}
 use Rattle.cg_graph.proofs.Members.{either, Includes-append_left, Includes-append_right}
+use Rattle.cg_search.proofs.Places.{snoc_cases, snoc_old, snoc_new, includes_at, place_in, includes_more, includes_first, includes_last, slice_get-set_same, slice_get-set_other, unmarked, occurs, occurs_in, occurrences-append, occurrences-same, occurrences-other}
 use Rattle.cg_records.specs.declared.graph.Member.{Member}
 use Rattle.cg_cert.specs.Judged.{IsOnceEach, serials_of, references_of}
 use Rattle.cg_cert.specs.Positions.{Locates, IsPositionOf, AreNames, IsSetOf, names_in, IsRowOf, AreRowsOf, MarksAll, rows_in}
-use Rattle.cg_cert.proofs.Places.{snoc_cases, snoc_old, snoc_new, includes_at, place_in, twice, includes_more, includes_first, includes_last, slice_get-set_same, slice_get-set_other, unmarked, occurs_in, occurrences-append, occurrences-same, occurrences-other}
+
+-- what was there already comes again
+twice : (xs : List ℕ) (k d : ℕ) → k < length xs → Includes (take k xs) (get_or xs k d) → IsOnceEach xs → ⊥
+twice xs k d within before once =
+    let s = get_or xs k d in
+    let parts : occurrences s xs ≡ occurrences s (take k xs) + occurrences s (drop k xs) = ap (occurrences s) (sym (take-append-drop k xs)) ∙ occurrences-append s (take k xs) (drop k xs) in
+    let front = occurs (take k xs) s before in
+    let rest = occurs (drop k xs) s (subst (λ (ys : List ℕ). Includes ys s) (sym (drop_more xs k d within)) (inl refl)) in
+    let all = once s in
+    absurd (omega (arith, parts, front, rest, all))
 
 -- one more name
 locates_one : (names : List ℕ) (s : ℕ) (table now : BTreeMap ℕ ℕ) → Locates names table → get nat_cmp table s ≡ None → Updates nat_cmp table now s (Some (length names)) → Locates (names ++ s ∷ []) now

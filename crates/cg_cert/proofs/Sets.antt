@@ -1,5 +1,5 @@
 -- The sets that were found are right just where their marks are those that the searches made.
-use Rattle.std.proofs.Common.{◌≡◌, sym, ◌∙◌, ap, subst, ℕ, ◌<◌, Bool, true, false, not, nat_lt, List, length, Some, arith, map, replicate}
+use Rattle.std.proofs.Common.{◌≡◌, sym, ◌∙◌, ap, subst, ℕ, ◌<◌, Bool, true, false, not, List, length, Some, arith, map, replicate}
 use Rattle.std.specs.Prelude.{◌↔◌, slice_get}
 use Rattle.std.specs.List.{concat}
 use Rattle.std.specs.Global.{Vec}
@@ -8,12 +8,13 @@ use Rattle.std.proofs.lemmas.Option.{slice_get-get_or, slice_get_within}
 use Rattle.cg_graph.specs.declared.Edge.{Edge}
 use Rattle.cg_graph.specs.Member.{Includes}
 use Rattle.cg_graph.specs.Reach.{Reach, first, next}
+use Rattle.cg_search.specs.Places.{Marks, Leads}
+use Rattle.cg_search.proofs.Places.{includes_at}
 use Rattle.cg_records.specs.declared.graph.Member.{Member}
 use Rattle.cg_records.specs.declared.graph.Graph.{Graph}
 use Rattle.cg_cert.specs.declared.graph.Located.{Located}
 use Rattle.cg_cert.specs.Judged.{serials_of, edges_of, IsMember, IsHeld, IsMarked, IsLost, IsSetAside, FindsLost, FindsSetAside}
-use Rattle.cg_cert.specs.Positions.{IsLocated, Marks, Leads, Leaves, degrees_of, rows_in}
-use Rattle.cg_cert.proofs.Places.{includes_at}
+use Rattle.cg_cert.specs.Positions.{IsLocated, ExceedEach, rows_in}
 use Rattle.cg_cert.proofs.Judging.{mapped_at, from_mapped, something_at, held_there, held_back, marked_there, marked_back, led_there, reach_back, finds_same, targets_within}
 
 all_marked : (n i : ℕ) → i < n → Marks (replicate n true) i
@@ -25,14 +26,14 @@ reach_inside (next r a m) = m
 
 module _ (g : Graph) (l : Located) (located : IsLocated g l) where
   -- what was found is what is reached from outside, and the other members are lost
-  module _ (left : List ℕ) (leaves : Leaves (degrees_of g.members) (concat (rows_in l.rows.items)) left) (found : List Bool) (long : length found ≡ length g.members)
-      (led : (i : ℕ) → Marks found i ↔ Leads (map (λ n. nat_lt 0 n) left) (replicate (length g.members) true) (rows_in l.rows.items) i) where
+  module _ (held : List Bool) (exceed : ExceedEach g.members held) (found : List Bool) (long : length found ≡ length g.members)
+      (led : (i : ℕ) → Marks found i ↔ Leads held (replicate (length g.members) true) (rows_in l.rows.items) i) where
     reaches : (i o : ℕ) → slice_get (serials_of g.members) i ≡ Some o → Marks found i ↔ Reach (IsHeld g.members) (IsMember g.members) (edges_of g.members) o
     reaches i o at = (
-      λ m. led_there g.members (rows_in l.rows.items) located.once located.rows (map (λ n. nat_lt 0 n) left) (replicate (length g.members) true) (IsHeld g.members) (IsMember g.members)
-          (held_there g.members (rows_in l.rows.items) located.once located.rows left leaves) (λ j p there m. includes_at (serials_of g.members) j p there) i ((led i).0 m) o at,
-      λ r. (led i).1 (reach_back g.members (rows_in l.rows.items) located.once located.rows (map (λ n. nat_lt 0 n) left) (replicate (length g.members) true) (IsHeld g.members) (IsMember g.members)
-          (held_back g.members (rows_in l.rows.items) located.once located.rows left leaves)
+      λ m. led_there g.members (rows_in l.rows.items) located.once located.rows held (replicate (length g.members) true) (IsHeld g.members) (IsMember g.members)
+          (held_there g.members (rows_in l.rows.items) located.once located.rows held exceed) (λ j p there m. includes_at (serials_of g.members) j p there) i ((led i).0 m) o at,
+      λ r. (led i).1 (reach_back g.members (rows_in l.rows.items) located.once located.rows held (replicate (length g.members) true) (IsHeld g.members) (IsMember g.members)
+          (held_back g.members (rows_in l.rows.items) located.once located.rows held exceed)
           (λ j p there m. all_marked (length g.members) j (omega (arith, slice_get_within (serials_of g.members) j p there, length-map g.members (λ (m : Member). m.serial)))) o r i at),
     )
 
@@ -85,13 +86,13 @@ led_by found starts allowed starts' allowed' vecs vecs' a b c led i =
     (subst (λ (xs : List Bool). Marks found i ↔ Leads starts xs (rows_in vecs') i) b (subst (λ (vs : List (Vec ℕ)). Marks found i ↔ Leads starts allowed (rows_in vs) i) c (led i)))
 
 -- the answer of `finds_lost`
-pub lost_answer : (g : Graph) (l : Located) → IsLocated g l → (left : List ℕ) → Leaves (degrees_of g.members) (concat (rows_in l.rows.items)) left → (found starts allowed unreachable lost : List Bool) (vecs : List (Vec ℕ)) (right : Bool)
-    → starts ≡ map (λ n. nat_lt 0 n) left → allowed ≡ replicate (length g.members) true → vecs ≡ l.rows.items → length found ≡ length allowed → ((i : ℕ) → Marks found i ↔ Leads starts allowed (rows_in vecs) i)
+pub lost_answer : (g : Graph) (l : Located) → IsLocated g l → (held : List Bool) → ExceedEach g.members held → (found starts allowed unreachable lost : List Bool) (vecs : List (Vec ℕ)) (right : Bool)
+    → starts ≡ held → allowed ≡ replicate (length g.members) true → vecs ≡ l.rows.items → length found ≡ length allowed → ((i : ℕ) → Marks found i ↔ Leads starts allowed (rows_in vecs) i)
     → unreachable ≡ map not found → lost ≡ l.lost.items → (right ≡ true) ↔ (unreachable ≡ lost) → (right ≡ true) ↔ FindsLost g
-lost_answer g l located left leaves found starts allowed unreachable lost vecs right a b c long led e f answer =
+lost_answer g l located held exceed found starts allowed unreachable lost vecs right a b c long led e f answer =
     through answer
     (through (λ same. sym e ∙ same ∙ f, λ same. e ∙ same ∙ sym f)
-    (lost_same g l located left leaves found (long ∙ ap length b ∙ length-replicate (length g.members) true) (led_by found starts allowed (map (λ n. nat_lt 0 n) left) (replicate (length g.members) true) vecs l.rows.items a b c led)))
+    (lost_same g l located held exceed found (long ∙ ap length b ∙ length-replicate (length g.members) true) (led_by found starts allowed held (replicate (length g.members) true) vecs l.rows.items a b c led)))
 
 -- the answer of `finds_set_aside`
 pub legacy_answer : (g : Graph) (l : Located) → IsLocated g l → FindsLost g → (found starts allowed same legacy : List Bool) (vecs : List (Vec ℕ)) (right : Bool)

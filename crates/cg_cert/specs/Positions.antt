@@ -1,17 +1,17 @@
--- A recorded graph by the positions of its members: marks and rows of positions, what is left of in-degrees, and what
--- paths by rows lead to. (Ours.)
-use Rattle.std.specs.Prelude.{◌≡◌, ℕ, ◌+◌, ◌<◌, Bool, true, not, List, length, map, count_by, Option, Some, ◌↔◌, ◌⊎◌, slice_get, slice_index_or}
-use Rattle.std.specs.List.{All}
+-- A recorded graph by the positions of its members: marks, rows of positions, and counts. (Ours.)
+use Rattle.std.specs.Prelude.{◌≡◌, ℕ, ◌<◌, Bool, List, length, map, Option, Some, ◌↔◌, slice_get, slice_index}
+use Rattle.std.specs.List.{All, concat}
 use Rattle.std.specs.List.Sorted.{IsStrictlyIncreasing}
 use Rattle.std.specs.Ordering.{nat_cmp}
 use Rattle.std.specs.BTreeMap.{BTreeMap, get}
 use Rattle.std.specs.Global.{Vec}
 use Rattle.cg_graph.specs.Member.{Includes}
 use Rattle.cg_graph.specs.Holdings.{occurrences}
+use Rattle.cg_search.specs.Places.{Marks}
 use Rattle.cg_records.specs.declared.graph.Member.{Member}
 use Rattle.cg_records.specs.declared.graph.Graph.{Graph}
 use Rattle.cg_records.specs.declared.graph.Rec.{Rec}
-use Rattle.cg_cert.specs.Judged.{serials_of, IsOnceEach, IsWellNamed, IsRight, IsFirstFault, all_parts}
+use Rattle.cg_cert.specs.Judged.{serials_of, references_of, IsOnceEach, IsWellNamed, IsRight, IsFirstFault, all_parts}
 use Rattle.cg_cert.specs.declared.check.Verdict.{Verdict}
 use Rattle.cg_cert.specs.declared.check.Verdict.TheVariants.{Yes, No}
 use Rattle.cg_cert.specs.declared.graph.Located.{Located}
@@ -60,10 +60,6 @@ AreRowsOf names members rows = map (names_in names) rows ≡ map (λ m. map Some
 abbrev pub rows_in : List (Vec ℕ) → List (List ℕ)
 rows_in rows = map (λ v. v.items) rows
 
--- a position is marked
-abbrev pub Marks : List Bool → ℕ → Type 0
-Marks marks i = slice_get marks i ≡ Some true
-
 -- just the positions of these serials are marked
 pub record MarksAll (names serials : List ℕ) (marks : List Bool) : Type 0 where
   pub len : length marks ≡ length names
@@ -77,35 +73,20 @@ pub record IsLocated (g : Graph) (l : Located) : Type 0 where
   pub lost : MarksAll (serials_of g.members) g.lost l.lost.items
   pub legacy : MarksAll (serials_of g.members) g.legacy l.legacy.items
 
--- the in-degrees of members, in order
-abbrev pub degrees_of : List Member → List ℕ
-degrees_of members = map (λ m. m.degree) members
+-- how often each position stands in rows
+pub record CountTargets (rows : List (List ℕ)) (counts : List ℕ) : Type 0 where
+  pub len : length counts ≡ length rows
+  pub each : (i : ℕ) → i < length rows → slice_index counts i ≡ occurrences i (concat rows)
 
--- at each position, what is left of a number once one is taken off for each time that it is a target
-pub record Leaves (numbers targets left : List ℕ) : Type 0 where
-  pub len : length left ≡ length numbers
-  pub leaves : (i : ℕ) → slice_index_or left i 0 + occurrences i targets ≡ slice_index_or numbers i 0
+-- how often each member stands among the references
+pub record CountReferences (members : List Member) (counts : List ℕ) : Type 0 where
+  pub len : length counts ≡ length members
+  pub each : (i : ℕ) (m : Member) → slice_get members i ≡ Some m → slice_index counts i ≡ occurrences m.serial (references_of members)
 
--- at some position the number is too low for that
-pub record IsTooLow (numbers targets : List ℕ) : Type 0 where
-  pub at : ℕ
-  pub within : at < length numbers
-  pub below : slice_index_or numbers at 0 < occurrences at targets
-
--- Paths by rows: from a start, along rows, by positions that are allowed.
-pub data Leads (starts allowed : List Bool) (rows : List (List ℕ)) : ℕ → Type 0 where
-  begins : (i : ℕ) → Marks starts i → Marks allowed i → Leads starts allowed rows i
-  follows : (i j : ℕ) (row : List ℕ) → Leads starts allowed rows i → slice_get rows i ≡ Some row → Includes row j → Marks allowed j → Leads starts allowed rows j
-
--- Some targets were looked at: those that are allowed are marked now, and those that were not marked before wait.
-pub record Visits (Target : ℕ → Type 0) (allowed old : List Bool) (waits : List ℕ) (new : List Bool) (wait : List ℕ) : Type 0 where
-  pub len : length new ≡ length old
-  pub marked : (i : ℕ) → Target i → Marks allowed i → Marks new i
-  pub stay : (i : ℕ) → Marks old i → Marks new i
-  pub only : (i : ℕ) → Marks new i → Marks old i ⊎ (Target i × Marks allowed i × Includes wait i)
-  pub still_wait : (i : ℕ) → Includes waits i → Includes wait i
-  pub only_wait : (i : ℕ) → Includes wait i → Includes waits i ⊎ Marks new i
-  pub left : count_by not new + length wait ≡ count_by not old + length waits
+-- for each member, whether its in-degree exceeds its occurrences among the references
+pub record ExceedEach (members : List Member) (marks : List Bool) : Type 0 where
+  pub len : length marks ≡ length members
+  pub each : (i : ℕ) (m : Member) → slice_get members i ≡ Some m → (Marks marks i ↔ occurrences m.serial (references_of members) < m.degree)
 
 -- the verdict on records that were read
 abbrev pub JudgesRecords : List Rec → Verdict → Type 0

@@ -27,7 +27,7 @@ pub record ToldVerdict (status : CheckStatus) (bytes : List ℕ) (before now : O
   pub status_is : status ≡ status_of verdict
   pub wrote : Appends before now (verdict_text verdict)
 
--- As many bytes as show that there are too many were taken, and no more.
+-- One byte more than records may have was taken, and no further one.
 pub record TookTooMany (left after : Option (List ℕ)) : Type 0 where
   pub bytes : List ℕ
   pub number : length bytes ≡ LIMIT
@@ -55,6 +55,6 @@ pub record AnswersVerdict (bytes : List ℕ) (status : CheckStatus) : Type 0 whe
 abbrev pub AnswersRecords : List ℕ → CheckStatus → Type 0
 AnswersRecords bytes status = (length bytes < LIMIT → AnswersVerdict bytes status) × (LIMIT ≤ length bytes → status ≡ TooLarge)
 
--- a fault of the source or of the sink, or want of memory
+-- a fault of the source or of the sink, or lack of memory
 abbrev pub IsCutShort : CheckStatus → Type 0
 IsCutShort status = (status ≡ ReadFault) ⊎ (status ≡ WriteFault) ⊎ (status ≡ OutOfMemory)

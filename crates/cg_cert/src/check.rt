@@ -84,8 +84,8 @@ fn judge(alloc: Global, records: &[Rec]) -> Result<Verdict, AllocError>
 
 /// The verdict on bytes: whether they are records whose graphs are all right, and else where the first fault stands.
 ///
-/// It takes time near linear in the bytes, and memory of a constant factor of them. `AllocError` is for want of memory
-/// alone. (What is right of a graph: developer guide, "identifying reference cycles"; `gc` manual, `gc.garbage`.)
+/// It takes time near linear in the bytes, and memory of a constant factor of them. `AllocError` is an allocation
+/// failure. (What is right of a graph: developer guide, "identifying reference cycles"; `gc` manual, `gc.garbage`.)
 pub fn check_records(alloc: Global, bytes: &[u8]) -> Result<Verdict, AllocError>
     ensures { IfOk result (λ verdict. Judges bytes.now verdict) }
 {

@@ -1,13 +1,12 @@
 //! The fault of one recorded graph.
-ghost use Rattle.std.specs.Prelude.{◌≡◌, map, not, true, IfOk, IfSome, IfNone, ◌↔◌, nat_lt};
-ghost use Rattle.std.specs.List.{concat};
+ghost use Rattle.std.specs.Prelude.{◌≡◌, map, not, true, IfOk, IfSome, IfNone, ◌↔◌};
 ghost use Rattle.cg_cert.specs.Judged.{IsWellNamed, FindsLost, FindsSetAside, IsRight, HasFault, part};
-ghost use Rattle.cg_cert.specs.Positions.{IsLocated, Leaves, degrees_of, rows_in};
+ghost use Rattle.cg_cert.specs.Positions.{IsLocated, CountReferences};
 
-use crate::degrees::outside_degrees;
-use crate::search::search;
+use crate::counts::{counts_of, cover, exceeding};
 use crate::table::{marks_of, places_of, rows_of};
 use cg_records::{Graph, Member};
+use cg_search::reached;
 use std::alloc::{AllocError, Global};
 
 /// A graph whose names are right, by the positions of its members.
@@ -42,13 +41,6 @@ fn locate(alloc: Global, graph: &Graph) -> Result<Option<Located>, AllocError>
     Ok(Some(Located { rows, lost, legacy }))
 }
 
-/// Which members are held from outside, by what is left of their in-degrees.
-fn held_of(alloc: Global, left: &[u64]) -> Result<Vec<bool>, AllocError>
-    ensures { IfOk result (λ held. held.items ≡ map (λ n. nat_lt 0 n) left.now) }
-{
-    left.iter().map(|number| 0 < *number).collect(alloc)
-}
-
 /// Which members have a legacy finalizer.
 fn marked_of(alloc: Global, members: &[Member]) -> Result<Vec<bool>, AllocError>
     ensures { IfOk result (λ marks. marks.items ≡ map (λ m. m.legacy) members.now) }
@@ -75,15 +67,16 @@ fn finds_lost(
     alloc: Global,
     graph: &Graph,
     located: &Located,
-    left: &[u64],
+    counts: &[u64],
 ) -> Result<bool, AllocError>
     requires located { IsLocated graph.now located.now }
-    requires left { Leaves (degrees_of graph.now.members) (concat (rows_in located.now.rows.items)) left.now }
+    requires counts { CountReferences graph.now.members counts.now }
     ensures { IfOk result (λ right. (right ≡ true) ↔ FindsLost graph.now) }
 {
-    let held = held_of(alloc, left)?;
-    let all = Vec::from_elem(alloc, true, graph.members.as_slice().len())?;
-    let found = search(alloc, &held, &all, &located.rows)?;
+    let members = graph.members.as_slice();
+    let held = exceeding(alloc, members, counts)?;
+    let all = Vec::from_elem(alloc, true, members.len())?;
+    let found = reached(alloc, &held, &all, &located.rows)?;
     let unreachable = opposite(alloc, &found)?;
     Ok(are_same(&unreachable, &located.lost))
 }
@@ -95,7 +88,7 @@ fn finds_set_aside(alloc: Global, graph: &Graph, located: &Located) -> Result<bo
     ensures { IfOk result (λ right. (right ≡ true) ↔ FindsSetAside graph.now) }
 {
     let marked = marked_of(alloc, graph.members.as_slice())?;
-    let found = search(alloc, &marked, &located.lost, &located.rows)?;
+    let found = reached(alloc, &marked, &located.lost, &located.rows)?;
     Ok(are_same(&found, &located.legacy))
 }
 
@@ -111,10 +104,11 @@ pub(crate) fn fault_of(
     let Some(located) = locate(alloc, graph)? else {
         return Ok(Some(2));
     };
-    let Some(left) = outside_degrees(alloc, graph.members.as_slice(), &located.rows)? else {
+    let counts = counts_of(alloc, &located.rows)?;
+    if !cover(graph.members.as_slice(), &counts) {
         return Ok(Some(3));
-    };
-    if !finds_lost(alloc, graph, &located, &left)? {
+    }
+    if !finds_lost(alloc, graph, &located, &counts)? {
         return Ok(Some(4));
     }
     if is_first && !finds_set_aside(alloc, graph, &located)? {

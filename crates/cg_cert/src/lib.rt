@@ -4,8 +4,7 @@
 //! and by what a path of members reaches. Whoever made a record need not be trusted.
 //!
 //! - `table`: the serials of a graph, turned into positions of its members.
-//! - `degrees`: in-degrees, less the references of members.
-//! - `search`: what paths by rows of positions lead to.
+//! - `counts`: how often members are referred to, beside their in-degrees.
 //! - `graph`: the fault of one graph; `check`: the verdict on all graphs of records.
 //! - `laws`: no bytes have two verdicts.
 //! - `input`, `tell`, `status`, `run`: the checker as a top call, over a source and a sink.
@@ -14,11 +13,10 @@
 #![tactic(auto)]
 
 mod check;
-mod degrees;
+mod counts;
 mod graph;
 mod laws;
 mod run;
-mod search;
 mod status;
 mod table;
 mod tell;

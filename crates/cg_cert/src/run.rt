@@ -75,7 +75,7 @@ pub fn check_run<S: Source, K: Sink>(
     ensures too_large { result ≡ CheckStatus.TooLarge → Appends (K.written sink.old) (K.written sink.new) (codes "too large\n") }
     ensures taken { result ≡ CheckStatus.TooLarge → TookTooMany (S.left source.old) (S.left source.new) }
 
-    // Faults, which come only where the count of faults rose, and want of memory.
+    // Faults, which come only where the count of faults rose, and lack of memory.
     ensures read_cause { result ≡ CheckStatus.ReadFault → Rose (S.faults source.old) (S.faults source.new) }
     ensures read { result ≡ CheckStatus.ReadFault → Keeps (K.written sink.old) (K.written sink.new) }
     ensures write_cause { result ≡ CheckStatus.WriteFault → Rose (K.faults sink.old) (K.faults sink.new) }
@@ -83,13 +83,13 @@ pub fn check_run<S: Source, K: Sink>(
     ensures write_words { words.now ≢ [] → result ≡ CheckStatus.WriteFault → AppendsFront (K.written sink.old) (K.written sink.new) (codes "bad words\n") }
     ensures memory { result ≡ CheckStatus.OutOfMemory → Keeps (K.written sink.old) (K.written sink.new) }
 
-    // Which answer comes: by the words and the bytes alone, but for faults and want of memory.
+    // Which answer comes: by the words and the bytes alone, but for faults and lack of memory.
     ensures answers { words.now ≡ [] → IsCutShort result ⊎ IfSome (S.left source.old) (λ bytes. AnswersRecords bytes result) }
     ensures no_words { words.now ≡ [] → result ≢ CheckStatus.BadWords }
     ensures words { words.now ≢ [] → (result ≡ CheckStatus.BadWords) ⊎ (result ≡ CheckStatus.WriteFault) }
     ensures nothing_read { words.now ≢ [] → source.new ≡ source.old }
 
-    // Where nothing fails, the answer goes by the bytes, want of memory aside.
+    // Where nothing fails, the answer goes by the bytes, lack of memory aside.
     ensures complete { words.now ≡ [] → ¬ (Rose (S.faults source.old) (S.faults source.new)) → ¬ (Rose (K.faults sink.old) (K.faults sink.new))
         → (result ≡ CheckStatus.OutOfMemory) ⊎ IfSome (S.left source.old) (λ bytes. AnswersRecords bytes result) }
 {

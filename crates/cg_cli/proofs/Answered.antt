@@ -14,9 +14,9 @@ use Rattle.cg_cli.specs.Recordings.{RecordedWhole, RecordedSome, RecordedFront}
 use Rattle.cg_cli.specs.declared.input.TheConstants.{LIMIT}
 use Rattle.cg_cli.specs.declared.status.Status.{Status}
 use Rattle.cg_cli.specs.declared.status.Status.TheVariants.{Done, BadScript, BadWords, ReadFault, WriteFault, OutOfMemory, Budget, TooLarge}
-use Rattle.cg_cli.proofs.Told.{told, told_front, told_answers, many_front, many_answers, complete}
-use Rattle.cg_cli.proofs.ToldRecords.{told_recorded, told_recorded_some, told_recorded_front, many_recorded_front}
-use Rattle.cg_cli.proofs.ToldExpansions.{told_expansion, told_first_bad, told_expand_front, told_expand_answers, many_expand_front, many_expand_answers}
+use Rattle.cg_cli.proofs.RunFacts.{told, told_front, told_answers, many_front, many_answers, complete}
+use Rattle.cg_cli.proofs.RecordFacts.{told_recorded, told_recorded_some, told_recorded_front, many_recorded_front}
+use Rattle.cg_cli.proofs.ExpandFacts.{told_expansion, told_first_bad, told_expand_front, told_expand_answers, many_expand_front, many_expand_answers}
 use Rattle.cg_cli.proofs.KeptLines.{told_kept, front_kept}
 
 -- the statuses that come once the bytes are in hand, and those that come before; memory and the sink may fail at any time

@@ -1,8 +1,8 @@
-pub mod Told
+pub mod RunFacts
 pub mod Budgets
 pub mod KeptLines
 pub mod Refusals
 pub mod Summed
-pub mod ToldExpansions
-pub mod ToldRecords
+pub mod ExpandFacts
+pub mod RecordFacts
 pub mod Answered

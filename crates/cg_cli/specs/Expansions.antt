@@ -39,6 +39,6 @@ abbrev pub AnswersFirstBad : Option (ℕ × ℕ) → Status → Type 0
 AnswersFirstBad None status = status ≡ Done
 AnswersFirstBad (Some bad) status = status ≡ BadScript
 
--- up to the limit by the first bad line, and beyond it that the bytes are too many
+-- up to the limit, the answer to the first bad line; beyond it, that the bytes are too many
 abbrev pub AnswersExpand : List ℕ → Status → Type 0
 AnswersExpand bytes status = (length bytes < LIMIT → AnswersFirstBad (first_bad bytes) status) × (LIMIT ≤ length bytes → status ≡ TooLarge)

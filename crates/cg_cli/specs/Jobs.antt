@@ -12,7 +12,7 @@ use Rattle.cg_cli.specs.Recordings.{RecordedWhole, RecordedPart, RecordedFront}
 use Rattle.cg_cli.specs.declared.status.Status.{Status}
 use Rattle.cg_cli.specs.declared.status.Status.TheVariants.{Done, BadScript, BadWords, ReadFault, WriteFault, OutOfMemory, Budget, TooLarge}
 
--- What is outside a call: the bytes that its source has left, those that its sink has got, each where it tells them, and how often
+-- What is outside a call: the bytes that its source has left, those that its sink has got, where they tell them, and how often
 -- either has failed.
 pub record Outside : Type 0 where
   pub left : Option (List ℕ)
@@ -23,7 +23,7 @@ pub record Outside : Type 0 where
 abbrev pub outside : Option (List ℕ) → ℕ → Option (List ℕ) → ℕ → Outside
 outside left read_faults written write_faults = record { left = left; read_faults = read_faults; written = written; write_faults = write_faults }
 
--- What holds of each job that reads its source: too many bytes are told, a fault has its cause, and a failed source leaves the sink.
+-- What every job that reads its source keeps: too many bytes are reported, a fault has its cause, and after a failed read nothing was written.
 pub record ReadsSource (status : Status) (was is : Outside) : Type 0 where
   pub too_large : status ≡ TooLarge → Appends was.written is.written (codes "too large\n")
   pub taken : status ≡ TooLarge → TookTooMany was.left is.left
@@ -32,7 +32,7 @@ pub record ReadsSource (status : Status) (was is : Outside) : Type 0 where
   pub write_cause : status ≡ WriteFault → Rose was.write_faults is.write_faults
   pub words : status ≢ BadWords
 
--- Only memory keeps this answer away where neither source nor sink fails.
+-- Where neither source nor sink fails, this answer comes unless memory runs out.
 abbrev pub ComesWithoutFaults : Status → Outside → Outside → (List ℕ → Type 0) → Type 0
 ComesWithoutFaults status was is Answer = ¬ (Rose was.read_faults is.read_faults) → ¬ (Rose was.write_faults is.write_faults)
     → (status ≡ OutOfMemory) ⊎ IfSome was.left Answer
@@ -44,7 +44,7 @@ pub record RunAnswers (given : Option ℕ) (status : Status) (was is : Outside) 
   pub spent : status ≡ Budget → IfSome was.left (λ bytes. RanWhole given BudgetIsSpent bytes was.written is.written)
   -- Its lines begin the finalizer of one object at most once (PEP 442), and name no object that an earlier line frees.
   pub promises : (status ≡ Done) ⊎ (status ≡ Budget) → IfSome was.left (λ bytes. RanKept bytes was.written is.written)
-  -- So do those that were written where the sink failed.
+  -- The same holds of the lines that a failed sink got.
   pub promises_in_part : status ≡ WriteFault → IfSome was.left (λ bytes. FrontKept bytes was.written is.written)
   pub bad_script : status ≡ BadScript → IfSome was.left (λ bytes. RanBad bytes was.written is.written)
   pub read_to_end : (status ≡ Done) ⊎ (status ≡ Budget) ⊎ (status ≡ BadScript) → IsAtEnd is.left
@@ -52,11 +52,11 @@ pub record RunAnswers (given : Option ℕ) (status : Status) (was is : Outside) 
   -- What a failed sink got, and what was written where memory was refused.
   pub write : status ≡ WriteFault → IfSome was.left (λ bytes. WroteFront given bytes was.written is.written)
   pub memory : status ≡ OutOfMemory → Keeps was.written is.written
-  -- The bytes alone say which answer comes, but for faults, memory and how the run ended.
+  -- Except for faults, memory and how the run ended, the bytes alone decide the answer.
   pub answers : IsCutShort status ⊎ IfSome was.left (λ bytes. AnswersScript bytes status)
   pub complete : ComesWithoutFaults status was is (λ bytes. AnswersScript bytes status)
 
--- A job to run the script of so many blocks, and to write the summary of its text.
+-- A job that runs the script of `blocks` blocks and writes the summary of its text.
 pub record GenerateAnswers (blocks : ℕ) (status : Status) (before now : Option (List ℕ)) (faults_before faults_now : ℕ) : Type 0 where
   -- A summary was written of the text of a whole run of that script, in which no command was refused.
   pub done : status ≡ Done → WroteSummary blocks before now
@@ -94,7 +94,7 @@ pub record RecordAnswers (status : Status) (was is : Outside) : Type 0 where
   pub answers : IsCutShort status ⊎ IfSome was.left (λ bytes. AnswersScript bytes status)
   pub complete : ComesWithoutFaults status was is (λ bytes. AnswersScript bytes status)
 
--- Words that ask for nothing.
+-- Words that ask for no job.
 pub record NoJobAnswers (status : Status) (before now : Option (List ℕ)) (faults_before faults_now : ℕ) : Type 0 where
   pub bad_words : status ≡ BadWords → Appends before now (codes "bad words\n")
   pub write : status ≡ WriteFault → AppendsFront before now (codes "bad words\n")
@@ -102,6 +102,6 @@ pub record NoJobAnswers (status : Status) (before now : Option (List ℕ)) (faul
   pub memory : status ≡ OutOfMemory → Keeps before now
   pub answers : (status ≡ BadWords) ⊎ (status ≡ WriteFault) ⊎ (status ≡ OutOfMemory)
 
--- The words ask for nothing, or for a job that has no use for a source.
+-- The words ask for no job, or for one that does not read the source.
 abbrev pub ReadNothing : List (List ℕ) → Type 0
 ReadNothing words = ((blocks : ℕ) × AsksFor words (Generate blocks)) ⊎ ¬ (Ask words)

@@ -10,7 +10,7 @@ use Rattle.cg_cli.specs.Statuses.{Spells, budget_of, bad_script_text}
 use Rattle.cg_cli.specs.declared.input.TheConstants.{LIMIT}
 
 -- The bytes spell a script, and the text of the records of a whole run of it was written. The run ended so, and in it no command
--- was refused for want of memory.
+-- was refused because memory ran out.
 pub record RecordedWhole (outcome : Outcome) (bytes : List ℕ) (before now : Option (List ℕ)) : Type 0 where
   pub few : length bytes < LIMIT
   pub script : Script

@@ -50,7 +50,7 @@ pub record RanBad (bytes : List ℕ) (before now : Option (List ℕ)) : Type 0 w
   pub fault : reading bytes ≡ faulty number code
   pub wrote : Appends before now (bad_script_text number code)
 
--- As many bytes as show that there are too many were taken, and no more.
+-- One byte more than a script may have was taken, and no further one.
 pub record TookTooMany (left after : Option (List ℕ)) : Type 0 where
   pub bytes : List ℕ
   pub number : length bytes ≡ LIMIT
@@ -68,7 +68,7 @@ pub record WroteFront (given : Option ℕ) (bytes : List ℕ) (before now : Opti
   pub row : RowText given bytes text
   pub wrote : AppendsFront before now text
 
--- Where few bytes spell a script, a front of lines was written that keep the promises of every run.
+-- Where the bytes are not too many and spell a script, a prefix of lines that keep the promises of every run was written.
 abbrev pub FrontKept : List ℕ → Option (List ℕ) → Option (List ℕ) → Type 0
 FrontKept bytes before now = length bytes < LIMIT → (script : Script) → Spells bytes script → WroteKept script.names before now
 
@@ -78,10 +78,10 @@ abbrev pub AnswersReading : Reading → Status → Type 0
 AnswersReading (spells names lines) status = (status ≡ Done) ⊎ (status ≡ Budget)
 AnswersReading (faulty number code) status = status ≡ BadScript
 
--- up to the limit by what the bytes are read as, and beyond it that they are too many
+-- up to the limit, the answer to what the bytes are read as; beyond it, that they are too many
 abbrev pub AnswersScript : List ℕ → Status → Type 0
 AnswersScript bytes status = (length bytes < LIMIT → AnswersReading (reading bytes) status) × (LIMIT ≤ length bytes → status ≡ TooLarge)
 
--- a fault of the source or of the sink, or want of memory
+-- a fault of the source or of the sink, or lack of memory
 abbrev pub IsCutShort : Status → Type 0
 IsCutShort status = (status ≡ ReadFault) ⊎ (status ≡ WriteFault) ⊎ (status ≡ OutOfMemory)

@@ -17,7 +17,7 @@ abbrev pub is_refused : Event → Bool
 is_refused (Refused reason) = true
 is_refused event = false
 
--- A whole run of the script of so many blocks with the usual budget, which ended by `end`, and in which no command was refused.
+-- A whole run of the script of `blocks` blocks with the usual budget that ended by `end` and in which no command was refused.
 pub record RanGenerated (blocks : ℕ) (steps : List StepTaken) : Type 0 where
   pub whole : IsWholeRun (generated blocks) 10000 Ended steps
   pub unrefused : list_any is_refused (events_of steps) ≡ false

@@ -15,8 +15,8 @@ use cg_io::Sink;
 use cg_kind::Kind;
 use std::alloc::Global;
 
-/// The tally of a whole run of the script of so many blocks, or none where memory was refused: to the script, its heap, its
-/// run, or a command of it. The script starts no frame, so its run is not ended for want of budget.
+/// The tally of a whole run of the script of `blocks` blocks, or none where memory was refused: to the script, its heap, its
+/// run, or a command of it. The script starts no frame, so its run is not ended because the budget is spent.
 fn tally_of_run<B: Kind>(alloc: Global, blocks: u32, kinds: Vec<B>) -> Option<Tally>
     requires few { blocks ≤ 10000 }
     requires kinds { map B.kind kinds.items ≡ six_kinds }
@@ -36,7 +36,7 @@ fn tally_of_run<B: Kind>(alloc: Global, blocks: u32, kinds: Vec<B>) -> Option<Ta
     }
 }
 
-/// Runs the script of so many blocks with the usual budget, and writes the summary of its text. It answers `Done` where no
+/// Runs the script of `blocks` blocks with the usual budget, and writes the summary of its text. It answers `Done` where no
 /// command of it was refused, and else `OutOfMemory`, with nothing written.
 pub fn generate_job<K: Sink, B: Kind>(
     alloc: Global,

@@ -28,6 +28,7 @@ pub mod RowWalks
 pub mod Walking
 pub mod Losing
 pub mod WalkTurns
+pub mod WalkLooks
 pub mod Staging
 pub mod GivingUp
 pub mod Stepping

@@ -332,6 +332,8 @@ pub record LosesThen (profile : ℕ) (store new : Store) (weak : ℕ) (member : 
   pub apart : IsApartUnseen store → IsApartUnseen new
   pub callbacks : HaveCallbacks store → HaveCallbacks new
   pub goes_on : IsRising new.rows → IsWalk profile new member (next_older_in store.rows weak)
+  pub rows : new.rows ≡ without_row weak store.rows
+  pub candidates : list_at new Cand ≡ list_at store Cand
 
 -- the heap once it has
 abbrev pub lost_by : Bool → ℕ → Store → Store
@@ -345,12 +347,16 @@ at_row profile store sound r inside stays member walk loses new is = elim (cases
     apart = apart_put profile store sound r inside stays member walk loses always;
     callbacks = callbacks_put profile store sound r inside stays member walk loses always;
     goes_on = walk_loses profile store sound.rows r inside stays member walk (put_by profile store sound r inside stays member walk loses) (is_put_by profile store sound r inside stays member walk loses always);
+    rows = refl;
+    candidates = (is_put_by profile store sound r inside stays member walk loses always).candidates;
   })
   | inr never ↦ subst (λ (n : Store). LosesThen profile store n r.weak member) (sym (is ∙ ap (λ b. lost_by b r.weak store) never)) (record {
     steps = λ script in_profile facts policy. turn-lost profile store sound r inside stays member walk loses script in_profile facts policy never;
     apart = apart_lost profile store sound r inside stays member walk loses;
     callbacks = callbacks_lost profile store sound r inside stays member walk loses;
     goes_on = walk_loses profile store sound.rows r inside stays member walk (lost profile store sound r inside stays member walk loses) (is_lost profile store sound r inside stays member walk loses);
+    rows = refl;
+    candidates = refl;
   })
 ]
 

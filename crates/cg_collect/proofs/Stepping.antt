@@ -1,5 +1,5 @@
 -- A step of a collection that gives nothing up is a turn of its phase.
-use Rattle.std.proofs.Common.{◌≡◌, refl, sym, subst, ◌+◌, ◌≤◌, Option, None, ℕ, arith}
+use Rattle.std.proofs.Common.{◌≡◌, refl, sym, subst, ◌+◌, ◌≤◌, Option, Some, None, ℕ, arith}
 use Rattle.cg_script.specs.declared.Script.{Script}
 use Rattle.cg_graph.specs.Store.{Store}
 use Rattle.cg_graph.proofs.Objects.{occurrences-append}
@@ -12,10 +12,10 @@ use Rattle.cg_collect.specs.declared.collection.Collection.{Collection}
 use Rattle.cg_collect.specs.declared.phase.Phase.{Phase}
 use Rattle.cg_collect.specs.declared.phase.Phase.TheVariants as phase_of
 use Rattle.cg_collect.specs.declared.phase.Turn.{Turn}
-use Rattle.cg_collect.specs.Ready.{IsReadyForCollectionAt, HasFewCollected, RunsFrame, MayRun, IsBegun}
+use Rattle.cg_collect.specs.Ready.{IsReadyForCollectionAt, HasFewCollected, RunsFrame, MayRun, IsBegun, GivesUpIn}
 use Rattle.cg_collect.specs.Answers.{CollectSteps}
 use Rattle.cg_collect.specs.Turns.{pass_of, passes_on, collection_at, collection_after, StaysReady, HandsOutIn, TakesTurn}
-use Rattle.cg_collect.specs.Looks.{most_looks}
+use Rattle.cg_collect.specs.Looks.{looks_left, most_looks}
 use Rattle.cg_collect.specs.Stages.{detection_at, stage_at, MeetsStage}
 use Rattle.cg_collect.specs.Collections.{IsReadyForCollection, KeepsReady, CollectFalls, CollectionEndsWith, DiesUnheld, facts_of, given_up_by, own_holds_at, held_by}
 use Rattle.cg_collect.proofs.Staging.{TakesStep, also-steps, leaves_stage}
@@ -50,6 +50,30 @@ runs_in (phase_of.Uncollectable first next number) release runs = absurd runs
 runs_in (phase_of.Saved next number) release runs = absurd runs
 runs_in (phase_of.Stopping number) release runs = absurd runs
 runs_in (phase_of.Over number) release runs = absurd runs
+
+-- a step that gives something up leaves no looks
+pub none_left : (p now : Phase) (release : Release) (store : Store) → GivesUpIn p (Some release) → looks_left p now store ≡ 0
+none_left phase_of.Start now release store may = absurd may
+none_left (phase_of.Sizes zero one two frozen) now release store may = absurd may
+none_left (phase_of.Telling next) now release store may = absurd may
+none_left (phase_of.WeakClearing member weak) now release store may = absurd may
+none_left phase_of.WeakCalling now release store may = absurd may
+none_left (phase_of.AfterCallback weak) now release store may = absurd may
+none_left (phase_of.AfterRelease weak) now release store may = refl
+none_left phase_of.Finalizing now release store may = refl
+none_left (phase_of.AfterFinalizing o) now release store may = absurd may
+none_left phase_of.Split now release store may = absurd may
+none_left (phase_of.Living next) now release store may = absurd may
+none_left (phase_of.Detaching next) now release store may = absurd may
+none_left (phase_of.Unlinking member weak) now release store may = absurd may
+none_left phase_of.Turns now release store may = absurd may
+none_left (phase_of.Turn o) now release store may = refl
+none_left (phase_of.AfterTurn o) now release store may = refl
+none_left phase_of.Ending now release store may = absurd may
+none_left (phase_of.Uncollectable first next number) now release store may = absurd may
+none_left (phase_of.Saved next number) now release store may = absurd may
+none_left (phase_of.Stopping number) now release store may = absurd may
+none_left (phase_of.Over number) now release store may = absurd may
 
 -- only the start comes before all passes, and it goes on
 begun_onward : (old next : Phase) → pass_of old + passes_on old ≤ pass_of next → IsBegun next
@@ -121,8 +145,10 @@ module _ (old mid : Collection) (store between : Store) (same : (mid ≡ old) ×
   pub held_on : HasHolds store (held_by old) → HasHolds between (own_holds_at mid.phase)
   held_on held = stays (λ c st. HasHolds st (own_holds_at c.phase)) (phase_held old store held)
 
-  pub looks_on : (looked before : ℕ) → looked ≤ before + most_looks mid.generation mid.phase between → looked ≤ before + most_looks old.generation old.phase store
-  looks_on looked before = stays (λ c st. looked ≤ before + most_looks c.generation c.phase st → looked ≤ before + most_looks old.generation old.phase store) (λ few. few)
+  pub looks_on : (looked before : ℕ) (phase_now : Phase) (now : Store) → looked + looks_left mid.phase phase_now now ≤ before + most_looks mid.generation mid.phase between
+      → looked + looks_left old.phase phase_now now ≤ before + most_looks old.generation old.phase store
+  looks_on looked before phase_now now =
+      stays (λ c st. looked + looks_left c.phase phase_now now ≤ before + most_looks c.generation c.phase st → looked + looks_left old.phase phase_now now ≤ before + most_looks old.generation old.phase store) (λ few. few)
 
   -- the collection after the turn
   pub turned : (script : Script) (policy : Policy) (now : Store) (policy_now : Policy) (turn : Turn) → IsReadyForCollection script old store → old.detected ≡ detection_at old.phase

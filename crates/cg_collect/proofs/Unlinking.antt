@@ -81,11 +81,15 @@ module _ (store : Store) (ok : AreRows store) (r : Row) (inside : Includes store
   still_looked o m = subst (λ l. Includes l o) (looks_here store ok r inside stays) m
 
   -- less is left
-  pub unlink_falls : (left_to_walk member (next_older_in store.rows r.weak) store) + 0 < (left_to_walk member (Some r.weak) store) + 0
-  unlink_falls =
+  pub unlink_shorter : length (to_look_at store (next_older_in store.rows r.weak)) < length (to_look_at store (Some r.weak))
+  unlink_shorter =
       let less_ones : length (to_look_at store (next_older_in store.rows r.weak)) ≡ length (older_ones store ok r inside stays) = ap length (looks_on store ok r inside stays) in
       let here : length (to_look_at store (Some r.weak)) ≡ length (r.weak ∷ older_ones store ok r inside stays) = ap length (looks_here store ok r inside stays) in
-      fewer (length (from_on member (list_at store Cand)) * (length store.rows + 1)) (length (to_look_at store (next_older_in store.rows r.weak))) (length (to_look_at store (Some r.weak))) (omega (arith, less_ones, here))
+      omega (arith, less_ones, here)
+
+  pub unlink_falls : (left_to_walk member (next_older_in store.rows r.weak) store) + 0 < (left_to_walk member (Some r.weak) store) + 0
+  unlink_falls =
+      fewer (length (from_on member (list_at store Cand)) * (length store.rows + 1)) (length (to_look_at store (next_older_in store.rows r.weak))) (length (to_look_at store (Some r.weak))) unlink_shorter
     where
       fewer : (a b c : ℕ) → b < c → (a + b) + 0 < (a + c) + 0
       fewer a b c h = omega (arith, h)
@@ -173,6 +177,7 @@ pub record Skips (store : Store) (member : Option ℕ) (weak : ℕ) : Type 0 whe
       → CollectSteps script (collection_at facts (phase_of.Unlinking member (Some weak)) None) store policy (collection_at facts (phase_of.Unlinking member (next_older_in store.rows weak)) None) store policy answer_of.Continue
   pub goes_on : IsMemberWalk store member (next_older_in store.rows weak)
   pub falls : (left_to_walk member (next_older_in store.rows weak) store) + 0 < (left_to_walk member (Some weak) store) + 0
+  pub shorter : length (to_look_at store (next_older_in store.rows weak)) < length (to_look_at store (Some weak))
 
 pub record Unlinks (store : Store) (member : Option ℕ) (weak : ℕ) : Type 0 where
   pub steps : IsRising (without_row weak store.rows) → (script : Script) (facts : Facts) (policy : Policy)
@@ -196,6 +201,7 @@ skips store ok member weak walk other =
       steps = turn-skipped store ok r inside stays member walk_at other_at;
       goes_on = unlink_passes store ok r inside stays member walk_at other_at;
       falls = unlink_falls store ok r inside stays member walk_at;
+      shorter = unlink_shorter store ok r inside stays member walk_at;
     })
 
 pub unlinks : (store : Store) → AreRows store → (member : Option ℕ) (weak : ℕ) → IsMemberWalk store member (Some weak) → includes (list_at store Cand) weak ≡ true → Unlinks store member weak
@@ -215,10 +221,10 @@ module _ (store : Store) (listed : IsListed store) (ok : AreRows store) (object 
   abbrev members : List ℕ
   members = list_at store Cand
 
-  ahead : from_on (Some object) members ≡ object ∷ from_on next members
+  pub ahead : from_on (Some object) members ≡ object ∷ from_on next members
   ahead = next_from store listed Cand object walk.member_at next next_is
 
-  looks : to_look_at store weak ≡ references_in store.rows (referent_in store.rows object)
+  pub looks : to_look_at store weak ≡ references_in store.rows (referent_in store.rows object)
   looks = known (referent_in store.rows object) weak_is
     where
       known : (k : Option ℕ) → weak ≡ option_and_then (λ o. slice_get (weak_references_in store.rows o) 0) k → to_look_at store weak ≡ references_in store.rows k

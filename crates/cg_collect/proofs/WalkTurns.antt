@@ -111,8 +111,11 @@ module _ (profile : ℕ) (store : Store) (listed : IsListed store) (ok : AreRows
   from_later : from_on next (list_at store Cand) ≡ here.back
   from_later = ap (λ k. from_on k (list_at store Cand)) next_head ∙ from_next (list_at store Cand) (once_at store listed Cand) object here.front here.back here.is
 
-  looks : to_look_at store weak ≡ weak_references_in store.rows t
+  pub looks : to_look_at store weak ≡ weak_references_in store.rows t
   looks = looks_all store ok.rise t weak weak_is
+
+  pub ahead : from_on (Some object) (list_at store Cand) ≡ object ∷ from_on next (list_at store Cand)
+  ahead = from_object ∙ ap (λ l. object ∷ l) (sym from_later)
 
   -- it, or one behind it
   one_of : (q : ℕ) → Includes (from_on (Some object) (list_at store Cand)) q → (object ≡ q) ⊎ Includes (from_on next (list_at store Cand)) q

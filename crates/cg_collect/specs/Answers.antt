@@ -62,7 +62,7 @@ pub record GaveDeath (script : Script) (asked : Bool) (w : World) (below : List 
   pub shows : CollectionShows asked c store policy before below
   pub keeps : CollectionKeeps w before
 
--- It hands out a frame: the step of the machine also starts it, or ends the run for want of budget.
+-- It hands out a frame: the step of the machine also starts it, or ends the run because the budget is spent.
 pub record GaveFrame (script : Script) (asked : Bool) (w : World) (below : List Activity) (spec : FrameSpec) (c : Collection) (store : Store) (policy : Policy) : Type 0 where
   pub before : World
   pub goes : Goes script w (start_frame script spec before).0 (start_frame script spec before).1

@@ -15,7 +15,7 @@ ghost use Rattle.cg_collect.specs.declared.phase.Phase.TheVariants as phase_of;
 ghost use Rattle.cg_collect.specs.Numbers.{AreSmall};
 ghost use Rattle.cg_collect.specs.Ready.{IsClear, IsReadyForCollectionAt, HasItsWalk, IsBegun};
 ghost use Rattle.cg_collect.specs.Turns.{pass_of, passes_on, TakesTurn};
-ghost use Rattle.cg_collect.specs.Looks.{most_looks};
+ghost use Rattle.cg_collect.specs.Looks.{looks_left, most_looks};
 ghost use Rattle.cg_collect.specs.Answers.{CollectSteps, CollectionShows};
 ghost use Rattle.cg_collect.specs.Stages.{stage_of, detection_at, LeavesStage, MeetsStage};
 ghost use Rattle.cg_collect.specs.declared.stage.Stage.TheVariants as stage;
@@ -142,7 +142,7 @@ impl Collection {
         ensures onward { pass_of self.old.phase + passes_on self.old.phase ≤ pass_of self.new.phase }
         ensures objects { MakesNone heap.old heap.new }
         ensures names { KeepsNames heap.old heap.new }
-        ensures looks { steps.new ≤ steps.old + most_looks self.old.generation self.old.phase heap.old }
+        ensures looks { steps.new + looks_left self.old.phase self.new.phase heap.new ≤ steps.old + most_looks self.old.generation self.old.phase heap.old }
     {
         // Nothing is given up at a phase that makes one.
         self.detected = self.phase.detection();
@@ -192,7 +192,7 @@ impl Collection {
         requires bounded { AreSmall policy.old.numbers }
         ensures takes { TakesTurn script.now (facts_of self.now) self.now.phase heap.old policy.old heap.new policy.new result }
         ensures stops { (set_aside : ℕ) → self.now.phase ≡ phase_of.Stopping set_aside → result ≡ stop_turn (facts_of self.now) set_aside }
-        ensures looks { steps.new ≤ steps.old + most_looks self.now.generation self.now.phase heap.old }
+        ensures looks { steps.new + looks_left self.now.phase result.phase heap.new ≤ steps.old + most_looks self.now.generation self.now.phase heap.old }
         ensures apart { self.now.phase ≡ phase_of.Start → detection_at result.phase ≡ None }
     {
         let facts = Facts {
@@ -210,17 +210,17 @@ impl Collection {
             } => tell_sizes(facts, heap, zero, one, two, frozen),
             Phase::Telling(next) => tell_condemned(heap, next),
             Phase::WeakClearing { member, weak } => {
-                clear_one(heap, script.profile(), member, weak)
+                clear_one(heap, script.profile(), member, weak, steps)
             }
-            Phase::WeakCalling => call_one(heap),
+            Phase::WeakCalling => call_one(heap, steps),
             Phase::AfterCallback(weak) => after_callback(weak),
             Phase::AfterRelease(weak) => after_release(facts, heap, weak),
             Phase::Finalizing => look_at_one(heap, script),
             Phase::AfterFinalizing(object) => after_finalizer(object),
             Phase::Split => detect(facts, heap, steps),
             Phase::Living(next) => tell_living(facts, heap, next),
-            Phase::Detaching(next) => detach_one(heap, next),
-            Phase::Unlinking { member, weak } => unlink_one(heap, member, weak),
+            Phase::Detaching(next) => detach_one(heap, next, steps),
+            Phase::Unlinking { member, weak } => unlink_one(heap, member, weak, steps),
             Phase::Turns => take_turn(facts, heap),
             Phase::Turn(object) => empty_one(heap, object, steps),
             Phase::AfterTurn(object) => after_turn(facts, heap, object),

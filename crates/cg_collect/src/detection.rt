@@ -11,7 +11,7 @@ ghost use Rattle.cg_collect.specs.declared.collection.Facts.{Facts as AnyFacts};
 ghost use Rattle.cg_collect.specs.declared.phase.Phase.TheVariants as phase_of;
 ghost use Rattle.cg_collect.specs.Ready.{IsReadyForCollectionAt};
 ghost use Rattle.cg_collect.specs.Turns.{TakesTurn};
-ghost use Rattle.cg_collect.specs.Looks.{most_looks};
+ghost use Rattle.cg_collect.specs.Looks.{looks_left, most_looks};
 
 use crate::answer::CollectStep;
 use crate::collection::Facts;
@@ -59,9 +59,14 @@ pub fn tell_living<B: Kind>(facts: Facts, heap: &Heap<B>, next: Option<u64>) -> 
 /// The newest weak reference to a member of the final set loses it, without callback; when none to it is left, those to
 /// the next member follow. When none to a member is left, members lose their own referents. Where no weak reference has a
 /// referent, the members have their turns at once.
-pub fn detach_one<B: Kind>(heap: &mut Heap<B>, next: Option<u64>) -> Turn
+pub fn detach_one<B: Kind, L: Ledger>(
+    heap: &mut Heap<B>,
+    next: Option<u64>,
+    steps: &mut Steps<L>,
+) -> Turn
     requires ready { IsReadyForCollectionAt heap.old 0 (phase_of.Detaching next) }
-    ensures { (script : AnyScript) (facts : AnyFacts) (policy : Standing) → TakesTurn script facts (phase_of.Detaching next) heap.old policy heap.new policy result }
+    ensures takes { (script : AnyScript) (facts : AnyFacts) (policy : Standing) → TakesTurn script facts (phase_of.Detaching next) heap.old policy heap.new policy result }
+    ensures looks { steps.new + looks_left (phase_of.Detaching next) result.phase heap.new ≤ steps.old + most_looks 0 (phase_of.Detaching next) heap.old }
 {
     heap.sound();
     if heap.is_unreferred() {
@@ -73,7 +78,7 @@ pub fn detach_one<B: Kind>(heap: &mut Heap<B>, next: Option<u64>) -> Turn
             weak: None,
         });
     };
-    match heap.newest_of(object) {
+    match heap.newest_looking(object, steps) {
         Some(weak) => {
             heap.clear_weak(weak, false);
             Turn::tells(Event::Cleared(weak), Phase::Detaching(next))
@@ -86,25 +91,37 @@ pub fn detach_one<B: Kind>(heap: &mut Heap<B>, next: Option<u64>) -> Turn
 ///
 /// For each member that has a referent all weak references to it are looked at, from the newest on, and the members among
 /// them lose it. So each list is gone through once.
-pub fn unlink_one<B: Kind>(heap: &mut Heap<B>, member: Option<u64>, weak: Option<u64>) -> Turn
+pub fn unlink_one<B: Kind, L: Ledger>(
+    heap: &mut Heap<B>,
+    member: Option<u64>,
+    weak: Option<u64>,
+    steps: &mut Steps<L>,
+) -> Turn
     requires ready { IsReadyForCollectionAt heap.old 0 (phase_of.Unlinking member weak) }
-    ensures { (script : AnyScript) (facts : AnyFacts) (policy : Standing) → TakesTurn script facts (phase_of.Unlinking member weak) heap.old policy heap.new policy result }
+    ensures takes { (script : AnyScript) (facts : AnyFacts) (policy : Standing) → TakesTurn script facts (phase_of.Unlinking member weak) heap.old policy heap.new policy result }
+    ensures looks { steps.new + looks_left (phase_of.Unlinking member weak) result.phase heap.new ≤ steps.old + most_looks 0 (phase_of.Unlinking member weak) heap.old }
 {
     match weak {
-        Some(weak) => look_at(heap, member, weak),
-        None => next_member(heap, member),
+        Some(weak) => look_at(heap, member, weak, steps),
+        None => next_member(heap, member, steps),
     }
 }
 
 /// A weak reference that is a member loses its referent, without callback.
-fn look_at<B: Kind>(heap: &mut Heap<B>, member: Option<u64>, weak: u64) -> Turn
+fn look_at<B: Kind, L: Ledger>(
+    heap: &mut Heap<B>,
+    member: Option<u64>,
+    weak: u64,
+    steps: &mut Steps<L>,
+) -> Turn
     requires ready { IsReadyForCollectionAt heap.old 0 (phase_of.Unlinking member (Some weak)) }
-    ensures { (script : AnyScript) (facts : AnyFacts) (policy : Standing) → TakesTurn script facts (phase_of.Unlinking member (Some weak)) heap.old policy heap.new policy result }
+    ensures takes { (script : AnyScript) (facts : AnyFacts) (policy : Standing) → TakesTurn script facts (phase_of.Unlinking member (Some weak)) heap.old policy heap.new policy result }
+    ensures looks { steps.new + looks_left (phase_of.Unlinking member (Some weak)) result.phase heap.new ≤ steps.old + most_looks 0 (phase_of.Unlinking member (Some weak)) heap.old }
 {
     heap.sound();
     let phase = Phase::Unlinking {
         member,
-        weak: heap.older_of(weak),
+        weak: heap.older_looking(weak, steps),
     };
     if is_member(heap, weak) {
         heap.clear_weak(weak, false);
@@ -127,28 +144,38 @@ fn is_member<B: Kind>(heap: &Heap<B>, object: u64) -> bool
 }
 
 /// The weak references to the referent of the next member are looked at; when all members were, they have their turns.
-fn next_member<B: Kind>(heap: &mut Heap<B>, member: Option<u64>) -> Turn
+fn next_member<B: Kind, L: Ledger>(
+    heap: &mut Heap<B>,
+    member: Option<u64>,
+    steps: &mut Steps<L>,
+) -> Turn
     requires ready { IsReadyForCollectionAt heap.old 0 (phase_of.Unlinking member None) }
-    ensures { (script : AnyScript) (facts : AnyFacts) (policy : Standing) → TakesTurn script facts (phase_of.Unlinking member None) heap.old policy heap.new policy result }
+    ensures takes { (script : AnyScript) (facts : AnyFacts) (policy : Standing) → TakesTurn script facts (phase_of.Unlinking member None) heap.old policy heap.new policy result }
+    ensures looks { steps.new + looks_left (phase_of.Unlinking member None) result.phase heap.new ≤ steps.old + most_looks 0 (phase_of.Unlinking member None) heap.old }
 {
     heap.sound();
     match member {
         Some(object) => Turn::to(Phase::Unlinking {
             member: heap.next(object),
-            weak: newest_beside(heap, object),
+            weak: newest_beside(heap, object, steps),
         }),
         None => Turn::to(Phase::Turns),
     }
 }
 
 /// The newest weak reference to the referent of an object, if it has one.
-fn newest_beside<B: Kind>(heap: &Heap<B>, object: u64) -> Option<u64>
+fn newest_beside<B: Kind, L: Ledger>(
+    heap: &Heap<B>,
+    object: u64,
+    steps: &mut Steps<L>,
+) -> Option<u64>
     requires { IsLive heap.now object }
-    ensures { result ≡ option_and_then (λ o. slice_get (weak_references_in heap.now.rows o) 0) (referent_in heap.now.rows object) }
+    ensures newest { result ≡ option_and_then (λ o. slice_get (weak_references_in heap.now.rows o) 0) (referent_in heap.now.rows object) }
+    ensures looks { steps.new ≤ steps.old + 2 }
 {
     heap.sound();
-    match heap.referent_of(object) {
-        Some(referent) => heap.newest_of(referent),
+    match heap.referent_looking(object, steps) {
+        Some(referent) => heap.newest_looking(referent, steps),
         None => None,
     }
 }

@@ -1,4 +1,29 @@
 //! Where a collection stands, and what a turn of one phase leaves.
+//!
+//! The phases in their order. A turn ends with a line, or with nothing to say; on the right stands what comes before the next turn
+//! where that is more: a frame that runs to its end, or the deaths that follow from what the turn gave up.
+//!
+//! ```text
+//! Start                      count, merge, find the unreachable, untrack, set legacy finalizers aside (`start`)
+//!   Sizes, Telling             lines
+//! WeakClearing               each weak reference to a condemned object, newest first (`weak`)
+//! WeakCalling  <--------+    the next one that waits for its callback
+//!   AfterCallback       |      the frame of the callback
+//!   AfterRelease  ------+      the death of the weak reference, if nothing holds it any more
+//! Finalizing   <--------+    the next condemned object that was not looked at (`finalizing`)
+//!   AfterFinalizing  ---+      the frame of its finalizer, then its death, if nothing holds it any more
+//! Split                      find what finalizers brought back (`detection`)
+//!   Living                     lines
+//! Detaching, Unlinking       weak references among the final set lose their referents
+//! Turns        <--------+    the next member of the final set (`turns`)
+//!   Turn                |      once for each entry: the deaths after the entry is given up
+//!   AfterTurn  ---------+      its own death, if nothing holds it any more
+//! Ending                     what was set aside (`ending`)
+//!   Uncollectable, Saved       lines
+//! Stopping, Over             the last line
+//! ```
+//!
+//! Frames and deaths stand above the collection on the stack of `cg_interp`, which comes back here when they have ended.
 ghost use Rattle.std.specs.Prelude.{◌≡◌, Some, None, ◌≤◌};
 ghost use Rattle.cg_machine.specs.Collect.{older};
 ghost use Rattle.cg_collect.specs.declared.answer.CollectStep.TheVariants as answer_of;
@@ -9,7 +34,7 @@ use crate::stage::Detection;
 use cg_death::Release;
 use cg_machine::{Event, FrameSpec};
 
-/// Where a collection stands. (PEP 442, "Disposal of cyclic isolates"; developer guide, "Destroying unreachable objects".)
+/// The phase that comes next. (PEP 442, "Disposal of cyclic isolates"; developer guide, "Destroying unreachable objects".)
 ///
 /// A step of the machine may print several lines. It is done at once, and its other lines are told by the calls that
 /// follow: `Sizes` and `Telling` after the start, `Living`, `Detaching` and `Unlinking` after the second detection,

@@ -1,6 +1,6 @@
-//! Where a collection stands towards its two detections.
+//! Before, at or after each of a collection's two detections.
 
-/// Where a collection stands towards its two detections. Each of the first four is met once, between two steps.
+/// Before, at or after each of its two detections. A collection meets each of the first four once, between two steps.
 #[derive(Clone, Copy, Debug, PartialEq, Eq, Drop)]
 pub enum Stage {
     /// It has begun, and its next step makes the first detection.
@@ -18,8 +18,8 @@ pub enum Stage {
 /// A detection of a collection.
 #[derive(Clone, Copy, Debug, PartialEq, Eq, Drop)]
 pub enum Detection {
-    /// Of what is unreachable among the candidates.
+    /// The first: what is unreachable among the candidates.
     First,
-    /// Of what finalizers brought back among the condemned objects.
+    /// The second: what finalizers brought back of the condemned objects.
     Second,
 }

@@ -81,7 +81,7 @@ fn first_phase<B: Kind>(facts: Facts, heap: &Heap<B>) -> Option<Phase>
     }
 }
 
-/// What is told first.
+/// The first lines.
 fn told_first<B: Kind>(facts: Facts, heap: &Heap<B>, sizes: Option<Phase>) -> Phase
     ensures { result ≡ unwrap_or sizes (told_after_sizes (bits_of facts.flags) heap.now) }
 {

@@ -23,7 +23,7 @@ use cg_policy::Flagset;
 use cg_value::{KindCode, Place};
 use std::sync::ledger::Ledger;
 
-/// The next member has its turn; when all had theirs, the end follows.
+/// The next member has its turn; when all have had theirs, the end follows.
 pub fn take_turn<B: Kind>(facts: Facts, heap: &mut Heap<B>) -> Turn
     requires generation { facts.generation ≤ 2 }
     requires ready { IsReadyForCollectionAt heap.old facts.generation phase_of.Turns }

@@ -1,6 +1,6 @@
 //! The weak phase: weak references lose condemned objects, and the callbacks of those that are not condemned are called.
 //! (PEP 442; `weakref` manual.)
-ghost use Rattle.std.specs.Prelude.{◌≡◌, ◌≤◌, ◌∷◌, [], ◌==◌, ◌||◌, not, Some, None, IsSome, true, false, is_some, slice_get, unwrap_or, option_and_then, if◌then◌else◌};
+ghost use Rattle.std.specs.Prelude.{◌≡◌, ◌+◌, ◌≤◌, ◌∷◌, [], ◌==◌, ◌||◌, not, Some, None, IsSome, true, false, is_some, slice_get, unwrap_or, option_and_then, if◌then◌else◌};
 ghost use Rattle.cg_value.specs.declared.Place.TheVariants as place_of;
 ghost use Rattle.cg_script.specs.declared.Script.{Script as AnyScript};
 ghost use Rattle.cg_policy.specs.Policy.{Policy as Standing};
@@ -18,51 +18,63 @@ ghost use Rattle.cg_collect.specs.declared.collection.Facts.{Facts as AnyFacts};
 ghost use Rattle.cg_collect.specs.declared.phase.Phase.TheVariants as phase_of;
 ghost use Rattle.cg_collect.specs.Ready.{IsReadyForCollectionAt, IsWalk, loses_at, looked_at_for};
 ghost use Rattle.cg_collect.specs.Turns.{TakesTurn};
+ghost use Rattle.cg_collect.specs.Looks.{looks_left, most_looks};
 
 use crate::answer::CollectStep;
 use crate::collection::Facts;
 use crate::phase::{Phase, Turn, older};
-use cg_death::{Release, callback_frame, callback_of};
-use cg_heap::Heap;
+use cg_death::{Release, callback_frame};
+use cg_graph::reference_in;
+use cg_heap::{Heap, Steps};
 use cg_kind::Kind;
 use cg_machine::{Event, FrameSpec};
 use cg_value::Place;
+use std::sync::ledger::Ledger;
 
 /// Looks at the next weak reference of the walk, or at the next condemned object.
 ///
 /// For each condemned object all weak references to it are looked at, from the newest on; for a weak reference that is
-/// condemned and is to lose its referent, all to its referent. So each list is gone through once or twice.
-pub fn clear_one<B: Kind>(
+/// condemned and is to lose its referent, all to its referent. So each list is walked once or twice.
+pub fn clear_one<B: Kind, L: Ledger>(
     heap: &mut Heap<B>,
     profile: u8,
     member: Option<u64>,
     weak: Option<u64>,
+    steps: &mut Steps<L>,
 ) -> Turn
     requires ready { IsReadyForCollectionAt heap.old 0 (phase_of.WeakClearing member weak) }
     requires walk { IsWalk profile heap.old member weak }
     requires few { HasFewHolds heap.old }
-    ensures { (script : AnyScript) → profile_of script.items ≡ profile → (facts : AnyFacts) (policy : Standing) → TakesTurn script facts (phase_of.WeakClearing member weak) heap.old policy heap.new policy result }
+    ensures takes { (script : AnyScript) → profile_of script.items ≡ profile → (facts : AnyFacts) (policy : Standing) → TakesTurn script facts (phase_of.WeakClearing member weak) heap.old policy heap.new policy result }
+    ensures looks { steps.new + looks_left (phase_of.WeakClearing member weak) result.phase heap.new ≤ steps.old + most_looks 0 (phase_of.WeakClearing member weak) heap.old }
 {
     match weak {
-        Some(weak) => look_at(heap, profile, member, weak),
-        None => next_member(heap, profile, member),
+        Some(weak) => look_at(heap, profile, member, weak, steps),
+        None => next_member(heap, profile, member, steps),
     }
 }
 
 /// A weak reference loses its referent, if it is to lose it.
-fn look_at<B: Kind>(heap: &mut Heap<B>, profile: u8, member: Option<u64>, weak: u64) -> Turn
+fn look_at<B: Kind, L: Ledger>(
+    heap: &mut Heap<B>,
+    profile: u8,
+    member: Option<u64>,
+    weak: u64,
+    steps: &mut Steps<L>,
+) -> Turn
     requires ready { IsReadyForCollectionAt heap.old 0 (phase_of.WeakClearing member (Some weak)) }
     requires walk { IsWalk profile heap.old member (Some weak) }
     requires few { HasFewHolds heap.old }
-    ensures { (script : AnyScript) → profile_of script.items ≡ profile → (facts : AnyFacts) (policy : Standing) → TakesTurn script facts (phase_of.WeakClearing member (Some weak)) heap.old policy heap.new policy result }
+    ensures takes { (script : AnyScript) → profile_of script.items ≡ profile → (facts : AnyFacts) (policy : Standing) → TakesTurn script facts (phase_of.WeakClearing member (Some weak)) heap.old policy heap.new policy result }
+    ensures looks { steps.new + looks_left (phase_of.WeakClearing member (Some weak)) result.phase heap.new ≤ steps.old + most_looks 0 (phase_of.WeakClearing member (Some weak)) heap.old }
 {
     heap.sound();
     let phase = Phase::WeakClearing {
         member,
-        weak: heap.older_of(weak),
+        weak: heap.older_looking(weak, steps),
     };
-    if loses(heap, profile, weak) {
-        lose(heap, weak);
+    if loses(heap, profile, weak, steps) {
+        lose(heap, weak, steps);
         heap.sound();
         Turn::tells(Event::Cleared(weak), phase)
     } else {
@@ -71,14 +83,15 @@ fn look_at<B: Kind>(heap: &mut Heap<B>, profile: u8, member: Option<u64>, weak: 
 }
 
 /// Whether a weak reference is to lose its referent: it has one, and one of the two is condemned.
-fn loses<B: Kind>(heap: &Heap<B>, profile: u8, weak: u64) -> bool
+fn loses<B: Kind, L: Ledger>(heap: &Heap<B>, profile: u8, weak: u64, steps: &mut Steps<L>) -> bool
     requires { IsLive heap.now weak }
-    ensures { result ≡ loses_at profile heap.now weak }
+    ensures loses { result ≡ loses_at profile heap.now weak }
+    ensures looks { steps.new ≤ steps.old + 2 }
 {
     heap.sound();
-    match heap.referent_of(weak) {
+    match heap.referent_looking(weak, steps) {
         Some(referent) => {
-            is_lost_early(heap, profile, weak)
+            is_lost_early(heap, profile, weak, steps)
                 && (is_condemned(heap, referent) || is_condemned(heap, weak))
         }
         None => false,
@@ -87,11 +100,33 @@ fn loses<B: Kind>(heap: &Heap<B>, profile: u8, weak: u64) -> bool
 
 /// Whether a weak reference loses its referent before the finalizers run. In profile 2 one without a callback keeps it for
 /// them.
-fn is_lost_early<B: Kind>(heap: &Heap<B>, profile: u8, weak: u64) -> bool
+fn is_lost_early<B: Kind, L: Ledger>(
+    heap: &Heap<B>,
+    profile: u8,
+    weak: u64,
+    steps: &mut Steps<L>,
+) -> bool
     requires { IsLive heap.now weak }
-    ensures { result ≡ not (profile == 2) || is_some (callback_of (objects_of heap.now) weak) }
+    ensures early { result ≡ not (profile == 2) || is_some (callback_of (objects_of heap.now) weak) }
+    ensures looks { steps.new ≤ steps.old + 1 }
 {
-    profile != 2 || callback_of(heap, weak).is_some()
+    profile != 2 || callback_looking(heap, weak, steps).is_some()
+}
+
+/// The callback of a weak reference, if it has one: its entry, which is looked at.
+fn callback_looking<B: Kind, L: Ledger>(
+    heap: &Heap<B>,
+    weak: u64,
+    steps: &mut Steps<L>,
+) -> Option<u64>
+    requires { IsLive heap.now weak }
+    ensures callback { result ≡ callback_of (objects_of heap.now) weak }
+    ensures looks { steps.new ≤ steps.old + 1 }
+{
+    if heap.len(weak) == 0 {
+        return None;
+    }
+    reference_in(heap.look(weak, 0, steps).val)
 }
 
 /// Whether an object is condemned.
@@ -107,14 +142,15 @@ fn is_condemned<B: Kind>(heap: &Heap<B>, object: u64) -> bool
 }
 
 /// A weak reference loses its referent. One that is not condemned and has a callback waits, and is held.
-fn lose<B: Kind>(heap: &mut Heap<B>, weak: u64)
+fn lose<B: Kind, L: Ledger>(heap: &mut Heap<B>, weak: u64, steps: &mut Steps<L>)
     requires few { HasFewHolds heap.old }
     requires live { IsLive heap.old weak }
     requires refers { IsSome (referent_in heap.old.rows weak) }
-    ensures { heap.new ≡ (if waits (objects_of heap.old) weak
+    ensures heap { heap.new ≡ (if waits (objects_of heap.old) weak
         then moved weak place_of.Pend (held (weak ∷ []) (cleared_weak weak false heap.old)) else cleared_weak weak false heap.old) }
+    ensures looks { steps.new ≤ steps.old + 1 }
 {
-    let waits = waits(heap, weak);
+    let waits = waits(heap, weak, steps);
     heap.clear_weak(weak, false);
     if waits {
         heap.hold(weak);
@@ -123,19 +159,26 @@ fn lose<B: Kind>(heap: &mut Heap<B>, weak: u64)
 }
 
 /// Whether a weak reference that loses its referent waits for its callback.
-fn waits<B: Kind>(heap: &Heap<B>, weak: u64) -> bool
+fn waits<B: Kind, L: Ledger>(heap: &Heap<B>, weak: u64, steps: &mut Steps<L>) -> bool
     requires { IsLive heap.now weak }
-    ensures { result ≡ waits (objects_of heap.now) weak }
+    ensures waits { result ≡ waits (objects_of heap.now) weak }
+    ensures looks { steps.new ≤ steps.old + 1 }
 {
-    !is_condemned(heap, weak) && callback_of(heap, weak).is_some()
+    !is_condemned(heap, weak) && callback_looking(heap, weak, steps).is_some()
 }
 
 /// The weak references to the next condemned object are looked at, or those to its referent; when all were, the callbacks
 /// follow. They follow at once where no weak reference has a referent.
-fn next_member<B: Kind>(heap: &mut Heap<B>, profile: u8, member: Option<u64>) -> Turn
+fn next_member<B: Kind, L: Ledger>(
+    heap: &mut Heap<B>,
+    profile: u8,
+    member: Option<u64>,
+    steps: &mut Steps<L>,
+) -> Turn
     requires ready { IsReadyForCollectionAt heap.old 0 (phase_of.WeakClearing member None) }
     requires walk { IsWalk profile heap.old member None }
-    ensures { (script : AnyScript) → profile_of script.items ≡ profile → (facts : AnyFacts) (policy : Standing) → TakesTurn script facts (phase_of.WeakClearing member None) heap.old policy heap.new policy result }
+    ensures takes { (script : AnyScript) → profile_of script.items ≡ profile → (facts : AnyFacts) (policy : Standing) → TakesTurn script facts (phase_of.WeakClearing member None) heap.old policy heap.new policy result }
+    ensures looks { steps.new + looks_left (phase_of.WeakClearing member None) result.phase heap.new ≤ steps.old + most_looks 0 (phase_of.WeakClearing member None) heap.old }
 {
     heap.sound();
     if heap.is_unreferred() {
@@ -144,49 +187,66 @@ fn next_member<B: Kind>(heap: &mut Heap<B>, profile: u8, member: Option<u64>) ->
     match member {
         Some(object) => Turn::to(Phase::WeakClearing {
             member: heap.next(object),
-            weak: first_to_look_at(heap, profile, object),
+            weak: first_to_look_at(heap, profile, object, steps),
         }),
         None => Turn::to(Phase::WeakCalling),
     }
 }
 
 /// The newest weak reference to the referent of a condemned one that is to lose it, or else to a condemned object.
-fn first_to_look_at<B: Kind>(heap: &Heap<B>, profile: u8, object: u64) -> Option<u64>
+fn first_to_look_at<B: Kind, L: Ledger>(
+    heap: &Heap<B>,
+    profile: u8,
+    object: u64,
+    steps: &mut Steps<L>,
+) -> Option<u64>
     requires { IsLive heap.now object }
-    ensures { result ≡ slice_get (weak_references_in heap.now.rows (looked_at_for profile heap.now object)) 0 }
+    ensures first { result ≡ slice_get (weak_references_in heap.now.rows (looked_at_for profile heap.now object)) 0 }
+    ensures looks { steps.new ≤ steps.old + 4 }
 {
     heap.sound();
-    match heap.referent_of(object) {
-        Some(referent) if loses(heap, profile, object) => heap.newest_of(referent),
-        _ => heap.newest_of(object),
+    match heap.referent_looking(object, steps) {
+        Some(referent) if loses(heap, profile, object, steps) => {
+            heap.newest_looking(referent, steps)
+        }
+        _ => heap.newest_looking(object, steps),
     }
 }
 
 /// The first of those that wait has its callback called; when none is left, the finalizers follow.
-pub fn call_one<B: Kind>(heap: &mut Heap<B>) -> Turn
+pub fn call_one<B: Kind, L: Ledger>(heap: &mut Heap<B>, steps: &mut Steps<L>) -> Turn
     requires ready { IsReadyForCollectionAt heap.old 0 phase_of.WeakCalling }
-    ensures { (script : AnyScript) (facts : AnyFacts) (policy : Standing) → TakesTurn script facts phase_of.WeakCalling heap.old policy heap.new policy result }
+    ensures takes { (script : AnyScript) (facts : AnyFacts) (policy : Standing) → TakesTurn script facts phase_of.WeakCalling heap.old policy heap.new policy result }
+    ensures looks { steps.new ≤ steps.old + most_looks 0 phase_of.WeakCalling heap.old }
 {
     heap.sound();
     match heap.first(Place::Pend) {
-        Some(weak) => Turn::runs(frame_of_callback(heap, weak), Phase::AfterCallback(weak)),
+        Some(weak) => Turn::runs(
+            frame_of_callback(heap, weak, steps),
+            Phase::AfterCallback(weak),
+        ),
         None => Turn::to(Phase::Finalizing),
     }
 }
 
 /// The frame of the callback of a weak reference that has one.
-fn frame_of_callback<B: Kind>(heap: &Heap<B>, weak: u64) -> FrameSpec
+fn frame_of_callback<B: Kind, L: Ledger>(
+    heap: &Heap<B>,
+    weak: u64,
+    steps: &mut Steps<L>,
+) -> FrameSpec
     requires live { IsLive heap.now weak }
     requires callback { IsSome (callback_of (objects_of heap.now) weak) }
-    ensures { let f = unwrap_or (callback_of (objects_of heap.now) weak) 0 in result ≡ record {
+    ensures frame { let f = unwrap_or (callback_of (objects_of heap.now) weak) 0 in result ≡ record {
       sort = sort_of.Callback;
       proc = unwrap_or (option_and_then (λ x. x.class) (object_at (objects_of heap.now) f)) 0;
       subject = weak;
       func = Some f;
     } }
+    ensures looks { steps.new ≤ steps.old + 1 }
 {
     heap.sound();
-    let callback = callback_of(heap, weak).unwrap_or(0);
+    let callback = callback_looking(heap, weak, steps).unwrap_or(0);
     callback_frame(heap, weak, callback)
 }
 
@@ -198,7 +258,7 @@ pub fn after_callback(weak: u64) -> Turn
     Turn::gives_up(Release::of(weak), Phase::AfterRelease(weak))
 }
 
-/// One that has died since it was given up is counted as collected; another gets older.
+/// One that has died since it was given up counts as collected; one that lives gets older.
 pub fn after_release<B: Kind>(facts: Facts, heap: &mut Heap<B>, weak: u64) -> Turn
     requires generation { facts.generation ≤ 2 }
     requires ready { IsReadyForCollectionAt heap.old facts.generation (phase_of.AfterRelease weak) }

@@ -14,7 +14,7 @@ abbrev pub reason_lines : Why → List Event
 reason_lines (reason.Path path) = path_lines path.items
 reason_lines reason.Unreachable = Unreachable ∷ []
 
--- The effect explains why an object is alive, and these lines tell it: a path than which none is shorter, or that there is
+-- The effect explains why an object is alive, and these lines tell it: a shortest path, or that there is
 -- none.
 pub record Explained (effect : Result Effect ℕ) (store : Store) (lines : List Event) : Type 0 where
   pub object : ℕ

@@ -28,7 +28,7 @@ refusal_by fault.ObjectLimit = ObjectLimit
 refusal_by fault.EntryLimit = EntryLimit
 refusal_by fault.OutOfMemory = OutOfMemory
 
--- The machine gives this refusal. It never refuses for want of memory, which no rule ties to anything.
+-- The machine gives this refusal. It never refuses for memory, which no rule ties to anything.
 abbrev pub Declines : {A : Type 0} → Refusal → Result A ℕ → Type 0
 Declines OutOfMemory r = ⊥
 Declines refusal r = r ≡ Err (number_of refusal)

@@ -68,7 +68,7 @@ pub fn perform<B: Kind>(
     }
 }
 
-/// Does a command of another sort than those that only change; an object is made only where there is room for it.
+/// Does a command that does more than change; it makes an object only where there is room for it.
 ///
 /// Each command stands in a call of its own that is not inlined, and those that make something or tell the collector something
 /// in one for all of them: the frame of this one would else have the locals of all, and clear them for each command.
@@ -119,8 +119,8 @@ fn attempt_other<B: Kind>(
     }
 }
 
-/// `perform` for a command that changes names or entries and tells no line. It answers the entry that is then to be given up:
-/// little to move, where most commands are of these.
+/// `perform` for a command that changes names or entries and prints no line. It answers the entry to give up,
+/// which is small to move; most commands are of this sort.
 #[inline(always)]
 pub fn change<B: Kind>(
     heap: &mut Heap<B>,
@@ -137,7 +137,7 @@ pub fn change<B: Kind>(
     attempt_change(heap, locals, command)
 }
 
-/// Does such a command.
+/// Does a command that only changes.
 #[inline(always)]
 fn attempt_change<B: Kind>(
     heap: &mut Heap<B>,
@@ -303,7 +303,7 @@ fn count(policy: &mut Policy, made: Result<Done, Refusal>) -> Result<Done, Refus
     made
 }
 
-// By its type, what it gives is a number of 64 bits.
+// Its type says that it is a number of 64 bits.
 fn number(index: &i64) -> i64
     ensures { result ≡ index.now }
 {
@@ -325,7 +325,7 @@ pub fn makes_object(command: &Command) -> bool
     )
 }
 
-/// Whether a command changes names or entries of what stands, and tells no line.
+/// Whether a command only changes names or entries, and prints no line.
 #[inline(always)]
 pub fn only_changes(command: &Command) -> bool
     ensures { result ≡ only_changes command.now }

@@ -10,7 +10,7 @@ use cg_heap::HeapFault;
 use cg_machine::Event;
 use cg_value::{Entry, Val};
 
-/// What a command did.
+/// What a command did, and what is to follow.
 #[derive(Debug, Drop)]
 pub enum Done {
     /// It changed what it had to, and perhaps a line is due. The references of the entry are outside holds, which are now
@@ -101,7 +101,7 @@ pub(crate) fn told(line: Option<Event>) -> Done
     }
 }
 
-/// The refusal that a fault of the heap is.
+/// The refusal for a fault of the heap.
 #[inline(always)]
 pub(crate) fn refusal_by(fault: HeapFault) -> Refusal
     ensures { result ≡ refusal_by fault }

@@ -205,7 +205,7 @@ pub(crate) fn del_attr<B: Kind>(
     }
 }
 
-/// An entry with the references of this one. What else it has is not handed on, since nothing is given up for it.
+/// An entry with the references of this one. Only references have to be given up.
 #[inline(always)]
 fn references_of(entry: Entry) -> Entry
     ensures { entry_references result ≡ entry_references entry }

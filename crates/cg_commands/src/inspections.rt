@@ -100,7 +100,7 @@ pub(crate) fn why<B: Kind>(
     Ok(Done::Tells(lines))
 }
 
-/// What an object refers to. How often entries are looked at is counted by contracts alone, and by a counter of its own.
+/// What an object refers to. Contracts alone count the looks, by a counter of its own.
 fn referents_of<B: Kind, L: Ledger>(
     alloc: Global,
     heap: &Heap<B>,
@@ -221,7 +221,7 @@ fn unreachable_line(alloc: Global) -> Result<Lines, AllocError>
     Ok(Lines::new(events))
 }
 
-/// The objects of a path: the first is held otherwise than by an entry, and each next by the one before.
+/// The objects of a path: the first is held by a root, and each next by the one before.
 fn path_lines(alloc: Global, path: &[u64]) -> Result<Lines, AllocError>
     ensures { IfOk result (λ lines. lines ≡ path_lines path.now) }
 {

@@ -3,7 +3,7 @@
 //! The layer above rests on one contract: in every world of the machine that the heap and the policy stand for, `perform`
 //! does what the machine's own definition of effects says of the command, or refuses it for the machine's own reason.
 //!
-//! - `done`, `lines`: what a command did, which lines it tells, and why one is refused.
+//! - `done`, `lines`: what a command did, which lines it prints, and why one is refused.
 //! - `locals`: the locals of a frame.
 //! - `operands`: the values of operands, and the objects that they refer to.
 //! - `bindings`, `queries`, `inspections`, `lookups`, `entries`, `makes`, `frames`, `generations`: the commands, by family.

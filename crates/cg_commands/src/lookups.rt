@@ -174,7 +174,7 @@ pub(crate) fn index_in<B: Kind>(
     }
 }
 
-/// The object that a value refers to, of whatever kind, where the key may be one. Where it may not, the value is first refused if
+/// The object that a value refers to, if the key is allowed. If it is not, the value is refused first where
 /// it is no dictionary.
 #[inline(always)]
 pub(crate) fn target_under_key<B: Kind>(heap: &Heap<B>, val: Val, key: Val) -> Result<u64, Refusal>

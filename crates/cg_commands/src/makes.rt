@@ -32,7 +32,7 @@ use cg_machine::Event;
 use cg_script::Operand;
 use cg_value::{Entry, KindCode, Val};
 
-/// Most objects are made of so few entries, or of fewer: for them no room is cleared but theirs.
+/// Most objects are made of at most this many entries, so only that much room is cleared for them.
 const FEW: usize = 8;
 
 /// `x = list v*`: a new list of the values is bound to the name.
@@ -303,7 +303,7 @@ fn make_where_room<B: Kind>(
     }
 }
 
-/// Why an object with so many entries is not made, where there is no room for one more.
+/// The refusal of an object with `parts` entries, where there is no room for one more object.
 fn fault_without_room<B: Kind>(heap: &Heap<B>, parts: usize) -> HeapFault
     ensures object_limit { (result ≡ fault.ObjectLimit) ↔ (MOST_OBJECTS ≤ object_number heap.now) }
     ensures entry_limit { (result ≡ fault.EntryLimit)
@@ -328,7 +328,7 @@ fn bind_new<B: Kind>(heap: &mut Heap<B>, name: u32, serial: u64) -> Option<Val>
     ensures rest { heap.new ≡ held (references_of_value result)
         (named name (Some (val_of.Ref serial)) (unheld (serial ∷ []) heap.old)) }
 {
-    // For a moment nothing holds it. It dies only where the caller sees to that.
+    // For a moment nothing holds it. It does not die, since only a caller begins deaths.
     let _unheld = heap.unhold(serial);
     heap.bind(name, Val::Ref(serial))
 }

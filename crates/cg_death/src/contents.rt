@@ -13,7 +13,7 @@ use cg_heap::Heap;
 use cg_kind::Kind;
 use cg_machine::Event;
 
-/// Takes the last entry out, to give up its references next; or lets the object go.
+/// Takes the last entry out, whose references are given up next, or frees the object.
 pub fn empty_one<B: Kind>(object: u64, heap: &mut Heap<B>) -> Turn
     requires few { HasFewHolds heap.old }
     requires unheld { IsUnheld heap.old object }

@@ -27,7 +27,7 @@ pub struct Finalizers {
     pub legacy: Option<u32>,
 }
 
-/// Those of an object without a class.
+/// The finalizers of an object without a class: none.
 const NO_FINALIZERS: Finalizers = Finalizers {
     del: None,
     legacy: None,
@@ -72,7 +72,7 @@ pub fn finalizer_to_run<B: Kind>(heap: &Heap<B>, script: &Script, object: u64) -
     ensures { result ≡
         option_and_then (finalizer_to_run script.now) (object_at (objects_of heap.now) object) }
 {
-    // Most classes have no finalizer, and so the mark is asked for last.
+    // Most classes have no finalizer, so the mark is looked up last.
     let proc = finalizers_of(heap, script, object).del?;
     if heap.is_finalized(object) {
         None

@@ -1,4 +1,4 @@
--- The script of so many blocks, as its list of items by number. (Ours.)
+-- The script of a number of blocks, as its list of items by number. (Ours.)
 use Rattle.std.specs.Prelude.{ℕ, ◌%◌, ◌==◌, List, [], ◌∷◌, ◌++◌, codes, flat_map, if◌then◌else◌, pos}
 use Rattle.std.specs.List.{range_with_len}
 use Rattle.cg_script.specs.declared.command.Operand.TheVariants.{Int, Name}
@@ -39,6 +39,6 @@ ending = Run (Del 0) ∷ Run (Collect (pos 2)) ∷ []
 abbrev pub blocks_to : ℕ → List Item
 blocks_to last = flat_map block (range_with_len 1 last)
 
--- the script of so many blocks
+-- the script of a number of blocks
 abbrev pub generated : ℕ → Script
 generated blocks = record { names = variables; items = beginning ++ blocks_to blocks ++ ending }

@@ -1,6 +1,6 @@
 //! A large script from a number, and the tally of a run's text.
 //!
-//! `generated_script` answers the script of so many blocks. `tally` counts the lines of a text; `TallySink` counts those
+//! `generated_script` answers the script of a number of blocks. `tally` counts the lines of a text; `TallySink` counts those
 //! of a run while they are written, and keeps none. `summary_line` is the line of a tally.
 #![tactic(auto)]
 

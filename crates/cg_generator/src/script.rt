@@ -1,4 +1,4 @@
-//! The script of so many blocks.
+//! The script of a number of blocks.
 ghost use Rattle.std.specs.Prelude.{◌≡◌, ◌≤◌, ◌++◌, ◌∷◌, [], OnOk, IfOk};
 ghost use Rattle.cg_script.specs.Spelled.{IsSpelled};
 ghost use Rattle.cg_script.specs.Texts.{TextsAreKnown};
@@ -126,8 +126,8 @@ fn all_items(alloc: Global, blocks: u32) -> Result<Vec<Item>, AllocError>
     Ok(items)
 }
 
-/// The script of so many blocks, 10,000 at most: a list `c`, then for each number from 1 on a ring of two lists, a tree of
-/// three or one link of a chain in turn, and at the end `del c` and `collect 2`. It answers `AllocError` for want of memory
+/// The script of `blocks` blocks, 10,000 at most: a list `c`, then for each number from 1 on a ring of two lists, a tree of
+/// three or one link of a chain in turn, and at the end `del c` and `collect 2`. It answers `AllocError` for lack of memory
 /// alone. (Ours.)
 pub fn generated_script(alloc: Global, blocks: u32) -> Result<Script, AllocError>
     requires { blocks ≤ MOST_BLOCKS }

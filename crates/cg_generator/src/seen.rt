@@ -42,7 +42,7 @@ impl Seen {
         self.line.clear();
     }
 
-    /// One byte more. It answers `AllocError` for want of memory for the line, or where there are 2^64 - 2 lines already,
+    /// One byte more. It answers `AllocError` for lack of memory for the line, or where there are 2^64 - 2 lines already,
     /// and then nothing has changed.
     pub(crate) fn take(&mut self, byte: u8) -> Result<(), AllocError>
         ensures ok { OnOk result ((text : List ℕ) → HasSeen text self.old.counts self.old.refused self.old.line.items

@@ -13,7 +13,7 @@ use Rattle.cg_graph.specs.Holdings.{occurrences}
 use Rattle.cg_graph.specs.Places.{place_number, move_between, leaves_list, joins_list}
 use Rattle.cg_graph.specs.Store.{Store, Node, place_of}
 
--- one outside hold more for each reference
+-- one more outside hold for each reference
 abbrev pub more : ℕ → Node → Node
 more k n = record n { outside = n.outside + k }
 
@@ -21,11 +21,11 @@ more k n = record n { outside = n.outside + k }
 abbrev pub held : List ℕ → Store → Store
 held refs store = record store { nodes = mapped (λ s n. more (occurrences s refs) n) store.nodes }
 
--- one outside hold less for each reference
+-- one outside hold fewer for each reference
 abbrev pub less : ℕ → Node → Node
 less k n = record n { outside = n.outside - k }
 
--- these references are held from outside no longer
+-- these references are no longer held from outside
 abbrev pub unheld : List ℕ → Store → Store
 unheld refs store = record store { nodes = mapped (λ s n. less (occurrences s refs) n) store.nodes }
 
@@ -59,7 +59,7 @@ gone o store = record store {
   lists = leaves_list store.lists o (place_number (place_of store o));
 }
 
--- one object more, with one outside hold
+-- a new object, with one outside hold
 abbrev pub new_node : KindCode → Option ℕ → List Entry → Node
 new_node code class parts = record {
   code = code;

@@ -53,7 +53,7 @@ marked x = record x { finalized = true }
 abbrev pub entries_of : List Object → ℕ → List Entry
 entries_of objects o = unwrap_or (option_map (λ x. x.entries) (object_at objects o)) []
 
--- the places, told apart
+-- whether two places are the same
 abbrev pub same_place : Place → Place → Bool
 same_place Untracked Untracked = true
 same_place (Gen m) (Gen n) = m == n

@@ -1,4 +1,4 @@
--- Why an object is alive: a path of holders that leads to it, from one that is held otherwise than by an entry. (Ours.
+-- Why an object is alive: a path of holders that leads to it, from one that is held by a root. (Ours.
 -- `gc.get_referrers` answers one step of it.)
 use Rattle.std.specs.Prelude.{◌≡◌, ℕ, ◌<◌, ◌≤◌, Bool, List, [], ◌∷◌, length}
 use Rattle.cg_graph.specs.declared.Edge.{Edge}
@@ -11,8 +11,8 @@ use Rattle.cg_graph.specs.Holdings.{occurrences}
 abbrev pub refers_to : ℕ → Object → Bool
 refers_to o x = includes (references x.entries) o
 
--- An object is held otherwise than by an entry and by the name that is asked about, which holds the object of the
--- question once. The first argument says how often what is no entry holds an object: names, the garbage root, and what
+-- A root other than the name that is asked about holds an object. That name holds the object of the
+-- question once. The first argument says how often roots hold an object: names, the garbage root, and what
 -- is under way.
 abbrev pub IsHeldElse : (ℕ → ℕ) → ℕ → ℕ → Type 0
 IsHeldElse holdings object o = occurrences o (object ∷ []) < holdings o
@@ -22,16 +22,16 @@ abbrev pub LeadsTo : List Edge → ℕ → List ℕ → ℕ → Type 0
 LeadsTo arrows last [] object = last ≡ object
 LeadsTo arrows from (next ∷ path) object = Includes arrows (record { from = from; to = next }) × LeadsTo arrows next path object
 
--- a path of holders: the first is held otherwise
+-- a path of holders, the first of which a root holds
 abbrev pub IsPath : (ℕ → Type 0) → List Edge → List ℕ → ℕ → Type 0
 IsPath Held arrows [] object = ⊥
 IsPath Held arrows (first ∷ path) object = Held first × LeadsTo arrows first path object
 
--- a path than which none is shorter
+-- a shortest path
 pub record IsShortestPath (Held : ℕ → Type 0) (arrows : List Edge) (path : List ℕ) (object : ℕ) : Type 0 where
   pub leads : IsPath Held arrows path object
   pub shortest : (other : List ℕ) → IsPath Held arrows other object → length path ≤ length other
 
--- there is none
+-- there is no path of holders
 abbrev pub HasNoPath : (ℕ → Type 0) → List Edge → ℕ → Type 0
 HasNoPath Held arrows object = (path : List ℕ) → ¬ IsPath Held arrows path object

@@ -74,7 +74,7 @@ abbrev pub outside_in : Option Node → ℕ
 outside_in None = 0
 outside_in (Some n) = n.outside
 
--- the same of a store
+-- the number of outside holds of an object of a store
 abbrev pub outside_of : Store → ℕ → ℕ
 outside_of store s = outside_in (fin.get store.nodes s)
 
@@ -100,7 +100,7 @@ abbrev pub place_in : Option Node → Place
 place_in None = Untracked
 place_in (Some n) = n.place
 
--- the same of a store
+-- the place of an object of a store
 abbrev pub place_of : Store → ℕ → Place
 place_of store s = place_in (fin.get store.nodes s)
 

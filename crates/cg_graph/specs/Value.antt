@@ -16,7 +16,7 @@ reference_in (Ref o) = Some o
 abbrev pub references_of_value : Option Val → List ℕ
 references_of_value v = option_to_list (option_and_then reference_in v)
 
--- The references of an entry: the one in its value, and then the one in its key. In this order they are given up. (Ours.)
+-- The references of an entry: the one in its value, and then the one in its key. They are given up in this order. (Ours.)
 abbrev pub entry_references : Entry → List ℕ
 entry_references e = option_to_list (reference_in e.val) ++ option_to_list (reference_in e.key)
 

@@ -72,7 +72,7 @@ fn rising(alloc: Global, objects: &[u64]) -> Result<Vec<u64>, AllocError>
 
 /// The members of `inside` that a path of members of `inside` reaches from a member of `held`, rising, each once.
 ///
-/// It looks at every edge for every member, and is for tests. It answers `AllocError` for want of memory alone.
+/// It looks at every edge for every member, and is for tests. It answers `AllocError` only where memory runs out.
 pub fn reach_plain(
     alloc: Global,
     edges: &[Edge],

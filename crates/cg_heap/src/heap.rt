@@ -69,7 +69,7 @@ impl<B: Kind> Model for Heap<B> {
 impl<B: Kind> Heap<B> {
     /// A heap with the garbage list alone, and `names` names, below 2^30, of which none is bound.
     ///
-    /// The kinds stand in the order of `KindCode`, and have no object. It answers `AllocError` for want of memory alone.
+    /// The kinds stand in the order of `KindCode`, and have no object. It answers `AllocError` only where memory runs out.
     pub fn new(alloc: Global, kinds: Vec<B>, names: u32) -> Result<Self, AllocError>
         requires kinds { map B.kind kinds.items ≡ six_kinds }
         requires empty { map B.bodies kinds.items ≡ replicate 6 fin.empty }

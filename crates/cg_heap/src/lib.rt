@@ -10,7 +10,7 @@
 //! - `names`: the values of the names, and which bound name is the greatest.
 //! - `heap`: the type, and what it answers; `heap/holds`, `heap/bindings`, `heap/entries`, `heap/places`,
 //!   `heap/objects`, `heap/weak`, `heap/look` and `heap/near`: its other calls.
-//! - `steps`: the counter of looks at entries.
+//! - `steps`: the counter of looks at entries and at weak references.
 #![tactic(auto)]
 
 mod boxes;

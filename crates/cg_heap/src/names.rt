@@ -99,7 +99,7 @@ impl Names {
         old
     }
 
-    /// The bound name with the greatest number. What it passes over, it passes over once, unless a name above is bound again.
+    /// The bound name with the greatest number. It skips each unbound name once, unless a name above is bound again.
     pub fn greatest(&mut self) -> Option<usize>
         ensures same { self.new ≡ self.old }
         ensures greatest { IsGreatestBound self.old result }

@@ -1,12 +1,13 @@
-//! A counter of the entries that were looked at. It takes no bytes.
+//! A counter of the entries and weak references that were looked at. It takes no bytes.
 ghost use Rattle.std.specs.Prelude.{◌≡◌, ℕ, ◌+◌, ◌<◌};
 
 use std::marker::Model;
 use std::sync::ledger::{Blank, Book, Ledger, Share};
 
-/// How many entries were looked at: contracts see a number that rises, and nothing stands there at run time.
+/// How many looks were taken at entries, and at the rows of weak references: contracts see a number that rises, and nothing
+/// stands there at run time.
 ///
-/// Only `Heap::look`, `Heap::look_near`, `Heap::note_near` and `Heap::detach_looking` let it rise. (Ours.)
+/// Only the calls of `heap/look`, and `Heap::look_near` and `Heap::note_near`, let it rise. (Ours.)
 #[derive(Drop)]
 pub struct Steps<L: Ledger> {
     book: Book<L>,
@@ -33,11 +34,11 @@ impl<L: Ledger> Steps<L> {
         Steps { book, share }
     }
 
-    /// So many entries more were looked at.
+    /// So many looks more were taken.
     #[inline(always)]
-    pub(crate) fn rise(&mut self, entries: usize)
-        ensures { self.new ≡ self.old + entries }
+    pub(crate) fn rise(&mut self, looks: usize)
+        ensures { self.new ≡ self.old + looks }
     {
-        self.book.add(&mut self.share, entries as u64);
+        self.book.add(&mut self.share, looks as u64);
     }
 }

@@ -43,7 +43,7 @@ fn drop_key<K: Kind>(
     Ok(())
 }
 
-/// A dictionary with so many keys.
+/// A dictionary with the keys from 0 on.
 fn filled<K: Kind>(kind: &mut K, count: u64) -> Result<usize, AllocError>
     requires { IsParts (K.kind kind.old) [] }
     ensures { IfOk result (λ at. Holds (K.bodies kind.new) at) }
@@ -55,7 +55,7 @@ fn filled<K: Kind>(kind: &mut K, count: u64) -> Result<usize, AllocError>
     Ok(at)
 }
 
-/// Drops the oldest key, so many times.
+/// Drops the oldest key again and again.
 fn drop_oldest<K: Kind>(rt: &impl Abort, kind: &mut K, count: u64, by: By) -> Result<(), Fail>
     requires { IsParts (K.kind kind.old) [] }
 {
@@ -67,7 +67,7 @@ fn drop_oldest<K: Kind>(rt: &impl Abort, kind: &mut K, count: u64, by: By) -> Re
     Ok(())
 }
 
-/// Drops the newest key, so many times.
+/// Drops the newest key again and again.
 fn drop_newest<K: Kind>(rt: &impl Abort, kind: &mut K, count: u64, by: By) -> Result<(), Fail>
     requires { IsParts (K.kind kind.old) [] }
 {
@@ -80,7 +80,7 @@ fn drop_newest<K: Kind>(rt: &impl Abort, kind: &mut K, count: u64, by: By) -> Re
     Ok(())
 }
 
-/// Drops the two keys in the middle of twice so many, so many times.
+/// Drops the two keys in the middle again and again.
 fn drop_middle<K: Kind>(rt: &impl Abort, kind: &mut K, half: u32, by: By) -> Result<(), Fail>
     requires { IsParts (K.kind kind.old) [] }
 {
@@ -94,7 +94,7 @@ fn drop_middle<K: Kind>(rt: &impl Abort, kind: &mut K, half: u32, by: By) -> Res
     Ok(())
 }
 
-/// Drops the oldest of a thousand keys and puts a new one, so many times.
+/// Drops the oldest of a thousand keys and puts a new one, again and again.
 fn drop_and_put<K: Kind>(rt: &impl Abort, kind: &mut K, count: u32, by: By) -> Result<(), Fail>
     requires { IsParts (K.kind kind.old) [] }
 {

@@ -8,7 +8,7 @@ use cg_kind::Kind;
 use cg_value::{Entry, KindCode, Val};
 use std::alloc::{AllocError, Global};
 
-/// A kind that makes no more than so many objects.
+/// A kind that makes a limited number of objects.
 #[derive(Drop)]
 pub struct Few {
     kind: AnyKind,

@@ -52,7 +52,7 @@ fn item_of(val: Val) -> Entry
     }
 }
 
-/// Whether `put` may be called at this key of an object with so many entries.
+/// Whether `put` may be called at this key of an object with `count` entries.
 fn can_put(code: KindCode, count: usize, key: Val) -> bool
     ensures { IsTrue result → (entries : List Entry) → length entries ≡ count → CanPut code entries key }
 {
@@ -585,7 +585,7 @@ fn lists_keep_values_at_the_ends_of_their_ranges(rt: HostRuntime) -> Result<(), 
     pass_through(&rt, alloc, &mut kind, parts.as_slice())
 }
 
-/// Puts values under so many new keys.
+/// Puts values under new keys.
 fn put_many<K: Kind>(rt: &impl Abort, kind: &mut K, count: u64) -> Result<(), Fail>
     requires { IsParts (K.kind kind.old) [] }
 {
@@ -598,7 +598,7 @@ fn put_many<K: Kind>(rt: &impl Abort, kind: &mut K, count: u64) -> Result<(), Fa
     Ok(())
 }
 
-/// Appends so many items, and takes each off.
+/// Appends items, and takes each off again.
 fn append_many<K: Kind>(rt: &impl Abort, kind: &mut K, count: u32) -> Result<(), Fail>
     requires { IsParts (K.kind kind.old) [] }
 {
@@ -664,7 +664,7 @@ fn append_numbers<K: Kind>(
     Ok(())
 }
 
-/// Takes the last entry off so many times: it is the last of these as long as one is left.
+/// Takes the last entry off again and again, past the end.
 pub fn detach_each<K: Kind>(
     rt: &impl Abort,
     kind: &mut K,

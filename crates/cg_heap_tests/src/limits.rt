@@ -50,7 +50,7 @@ fn give_up<B: Kind>(
     Ok(found)
 }
 
-/// A list of so many numbers. It alone is held by the test.
+/// A list of numbers. The test holds it and nothing else.
 fn fill_one<B: Kind>(
     rt: &impl Abort,
     scene: &mut Scene<B>,
@@ -64,7 +64,7 @@ fn fill_one<B: Kind>(
     Ok(list)
 }
 
-/// So many lists, each of so many numbers. It answers the last one.
+/// Makes lists of numbers, and answers the last one.
 fn fill<B: Kind>(
     rt: &impl Abort,
     scene: &mut Scene<B>,

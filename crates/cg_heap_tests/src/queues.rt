@@ -21,7 +21,7 @@ struct Numbers {
 
 const NONE: Numbers = Numbers { first: 0, next: 0 };
 
-/// Appends so many numbers.
+/// Appends `count` numbers.
 fn append_some<K: Kind>(
     kind: &mut K,
     at: usize,
@@ -51,7 +51,7 @@ fn look<K: Kind>(rt: &impl Abort, kind: &K, at: usize, numbers: Numbers)
     assert_eq!(rt; number, numbers.next);
 }
 
-/// Takes so many numbers off. After each the rest is looked at.
+/// Takes numbers off, and checks the rest after each.
 fn take_each<K: Kind>(
     rt: &impl Abort,
     kind: &mut K,

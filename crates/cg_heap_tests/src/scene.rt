@@ -24,7 +24,7 @@ use std::process::Abort;
 /// No more holds and objects than this are given, far below what the heap asks.
 const MOST_GIVEN: u64 = 2_000_000_000;
 
-/// A heap with so many names, and the holds that a test has. No more than `count` holds and objects were given.
+/// A heap and the holds that a test has. At most `count` holds and objects were given.
 ///
 /// What the heap asks of a caller and the test does not know is asserted when it runs: each call stops where its object
 /// does not live or is of another kind.
@@ -168,7 +168,7 @@ fn assert_in_no_row<B: Kind>(rt: &impl Abort, heap: &Heap<B>, object: u64)
 }
 
 impl<B: Kind> Scene<B> {
-    /// A heap over these kinds, with so many names.
+    /// A heap over these kinds, with `names` names.
     pub fn new(alloc: Global, kinds: Vec<B>, names: u32) -> Result<Self, AllocError>
         requires kinds { map B.kind kinds.items ≡ six_kinds }
         requires empty { map B.bodies kinds.items ≡ replicate 6 fin.empty }
@@ -294,7 +294,7 @@ impl<B: Kind> Scene<B> {
         Ok(())
     }
 
-    /// Makes so many lists, and gives them these items.
+    /// Makes lists with these items.
     pub fn build_lists(
         &mut self,
         rt: &impl Abort,

@@ -142,7 +142,7 @@ fn one_key_too_many_for_a_list_keeps_the_order(rt: HostRuntime) -> Result<(), Fa
     'counts: for count in 23..=27 {
         go_over(&rt, alloc, &mut dicts, count)?;
     }
-    // Of so many, the first key is dropped with enough behind it to note the order down.
+    // With this many keys, enough lie behind the first for its drop to note the order down.
     'more: for count in 45..=49 {
         go_over(&rt, alloc, &mut dicts, count)?;
     }

@@ -1,4 +1,4 @@
--- What is asked of a heap where no collection is on: who holds what otherwise than by an entry, and why an object is alive.
+-- What is asked of a heap where no collection is on: what roots hold, and why an object is alive.
 -- (Ours.)
 use Rattle.std.specs.Prelude.{◌≡◌, ℕ, ◌+◌, List, [], ◌∷◌, ◌++◌, length, sum_by}
 use Rattle.cg_value.specs.declared.Place.TheVariants.{Untracked, Gen, Frozen, Cand, Seen, Back, Legacy, Pend}
@@ -30,7 +30,7 @@ entry_number_in_all store = sum_by (λ x. length x.entries) (objects_of store)
 abbrev pub holdings_but_entries : Store → ℕ → ℕ
 holdings_but_entries store o = occurrences o (name_holdings store.names) + occurrences o (1 ∷ []) + outside_of store o
 
--- an object is held otherwise than by an entry, and than by the name that is asked about
+-- a root other than the name that is asked about holds an object
 abbrev pub HeldElse : Store → ℕ → ℕ → Type 0
 HeldElse store object = IsHeldElse (holdings_but_entries store) object
 
@@ -38,7 +38,7 @@ HeldElse store object = IsHeldElse (holdings_but_entries store) object
 abbrev pub arrows_of : Store → List Edge
 arrows_of store = edges (graph_of (objects_of store))
 
--- why an object is alive: by this path, than which none is shorter, or by none
+-- why an object is alive: by this shortest path, or by none
 abbrev pub IsReason : Store → ℕ → Why → Type 0
 IsReason store object (reason.Path path) = IsShortestPath (HeldElse store object) (arrows_of store) path.items object
 IsReason store object reason.Unreachable = HasNoPath (HeldElse store object) (arrows_of store) object

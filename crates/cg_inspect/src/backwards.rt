@@ -43,7 +43,7 @@ fn has_reference<B: Kind, L: Ledger>(
 /// The objects that have the object among their references, by rising serial, and each once, however often it refers to
 /// it. (`gc` manual, `gc.get_referrers`; unlike there, untracked objects are told too.)
 ///
-/// No collection is on. Each entry is looked at once at most. It answers `AllocError` for want of memory alone.
+/// No collection is on. Each entry is looked at once at most. It answers `AllocError` only where memory runs out.
 pub fn referrers<B: Kind, L: Ledger>(
     alloc: Global,
     heap: &Heap<B>,

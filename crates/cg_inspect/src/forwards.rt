@@ -22,7 +22,7 @@ fn push_reference(listed: &mut Vec<u64>, value: Val) -> Result<(), AllocError>
 /// The objects that a live object refers to, in the order of its entries and by the value before the key in each; one
 /// that stands there twice is told twice. (`gc` manual, `gc.get_referents`.)
 ///
-/// Each entry is looked at once. It answers `AllocError` for want of memory alone.
+/// Each entry is looked at once. It answers `AllocError` only where memory runs out.
 pub fn referents<B: Kind, L: Ledger>(
     alloc: Global,
     heap: &Heap<B>,

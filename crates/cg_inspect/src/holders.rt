@@ -1,4 +1,4 @@
-//! Which objects are held otherwise than by an entry.
+//! Which objects are held by a root.
 ghost use Rattle.std.specs.Prelude.{◌≡◌, ◌+◌, ◌≤◌, ◌<◌, ◌∷◌, ◌↔◌, [], ℕ, Some, IsTrue, IfOk, OnOk, ◌==◌, if◌then◌else◌};
 ghost use Rattle.cg_graph.specs.Member.{Includes};
 ghost use Rattle.cg_graph.specs.Holdings.{occurrences};
@@ -65,7 +65,7 @@ fn lower_all(numbers: &mut Numbers, references: &[u64]) -> Result<(), AllocError
     Ok(())
 }
 
-/// How often each live object is held otherwise than by an entry. The objects are all live ones.
+/// How often roots hold each live object. The objects are all live ones.
 fn other_holdings<B: Kind, L: Ledger>(
     alloc: Global,
     heap: &Heap<B>,
@@ -95,7 +95,7 @@ fn is_held_else(numbers: &Numbers, holder: u64, object: u64) -> bool
     }
 }
 
-/// Which objects are held otherwise than by an entry, and than by the name that is asked about, which holds the object.
+/// Which objects are held by a root, and than by the name that is asked about, which holds the object.
 /// The objects are all live ones.
 pub fn held_else<B: Kind, L: Ledger>(
     alloc: Global,

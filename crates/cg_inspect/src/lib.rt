@@ -1,11 +1,11 @@
 //! What an object refers to, what refers to it, and why it is alive: three questions about a heap, which change nothing.
 //!
-//! They are for one who looks for a leak. (`gc` manual, `gc.get_referents` and `gc.get_referrers`; `why` is ours.) They may
+//! They help to find leaks. (`gc` manual, `gc.get_referents` and `gc.get_referrers`; `why` is ours.) They may
 //! be asked where no collection is on.
 //!
 //! - `live`: all live objects, by rising serial.
 //! - `forwards`, `backwards`: what an object refers to, and what refers to it.
-//! - `holders`: which objects are held otherwise than by an entry.
+//! - `holders`: which objects are held by a root.
 //! - `search`: what they lead to, the nearest first.
 //! - `path`: the path that was found; `reason`: the answer.
 #![tactic(auto)]

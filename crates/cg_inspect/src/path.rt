@@ -30,14 +30,14 @@ fn path_back(alloc: Global, found: &Found, last: usize) -> Result<Vec<u64>, Allo
     Ok(path)
 }
 
-/// Why the object is alive, but for one name that holds it: a path than which none is shorter, from an object that is held
+/// Why the object is alive, but for one name that holds it: a shortest path, from an object that is held
 /// by a name, by the garbage root or from outside the heap. `Unreachable` comes exactly where there is none. (Ours.)
 ///
 /// Where something else than an entry and one name holds the object, the path is the object alone. Which of several
 /// shortest paths is answered is free.
 ///
 /// No collection is on. Each entry is looked at twice at most: to find out what is held otherwise, and in the search. It answers
-/// `AllocError` for want of memory alone.
+/// `AllocError` only where memory runs out.
 pub fn why<B: Kind, L: Ledger>(
     alloc: Global,
     heap: &Heap<B>,

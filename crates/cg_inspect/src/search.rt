@@ -15,7 +15,7 @@ use std::alloc::{AllocError, Global};
 use std::sync::ledger::Ledger;
 
 /// The objects that were found, in the order in which they were, each with the place of its holder among them; one that is
-/// held otherwise than by an entry has none.
+/// held by a root has none.
 pub type Found = IndexMap<u64, Option<usize>, SerialHashing>;
 
 /// Adds the object, where it was not found before.
@@ -48,7 +48,7 @@ pub fn found_at(found: &Found, at: usize) -> Option<(u64, Option<usize>)>
     }
 }
 
-/// Finds what is held otherwise than by an entry, and than by the name that is asked about, which holds the object; and
+/// Finds what is held by a root, and than by the name that is asked about, which holds the object; and
 /// all that it leads to. The objects are all live ones.
 pub fn search<B: Kind, L: Ledger>(
     alloc: Global,

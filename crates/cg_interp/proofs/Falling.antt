@@ -16,7 +16,7 @@ use Rattle.cg_machine.specs.World.{World}
 use Rattle.cg_machine.specs.Collect.{lines_if, has_flag, collectable, older}
 use Rattle.cg_machine.specs.Run.{StepTaken}
 use Rattle.cg_machine.proofs.Sound.{Sound}
-use Rattle.cg_machine.proofs.Number.{number_of}
+use Rattle.cg_machine.proofs.MeasureNumber.{number_of}
 use Rattle.cg_machine.proofs.Ending.{run_falls}
 use Rattle.cg_death.specs.declared.release.Release.{Release}
 use Rattle.cg_policy.specs.Flagset.{bits_of}

@@ -29,7 +29,7 @@ use Rattle.cg_machine.specs.Lawful.{IsLawful}
 use Rattle.cg_machine.specs.Represents.{Represents}
 use Rattle.cg_machine.specs.Weak.{weak_references, is_reference_to, callback_in}
 use Rattle.cg_machine.proofs.Lookups.{found_at, Includes-reversed}
-use Rattle.cg_machine.proofs.Orderly.{waits_held}
+use Rattle.cg_machine.proofs.HeldLives.{waits_held}
 use Rattle.cg_machine.proofs.Releasing.{absent}
 use Rattle.cg_death.specs.declared.release.Release.{Release}
 use Rattle.cg_death.specs.declared.phase.Phase.{Phase}

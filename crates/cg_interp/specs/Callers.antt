@@ -193,6 +193,6 @@ abbrev pub StepsFrom : Script → Caller → Option ℕ → State → State → 
 StepsFrom script caller next old new None = ComesFrom script (caller_activity (with_next next caller)) old (caller_activity caller) new
 StepsFrom script caller next old new (Some answer) = TurnsFrom script (caller_activity (with_next next caller)) old new answer
 
--- Each of these commands is spelled by a script with so many texts.
+-- Each of these commands may stand in a script with this number of texts.
 abbrev pub AreDoable : ℕ → List Command → Type 0
 AreDoable names commands = (c : Command) → Includes commands c → IsSpelledCommand names c

@@ -117,7 +117,7 @@ pub record HasRecords (script : Script) (budget : ℕ) (steps : List StepTaken) 
   pub shows : RunShows script (opening script budget) steps pictures
   pub are : records ≡ records_of pictures
 
--- whether an event tells that a command was refused for want of memory
+-- whether an event tells that a command was refused because memory ran out
 abbrev pub wants_memory : Event → Bool
 wants_memory (Refused reason) = reason == no_memory
 wants_memory event = false

@@ -19,7 +19,7 @@ use Rattle.cg_interp.specs.Running.{Ran, events_told, standing_after}
 use Rattle.cg_interp.specs.Recorded.{Picture, RunShows, wants_memory}
 use Rattle.cg_interp.specs.Graphs.{taken, unfinished_after, begins_record, taken_while, heading, text_before, text_after, detection_on}
 
--- how the run stands after a turn, or nothing where a command was refused for want of memory
+-- how the run stands after a turn, or nothing where a command was refused because memory ran out
 abbrev pub told_after : Turned → Option Standing
 told_after answer = cond (list_any wants_memory (events_told answer)) None (Some (standing_after answer))
 
@@ -72,7 +72,7 @@ unfinished_so_far unfinished [] = unfinished
 unfinished_so_far unfinished (p ∷ pictures) = unfinished_so_far (begins_record p.detection) pictures
 
 -- A run of the machine so far, whose lines are told to nobody, and what is recorded of it was written. No command of it was
--- refused for want of memory.
+-- refused because memory ran out.
 pub record RecordedSo (script : Script) (budget : ℕ) (before : Option (List ℕ)) (e : State) (unfinished : Bool) (now : Option (List ℕ)) : Type 0 where
   pub ran : Ran script budget None e None
   pub pictures : List Picture

@@ -17,7 +17,7 @@ use std::alloc::{AllocError, Global};
 
 impl<B: Kind> Engine<B> {
     /// The engine of a script with a budget, on a heap as `Heap::new` leaves it for the script's names. It answers
-    /// `AllocError` for want of memory alone.
+    /// `AllocError` only where memory runs out.
     pub fn new(
         alloc: Global,
         heap: Heap<B>,

@@ -33,7 +33,7 @@ use std::marker::Brand;
 use std::sync::ledger::{Blank, Ledger};
 
 /// One turn, and what is recorded of it; its lines are dropped. It tells how the run stands, or nothing where a command was
-/// refused for want of memory.
+/// refused because memory ran out.
 fn turn_and_record<B: Kind, K: Sink, L: Ledger>(
     engine: &mut Engine<B>,
     script: &Script,
@@ -165,7 +165,7 @@ pub fn run_recorded<B: Kind, K: Sink>(
     requires heap { heap ≡ opening_store (length script.now.names) }
     requires budget { budget ≤ MOST_BUDGET }
 
-    // The text of the records of a whole run, in which no command was refused for want of memory.
+    // The text of the records of a whole run, in which no command was refused because memory ran out.
     ensures done { result ≡ RunEnd.Done → WroteRecords script.now budget Ended (K.written sink.old) (K.written sink.new) }
     ensures spent { result ≡ RunEnd.Budget → WroteRecords script.now budget BudgetIsSpent (K.written sink.old) (K.written sink.new) }
 

@@ -56,7 +56,7 @@ impl<B: Kind> Engine<B> {
         }
     }
 
-    /// The bound name with the greatest number. A name that was given up is passed over once.
+    /// The bound name with the greatest number. It skips each name that was given up once.
     fn greatest_bound(&mut self) -> Option<u32>
         ensures same { self.new ≡ self.old }
         ensures greatest { result ≡ greatest_from 0 self.old.store.names }

@@ -34,7 +34,7 @@ impl Model for Stack {
 }
 
 impl Stack {
-    /// No activity, and room for so many. It answers `AllocError` for want of memory alone.
+    /// No activity, and room for so many. It answers `AllocError` only where memory runs out.
     pub fn new(alloc: Global, room: usize) -> Result<Stack, AllocError>
         ensures empty { IfOk result (λ s. s.activities ≡ []) }
         ensures room { IfOk result (λ s. s.room ≡ room) }
@@ -82,7 +82,7 @@ impl Stack {
         }
     }
 
-    /// Makes room for so many. It answers `AllocError` for want of memory alone.
+    /// Makes room for so many. It answers `AllocError` only where memory runs out.
     pub fn reserve(&mut self, room: usize) -> Result<(), AllocError>
         ensures room { OnOk result (room ≤ self.new.room) }
         ensures more { self.old.room ≤ self.new.room }
@@ -91,7 +91,7 @@ impl Stack {
         self.slots.reserve(room)
     }
 
-    /// Makes room so that the stack may grow to this height. It answers `AllocError` for want of memory alone.
+    /// Makes room so that the stack may grow to this height. It answers `AllocError` only where memory runs out.
     pub fn reserve_up_to(&mut self, height: usize) -> Result<(), AllocError>
         ensures room { OnOk result (height ≤ length self.new.activities + self.new.room) }
         ensures more { self.old.room ≤ self.new.room }

@@ -18,9 +18,9 @@ pub enum Turned {
     Lines(Lines),
     /// The run has ended, and the line `end` is due.
     Ended,
-    /// The run has ended with so many objects left, and the lines `left` with their number and `end` are due.
+    /// The run has ended, and the lines `left`, with the number of objects that live, and `end` are due.
     Left(u64),
-    /// The run has ended for want of budget, and the line `budget spent` is due.
+    /// The run has ended because the budget is spent, and the line `budget spent` is due.
     Spent,
 }
 
@@ -31,7 +31,7 @@ pub enum Standing {
     Running,
     /// It has ended by `end`.
     Ended,
-    /// It has ended for want of budget.
+    /// It has ended because the budget is spent.
     Spent,
 }
 
@@ -47,7 +47,7 @@ impl Turned {
         }
     }
 
-    /// Whether one of its lines tells that a command was refused for want of memory.
+    /// Whether one of its lines tells that a command was refused because memory ran out.
     pub fn wants_memory(&self) -> bool
         ensures { result ≡ list_any wants_memory (events_told self.now) }
     {
@@ -59,7 +59,7 @@ impl Turned {
     }
 }
 
-/// Whether an event tells that a command was refused for want of memory.
+/// Whether an event tells that a command was refused because memory ran out.
 fn wants_memory(event: &Event) -> bool
     ensures { result ≡ wants_memory event.now }
 {

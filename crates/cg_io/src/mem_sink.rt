@@ -31,7 +31,7 @@ impl Model for MemSink {
 
 impl MemSink {
     /// An empty sink, before its first call. The calls whose numbers, from 1, stand in `fails` will fail, and keep the
-    /// first `keep` bytes of those given. With no such number a fault stands for want of memory.
+    /// first `keep` bytes of those given. With no such number a fault stands for lack of memory.
     pub fn new(alloc: Global, fails: Vec<u64>, keep: usize) -> MemSink
         ensures { result ≡ record { bytes = []; calls = 0; fails = fails.items; keep = keep; faults = 0 } }
     {

@@ -32,7 +32,7 @@ pub trait Kind: Drop {
     fn code(&self) -> KindCode
         ensures { result ≡ kind self.now };
 
-    /// Makes an object of these entries, and answers its place. It is refused only for want of memory.
+    /// Makes an object of these entries, and answers its place. It is refused only where memory runs out.
     ///
     /// Lists and tuples take any items, dictionaries and instances none, functions at most eight cells, weak references
     /// at most one callback.
@@ -106,7 +106,7 @@ pub trait Kind: Drop {
     }
 
     /// Puts a value at an index of a list, or under a key of a dictionary or an instance, and answers the value that it
-    /// replaces. `Ok(None)` comes exactly for a new key, and a refusal only for one, for want of memory.
+    /// replaces. `Ok(None)` comes exactly for a new key, and a refusal only for one, for lack of memory.
     ///
     /// A present key keeps its place and its key, as in Python's dictionaries; a new one goes last. On a tuple, a
     /// function or a weak reference it does nothing.
@@ -162,7 +162,7 @@ pub trait Kind: Drop {
         ensures none { IfNone result (bodies self.new ≡ bodies self.old) }
         ensures same_kind { kind self.new ≡ kind self.old };
 
-    /// Makes room in a list for `n` items more, or is refused for want of memory. The spare never falls.
+    /// Makes room in a list for `n` items more, or is refused because memory ran out. The spare never falls.
     fn reserve(&mut self, at: usize, n: usize) -> Result<(), AllocError>
         requires { Holds (bodies self.old) at }
         ensures ok { OnOk result (bodies self.new ≡ with_body (bodies self.old) at
@@ -181,7 +181,7 @@ pub trait Kind: Drop {
         ensures others { kind self.old ≢ code.List → bodies self.new ≡ bodies self.old }
         ensures same_kind { kind self.new ≡ kind self.old };
 
-    /// Appends an item to a list, or is refused for want of memory. A kind may look for the list once.
+    /// Appends an item to a list, or is refused because memory ran out. A kind may look for the list once.
     fn append(&mut self, at: usize, val: Val) -> Result<(), AllocError>
         requires held { Holds (bodies self.old) at }
         requires list { kind self.old ≡ code.List }

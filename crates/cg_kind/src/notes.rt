@@ -1,14 +1,14 @@
-//! References that are written down for whoever goes over entries.
+//! The references of entries, written into an array for walks over many objects.
 ghost use Rattle.std.specs.Prelude.{◌≡◌, ◌+◌, ◌<◌, ◌≤◌, ◌++◌, length, option_to_list, take};
 ghost use Rattle.cg_graph.specs.Value.{entry_references};
 
 use cg_graph::reference_in;
 use cg_value::Entry;
 
-/// So many entries are gone over by one call, if there are as many.
+/// The most entries that one call goes over.
 pub const AT_ONCE: usize = 32;
 
-/// Room for the references of so many entries: each has at most two, one in its value and one in its key.
+/// Room for their references: an entry has at most two, one in its value and one in its key.
 pub const ROOM: usize = 2 * AT_ONCE;
 
 /// How far entries were gone over, and how many references they have.
@@ -19,7 +19,7 @@ pub struct Noted {
     pub references: usize,
 }
 
-/// Writes a reference, if there is one, behind so many that are written. It answers how many are written then.
+/// Writes a reference, if there is one, after the first `count`, and answers the new number.
 #[inline(always)]
 pub fn note_reference(found: &mut [u64], count: usize, reference: Option<u64>) -> usize
     requires { count < length found.old }
@@ -35,8 +35,8 @@ pub fn note_reference(found: &mut [u64], count: usize, reference: Option<u64>) -
     }
 }
 
-/// Writes the references of an entry, its value's and then its key's, behind so many that are written. It answers how many
-/// are written then.
+/// Writes the references of an entry, its value's and then its key's, after the first `count`, and answers the new
+/// number.
 #[inline(always)]
 pub fn note_entry(found: &mut [u64], count: usize, entry: Entry) -> usize
     requires { count + 2 ≤ length found.old }

@@ -9,7 +9,7 @@ abbrev pub items_listed : Listed → List Val
 items_listed (Few few) = few.items
 items_listed (Many columns) = columns.value.items
 
--- so many more fit without memory
+-- how many more fit without memory
 abbrev pub room_listed : Listed → ℕ
 room_listed (Few few) = vec_capacity few - vec_len few
 room_listed (Many columns) = columns.value.room

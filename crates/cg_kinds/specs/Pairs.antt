@@ -21,7 +21,7 @@ pair_entry p = record { key = p.0; val = p.1 }
 abbrev pub pairs_of : List (Val × Val) → List Entry
 pairs_of pairs = map pair_entry pairs
 
--- what stands past the last entry
+-- the entry that stands for a position past the last
 abbrev pub nothing : Entry
 nothing = record { key = val.None; val = val.None }
 
@@ -39,7 +39,7 @@ abbrev pub unboxed : Option (Box (List ℕ)) → Option (List ℕ)
 unboxed None = None
 unboxed (Some order) = Some order.value
 
--- an order of so many pairs
+-- an order of this number of pairs
 abbrev pub IsOrderOf : ℕ → Option (List ℕ) → Type 0
 IsOrderOf count None = Unit {0}
 IsOrderOf count (Some order) = length order ≡ count

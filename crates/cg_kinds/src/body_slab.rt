@@ -9,7 +9,7 @@ use cg_value::{Entry, KindCode, Val};
 use slab::Slab;
 use std::alloc::{AllocError, Global};
 
-/// The objects of one kind, each by what it holds, at the keys of a slab.
+/// What each object of one kind holds, at the keys of a slab.
 #[derive(Drop)]
 pub struct BodySlab<C> {
     alloc: Global,

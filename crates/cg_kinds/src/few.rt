@@ -14,13 +14,13 @@ use cg_value::{Entry, Val};
 use std::alloc::{AllocError, Global};
 use std::marker::Model;
 
-/// So many pairs are at most kept in a list. A search in a map takes less time for more than some eight pairs, but a map of so
-/// few takes too much room: one of ten pairs that has just grown takes more than 64 bytes a pair.
+/// The most pairs that a list keeps. From some eight pairs on a search in a map is faster, but a small map takes
+/// too much room: one of ten pairs that has just grown takes more than 64 bytes a pair.
 const FEW: usize = 24;
 
 /// Pairs in the order in which their keys came, no two with one key.
 ///
-/// They take the room of those pairs, and nothing is hashed for them.
+/// They take exactly their room, and nothing is hashed.
 #[derive(Drop)]
 pub struct Few {
     pairs: Vec<Pair>,
@@ -68,7 +68,7 @@ fn replace_in(pairs: &mut Vec<Pair>, key: Val, val: Val) -> Option<Val>
     }
 }
 
-/// One more pair. A list that is full makes room for half as many again and one: so one pair takes the room of one, and two that
+/// Adds a pair. A full list grows by half and one, so one pair takes the room of one, and two that
 /// of two, where a vector would make room for four at least.
 fn push_to(pairs: &mut Vec<Pair>, pair: Entry) -> Result<(), AllocError>
     ensures ok { OnOk result (pairs.new.items ≡ pairs.old.items ++ pair ∷ []) }
@@ -214,7 +214,7 @@ impl Few {
 
     /// The pairs in a map, and another under a new key behind them. These pairs stay as they are.
     ///
-    /// It is a call that is not inlined: the frame of each put would else have the locals of a new map, and clear them.
+    /// It is not inlined: else each put would carry the locals of a new map and clear them.
     #[inline(never)]
     pub fn table_with(&self, key: Val, val: Val) -> Result<Box<Table>, AllocError>
         ensures { IfOk result (λ table. table.value ≡ put self.now key val) }

@@ -10,7 +10,7 @@ pub type KeyHashing = BuildHasherDefault<KeyHasher>;
 /// Hashes the number of one key, for an `IndexMap`.
 ///
 /// It multiplies, and takes the bits from the middle: so numbers in a row, or at an even distance, fill the groups of the map
-/// nearly evenly, where a hash as by chance overfills some, and a group that was once overfull has less room afterwards. The
+/// nearly evenly. A random hash overfills some, and a group that was once overfull has less room afterwards. The
 /// factor is the best of some three thousand that were tried for runs of numbers at distances from 1 to 2^48, in maps of 36 to
 /// 36,864 keys: one key in a thousand stands outside its group, and one in eighty by std's hasher.
 #[derive(Clone, Copy)]

@@ -22,7 +22,7 @@ pub enum Held {
 
 /// Takes the pair under a key out of a few, if there is one.
 ///
-/// It stands apart, since what a call answers in memory is moved there by all that is answered beside it.
+/// It is a function of its own, so that its answer is not moved together with the other answers of its caller.
 #[inline(always)]
 fn take_from(few: &mut Few, key: Val) -> Option<Entry>
     ensures entry { result ≡ entry_under few.old key }
@@ -124,9 +124,9 @@ impl Held {
         }
     }
 
-    /// A pair under a new key goes last. The map stands whole before the list goes, so that a refusal leaves the list.
+    /// A pair under a new key goes last. The map is complete before the list goes, so a refusal leaves the list.
     ///
-    /// It takes an entry, which is put together for this call alone: a key and a value would be put in place for each `put`.
+    /// It takes an entry, which is built for this call alone; a key and a value would be copied at each `put`.
     #[inline(never)]
     fn add(&mut self, pair: Entry) -> Result<(), AllocError>
         requires new { value_at (entries_held self.old) pair.key ≡ None }

@@ -11,7 +11,7 @@ use cg_kind::{Noted, ROOM};
 use cg_value::{Entry, Val};
 use std::alloc::{AllocError, Global};
 
-/// So many values are at most made room for in one vector.
+/// The most values that one vector has room for.
 const FEW: usize = 64;
 
 /// Values in their order.
@@ -27,7 +27,7 @@ pub enum Listed {
 /// A few values in columns, with at least the room that they had, as much again as they are, and room for so many more.
 /// These values stay as they are.
 ///
-/// It is a call that is not inlined, so that what grows a list has not the locals of new columns.
+/// It is not inlined, so that the function that grows a list does not carry the locals of new columns.
 #[inline(never)]
 fn columns_of(few: &Vec<Packed>, n: usize) -> Result<Box<Values>, AllocError>
     ensures items { IfOk result (λ columns. columns.value.items ≡ few.now.items) }
@@ -143,7 +143,7 @@ impl Listed {
         }
     }
 
-    /// So many values more fit without memory.
+    /// How many more values fit without memory.
     #[inline(always)]
     fn room(&self) -> usize
         ensures { result ≡ room_listed self.now }
@@ -154,7 +154,7 @@ impl Listed {
         }
     }
 
-    /// Makes room for so many values more.
+    /// Makes room for `n` more values.
     #[inline(always)]
     pub fn reserve(&mut self, n: usize) -> Result<(), AllocError>
         ensures items { items_listed self.new ≡ items_listed self.old }
@@ -168,7 +168,7 @@ impl Listed {
         Ok(())
     }
 
-    /// Columns stand whole before the vector goes, so that a refusal leaves the vector.
+    /// The columns are complete before the vector goes, so a refusal leaves the vector.
     #[inline(never)]
     fn grow(&mut self, n: usize) -> Result<(), AllocError>
         ensures items { items_listed self.new ≡ items_listed self.old }

@@ -104,7 +104,7 @@ fn settle(slots: &[IndexOrGap], homes: &mut [u32])
     }
 }
 
-/// With so many slots it takes no more.
+/// The most slots.
 const MOST: usize = 0x7FFF_FFFF;
 
 /// Makes room for one more, and for an eighth of what is there.
@@ -116,7 +116,7 @@ fn grow<T>(full: &mut Vec<T>) -> Result<(), AllocError>
     full.reserve_exact(more)
 }
 
-/// Makes a block for each of so many slots.
+/// Makes enough blocks for a number of slots.
 fn cover(slots: &Vec<IndexOrGap>, counts: &mut Sums, room: usize) -> Result<(), AllocError>
     requires { AreCounts slots.now.items counts.old }
     ensures counts { AreCounts slots.now.items counts.new }
@@ -129,7 +129,7 @@ fn cover(slots: &Vec<IndexOrGap>, counts: &mut Sums, room: usize) -> Result<(), 
     Ok(())
 }
 
-/// No slots, with room for so many and a block for each of these.
+/// No slots, with room for `count` and the blocks of these.
 fn empty_slots(alloc: Global, count: usize) -> Result<(Vec<IndexOrGap>, Sums), AllocError>
     ensures slots { IfOk result (λ made. made.0.items ≡ []) }
     ensures counts { IfOk result (λ made. AreCounts [] made.1) }

@@ -31,7 +31,7 @@ pub fn pairs_before(slots: &[IndexOrGap], counts: &Sums, slot: usize) -> usize
     counts.before(block) + count_pairs(&slots[block * PART..slot])
 }
 
-/// The slot, from one on, before which there are so many pairs from that one on.
+/// The slot that has `count` pairs between a first slot and itself.
 fn slot_from(slots: &[IndexOrGap], first: usize, count: usize) -> usize
     requires within { before slots.now first + count < length (indexes slots.now) }
     ensures before { before slots.now result ≡ before slots.now first + count }
@@ -49,7 +49,7 @@ fn slot_from(slots: &[IndexOrGap], first: usize, count: usize) -> usize
     unreachable!()
 }
 
-/// The slot of the pair with so many before it.
+/// The slot of the pair at position `i`.
 pub fn slot_of(slots: &[IndexOrGap], counts: &Sums, i: usize) -> usize
     requires counts { AreCounts slots.now counts.now }
     requires within { i < length (indexes slots.now) }

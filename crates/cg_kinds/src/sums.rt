@@ -6,12 +6,12 @@ ghost use Rattle.cg_kinds.specs.Order.{sum_before, AreSums};
 use std::alloc::{AllocError, Global};
 use std::marker::Model;
 
-/// So many numbers have a sum of their own.
+/// How many numbers one sum covers.
 pub const PART: usize = 16;
 
 /// Numbers, and once they are more than 16 the sum of each 16, which have sums above them in their turn.
 ///
-/// So a number that changes changes one sum of each height, and the sum of all before it is that of at most 16 numbers of each.
+/// So changing a number changes one sum of each height, and a prefix sum adds at most 16 numbers of each.
 #[derive(Drop)]
 pub struct Sums {
     numbers: Vec<u32>,
@@ -48,7 +48,7 @@ fn sum_of(numbers: &[u32]) -> usize
     all
 }
 
-/// From one number on, the one in which so many are reached, and how many of it come before.
+/// The number, from one on, in which a running sum reaches `count`, and what is left of `count` in it.
 fn reached_from(numbers: &[u32], first: usize, count: usize) -> (usize, usize)
     requires { sum_before numbers.now first + count < sum numbers.now }
     ensures within { result.0 < length numbers.now }
@@ -113,7 +113,7 @@ fn sum_parts(sums: &mut [u32], numbers: &[u32])
 }
 
 impl Sums {
-    /// No numbers, and room for so many.
+    /// No numbers, and room for `room`.
     pub fn with_room(alloc: Global, room: usize) -> Result<Sums, AllocError>
         ensures { IfOk result (λ sums. sums ≡ []) }
     {
@@ -156,7 +156,7 @@ impl Sums {
         }
     }
 
-    /// The number in which so many are reached, and how many of it come before.
+    /// The number in which the running sum reaches `count`, and what is left of `count` in it.
     pub fn reached(&self, count: usize) -> (usize, usize)
         requires { count < sum self.now }
         ensures within { result.0 < length self.now }
@@ -172,7 +172,7 @@ impl Sums {
         }
     }
 
-    /// One more.
+    /// Raises a number by 1.
     pub fn raise(&mut self, i: usize)
         requires within { i < length self.old }
         requires small { sum self.old + 1 < 2 ^ 32 }
@@ -184,7 +184,7 @@ impl Sums {
         }
     }
 
-    /// One less.
+    /// Lowers a number by 1.
     pub fn lower(&mut self, i: usize)
         requires within { i < length self.old }
         requires some { 0 < slice_index self.old i }
@@ -196,7 +196,7 @@ impl Sums {
         }
     }
 
-    /// A 0 goes last.
+    /// Appends a 0.
     pub fn push(&mut self) -> Result<(), AllocError>
         requires { sum self.old < 2 ^ 32 }
         ensures ok { OnOk result (self.new ≡ self.old ++ 0 ∷ []) }

@@ -31,12 +31,12 @@ pub struct Table {
     room: Room,
 }
 
-/// What is known of a map's room, in the eight bytes of one word.
+/// A note of a map's room, in eight bytes.
 #[derive(Drop)]
 struct Room {
-    /// For so many pairs the map has room, or had when it last grew: it tells that the map has grown again.
+    /// The map's room in pairs when it last grew. More room than this means that it has grown again.
     all: u32,
-    /// Before so many new keys have come, the map does not grow. It may be more, since each key that goes leaves room.
+    /// The map cannot grow before this many new keys have come. Dropped keys leave more room than this counts.
     left: u32,
 }
 
@@ -52,7 +52,7 @@ impl Model for Table {
     ghost invariant = { λ t. IsOrderOf (length t.map.entries) (unboxed t.order) };
 }
 
-/// At most so many pairs close the gap that one before them leaves. An order for fewer would take more room than 300 bytes and
+/// Where at most this many pairs stand from one on, those behind it shift when it goes. An order for fewer would take more than 300 bytes and
 /// 64 a pair leave for it, since the map doubles its index with the 37th.
 const CLOSE: usize = 44;
 
@@ -79,7 +79,7 @@ fn pair_at(map: &Map, index: usize) -> Entry
     }
 }
 
-/// Writes the references of the pair at an index of a map behind so many that are written. It answers how many are written then.
+/// Writes the references of the pair at an index of a map after the first `count`, and answers the new number.
 #[inline(always)]
 fn note_pair_at(map: &Map, index: usize, found: &mut [u64], count: usize) -> usize
     requires within { index < length map.now.entries }
@@ -186,7 +186,7 @@ fn sound(order: &Option<Box<Order>>)
 
 /// Puts a value under a key: a new key goes last. It answers the value that the key had.
 ///
-/// It goes by way of an entry of the map: the error of `insert` carries the value, which is then moved in pieces.
+/// It uses the map's entry, since the error of `insert` carries the value, which would then be moved in pieces.
 #[inline(always)]
 fn put_in(map: &mut Map, key: Val, val: Val) -> Result<Option<Val>, AllocError>
     ensures ok { OnOk result (pairs_of map.new.entries ≡ put (pairs_of map.old.entries) key val) }
@@ -223,7 +223,7 @@ fn fit(map: &mut Map, room: &mut Room)
     }
 }
 
-/// A map that has grown, and so doubled its room, keeps some of it. It notes how many keys may come before the map grows again.
+/// Gives part of a grown map's new room back, and notes how many keys may come before it grows again.
 #[inline(never)]
 fn fit_again(map: &mut Map, room: &mut Room)
     ensures { map.new.entries ≡ map.old.entries }
@@ -240,9 +240,9 @@ fn in_32_bits(number: usize) -> u32 {
     number.min(0xFFFF_FFFF) as u32
 }
 
-/// A map gives back all room but that of its pairs and some two fifths of them.
+/// Shrinks a map to the room of its pairs and about two fifths more.
 ///
-/// Each growth leaves holes in the memory of the process, and so there may not be many. Of the parts that were tried this one alone
+/// Each growth leaves holes in the memory of the process, so growths must be rare. Of the fractions that were tried only this one
 /// kept each table that was measured, of 25 to 300 pairs as they were put and of some 90 sizes with an order, within 300 bytes and
 /// 64 a pair.
 fn give_back(map: &mut Map)
@@ -271,7 +271,7 @@ fn noted_order(map: &mut Map) -> Result<Box<Order>, AllocError>
     Ok(order)
 }
 
-/// The pair that a map got last goes out again. It is a call, since few puts come to it.
+/// Takes the newest pair of a map out again. It is not inlined, since few puts come to it.
 #[inline(never)]
 fn lose_last(map: &mut Map)
     ensures { map.new.entries ≡ take (length map.old.entries - 1) map.old.entries }
@@ -311,7 +311,7 @@ impl Table {
         }
     }
 
-    /// No pairs, and room for so many.
+    /// No pairs, and room for `count`.
     pub fn with_room(alloc: Global, count: usize) -> Result<Table, AllocError>
         ensures { IfOk result (λ table. table ≡ []) }
     {
@@ -417,7 +417,7 @@ impl Table {
         }
     }
 
-    /// Before a pair with many behind it goes, the map's order is noted down, if there is memory for it.
+    /// Notes the map's order before a pair with many behind it goes, if there is memory for that.
     fn note_order(&mut self, i: usize)
         requires { i < length self.old }
         ensures { self.new ≡ self.old }

@@ -20,7 +20,7 @@ pub struct Values {
     numbers: Vec<u64>,
     /// The place of the first value. So many places in front of it hold no value any more.
     first: usize,
-    /// So many values more fit into both columns without memory, some of them once the gap in front is closed.
+    /// How many more values fit into both columns without memory, some of them once the gap in front is closed.
     room: usize,
 }
 
@@ -138,7 +138,7 @@ fn note_each(sorts: &[u8], numbers: &[u64], from: usize, next: usize, found: &mu
     count
 }
 
-/// Without so many places at the front. Those behind move down as one run; `drain` would first turn those in front to the
+/// Drops the first `n` places. Those behind move down as one run; `drain` would first turn those in front to the
 /// back.
 fn lose_front<T: Copy + Drop>(column: &mut Vec<T>, n: usize)
     requires { n ≤ vec_len column.old }
@@ -186,9 +186,9 @@ fn have_place(sorts: &mut Vec<u8>, numbers: &mut Vec<u64>, first: &mut usize, ro
     close_gap(sorts, numbers, first);
 }
 
-/// Beside so many values and their room, so many places more are kept free, which no room counts.
+/// How many more places are kept free, beside a number of values and their room. No room counts them.
 ///
-/// So a list without room that loses a value in front for each that it gets behind has its gap closed only after so many.
+/// So a full list that loses a value in front for each that it gains behind closes its gap only once in that many turns.
 #[inline(always)]
 fn spare(len: usize) -> usize {
     len / 8
@@ -207,7 +207,7 @@ impl Values {
         Ok(values)
     }
 
-    /// No values, and room for so many.
+    /// No values, and room for `room`.
     pub fn with_room(alloc: Global, room: usize) -> Result<Values, AllocError>
         ensures items { IfOk result (λ made. made.items ≡ []) }
         ensures room { IfOk result (λ made. made.room ≡ room) }
@@ -339,7 +339,7 @@ impl Values {
         Some(val_of(sort, number))
     }
 
-    /// So many values more fit without memory.
+    /// How many more values fit without memory.
     #[inline(always)]
     pub fn room(&self) -> usize
         ensures { result ≡ self.now.room }
@@ -347,7 +347,7 @@ impl Values {
         self.room
     }
 
-    /// Makes room for so many values more.
+    /// Makes room for `n` more values.
     #[inline(always)]
     pub fn reserve(&mut self, n: usize) -> Result<(), AllocError>
         ensures items { self.new.items ≡ self.old.items }

@@ -204,7 +204,7 @@ static DECLARATIONS: [(&str, &str); 40] = [
     ("a = list\nprofile", "bad 2 3"),
     ("a = list\nprofile 3", "bad 2 4"),
     ("def p\nshutdown 1", "bad 2 3"),
-    // 7: a profile behind a line that is not passed over.
+    // 7: a profile after a line that is not ignored.
     ("profile 1\nprofile 1", "bad 2 7"),
     ("a = list\nprofile 1", "bad 2 7"),
     ("class C\n\nprofile 2", "bad 3 7"),
@@ -470,7 +470,7 @@ fn inspections(rt: HostRuntime) -> Result<(), Fail> {
     Ok(())
 }
 
-/// A line with this front, and then so many words.
+/// A line that begins so and goes on with `count` words.
 fn line_of(alloc: Global, front: &str, count: usize) -> Result<String, AllocError> {
     let mut line = String::from_str(alloc, front)?;
     for _ in 0..count {

@@ -30,7 +30,7 @@ fn a_quarter_of_nine_is_two(rt: HostRuntime) {
     collect(&mut policy, 0, 1);
     policy.made();
     policy.made();
-    // One object is pending, below 9 / 4 = 2: generation 2 is passed over.
+    // One object is pending, below 9 / 4 = 2: generation 2 is skipped.
     assert_eq!(rt; policy.due(), Some(1));
     collect(&mut policy, 1, 1);
     policy.made();

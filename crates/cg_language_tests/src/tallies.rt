@@ -78,7 +78,7 @@ const ROWS: [(&str, [u64; 5], bool); 18] = [
     ("refused 10\nend\n", [0, 0, 0, 0, 2], true),
 ];
 
-/// Writes a text in pieces of so many bytes.
+/// Writes a text in pieces of `size` bytes.
 fn write_in_pieces(rt: &impl Abort, sink: &mut TallySink, text: &[u8], size: usize) {
     let mut rest = text;
     'pieces: while !rest.is_empty() {

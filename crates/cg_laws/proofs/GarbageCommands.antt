@@ -13,7 +13,7 @@ use Rattle.cg_machine.specs.Weak.{is_instance}
 use Rattle.cg_machine.specs.Effects.{Effect, Changes, Calls, Collects, Explains, Quits, tracked_by, frozen, unfrozen}
 use Rattle.cg_machine.specs.Operands.{is_dict}
 use Rattle.cg_machine.proofs.Lookups.{references_of_member}
-use Rattle.cg_machine.proofs.DyingOrderly.{false_true}
+use Rattle.cg_machine.proofs.HeldLivesDeaths.{false_true}
 use Rattle.cg_machine.proofs.Shapes.{HasObject, IsEdit, Shape, Makes, Edits, Puts, Freezes, Unfreezes, StartsFrame, StartsCollection, Ends, AsksWhy}
 use Rattle.cg_machine.proofs.CommandRefs.{all_free}
 use Rattle.cg_graph.proofs.Members.{either}

@@ -10,13 +10,13 @@ use Rattle.cg_machine.specs.Run.{Step, StepTaken, StepOf, Run, last_world}
 use Rattle.cg_machine.specs.Laws.{IsOfCollection}
 use Rattle.cg_machine.specs.Lawful.{IsLawful, StaysLawful}
 use Rattle.cg_machine.proofs.Sound.{Sound, opening_sound}
-use Rattle.cg_machine.proofs.Number.{step_falls}
+use Rattle.cg_machine.proofs.MeasureNumber.{step_falls}
 use Rattle.cg_machine.proofs.Forgotten.{lives_within}
 use Rattle.cg_machine.proofs.Unheld.{Calm, IsStack}
-use Rattle.cg_machine.proofs.DyingOrderly.{HasOrder}
-use Rattle.cg_machine.proofs.RunsCalm.{step_calm, opening_calm}
-use Rattle.cg_machine.proofs.RunsOrderly.{step_orderly, opening_orderly}
-use Rattle.cg_machine.proofs.LeftRuns.{LeavesUnder, step_leaves, leaves_below}
+use Rattle.cg_machine.proofs.HeldLivesDeaths.{HasOrder}
+use Rattle.cg_machine.proofs.UnheldRuns.{step_calm, opening_calm}
+use Rattle.cg_machine.proofs.HeldLivesRuns.{step_orderly, opening_orderly}
+use Rattle.cg_machine.proofs.LeftBelowRuns.{LeavesUnder, step_leaves, leaves_below}
 use Rattle.cg_machine.proofs.Lawful.{stay_lawful}
 use Rattle.cg_laws.specs.Apart.{IsGarbageList, IsFound, IsApart, CollectionsAreApart}
 use Rattle.cg_laws.proofs.CollectApart.{collect_apart}

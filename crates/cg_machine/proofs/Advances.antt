@@ -30,7 +30,7 @@ use Rattle.cg_machine.proofs.Lookups.{references_of_member}
 use Rattle.cg_machine.proofs.Measure.{is_first}
 use Rattle.cg_machine.proofs.Forgotten.{IsLater, later_refl, later_trans}
 use Rattle.cg_machine.proofs.Pointwise.{IsOrder, Came, Lasts, came, came_if, came_without, lasts_if, lasts_lives}
-use Rattle.cg_machine.proofs.There.{HasNoReferent, without_lasts}
+use Rattle.cg_machine.proofs.LinesNameLive.{HasNoReferent, without_lasts}
 
 -- whose entries a step may take: those of an object that dies, or has its turn, and those of a weak reference that is called back
 pub data Owns : Activity → ℕ → Type 0 where

@@ -22,8 +22,8 @@ use Rattle.cg_machine.specs.Operands.{is_dict}
 use Rattle.cg_machine.proofs.Forgotten.{later_refl, place_later, lives_after, change_alters}
 use Rattle.cg_machine.proofs.Lookups.{references-append}
 use Rattle.cg_machine.proofs.Releasing.{absent, no_times}
-use Rattle.cg_machine.proofs.Orderly.{Orderly, From, objects_orderly, from_same}
-use Rattle.cg_machine.proofs.DyingOrderly.{one_orderly, lost_orderly, false_true}
+use Rattle.cg_machine.proofs.HeldLives.{Orderly, From, objects_orderly, from_same}
+use Rattle.cg_machine.proofs.HeldLivesDeaths.{one_orderly, lost_orderly, false_true}
 
 -- what stands in a list stands there once at least, and what members hold is held
 pub present : (o : ℕ) (xs : List ℕ) → Includes xs o → 0 < occurrences o xs

@@ -6,7 +6,7 @@ use Rattle.cg_machine.specs.Run.{StepTaken, Step, Run, last_world}
 use Rattle.cg_machine.specs.Laws.{NoRunIsStuck}
 use Rattle.cg_machine.proofs.Plain.{next, next_steps, HasTop}
 use Rattle.cg_machine.proofs.Sound.{HasBottom, Sound, opening_sound}
-use Rattle.cg_machine.proofs.Number.{number_of, step_falls}
+use Rattle.cg_machine.proofs.MeasureNumber.{number_of, step_falls}
 
 -- something runs
 has_top : (stack : List Activity) → HasBottom stack → HasTop stack

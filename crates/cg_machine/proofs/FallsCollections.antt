@@ -23,10 +23,10 @@ use Rattle.cg_machine.specs.Weak.{loses_referent}
 use Rattle.cg_machine.specs.Dying.{finalizer_to_run}
 use Rattle.cg_machine.specs.Due.{is_due}
 use Rattle.cg_machine.specs.Collect.{collection_at, merged, merged_place, begun, survived, sorted, start_world, survivor_count, StartStep, older, waits, ClearsOne, WeakClearingStep, calls_back, after_release, looks_at, FinalizingStep, get_older, SplitStep, takes_turn, TurnsStep, saved, all_saved, has_flag, save_all, empties, after_turn, EndStep, PhaseStep, loses_at_split, is_saved}
-use Rattle.cg_machine.proofs.Tally.{tally, tally-append, tally-map_le}
+use Rattle.cg_machine.proofs.Sums.{tally, tally-append, tally-map_le}
 use Rattle.cg_machine.proofs.Serials.{change-shortened, shortened}
 use Rattle.cg_machine.proofs.Measure.{commands_left, is_first, is_starting, due_rank, due_left, phase_rank, rank_in, left_at, left_in, entries_in, referents_in, summary, Lower, by_rank, by_left, by_entries, by_referents, weight_in, size_of}
-use Rattle.cg_machine.proofs.Fading.{Faded, unchanged, change_fades, place_fades, referent_fades, shortened_fades, marked_fades, then_fades, loses_one, shorter, Stays, Same, faded_stays, faded_after, stays_after, map_stays, placed, placed_entries, map_fades, if_fades}
+use Rattle.cg_machine.proofs.FewerEntries.{Faded, unchanged, change_fades, place_fades, referent_fades, shortened_fades, marked_fades, then_fades, loses_one, shorter, Stays, Same, faded_stays, faded_after, stays_after, map_stays, placed, placed_entries, map_fades, if_fades}
 use Rattle.cg_machine.proofs.Candidates.{leaves, others_fewer, only_others, saved_leaves, member_at, AllLose-fades}
 use Rattle.cg_machine.proofs.Sound.{collections_in, Sound, Moves, starts, IsPlain, CountsNothing, plain_counts}
 use Rattle.cg_machine.proofs.Clearing.{refers_early}

@@ -14,7 +14,7 @@ use Rattle.cg_machine.specs.Effects.{Changes, given_up_by, bound}
 use Rattle.cg_machine.specs.Commands.{new_collection}
 use Rattle.cg_machine.specs.Due.{is_due, due, due_generation}
 use Rattle.cg_machine.specs.Run.{Step}
-use Rattle.cg_machine.proofs.Tally.{tally}
+use Rattle.cg_machine.proofs.Sums.{tally}
 use Rattle.cg_machine.proofs.CommandLaws.{Leaves}
 use Rattle.cg_machine.proofs.ShapeLaws.{changes_leave}
 use Rattle.cg_machine.proofs.Invariants.{HasCommands, Takes, FromTop, FromFrame, emptied, on, CommandSteps, Steps, any_step}

@@ -22,10 +22,10 @@ use Rattle.cg_machine.specs.Holdings.{in_degree, is_dying}
 use Rattle.cg_machine.specs.Weak.{has_weak_references, is_reference_to, weak_references_if, weak_references, loses_referent, callback_of}
 use Rattle.cg_machine.specs.Dying.{has_finalizers, finalizer_to_run, run_finalizer, run_legacy, after_frame, clear_one, call_one, detach_one, empty_one, dying}
 use Rattle.cg_machine.specs.Due.{is_due}
-use Rattle.cg_machine.proofs.Tally.{tally, tally-append}
+use Rattle.cg_machine.proofs.Sums.{tally, tally-append}
 use Rattle.cg_machine.proofs.Serials.{change-shortened, shortened}
 use Rattle.cg_machine.proofs.Measure.{commands_left, is_starting, due_rank, due_left, rank_in, left_in, entries_in, referents_in, death_weight, weight_in, summary, Lower, by_entries, by_referents, by_weight}
-use Rattle.cg_machine.proofs.Fading.{Fades, Faded, unchanged, change_fades, filter_fades, place_fades, referent_fades, shortened_fades, entries_fades, marked_fades, then_fades, loses_one, shorter, left_fades}
+use Rattle.cg_machine.proofs.FewerEntries.{Fades, Faded, unchanged, change_fades, filter_fades, place_fades, referent_fades, shortened_fades, entries_fades, marked_fades, then_fades, loses_one, shorter, left_fades}
 use Rattle.cg_machine.proofs.Sound.{HasBottom, collections_in, Sound, Moves, starts, IsPlain, CountsNothing, plain_counts, due_less}
 
 -- a frame, a release or a death

@@ -15,10 +15,10 @@ use Rattle.cg_machine.specs.World.{World, Numbers, with_change}
 use Rattle.cg_machine.specs.Effects.{Effect, Changes, Calls, Collects, Explains, Quits, replaced, frozen, unfrozen, tracked_by, may_track, given_up_by}
 use Rattle.cg_machine.specs.Operands.{is_dict}
 use Rattle.cg_machine.specs.Laws.{HasFunction}
-use Rattle.cg_machine.proofs.Tally.{bit, tally-append, tally-map_le}
+use Rattle.cg_machine.proofs.Sums.{bit, tally-append, tally-map_le}
 use Rattle.cg_machine.proofs.Serials.{Rises, change-below}
 use Rattle.cg_machine.proofs.Measure.{entries_in, referents_in, size_of, bound_names}
-use Rattle.cg_machine.proofs.Fading.{Same, map_stays, if_same}
+use Rattle.cg_machine.proofs.FewerEntries.{Same, map_stays, if_same}
 use Rattle.cg_machine.proofs.Shapes.{Shape, Binds, Makes, Edits, Puts, Shows, Tells, Stays, Sets, Freezes, Unfreezes, StartsFrame, StartsCollection, Ends, Inspects, AsksWhy}
 use Rattle.cg_machine.proofs.ShapeLaws.{shape_gives_few}
 use Rattle.cg_machine.proofs.Lookups.{serial_from}

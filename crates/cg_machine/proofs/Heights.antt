@@ -16,16 +16,16 @@ use Rattle.cg_machine.specs.Represents.{death_waits}
 use Rattle.cg_machine.specs.Run.{last_world}
 use Rattle.cg_machine.specs.Laws.{collection_waits, all_waits, AreDeathsOfOthers, IsOrderly}
 use Rattle.cg_machine.specs.Bounds.{is_top_level, is_frame, is_release, is_death, IsOverTopLevel, HasNoRelease, AreReleasesApart, IsBounded, StacksAreBounded}
-use Rattle.cg_machine.proofs.Tally.{bit, tally-le}
+use Rattle.cg_machine.proofs.Sums.{bit, tally-le}
 use Rattle.cg_machine.proofs.Saving.{count_cons, fewer_times}
 use Rattle.cg_machine.proofs.Sound.{HasBottom, Sound, collections_in, opening_sound}
 use Rattle.cg_machine.proofs.Ending.{sound_after}
 use Rattle.cg_machine.proofs.Releasing.{absent, no_times}
-use Rattle.cg_machine.proofs.Orderly.{waits_held}
-use Rattle.cg_machine.proofs.RunsOrderly.{worlds_orderly}
+use Rattle.cg_machine.proofs.HeldLives.{waits_held}
+use Rattle.cg_machine.proofs.HeldLivesRuns.{worlds_orderly}
 use Rattle.cg_machine.proofs.Advances.{few_option}
-use Rattle.cg_machine.proofs.Rooms.{how_many, Room}
-use Rattle.cg_machine.proofs.RoomsOfRuns.{runs_have_room}
+use Rattle.cg_machine.proofs.RoomOnStack.{how_many, Room}
+use Rattle.cg_machine.proofs.RoomOnStackRuns.{runs_have_room}
 
 -- the counts of the law, as sums
 counted : (sort : Activity → Bool) (stack : List Activity) → count_by sort stack ≡ how_many sort stack

@@ -1,11 +1,11 @@
 -- What the commands that inspect tell of: numbers, and objects that something holds or that are there.
-use Rattle.std.proofs.Common.{◌≡◌, refl, sym, ap, subst, ℕ, suc, ◌<◌, inl, inr, ◌⊎◌, List, [], ◌∷◌, ◌++◌, map, flat_map, arith}
+use Rattle.std.proofs.Common.{refl, ap, subst, ℕ, inl, inr, ◌⊎◌, List, [], ◌∷◌, ◌++◌, map, flat_map, arith}
 use Rattle.std.specs.Prelude.{filter}
 use Rattle.cg_graph.specs.declared.Edge.{Edge}
 use Rattle.cg_graph.specs.Member.{Includes}
 use Rattle.cg_graph.specs.Value.{references}
 use Rattle.cg_graph.specs.Object.{Object, serials}
-use Rattle.cg_graph.specs.Holdings.{Graph, occurrences, name_holdings, entry_holdings, graph_of}
+use Rattle.cg_graph.specs.Holdings.{name_holdings, entry_holdings, graph_of}
 use Rattle.cg_graph.specs.Reach.{edges}
 use Rattle.cg_graph.specs.Path.{IsHeldElse, LeadsTo, refers_to}
 use Rattle.cg_graph.proofs.Members.{either, Includes-append_left, Includes-append_right, Includes-append_cases, Includes-map, Includes-map_cases, Includes-filter_cases}
@@ -14,7 +14,7 @@ use Rattle.cg_machine.specs.declared.event.Event.TheVariants.{Referent, Referrer
 use Rattle.cg_machine.specs.World.{World}
 use Rattle.cg_machine.specs.Holdings.{holds, holdings, other_holdings}
 use Rattle.cg_machine.specs.Effects.{referrers}
-use Rattle.cg_machine.specs.Commands.{Explanation, HasPath, HasNone, path_lines}
+use Rattle.cg_machine.specs.Commands.{Explanation, HasPath, HasNone}
 use Rattle.cg_machine.proofs.Condemned.{Includes-of_count}
 use Rattle.cg_machine.proofs.Releasing.{entry_held}
 

@@ -5,8 +5,8 @@ use Rattle.cg_machine.specs.World.{opening}
 use Rattle.cg_machine.specs.Run.{StepTaken, IsRun, world_after}
 use Rattle.cg_machine.specs.Lawful.{IsLawful, RunsStayLawful}
 use Rattle.cg_machine.proofs.Ending.{Run-append, last_world-append}
-use Rattle.cg_machine.proofs.RunsCalm.{dying_unheld}
-use Rattle.cg_machine.proofs.RunsOrderly.{worlds_orderly}
+use Rattle.cg_machine.proofs.UnheldRuns.{dying_unheld}
+use Rattle.cg_machine.proofs.HeldLivesRuns.{worlds_orderly}
 use Rattle.cg_machine.proofs.Heights.{stacks_bounded}
 use Rattle.cg_machine.proofs.OriginsOfRuns.{worlds_have_origins}
 use Rattle.cg_machine.proofs.MakingOfRuns.{few_serials}

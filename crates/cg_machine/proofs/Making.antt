@@ -9,7 +9,7 @@ use Rattle.cg_machine.specs.World.{World, Activity}
 use Rattle.cg_machine.specs.Program.{body_of}
 use Rattle.cg_machine.specs.Frame.{start_frame}
 use Rattle.cg_machine.specs.Origins.{commands_on}
-use Rattle.cg_machine.proofs.Tally.{tally}
+use Rattle.cg_machine.proofs.Sums.{tally}
 use Rattle.cg_machine.proofs.Advances.{Advance, Plainly, WithFrame, Continues, continues_idle, Tops, TopEnds, GivesFunction, GivesReference, BeginsDeath, TopGoesOn, GivesReferences}
 use Rattle.cg_machine.proofs.Starting.{starts_either}
 use Rattle.cg_machine.proofs.Invariants.{on}

@@ -9,7 +9,7 @@ use Rattle.cg_graph.specs.Object.{Object, is_at}
 use Rattle.cg_machine.specs.Program.{procedures}
 use Rattle.cg_machine.specs.World.{World, Activity, TopLevel, Framed, Releasing, Dying, Collecting, ShuttingDown, DyingPhase, Finalizer, AfterFinalizer, Clearing, Calling, AfterCall, LegacyFinalizer, AfterLegacy, Detaching, Emptying, CollectPhase, Start, WeakClearing, WeakCalling, AfterCallback, AfterRelease, Finalizing, AfterFinalizing, Split, Turns, Turn, AfterTurn, Ending, Outcome, Running, Ended, BudgetIsSpent}
 use Rattle.cg_machine.specs.Due.{is_due}
-use Rattle.cg_machine.proofs.Tally.{tally, bit}
+use Rattle.cg_machine.proofs.Sums.{tally, bit}
 
 -- 1. Commands that can still run: those on the stack, and for each frame left in the budget one for its start and the bodies of the script.
 -- Each weighs two, since it may bind a name, and a bound name weighs one, since the shutdown gives it up.

@@ -11,7 +11,7 @@ use Rattle.cg_machine.specs.Program.{body_of, procedures}
 use Rattle.cg_machine.specs.World.{World, Activity, TopLevel, Framed, Releasing, Dying, Collecting, ShuttingDown, Running, BudgetIsSpent, opening}
 use Rattle.cg_machine.specs.declared.event.Event.TheVariants.{Enter, BudgetSpent}
 use Rattle.cg_machine.specs.Frame.{Transition, start_frame}
-use Rattle.cg_machine.proofs.Tally.{tally}
+use Rattle.cg_machine.proofs.Sums.{tally}
 use Rattle.cg_machine.proofs.Serials.{Rises}
 use Rattle.cg_machine.proofs.Measure.{alive, commands_in, all_bodies, commands_left, is_starting, due_rank, rank_in, left_in, summary, Lower, by_commands, size_of, entries_in, referents_in, weight_in, bound_names}
 

@@ -16,9 +16,9 @@ use Rattle.cg_machine.specs.Laws.{waits_of, all_waits, LeavesBelow}
 use Rattle.cg_machine.proofs.Serials.{Rises}
 use Rattle.cg_machine.proofs.Forgotten.{lives_within}
 use Rattle.cg_machine.proofs.Unheld.{Rests, AreResting}
-use Rattle.cg_machine.proofs.Orderly.{waits_held}
-use Rattle.cg_machine.proofs.DyingOrderly.{HasOrder}
-use Rattle.cg_machine.proofs.Left.{LeavesIt}
+use Rattle.cg_machine.proofs.HeldLives.{waits_held}
+use Rattle.cg_machine.proofs.HeldLivesDeaths.{HasOrder}
+use Rattle.cg_machine.proofs.LeftBelow.{LeavesIt}
 
 -- what has this serial is a function
 abbrev pub AreFunctions : List Object → ℕ → Type 0

@@ -24,10 +24,10 @@ use Rattle.cg_machine.proofs.ShapeLaws.{changes_leave}
 use Rattle.cg_machine.proofs.Invariants.{HasCommands, Takes, FromTop, FromFrame, emptied, on, CommandSteps, Steps, InEachWorld, by_runs_and_steps, last_has}
 use Rattle.cg_machine.proofs.Lookups.{same_object}
 use Rattle.cg_machine.proofs.Unheld.{IsStack, Calm}
-use Rattle.cg_machine.proofs.DyingOrderly.{HasOrder}
-use Rattle.cg_machine.proofs.RunsCalm.{no_death, calm_after, opening_calm}
-use Rattle.cg_machine.proofs.RunsOrderly.{opening_orderly, worlds_orderly, orderly_after}
-use Rattle.cg_machine.proofs.LeftRuns.{LeavesUnder, step_leaves, leaves_below}
+use Rattle.cg_machine.proofs.HeldLivesDeaths.{HasOrder}
+use Rattle.cg_machine.proofs.UnheldRuns.{no_death, calm_after, opening_calm}
+use Rattle.cg_machine.proofs.HeldLivesRuns.{opening_orderly, worlds_orderly, orderly_after}
+use Rattle.cg_machine.proofs.LeftBelowRuns.{LeavesUnder, step_leaves, leaves_below}
 use Rattle.cg_machine.proofs.Standing.{AreFunctions, KnowsFunction, ClearsInOrder, IsKnown, AreKnown, IsAllKnown, function_lives, below_kept, top_kept}
 use Rattle.cg_machine.proofs.Advancing.{frame_end_advances, released_advances, dying_advances, phase_advances}
 use Rattle.cg_machine.proofs.StandingSteps.{starts_known, advance_known}

@@ -20,8 +20,8 @@ use Rattle.cg_machine.proofs.Serials.{Rises, Rises-filter}
 use Rattle.cg_machine.proofs.Forgotten.{lives_within}
 use Rattle.cg_machine.proofs.FallsDeaths.{Includes-reverse, passed}
 use Rattle.cg_machine.proofs.Lookups.{Includes-reversed, callback_at, callback_first, same_object}
-use Rattle.cg_machine.proofs.Orderly.{waits_held}
-use Rattle.cg_machine.proofs.DyingOrderly.{HasOrder}
+use Rattle.cg_machine.proofs.HeldLives.{waits_held}
+use Rattle.cg_machine.proofs.HeldLivesDeaths.{HasOrder}
 use Rattle.cg_machine.proofs.Advances.{Advance, Plainly, WithFrame, HasChanged, changed_origin, ClearsNone, Continues, DeathGoesOn, DeathClears, CollectionGoesOn, FrameOf, OfFinalizer, OfLegacy, OfCallback, Tops, TopEnds, GivesFunction, GivesReference, BeginsDeath, TopGoesOn, GivesReferences}
 use Rattle.cg_machine.proofs.Starting.{starts_either}
 use Rattle.cg_machine.proofs.Invariants.{on}

@@ -2,7 +2,6 @@
 -- memory need it. (Ours: the machine itself has no limit.)
 use Rattle.std.specs.Prelude.{◌≡◌, ℕ, ◌+◌, ◌*◌, ◌≤◌, Bool, true, false, List, [], ◌∷◌, ◌++◌, length, count_by, flat_map}
 use Rattle.cg_script.specs.declared.Script.{Script}
-use Rattle.cg_script.specs.declared.Command.{Command}
 use Rattle.cg_machine.specs.World.{World, Activity, TopLevel, Framed, Releasing, Dying, ShuttingDown}
 use Rattle.cg_machine.specs.Holdings.{holds, is_collection}
 use Rattle.cg_machine.specs.Run.{StepTaken, IsRun, world_after}

@@ -1,4 +1,4 @@
--- A collection, phase by phase. What is free stands as a choice: which tuples a pass untracks, the order of lines, whose
+-- A collection, phase by phase. What the rules leave open is a choice: which tuples a pass untracks, the order of lines, whose
 -- turn is next. (Developer guide, "garbage collector design"; PEP 442, "disposal of cyclic isolates"; the `gc` manual for
 -- the debug flags. The order of the phases is CPython 3.12's; what each step holds while frames run is ours.)
 use Rattle.std.specs.Prelude.{◌≡◌, ℕ, ◌+◌, ◌<◌, min, Bool, true, false, not, ◌&&◌, ◌||◌, ◌==◌, nat_le, bit_and, List, [], ◌∷◌, ◌++◌, Option, Some, None, if◌then◌else◌, option_map, option_and_then, unwrap_or, map, filter, length, is_some, ◌⊎◌, ◌↔◌, count_by}
@@ -53,7 +53,7 @@ lines_if b lines = if b then lines else []
 abbrev pub older : ℕ → ℕ
 older g = min (g + 1) 2
 
--- each stands as often in the one as in the other
+-- both lists have each member equally often
 abbrev pub SameMembers : List ℕ → List ℕ → Type 0
 SameMembers xs ys = (o : ℕ) → occurrences o xs ≡ occurrences o ys
 
@@ -73,7 +73,7 @@ IsMemberOf w p o = Includes (serials_at w.objects p) o
 abbrev pub Survives : World → Place → ℕ → Type 0
 Survives w p o = Reach (IsOutsideHeld (holdings w) (members_at w p)) (IsMemberOf w p) (edges (members_at w p)) o
 
--- no such path does
+-- no such path leads to it
 abbrev pub IsGarbage : World → Place → ℕ → Type 0
 IsGarbage w p o = Unreachable (IsOutsideHeld (holdings w) (members_at w p)) (IsMemberOf w p) (edges (members_at w p)) o
 
@@ -162,7 +162,7 @@ pub record StartStep (script : Script) (w : World) (c : Collection) (below : Lis
   pub any_order : SameMembers collectables (serials_at after.objects Cand)
   pub lines : events ≡ (GcStart c.generation ∷ []) ++ lines_if (has_flag c.flags stats) (gens_line w.objects ∷ []) ++ lines_if (has_flag c.flags collectable) (map GcCollectable collectables)
 
--- the condemned set, of which some were looked at
+-- whether an object is condemned, and perhaps looked at already
 abbrev pub is_condemned : Object → Bool
 is_condemned x = is_at Cand x || is_at Seen x
 
@@ -191,7 +191,7 @@ clears_one c waiting below w weak = (
       else collection_at c (WeakClearing waiting) below (with_objects (loses_referent weak w.objects) w),
 )
 
--- any that is next may be the one
+-- any weak reference that may be next can be chosen
 pub record ClearsOne (profile : ℕ) (c : Collection) (waiting : List ℕ) (below : List Activity) (w : World) (events : List Event) (after : World) : Type 0 where
   pub weak : ℕ
   pub newest : MayLoseNext (loses_in_weak_phase profile w.objects) w.objects weak
@@ -209,7 +209,7 @@ calls_back script c (weak ∷ waiting) below w =
     let callback = unwrap_or (callback_of w.objects weak) 0 in
     start_frame script (record { sort = Callback; proc = procedure_of w callback; subject = weak; func = Some callback }) (collection_at c (AfterCallback weak waiting) below w)
 
--- One that died when it was given up is counted as collected; another gets older.
+-- One that died when it was given up counts as collected; one that lives gets older.
 abbrev pub after_release : Collection → ℕ → List ℕ → List Activity → World → Transition
 after_release c weak waiting below w =
     if is_in_map w.objects weak
@@ -242,7 +242,7 @@ abbrev pub FinalizingStep : Script → Collection → List Activity → World �
 FinalizingStep script c below w events after =
     LooksAtOne script c below w events after ⊎ NoneAt w Cand × Yields ([], collection_at c Split below (replaced_place Seen Cand w)) events after
 
--- whether an object, by its serial, is a member of the final set
+-- whether the object with a serial is in the final set
 abbrev pub is_final_in : List Object → ℕ → Bool
 is_final_in objects o = unwrap_or (option_map (is_at Cand) (object_at objects o)) false
 
@@ -287,7 +287,7 @@ pub record TakesTurn (c : Collection) (below : List Activity) (w : World) (event
   pub member : Includes (objects_at w.objects Cand) object
   pub yields : Yields (takes_turn c object below w) events after
 
--- when all had theirs, the end follows
+-- when all have had their turns, the end follows
 abbrev pub TurnsStep : Collection → List Activity → World → List Event → World → Type 0
 TurnsStep c below w events after = TakesTurn c below w events after ⊎ NoneAt w Cand × Yields ([], collection_at c Ending below w) events after
 

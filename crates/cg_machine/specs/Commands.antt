@@ -19,7 +19,7 @@ use Rattle.cg_machine.specs.World.{World, Activity, TopLevel, Framed, Releasing,
 use Rattle.cg_machine.specs.Holdings.{in_degree, is_collecting, other_holdings}
 use Rattle.cg_machine.specs.Frame.{procedure_of, Transition, Yields, start_frame}
 use Rattle.cg_machine.specs.Refusals.{bad_generation, in_collection, no_attribute, no_index, no_key, no_memory, not_callable, not_weak, unhashable, wrong_kind, unless, ◌>>=◌}
-use Rattle.cg_machine.specs.Operands.{any_object, is_dict, is_list, is_script_list, is_sequence, is_weak, object, object_of, value, values}
+use Rattle.cg_machine.specs.Operands.{any_object, is_dict, is_list, is_script_list, is_sequence, is_weak, object, object_of, value}
 use Rattle.cg_machine.specs.Effects.{Calls, Changes, Collects, Effect, Explains, Quits, binds, bound, callback_entries, frozen, gens_line, given_up_by, has_room, is_hashable, lists, makes, makes_of, valid_index, prints, puts, referrers, replaced, sets_entries, sets_numbers, unfrozen}
 use Rattle.cg_machine.specs.Weak.{has_weak_references, is_function, is_instance}
 
@@ -160,12 +160,12 @@ without_commands (TopLevel commands ∷ below) = TopLevel [] ∷ below
 without_commands (Framed f ∷ below) = Framed (record f { commands = [] }) ∷ below
 without_commands stack = stack
 
--- the frame on top loses the commands that it has left
+-- the frame on top has no commands left
 abbrev pub stopped_frame : List Activity → List Activity
 stopped_frame (Framed f ∷ below) = Framed (record f { commands = [] }) ∷ below
 stopped_frame stack = stack
 
--- a refusal leaves the world but for this
+-- a refusal changes nothing else
 abbrev pub refused : ℕ → World → Transition
 refused refusal w = (Refused refusal ∷ [], with_stack (stopped_frame w.stack) w)
 
@@ -178,12 +178,12 @@ abbrev pub path_lines : List ℕ → List Event
 path_lines [] = []
 path_lines (first ∷ path) = Held first ∷ map Via path
 
--- What `why` tells of an object: a path of holders than which none is shorter, or that there is none.
+-- What `why` says of an object: a shortest path of holders, or that there is none.
 pub data Explanation (w : World) (object : ℕ) : List Event → Type 0 where
   HasPath : (path : List ℕ) → IsShortestPath (IsHeldElse (other_holdings w) object) (edges (graph_of w.objects)) path object → Explanation w object (path_lines path)
   HasNone : HasNoPath (IsHeldElse (other_holdings w) object) (edges (graph_of w.objects)) object → Explanation w object (Unreachable ∷ [])
 
--- Where memory may be wanted, the refusal for want of it is allowed besides the effect.
+-- Where a command may need memory, the machine may refuse it for memory instead.
 abbrev pub DoesEffect : Script → World → Result Effect ℕ → List Event → World → Type 0
 DoesEffect script w (Err refusal) events after = Yields (refused refusal w) events after
 DoesEffect script w (Ok (Changes wants_memory lines given_up with_change)) events after =

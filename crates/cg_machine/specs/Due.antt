@@ -4,7 +4,7 @@ use Rattle.std.specs.Prelude.{ℕ, ◌/◌, Bool, not, ◌&&◌, ◌==◌, nat_l
 use Rattle.cg_machine.specs.World.{World, Numbers}
 use Rattle.cg_machine.specs.Holdings.{is_collecting}
 
--- Generation 2 is passed over where few objects are pending, against the total of the last full collection.
+-- Generation 2 is skipped while fewer objects are pending than a quarter of the total of the last full collection.
 abbrev pub due_generation : Numbers → ℕ
 due_generation n =
     if nat_lt n.two_threshold n.two_count && not (nat_lt n.pending (n.total / 4)) then 2

@@ -48,7 +48,7 @@ live w = count_by (λ x. not (x.serial == 1)) w.objects
 abbrev pub entry_count : World → ℕ
 entry_count w = sum_by (λ x. if x.serial == 1 then 0 else length x.entries) w.objects
 
--- refused where so many entries more would pass the limit
+-- refused where this many more entries would pass the limit
 abbrev pub has_room : World → ℕ → Result (Unit {0}) ℕ
 has_room w n = unless (nat_le (entry_count w + n) MOST_ENTRIES) entry_limit
 
@@ -56,7 +56,7 @@ has_room w n = unless (nat_le (entry_count w + n) MOST_ENTRIES) entry_limit
 abbrev pub bound : World → ℕ → Option Val → World
 bound w name v = record w { names = slice_set w.names name v }
 
--- what stands under a name, as references
+-- the references of a name's value
 abbrev pub given_up_by : World → ℕ → List ℕ
 given_up_by w name = references_of_value (option_and_then (λ v. v) (slice_get w.names name))
 
@@ -97,7 +97,7 @@ may_track w v = elim (object_of w v) [ None ↦ false | Some x ↦ may_be_tracke
 abbrev pub tracked_by : World → Val → Val → Object → Object
 tracked_by w key v x = if is_dict x && not (is_tracked x) && (may_track w key || may_track w v) then with_place (Gen 0) x else x
 
--- A key gets a value. Room and memory are wanted for a new key alone.
+-- A key gets a value. Only a new key needs room and memory.
 abbrev pub puts : World → Object → Val → Val → Result Effect ℕ
 puts w x key v = do
   let old = value_at x.entries key
@@ -108,7 +108,7 @@ puts w x key v = do
 abbrev pub prints : World → Event → Result Effect ℕ
 prints w line = Ok (Changes false (line ∷ []) [] w)
 
--- Objects are told, a line each, and then how many. Memory may be wanted for the list.
+-- A line for each object, and then their number. The list may need memory.
 abbrev pub lists : World → (ℕ → Event) → List ℕ → Result Effect ℕ
 lists w line objects = Ok (Changes true (map line objects ++ Listed (length objects) ∷ []) [] w)
 

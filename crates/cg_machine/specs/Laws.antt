@@ -37,18 +37,18 @@ pub record BeginsWholeText (script : Script) (budget : ℕ) (printed : List Even
   pub rest : List ℕ
   pub text : text_of script steps ≡ flat_map (line script.names) printed ++ rest
 
--- What any run has printed begins the text of a whole run, also where a step has printed its first lines alone.
+-- What any run has printed is a prefix of the text of a whole run, even in the middle of a step.
 abbrev pub FrontsBeginWholeTexts : Type 0
 FrontsBeginWholeTexts = (script : Script) (budget : ℕ) (steps : List StepTaken) → IsRun script budget steps
     → (printed : List Event) → (printed ≡ []) ⊎ Underway script (world_after script budget steps) printed → BeginsWholeText script budget (events_of steps ++ printed)
 
--- A dying object is held while a frame of its own is underway, by its death at least, and by nothing at any other time.
+-- A dying object is held, at least by its death, while a frame of its own runs, and at no other time.
 abbrev pub IsHeldInItsFramesAlone : ℕ → DyingPhase → List ℕ → Type 0
 IsHeldInItsFramesAlone o AfterFinalizer held = occurrences o held ≢ 0
 IsHeldInItsFramesAlone o AfterLegacy held = occurrences o held ≢ 0
 IsHeldInItsFramesAlone o phase held = occurrences o held ≡ 0
 
--- It is so in every world of a run. So no release but that of its own hold leaves it at 0.
+-- This holds in every world of a run. So only the release of its own hold leaves it at 0.
 abbrev pub DyingIsUnheld : Type 0
 DyingIsUnheld = (script : Script) (budget : ℕ) (steps : List StepTaken) → IsRun script budget steps
     → (d : Death) → Includes (world_after script budget steps).stack (Dying d) → IsHeldInItsFramesAlone d.object d.phase (holdings (world_after script budget steps))
@@ -177,7 +177,7 @@ named (Held n) = n ∷ []
 named (Via n) = n ∷ []
 named event = []
 
--- what a line tells
+-- the line with which a collection stops
 abbrev pub is_stop : Event → Bool
 is_stop (GcStop g m n) = true
 is_stop event = false
@@ -246,7 +246,7 @@ Sealing = (script : Script) (budget : ℕ) (before : List StepTaken) (split : St
     → IsRun script budget (before ++ split ∷ during) → Splits (world_after script budget before) → count_by is_stop (events_of during) ≡ 0
     → (x : Object) → Includes (last_world split.world during).objects x → Includes (final_set split) x.serial → IsSealed script (final_set split) (last_world split.world during) x
 
--- In that time, up to the lines of the stop's own step, a line that names a member is that it is freed.
+-- In that time, up to the lines of the stop's own step, the only line that names a member is the one that frees it.
 abbrev pub OnlyFreesNameMembers : Type 0
 OnlyFreesNameMembers = (script : Script) (budget : ℕ) (before : List StepTaken) (split : StepTaken) (during : List StepTaken) (next : StepTaken)
     → IsRun script budget (before ++ split ∷ during ++ next ∷ []) → Splits (world_after script budget before) → count_by is_stop (events_of during) ≡ 0
@@ -286,20 +286,20 @@ MayLoseEntries script budget steps x w (Dying d ∷ below) = (d.object ≡ x.ser
 MayLoseEntries script budget steps x w (Collecting c ∷ below) = ⊥
 MayLoseEntries script budget steps x w (ShuttingDown started ∷ below) = ⊥
 
--- An object that never was in such a final set loses an entry only so.
+-- An object that never was in such a final set loses entries in no other way.
 abbrev pub EntriesLeaveOnlyBy : Type 0
 EntriesLeaveOnlyBy = (script : Script) (budget : ℕ) (before : List StepTaken) (step : StepTaken) → IsRun script budget (before ++ step ∷ [])
     → (x y : Object) → Includes (world_after script budget before).objects x → Includes step.world.objects y → x.serial ≡ y.serial
     → ¬ WasFinal script budget before x.serial → ¬ IsLengthened x y → MayLoseEntries script budget before x (world_after script budget before) (world_after script budget before).stack
 
--- Each member of the final set, tuples included, has been freed when the collection stops: in each fit script.
+-- Each member of the final set, tuples included, has been freed when the collection stops, for each script of a class.
 abbrev pub FinalSetIsFreedIn : (Script → Type 0) → Type 0
 FinalSetIsFreedIn Fit = (script : Script) (budget : ℕ) (before : List StepTaken) (split : StepTaken) (during : List StepTaken) (stop : StepTaken)
     → Fit script → IsRun script budget (before ++ split ∷ during ++ stop ∷ []) → Splits (world_after script budget before)
     → count_by is_stop (events_of during) ≡ 0 → 0 < count_by is_stop stop.events
     → (o : ℕ) → Includes (final_set split) o → Includes (events_of during) (Free o)
 
--- so it is in each that names its own texts alone
+-- the same for each script that names only its own texts
 abbrev pub FinalSetIsFreed : Type 0
 FinalSetIsFreed = FinalSetIsFreedIn TextsAreKnown
 
@@ -323,12 +323,12 @@ BeginsCommand (TopLevel (command ∷ commands) ∷ below) = Unit {0}
 BeginsCommand (Framed f ∷ below) = f.commands ≢ []
 BeginsCommand stack = ⊥
 
--- When a command begins, each object that nothing holds is dying: in each fit script.
+-- When a command begins, each object that nothing holds is dying, for each script of a class.
 abbrev pub UnheldIsDyingIn : (Script → Type 0) → Type 0
 UnheldIsDyingIn Fit = (script : Script) (budget : ℕ) (steps : List StepTaken) → Fit script → IsRun script budget steps → BeginsCommand (world_after script budget steps).stack
     → (x : Object) → Includes (world_after script budget steps).objects x → in_degree (world_after script budget steps) x.serial ≡ 0 → IsTrue (is_dying (world_after script budget steps) x.serial)
 
--- so it is in each that names its own texts alone
+-- the same for each script that names only its own texts
 abbrev pub UnheldIsDying : Type 0
 UnheldIsDying = UnheldIsDyingIn TextsAreKnown
 
@@ -341,21 +341,21 @@ pub record StartsFull (w : World) : Type 0 where
   pub full : collection.generation ≡ 2
   pub none_frozen : serials_at w.objects Frozen ≡ []
 
--- an object is dying, or held otherwise than by an entry
+-- an object is dying, or held by a root
 abbrev pub IsRooted : World → ℕ → Type 0
 IsRooted w o = IsTrue (is_dying w o) ⊎ IsOutsideHeld (holdings w) (graph_of w.objects) o
 
--- a list of objects leads from such a one to each object
+-- a path from such an object leads to each object
 abbrev pub NoGarbageIsLeft : World → Type 0
 NoGarbageIsLeft w = (o : ℕ) → Includes (serials w.objects) o → Reach (IsRooted w) (Includes (serials w.objects)) (edges (graph_of w.objects)) o
 
--- After a full collection in which no frame begins there is no garbage: in each fit script.
+-- After a full collection in which no frame begins there is no garbage, for each script of a class.
 abbrev pub FullCollectionLeavesNoneIn : (Script → Type 0) → Type 0
 FullCollectionLeavesNoneIn Fit = (script : Script) (budget : ℕ) (before during : List StepTaken) (stop : StepTaken)
     → Fit script → IsRun script budget (before ++ during ++ stop ∷ [])
     → StartsFull (world_after script budget before) → count_by is_enter (events_of during ++ stop.events) ≡ 0
     → count_by is_stop (events_of during) ≡ 0 → 0 < count_by is_stop stop.events → NoGarbageIsLeft stop.world
 
--- so it is in each that names its own texts alone
+-- the same for each script that names only its own texts
 abbrev pub FullCollectionLeavesNone : Type 0
 FullCollectionLeavesNone = FullCollectionLeavesNoneIn TextsAreKnown

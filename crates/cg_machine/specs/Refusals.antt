@@ -1,4 +1,4 @@
--- Why a command is refused, by the numbers that are printed. (Ours.) Which comes first where several hold is the order
+-- Why a command is refused, by the numbers that are printed. (Ours.) Where several hold, the first comes in the order
 -- in which the effects of commands ask for them.
 use Rattle.std.specs.Prelude.{ℕ, Bool, true, false, Result, Ok, Err}
 
@@ -22,7 +22,7 @@ no_key = 4
 abbrev pub no_attribute : ℕ
 no_attribute = 5
 
--- `deref` of another value than a weak reference
+-- `deref` of a value that is no weak reference
 abbrev pub not_weak : ℕ
 not_weak = 6
 
@@ -38,7 +38,7 @@ bad_generation = 8
 abbrev pub unhashable : ℕ
 unhashable = 9
 
--- want of memory, which no rule ties to anything
+-- memory ran out, which no rule ties to anything
 abbrev pub no_memory : ℕ
 no_memory = 10
 

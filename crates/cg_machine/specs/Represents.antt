@@ -85,7 +85,7 @@ pub record HandsOutDeath (script : Script) (w : World) (o : ℕ) (store : Store)
   pub top : before.stack ≡ stack
   pub represents : Represents store before
 
--- It hands out a frame: the step of the machine also starts it, or ends the run for want of budget.
+-- It hands out a frame: the step of the machine also starts it, or ends the run because the budget is spent.
 pub record HandsOutFrame (script : Script) (w : World) (spec : FrameSpec) (store : Store) (stack : List Activity) : Type 0 where
   pub before : World
   pub goes : Goes script w (start_frame script spec before).0 (start_frame script spec before).1

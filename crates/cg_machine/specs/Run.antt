@@ -1,6 +1,6 @@
 -- Steps and runs of the machine. Only the activity on top steps. (Ours. That an automatic collection starts only between
--- two commands stands for the points at which CPython's evaluation loop looks for one.)
-use Rattle.std.specs.Prelude.{◌≡◌, ◌≢◌, ℕ, List, [], ◌∷◌, ◌++◌, Bool, false, Option, Some, None}
+-- two commands models the points at which CPython's evaluation loop checks for one.)
+use Rattle.std.specs.Prelude.{◌≡◌, ◌≢◌, ℕ, List, [], ◌∷◌, ◌++◌, false, Option, Some, None}
 use Rattle.cg_script.specs.declared.Script.{Script}
 use Rattle.cg_script.specs.declared.Command.{Command}
 use Rattle.cg_machine.specs.declared.event.Event.{Event}
@@ -24,7 +24,7 @@ abbrev pub CommandInFrame : Script → World → Option ℕ → Frame → Comman
 CommandInFrame script w (Some g) f command commands below events after = Yields ([], push (new_collection g false w) w) events after
 CommandInFrame script w None f command commands below events after = CommandStep script (with_stack (Framed (record f { commands = commands }) ∷ below) w) command events after
 
--- a frame without commands left ends, and looks for no collection
+-- a frame without commands left ends; no collection starts before that
 abbrev pub FrameStep : Script → World → Frame → List Command → List Activity → List Event → World → Type 0
 FrameStep script w f [] below events after = Yields (frame_end f (with_stack below w)) events after
 FrameStep script w f (command ∷ commands) below events after = CommandInFrame script w (due w) f command commands below events after
@@ -72,7 +72,7 @@ IsRun script budget steps = Run script (opening script budget) steps
 abbrev pub world_after : Script → ℕ → List StepTaken → World
 world_after script budget steps = last_world (opening script budget) steps
 
--- how it stands
+-- whether it runs, or how it ended
 abbrev pub outcome_of : Script → ℕ → List StepTaken → Outcome
 outcome_of script budget steps = (world_after script budget steps).outcome
 

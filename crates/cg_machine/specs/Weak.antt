@@ -1,5 +1,5 @@
 -- Weak references: which have a referent, and how they lose it. (PEP 205; `weakref` manual. That they lose it the newest
--- first also where a collection clears them is ours.)
+-- first also in a collection is ours.)
 use Rattle.std.specs.Prelude.{◌≡◌, ℕ, ◌≤◌, Bool, true, false, ◌||◌, ◌==◌, List, [], ◌∷◌, Option, None, option_map, option_and_then, unwrap_or, filter, reverse, if◌then◌else◌}
 use Rattle.cg_value.specs.declared.KindCode.TheVariants.{Inst, Func}
 use Rattle.cg_value.specs.declared.Entry.{Entry}
@@ -27,7 +27,7 @@ is_instance x = elim x.code [ Inst ↦ true | _ ↦ false ]
 abbrev pub is_function : Object → Bool
 is_function x = elim x.code [ Func ↦ true | _ ↦ false ]
 
--- either
+-- an instance or a function
 abbrev pub has_weak_references : Object → Bool
 has_weak_references x = is_instance x || is_function x
 
@@ -53,7 +53,7 @@ pub record MayLoseNext (wanted : Object → Bool) (objects : List Object) (weak 
   pub to_lose : wanted object ≡ true
   pub newest : (y : Object) → Includes objects y → wanted y ≡ true → y.referent ≡ object.referent → y.serial ≤ weak
 
--- none is still to lose it
+-- no weak reference is still to lose its referent
 abbrev pub NoneLeft : (Object → Bool) → List Object → Type 0
 NoneLeft wanted objects = (x : Object) → Includes objects x → wanted x ≡ false
 

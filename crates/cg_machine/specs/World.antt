@@ -38,7 +38,7 @@ pub record Death : Type 0 where
 -- Where a collection stands. (PEP 442, "disposal of cyclic isolates"; developer guide, "destroying unreachable objects".)
 -- The weak references that wait for their callback are held, in the order in which they were cleared.
 pub data CollectPhase : Type 0 where
-  Start : CollectPhase  -- all before the weak phase is one step
+  Start : CollectPhase  -- everything before the weak phase is one step
   WeakClearing : (waiting : List ℕ) → CollectPhase  -- weak references lose condemned objects
   WeakCalling : (waiting : List ℕ) → CollectPhase  -- the callbacks are to come
   AfterCallback : (weak : ℕ) (waiting : List ℕ) → CollectPhase  -- its frame runs or has ended; it is held
@@ -49,7 +49,7 @@ pub data CollectPhase : Type 0 where
   Turns : CollectPhase  -- members of the final set are to have their turns
   Turn : (object : ℕ) → CollectPhase  -- it is held, and its entries are taken out
   AfterTurn : (object : ℕ) → CollectPhase  -- it was given up
-  Ending : CollectPhase  -- what was set aside is told and saved
+  Ending : CollectPhase  -- what was set aside is printed and saved
 
 -- a collection under way
 pub record Collection : Type 0 where
@@ -83,7 +83,7 @@ pub record Numbers : Type 0 where
   pub enabled : Bool
   pub flags : ℕ
 
--- how a run stands: not ended, ended by `end`, or for want of budget
+-- how a run stands: not ended, ended by `end`, or because the budget is spent
 pub data Outcome : Type 0 where
   Running : Outcome
   Ended : Outcome

@@ -77,7 +77,7 @@ pub enum Event {
     Referrer(u64),
     /// How many lines `referents` or `referrers` has given.
     Listed(u64),
-    /// The first line of `why`: an object that is held otherwise than by an entry.
+    /// The first line of `why`: an object that is held by a root.
     Held(u64),
     /// A further line of `why`: the object to which an entry of the one before refers.
     Via(u64),
@@ -98,7 +98,7 @@ pub enum Event {
     },
     /// A command was refused, with the number of the refusal.
     Refused(u8),
-    /// The run ends for want of budget.
+    /// The run ends because the budget is spent.
     BudgetSpent,
     /// How many objects are left after the shutdown, the garbage list aside.
     Left(u64),

@@ -113,7 +113,7 @@ impl Policy {
     /// The generation of the collection that is due, 0 to 2, and None exactly where none is due.
     ///
     /// One is due where collecting is enabled, none is running, threshold 0 is not 0, and count 0 is above it
-    /// (`gc.set_threshold`). The generation is the greatest whose count is above its threshold, but 2 is passed over
+    /// (`gc.set_threshold`). The generation is the greatest whose count is above its threshold, but 2 is skipped
     /// where fewer objects are pending than a quarter of the total, rounded down (developer guide, "collecting the
     /// oldest generation").
     #[inline(always)]

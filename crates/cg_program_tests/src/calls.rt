@@ -52,7 +52,7 @@ pub fn answer_to<S: Source>(
     answer_with_fault(alloc, words, source, 0, 0)
 }
 
-/// The answer to these words and this source over lists that refuse one call of `make`, after so many.
+/// The answer to these words and this source where the lists refuse the (n+1)th call of `make`.
 pub fn answer_refusing<S: Source>(
     alloc: Global,
     words: &[&str],
@@ -83,7 +83,7 @@ pub fn lines(alloc: Global, text: &str) -> Result<Vec<u8>, AllocError> {
     Ok(bytes)
 }
 
-/// So many lines of 1,023 spaces, and then so many spaces.
+/// Lines of 1,023 spaces, and then a line of some spaces.
 pub fn lines_of_spaces(alloc: Global, some: u32, more: u32) -> Result<Vec<u8>, AllocError> {
     let mut bytes = Vec::new(alloc);
     for _ in 0..some {
@@ -94,7 +94,7 @@ pub fn lines_of_spaces(alloc: Global, some: u32, more: u32) -> Result<Vec<u8>, A
     Ok(bytes)
 }
 
-/// Appends a byte so many times.
+/// Appends a byte `times` times.
 pub fn push_bytes(bytes: &mut Vec<u8>, byte: u8, times: u32) -> Result<(), AllocError> {
     for _ in 0..times {
         bytes.push(byte)?;
@@ -102,7 +102,7 @@ pub fn push_bytes(bytes: &mut Vec<u8>, byte: u8, times: u32) -> Result<(), Alloc
     Ok(())
 }
 
-/// Appends these lines, each so many times over.
+/// Appends this text `times` times.
 pub fn push_lines(bytes: &mut Vec<u8>, some: &str, times: u32) -> Result<(), AllocError> {
     for _ in 0..times {
         bytes.extend_from_slice(some.as_bytes())?;

@@ -10,7 +10,7 @@ use cg_kinds::ListKind;
 use cg_value::{Entry, KindCode, Val};
 use std::alloc::{AllocError, Global};
 
-/// A list kind that refuses one call of `make`: the one before which so many were let through.
+/// A list kind that refuses the (n+1)th call of `make`.
 #[derive(Drop)]
 struct Refusing {
     kind: ListKind,
@@ -124,7 +124,7 @@ pub fn six(alloc: Global) -> Result<Vec<Box<dyn Kind>>, AllocError>
     Ok(kinds)
 }
 
-/// Six empty kinds, of which the lists refuse one call of `make`, after so many.
+/// Six empty kinds; the lists refuse the (n+1)th call of `make`.
 pub fn six_refusing(alloc: Global, before: usize) -> Result<Vec<Box<dyn Kind>>, AllocError>
     ensures kinds { IfOk result (λ kinds. map (λ b. kind b) kinds.items ≡ six_kinds) }
     ensures empty { IfOk result (λ kinds. map (λ b. bodies b) kinds.items ≡ replicate 6 fin.empty) }

@@ -27,7 +27,7 @@ const BACK: &str = "def d; x = self; end; class C del=d; a = new C; setattr a me
 const RECORDS_OF_BACK: &str =
     "record 2; graph 1; m 2 1 0; r 2; lost 2; graph 2; m 2 2 0; r 2; stop; end";
 
-/// A list in three collections: held, passed over, and lost.
+/// A list in three collections: held, not looked at, and lost.
 const THRICE: &str = "a = list; append a a; collect 0; del a; collect 0; collect 1";
 
 const RECORDS_OF_THRICE: &str =

@@ -6,7 +6,7 @@ use cg_io::MemSource;
 use std::alloc::{AllocError, Global};
 use std::test::Fail;
 
-/// A text, then one byte so many times, then another text.
+/// A text, then one byte `count` times, then another text.
 fn filled(
     alloc: Global,
     front: &str,

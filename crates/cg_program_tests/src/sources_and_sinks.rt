@@ -62,7 +62,7 @@ fn a_failed_write_keeps_a_front(rt: HostRuntime) -> Result<(), Fail> {
     Ok(())
 }
 
-/// A reader that is interrupted so many times before it gives `ab`.
+/// A reader that is interrupted a number of times before it gives `ab`.
 #[derive(Drop)]
 struct HaltingReader {
     halts: u32,

@@ -26,9 +26,9 @@ use Rattle.cg_promises.proofs.FullKept.{anew, from_anew, place_anew, sorts}
 use Rattle.cg_promises.proofs.FullSplit.{WasAside, WasGarbage, aside_garbage}
 use Rattle.cg_promises.proofs.FullStands.{Alike, Stands, StandsSo, Reached, Loose, Condemned, SetAside}
 use Rattle.cg_promises.proofs.FullStart.{edge_from, in_merge, member_tracked, unreached_garbage}
-use Rattle.cg_promises.proofs.Primed.{IsWanted}
-use Rattle.cg_promises.proofs.SealedStart.{edge}
-use Rattle.cg_promises.proofs.Slack.{IsSlackWorld}
+use Rattle.cg_promises.proofs.FinalizersDone.{IsWanted}
+use Rattle.cg_promises.proofs.FinalSetStart.{edge}
+use Rattle.cg_promises.proofs.UntrackedStay.{IsSlackWorld}
 
 -- an object among those that are looked at
 pub looked : (v : World) (o : ℕ) → IsMemberOf (merged 2 v) (Gen 2) o → (x : Object) × Includes v.objects x × (x.serial ≡ o) × Includes (objects_at (merged 2 v).objects (Gen 2)) (in_merge 2 x)

@@ -24,8 +24,8 @@ use Rattle.cg_promises.proofs.FullRuns.{enters_first, running_still}
 use Rattle.cg_promises.proofs.FullStands.{AreAlike, StandsSo, Pending, alike_same, alike_trans, stands_same, stands_wanted, test_alike, test_all, wanted_cand, wanted_seen}
 use Rattle.cg_promises.proofs.FullStop.{phase_quiet}
 use Rattle.cg_promises.proofs.KeptRuns.{starts_none}
-use Rattle.cg_promises.proofs.SealedRuns.{none_stops}
-use Rattle.cg_promises.proofs.ToldRuns.{Fit, step_fit}
+use Rattle.cg_promises.proofs.FinalSetRuns.{none_stops}
+use Rattle.cg_promises.proofs.FinalizerOnceRuns.{Fit, step_fit}
 use Rattle.cg_machine.specs.Program.{profile_of}
 
 -- the phases of that time in which no frame is underway

@@ -25,7 +25,7 @@ use Rattle.cg_promises.proofs.FullSaved.{IsNamed, all_saved_named, named_on}
 use Rattle.cg_promises.proofs.FullSplit.{WasAside, aside_garbage}
 use Rattle.cg_promises.proofs.FullStands.{Rests, RestsSo, RestsReached, RestsLoose, RestsAside, IsFinal}
 use Rattle.cg_promises.proofs.FullStop.{Grows, all_saved_grow, grows_trans, test_grows}
-use Rattle.cg_promises.proofs.SealedStart.{edge, edge_of}
+use Rattle.cg_promises.proofs.FinalSetStart.{edge, edge_of}
 
 -- what is saved is where it was
 abbrev pub InPlace : List Object → Object → Type 0

@@ -22,8 +22,8 @@ use Rattle.cg_promises.specs.Reached.{IsReached}
 use Rattle.cg_promises.proofs.FullStart.{edge_from, in_merge, reached_survives}
 use Rattle.cg_promises.proofs.FullRuns.{IsFullAt, IsRoot, full_after, reached_lasts, root_down, root_of, root_up}
 use Rattle.cg_promises.proofs.Kept.{IsKeptBy}
-use Rattle.cg_promises.proofs.SealedStart.{edge}
-use Rattle.cg_promises.proofs.ToldRuns.{Fit}
+use Rattle.cg_promises.proofs.FinalSetStart.{edge}
+use Rattle.cg_promises.proofs.FinalizerOnceRuns.{Fit}
 
 module _ (script : Script) (c : Collection) (below : List Activity) (v : World) (events : List Event) (after : World) (top : v.stack ≡ Collecting c ∷ below) (phase : c.phase ≡ Start) (complete : c.generation ≡ 2) (rises : Rises 1 v.next_serial v.objects)
     (near : (x : Object) → Includes v.objects x → (x.place ≡ Untracked) ⊎ (is_at (Gen 2) (in_merge 2 x) ≡ true))

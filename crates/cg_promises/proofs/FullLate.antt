@@ -32,9 +32,9 @@ use Rattle.cg_promises.proofs.FullRuns.{enters_first, running_still}
 use Rattle.cg_promises.proofs.FullStands.{RestsSo, rests_final, rests_loose, rests_same, test_all}
 use Rattle.cg_promises.proofs.Kept.{appended}
 use Rattle.cg_promises.proofs.KeptRuns.{starts_none}
-use Rattle.cg_promises.proofs.Sealed.{IsLate}
-use Rattle.cg_promises.proofs.SealedRuns.{none_first, stops}
-use Rattle.cg_promises.proofs.ToldRuns.{Fit, step_fit}
+use Rattle.cg_promises.proofs.FinalSet.{IsLate}
+use Rattle.cg_promises.proofs.FinalSetRuns.{none_first, stops}
+use Rattle.cg_promises.proofs.FinalizerOnceRuns.{Fit, step_fit}
 
 module _ (script : Script) (kept aside : ℕ → Type 0) (members : List ℕ) (start : List Object) (below : List Activity) (by : (o : ℕ) → aside o → IsAsideBy script aside start o) (apart : (n : ℕ) → aside n → ¬ Includes members n) where
   abbrev RestAll : List Object → Type 0

@@ -14,7 +14,7 @@ use Rattle.cg_machine.specs.Effects.{gens_line}
 use Rattle.cg_machine.specs.Collect.{StartStep, PhaseStep, collectable, has_flag, lines_if, stats}
 use Rattle.cg_machine.specs.Run.{Run, Step, StepOf, StepTaken, IsRun, events_of, last_world, world_after}
 use Rattle.cg_machine.specs.Laws.{IsOfCollection, StartsFull, is_enter, is_stop, runs_own_frame}
-use Rattle.cg_machine.proofs.RunsOrderly.{worlds_orderly}
+use Rattle.cg_machine.proofs.HeldLivesRuns.{worlds_orderly}
 use Rattle.cg_laws.specs.Apart.{StandsRightly}
 use Rattle.cg_laws.proofs.RunsApart.{runs_apart}
 use Rattle.cg_promises.specs.Reached.{IsReached, ReachedIsKept}
@@ -22,9 +22,9 @@ use Rattle.cg_promises.proofs.FullStart.{in_merge, looked_at}
 use Rattle.cg_promises.proofs.FullKept.{full_then, reached_then}
 use Rattle.cg_promises.proofs.FullRuns.{enters_first}
 use Rattle.cg_promises.proofs.FullStop.{NoStop, end_reached, stop_ends}
-use Rattle.cg_promises.proofs.SealedRuns.{none_first, none_stops}
-use Rattle.cg_promises.proofs.ToldRuns.{Fit, opening_fit, run_back, run_front, run_fit, step_fit}
-use Rattle.cg_promises.proofs.YoungRuns.{opening_young, young_after}
+use Rattle.cg_promises.proofs.FinalSetRuns.{none_first, none_stops}
+use Rattle.cg_promises.proofs.FinalizerOnceRuns.{Fit, opening_fit, run_back, run_front, run_fit, step_fit}
+use Rattle.cg_promises.proofs.GenerationsOfRuns.{opening_young, young_after}
 
 -- the step of the start
 pub begins : (script : Script) (w : World) (f : StartsFull w) (events : List Event) (after : World) → Step script w events after → StartStep script w f.collection f.below events after

@@ -23,14 +23,14 @@ use Rattle.cg_machine.proofs.Serials.{Rises}
 use Rattle.cg_promises.specs.Reached.{IsReached}
 use Rattle.cg_machine.proofs.Places.{place_is}
 use Rattle.cg_promises.proofs.FullRuns.{rooted_by}
-use Rattle.cg_promises.proofs.Minded.{IsMinded, degree_free}
-use Rattle.cg_promises.proofs.MindedRuns.{minded_after, opening_minded}
-use Rattle.cg_promises.proofs.SealedStart.{edge_of}
-use Rattle.cg_promises.proofs.Slack.{Excused, IsSlackOne, IsSlackWorld}
-use Rattle.cg_promises.proofs.SlackCommands.{dict_no_tuple}
-use Rattle.cg_promises.proofs.SlackDeaths.{tuple_code}
-use Rattle.cg_promises.proofs.SlackRuns.{death_found, opening_slack, slack_after}
-use Rattle.cg_promises.proofs.ToldRuns.{opening_fit, run_fit}
+use Rattle.cg_promises.proofs.HoldersMove.{IsMinded, degree_free}
+use Rattle.cg_promises.proofs.HoldersMoveRuns.{minded_after, opening_minded}
+use Rattle.cg_promises.proofs.FinalSetStart.{edge_of}
+use Rattle.cg_promises.proofs.UntrackedStay.{Excused, IsSlackOne, IsSlackWorld}
+use Rattle.cg_promises.proofs.UntrackedStayCommands.{dict_no_tuple}
+use Rattle.cg_promises.proofs.UntrackedStayDeaths.{tuple_code}
+use Rattle.cg_promises.proofs.UntrackedStayRuns.{death_found, opening_slack, slack_after}
+use Rattle.cg_promises.proofs.FinalizerOnceRuns.{opening_fit, run_fit}
 
 positive : (n : ℕ) → (n == 0) ≡ false → 0 < n
 positive zero e = absurd (let no : true ≡ false = e in cc)

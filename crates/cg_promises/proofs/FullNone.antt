@@ -22,7 +22,7 @@ use Rattle.cg_laws.proofs.RunsApart.{runs_apart}
 use Rattle.cg_laws.proofs.SetsApart.{stands_at}
 use Rattle.cg_promises.specs.Reached.{IsReached}
 use Rattle.cg_machine.proofs.Places.{place_is}
-use Rattle.cg_promises.proofs.Freed.{none_lives}
+use Rattle.cg_promises.proofs.FinalSetFreed.{none_lives}
 use Rattle.cg_promises.proofs.FullAside.{AllWait, IsLight}
 use Rattle.cg_promises.proofs.FullBegins.{aside_by, begins_early}
 use Rattle.cg_promises.proofs.FullEarly.{Early, FoundSplit, finds_split}
@@ -37,14 +37,14 @@ use Rattle.cg_promises.proofs.FullSplit.{WasAside, WasGarbage, aside_apart, asid
 use Rattle.cg_promises.proofs.FullStands.{RestsSo}
 use Rattle.cg_promises.proofs.FullStop.{stop_ends}
 use Rattle.cg_promises.proofs.Kept.{IsBare}
-use Rattle.cg_promises.proofs.Minded.{IsMinded}
-use Rattle.cg_promises.proofs.MindedRuns.{minded_after, opening_minded}
-use Rattle.cg_promises.proofs.Sealed.{IsLate}
-use Rattle.cg_promises.proofs.SealedRuns.{none_first, none_stops, sealed_after}
-use Rattle.cg_promises.proofs.Sealing.{starts_sealed_world}
-use Rattle.cg_promises.proofs.Slack.{IsSlackWorld}
-use Rattle.cg_promises.proofs.SlackRuns.{opening_slack, slack_after}
-use Rattle.cg_promises.proofs.ToldRuns.{Fit, opening_fit, run_back, run_front, run_fit, step_fit}
+use Rattle.cg_promises.proofs.HoldersMove.{IsMinded}
+use Rattle.cg_promises.proofs.HoldersMoveRuns.{minded_after, opening_minded}
+use Rattle.cg_promises.proofs.FinalSet.{IsLate}
+use Rattle.cg_promises.proofs.FinalSetRuns.{none_first, none_stops, sealed_after}
+use Rattle.cg_promises.proofs.FinalSetKept.{starts_sealed_world}
+use Rattle.cg_promises.proofs.UntrackedStay.{IsSlackWorld}
+use Rattle.cg_promises.proofs.UntrackedStayRuns.{opening_slack, slack_after}
+use Rattle.cg_promises.proofs.FinalizerOnceRuns.{Fit, opening_fit, run_back, run_front, run_fit, step_fit}
 
 -- none of a run's first steps, nor of the others
 enters_both : (front back : List StepTaken) → count_by is_enter (events_of (front ++ back)) ≡ 0 → (count_by is_enter (events_of front) ≡ 0) × (count_by is_enter (events_of back) ≡ 0)

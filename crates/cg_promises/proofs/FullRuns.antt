@@ -23,9 +23,9 @@ use Rattle.cg_promises.specs.Reached.{IsReached}
 use Rattle.cg_promises.proofs.FullStart.{edge_from}
 use Rattle.cg_promises.proofs.Kept.{Full, IsKeptBy, death_in, held_in}
 use Rattle.cg_promises.proofs.KeptRuns.{step_full}
-use Rattle.cg_promises.proofs.SealedRuns.{none_first}
-use Rattle.cg_promises.proofs.SealedStart.{edge, edge_of}
-use Rattle.cg_promises.proofs.ToldRuns.{Fit, step_fit}
+use Rattle.cg_promises.proofs.FinalSetRuns.{none_first}
+use Rattle.cg_promises.proofs.FinalSetStart.{edge, edge_of}
+use Rattle.cg_promises.proofs.FinalizerOnceRuns.{Fit, step_fit}
 
 pub enters_first : (xs ys : List Event) → count_by is_enter (xs ++ ys) ≡ 0 → (count_by is_enter xs ≡ 0) × (count_by is_enter ys ≡ 0)
 enters_first xs ys e = let all : count_by is_enter (xs ++ ys) ≡ count_by is_enter xs + count_by is_enter ys = sum_by-append (λ x. cond (is_enter x) 1 0) xs ys in (omega (arith, all, e), omega (arith, all, e))

@@ -20,8 +20,8 @@ use Rattle.cg_machine.specs.Laws.{is_stop}
 use Rattle.cg_promises.proofs.FullStands.{test_all}
 use Rattle.cg_promises.proofs.FullStop.{Grows, all_saved_grow, grows_trans, test_grows}
 use Rattle.cg_promises.proofs.Kept.{appended}
-use Rattle.cg_promises.proofs.SealedRuns.{none_first, stops}
-use Rattle.cg_promises.proofs.ToldRuns.{Fit, step_fit}
+use Rattle.cg_promises.proofs.FinalSetRuns.{none_first, stops}
+use Rattle.cg_promises.proofs.FinalizerOnceRuns.{Fit, step_fit}
 
 -- the garbage list names an object
 abbrev pub IsNamed : List Object → ℕ → Type 0

@@ -27,10 +27,10 @@ use Rattle.cg_promises.proofs.FullEarly.{Early}
 use Rattle.cg_promises.proofs.FullRuns.{IsRoot, parts, root_down, root_up, rooted_by}
 use Rattle.cg_promises.proofs.FullStands.{Alike, AreAlike, RestsSo, Rests, RestsReached, RestsLoose, RestsAside, IsFinal, Stands, StandsSo, Reached, Loose, Pending, Condemned, SetAside, alike_same, alike_trans, stands_same, test_alike, test_all}
 use Rattle.cg_promises.proofs.FullStart.{HasOutside, in_merge, some_outside}
-use Rattle.cg_promises.proofs.Primed.{IsWanted}
-use Rattle.cg_promises.proofs.SealedStart.{edge, edge_of}
-use Rattle.cg_promises.proofs.Slack.{Excused, IsSlackWorld, IsSlackOne}
-use Rattle.cg_promises.proofs.SlackRuns.{death_found}
+use Rattle.cg_promises.proofs.FinalizersDone.{IsWanted}
+use Rattle.cg_promises.proofs.FinalSetStart.{edge, edge_of}
+use Rattle.cg_promises.proofs.UntrackedStay.{Excused, IsSlackWorld, IsSlackOne}
+use Rattle.cg_promises.proofs.UntrackedStayRuns.{death_found}
 
 -- of the start
 abbrev pub WasGarbage : World → ℕ → Type 0

@@ -23,11 +23,11 @@ use Rattle.cg_machine.proofs.Releasing.{no_times}
 use Rattle.cg_machine.proofs.Serials.{Rises}
 use Rattle.cg_machine.proofs.Unheld.{held_by_member}
 use Rattle.cg_promises.specs.Reached.{IsReached}
-use Rattle.cg_promises.proofs.Freed.{death_on}
-use Rattle.cg_promises.proofs.SealedStart.{edge, edge_of, less_held, more_held}
-use Rattle.cg_promises.proofs.Slack.{IsSlackWorld}
-use Rattle.cg_promises.proofs.SlackRuns.{death_found}
-use Rattle.cg_promises.proofs.Young.{IsYoung}
+use Rattle.cg_promises.proofs.FinalSetFreed.{death_on}
+use Rattle.cg_promises.proofs.FinalSetStart.{edge, edge_of, less_held, more_held}
+use Rattle.cg_promises.proofs.UntrackedStay.{IsSlackWorld}
+use Rattle.cg_promises.proofs.UntrackedStayRuns.{death_found}
+use Rattle.cg_promises.proofs.Generations.{IsYoung}
 
 -- an edge is a reference
 pub edge_from : (xs : List Object) (p q : ℕ) → Includes (edges (graph_of xs)) (edge p q) → (y : Object) × Includes xs y × (y.serial ≡ p) × Includes (references y.entries) q

@@ -21,7 +21,7 @@ use Rattle.cg_machine.proofs.Advancing.{released_advances, dying_advances, phase
 use Rattle.cg_promises.proofs.FullRuns.{IsRoot, reached_lasts, root_down}
 use Rattle.cg_promises.specs.Reached.{IsReached}
 use Rattle.cg_promises.proofs.Kept.{IsBare, appended}
-use Rattle.cg_promises.proofs.SealedRuns.{none_stops}
+use Rattle.cg_promises.proofs.FinalSetRuns.{none_stops}
 
 abbrev pub NoStop : List Event → Type 0
 NoStop events = (event : Event) → Includes events event → is_stop event ≡ false

@@ -20,20 +20,20 @@ use Rattle.cg_machine.specs.Laws.{EntriesLeaveOnlyBy, IsLengthened, IsOfCollecti
 use Rattle.cg_machine.proofs.Ending.{Run-append, last_world-append}
 use Rattle.cg_machine.proofs.Invariants.{on}
 use Rattle.cg_machine.proofs.Forgotten.{lives_within}
-use Rattle.cg_machine.proofs.LeftRuns.{LeavesUnder, leaves_below, step_leaves}
+use Rattle.cg_machine.proofs.LeftBelowRuns.{LeavesUnder, leaves_below, step_leaves}
 use Rattle.cg_machine.proofs.Lookups.{same_object}
 use Rattle.cg_machine.proofs.Sound.{collections_in}
-use Rattle.cg_machine.proofs.Tally.{tally}
+use Rattle.cg_machine.proofs.Sums.{tally}
 use Rattle.cg_machine.proofs.Unheld.{IsStack}
 use Rattle.cg_laws.specs.Apart.{IsApart}
 use Rattle.cg_laws.proofs.RunsApart.{runs_apart}
 use Rattle.cg_laws.proofs.StepsPlain.{IsPlainUnder, step_plain}
 use Rattle.cg_machine.proofs.Advancing.{phase_advances}
-use Rattle.cg_promises.proofs.Leaves.{CallsBack, dying_takes, phase_takes, released_lengthens}
-use Rattle.cg_promises.proofs.Sealing.{alone_below}
-use Rattle.cg_promises.proofs.ToldRuns.{Fit, opening_fit, run_back, run_front, run_fit, step_fit}
-use Rattle.cg_promises.proofs.Turned.{AreFinal, FinalAt, early_after, final_stays, late_final}
-use Rattle.cg_promises.proofs.Waited.{Waited, step_waited}
+use Rattle.cg_promises.proofs.EntriesTaken.{CallsBack, dying_takes, phase_takes, released_lengthens}
+use Rattle.cg_promises.proofs.FinalSetKept.{alone_below}
+use Rattle.cg_promises.proofs.FinalizerOnceRuns.{Fit, opening_fit, run_back, run_front, run_fit, step_fit}
+use Rattle.cg_promises.proofs.StackAfterSteps.{AreFinal, FinalAt, early_after, final_stays, late_final}
+use Rattle.cg_promises.proofs.WaitingReferents.{Waited, step_waited}
 use Rattle.cg_machine.specs.Program.{declares_shutdown}
 use Rattle.cg_machine.specs.Shutdown.{greatest_bound, shut_down, after_commands}
 

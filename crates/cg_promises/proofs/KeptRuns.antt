@@ -27,8 +27,8 @@ use Rattle.cg_machine.proofs.Starting.{starts_either}
 use Rattle.cg_machine.proofs.Lookups.{same_object}
 use Rattle.cg_machine.proofs.Serials.{Rises}
 use Rattle.cg_promises.proofs.Kept.{Fares, Full, IsBare, IsKeptBy, Leaves, all_lose_leaves, entries_leave, leaves_same, leaves_trans, lives_on, lost_leaves, never_released, placed_leaves, saved_leaves, test_leaves, turns_of, without_leaves}
-use Rattle.cg_promises.proofs.SealedRuns.{stops}
-use Rattle.cg_promises.proofs.SlackStart.{not_false}
+use Rattle.cg_promises.proofs.FinalSetRuns.{stops}
+use Rattle.cg_promises.proofs.UntrackedStayStart.{not_false}
 
 -- no frame begins
 pub starts_none : (script : Script) (spec : FrameSpec) (u : World) (events : List Event) (after : World) → Yields (start_frame script spec u) events after → count_by is_enter events ≡ 0 → after.outcome ≡ Running → ⊥

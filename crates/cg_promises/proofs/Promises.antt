@@ -16,10 +16,10 @@ use Rattle.cg_machine.specs.Run.{Run, StepTaken, events_of, last_world}
 use Rattle.cg_machine.specs.Laws.{IsGone, NoDeadNames, OneFinalizerEach, is_finalizer_of, named}
 use Rattle.cg_machine.proofs.Forgotten.{lives_within}
 use Rattle.cg_machine.proofs.Releasing.{no_times}
-use Rattle.cg_machine.proofs.RunsOrderly.{held_live}
+use Rattle.cg_machine.proofs.HeldLivesRuns.{held_live}
 use Rattle.cg_promises.specs.Lines.{NoDeadLines}
-use Rattle.cg_promises.proofs.Told.{Begins, Goes, IsPlain, Says}
-use Rattle.cg_promises.proofs.ToldRuns.{Fit, opening_fit, run_back, run_front, run_fit, step_fit, step_goes}
+use Rattle.cg_promises.proofs.FinalizerOnce.{Begins, Goes, IsPlain, Says}
+use Rattle.cg_promises.proofs.FinalizerOnceRuns.{Fit, opening_fit, run_back, run_front, run_fit, step_fit, step_goes}
 
 -- The finalizer of an object begins.
 count_cons : (n : ℕ) (event : Event) (events : List Event) → count_by (is_finalizer_of n) (event ∷ events) ≡ cond (is_finalizer_of n event) 1 0 + count_by (is_finalizer_of n) events

@@ -9,7 +9,7 @@ use Rattle.cg_machine.specs.World.{World}
 use Rattle.cg_machine.specs.Run.{StepTaken, IsRun, events_of, world_after}
 use Rattle.cg_machine.specs.Laws.{IsRooted, StartsFull, is_enter, is_stop}
 
--- a list of objects leads to it from one that is dying, or held otherwise than by an entry
+-- a list of objects leads to it from one that is dying, or held by a root
 abbrev pub IsReached : World → ℕ → Type 0
 IsReached w o = Reach (IsRooted w) (Includes (serials w.objects)) (edges (graph_of w.objects)) o
 

@@ -9,7 +9,7 @@ pub fn reached_is_kept()
 {}
 
 /// In every run, after a full collection in which no frame begins and at whose start no object is in the permanent generation,
-/// a list of objects leads to each object from one that is dying, or held otherwise than by an entry.
+/// a list of objects leads to each object from one that is dying, or held by a root.
 pub fn full_collections_leave_none()
     ensures known { FullCollectionLeavesNone }
     ensures read { FullCollectionLeavesNoneIn WasRead }

@@ -21,6 +21,7 @@ mod writing;
 
 pub use graph::{Graph, Member, Members, Rec, Records};
 pub use laws::one_reading;
+pub use number::{number_of_word, place_of};
 pub use reading::read_records;
 pub use serials::Serials;
 pub use writing::write_records;

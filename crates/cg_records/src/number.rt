@@ -4,7 +4,7 @@ ghost use Rattle.std.specs.Int.{IsInRange};
 ghost use Rattle.cg_records.specs.Number.{is_plain};
 
 /// The first place of a byte, or the number of bytes where there is none.
-fn place_of(bytes: &[u8], byte: u8) -> usize
+pub fn place_of(bytes: &[u8], byte: u8) -> usize
     ensures within { result ≤ length bytes.now }
     ensures before { (k : ℕ) → k < result → slice_index bytes.now k ≢ byte }
     ensures found { result < length bytes.now → slice_index bytes.now result ≡ byte }
@@ -36,8 +36,8 @@ fn with_digit(number: u64, byte: u8) -> Option<u64>
     number.checked_mul(10)?.checked_add(u64::from(byte - b'0'))
 }
 
-/// The number that a word writes, without leading zeros.
-fn number_of_word(word: &[u8]) -> Option<u64>
+/// The number that a word writes in decimal without leading zeros; none where it is no such word, or the number has more than 64 bits.
+pub fn number_of_word(word: &[u8]) -> Option<u64>
     ensures found { IfSome result (λ number. word.now ≡ decimal number) }
     ensures fits { IfSome result (λ number. number < 2 ^ 64) }
     ensures none { IfNone result ((number : ℕ) → number < 2 ^ 64 → word.now ≢ decimal number) }

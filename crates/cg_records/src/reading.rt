@@ -48,7 +48,7 @@ fn read_lines(alloc: Global, bytes: &[u8]) -> Result<Option<Records>, AllocError
 
 /// The records that the bytes are the text of, or `None` where they are the text of none.
 ///
-/// It takes time linear in the bytes, and memory of a constant factor of them. `AllocError` is for want of memory alone.
+/// It takes time linear in the bytes, and memory of a constant factor of them. `AllocError` comes only where memory runs out.
 pub fn read_records(alloc: Global, bytes: &[u8]) -> Result<Option<Records>, AllocError>
     // What is read is spelled so.
     ensures found { IfOk result (λ read. IfSome read (λ records. Spells bytes.now records × All IsSmall records)) }

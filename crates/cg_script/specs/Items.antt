@@ -61,11 +61,11 @@ declares_shutdown [] = false
 declares_shutdown (Shutdown ∷ items) = true
 declares_shutdown (item ∷ items) = declares_shutdown items
 
--- What stands at these positions, in order, are the lines of these.
+-- The lines at these positions are these, in order.
 abbrev pub StandAt : {A : Type 0} → (A → Item) → List Item → List ℕ → List A → Type 0
 StandAt line items positions those = map (slice_get items) positions ≡ map (λ x. Some (line x)) those
 
--- They are the profile and the budget that some lines declare, and whether they declare a shutdown.
+-- These are the profile and the budget that some lines declare, and whether they declare a shutdown.
 pub record AreDeclared (items : List Item) (declared : Declared) : Type 0 where
   pub profile : declared.profile ≡ declared_profile items
   pub budget : declared.budget ≡ declared_budget items

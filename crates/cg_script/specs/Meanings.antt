@@ -14,7 +14,7 @@ use Rattle.cg_script.specs.Tables.{named}
 use Rattle.cg_script.specs.Words.{is_printable, is_identifier, is_variable, is_value, is_number, is_count, is_profile, names_finalizer, names_legacy, flags}
 use Rattle.cg_script.specs.Forms.{row, sort_at, bindings, openers}
 
--- what a line means: nothing, since it is passed over; these words in a form; or nothing that is read, with a code
+-- what a line means: nothing, since it is ignored; these words in a form; or a bad line, with its code
 pub data Meaning : Type 0 where
   passed : Meaning
   says : Form → List (List ℕ) → Meaning
@@ -41,7 +41,7 @@ fits Budget word = is_count MOST_BUDGET word
 fits Count word = is_count MOST_COUNT word
 fits Flag word = is_some (named flags word)
 
--- the words from a place on do
+-- the words from a place on have the forms that their places ask for
 abbrev pub all_fit : Form → ℕ → List (List ℕ) → Bool
 all_fit form place [] = true
 all_fit form place (word ∷ words) = fits (sort_at form place) word && all_fit form (place + 1) words
@@ -67,7 +67,7 @@ abbrev pub formed_if : Option Form → List (List ℕ) → Meaning
 formed_if None words = bad 2
 formed_if (Some form) words = formed form words
 
--- these words of a line that is not passed over
+-- the words of a line that is not ignored
 abbrev pub worded : List (List ℕ) → Meaning
 worded words =
     if not (word_is words 1 (codes "=")) then formed_if (named openers (word_at words 0)) words

@@ -15,7 +15,7 @@ use Rattle.cg_script.specs.Words.{begins_name, is_quoted, string_text, number_of
 use Rattle.cg_script.specs.Forms.{row, sort_at}
 
 -- What the lines before have brought: texts in the order in which they stand, names of procedures and of classes, whether a budget,
--- whether a shutdown, whether a line that is not passed over, and whether a procedure is open.
+-- whether a shutdown, whether a line that is not ignored, and whether a procedure is open.
 pub record Known : Type 0 where
   pub texts : List (List ℕ)
   pub procs : List (List ℕ)
@@ -106,7 +106,7 @@ parts_from procs classes texts form place [] = []
 parts_from procs classes texts form place (word ∷ words) =
     part_of procs classes texts (sort_at form place) word ∷ parts_from procs classes (with_text_if texts (text_in (sort_at form place) word)) form (place + 1) words
 
--- the texts behind the words from a place on
+-- the texts after the words from a place on
 abbrev pub texts_from : List (List ℕ) → Form → ℕ → List (List ℕ) → List (List ℕ)
 texts_from texts form place [] = texts
 texts_from texts form place (word ∷ words) = texts_from (with_text_if texts (text_in (sort_at form place) word)) form (place + 1) words
@@ -130,6 +130,6 @@ asks_for_defined Proc = true
 asks_for_defined Finalizer = true
 asks_for_defined sort = false
 
--- a place of a line of this form does
+-- a place of a line of this form asks for such a procedure or class
 abbrev pub names_defined : Form → Bool
 names_defined form = list_any asks_for_defined (row form).places

@@ -38,7 +38,7 @@ is_repeated known forms.Budget words = known.budget
 is_repeated known forms.Shutdown words = known.shutdown
 is_repeated known form words = false
 
--- what is wrong with a line of this form behind what is known
+-- what is wrong with a line of this form, by what earlier lines say
 abbrev pub fault_in : Known → Form → List (List ℕ) → Option ℕ
 fault_in known form words =
     if is_misplaced known form then Some 7
@@ -55,11 +55,11 @@ checked known passed = passed
 checked known (says form words) = says_or_bad (fault_in known form words) form words
 checked known (bad code) = bad code
 
--- what the line of this number means behind what is known
+-- what the line of this number means, by what earlier lines say
 unfoldable pub meant : Known → ℕ → List ℕ → Meaning
 meant known number line = checked known (meaning number line)
 
--- the procedures behind a line
+-- the procedures after a line
 abbrev pub procs_after : List (List ℕ) → Form → List (List ℕ) → List (List ℕ)
 procs_after procs forms.Def words = with_text procs (word_at words 1)
 procs_after procs form words = procs
@@ -81,7 +81,7 @@ inside_after inside forms.Def = true
 inside_after inside forms.End = false
 inside_after inside form = inside
 
--- what is known behind a line
+-- what is known after a line
 abbrev pub known_after : Known → Form → List (List ℕ) → Known
 known_after known form words = record {
   texts = texts_from known.texts form 0 words;

@@ -33,7 +33,7 @@ begins_name b = is_letter b || (b == 95)
 abbrev pub is_name_byte : ℕ → Bool
 is_name_byte b = begins_name b || is_digit b
 
--- 1 to so many bytes, of which the first is no digit
+-- at most a number of bytes and at least 1, the first of which is no digit
 abbrev pub is_identifier : List ℕ → Bool
 is_identifier word = nat_le 1 (length word) && nat_le (length word) MOST_NAME_BYTES && begins_name (slice_index word 0) && list_all is_name_byte word
 
@@ -59,11 +59,11 @@ is_variable word = is_identifier word && not (is_reserved word)
 abbrev pub string_text : List ℕ → List ℕ
 string_text word = drop 1 word
 
--- 1 digit or more, and so many at most
+-- at least 1 digit, and at most a number of them
 abbrev pub are_digits : ℕ → List ℕ → Bool
 are_digits most word = nat_le 1 (length word) && nat_le (length word) most && list_all is_digit word
 
--- the number that digits write behind those of n
+-- the number that digits write after those of n
 abbrev pub decimal_after : ℕ → List ℕ → ℕ
 decimal_after n [] = n
 decimal_after n (d ∷ ds) = decimal_after (n * 10 + (d - 48)) ds
@@ -109,7 +109,7 @@ is_value word =
 abbrev pub after_prefix : List ℕ → List ℕ → Option (List ℕ)
 after_prefix prefix word = if bytes_eq (take (length prefix) word) prefix then Some (drop (length prefix) word) else None
 
--- an identifier behind such bytes
+-- an identifier after such bytes
 abbrev pub is_identifier_after : Option (List ℕ) → Bool
 is_identifier_after None = false
 is_identifier_after (Some rest) = is_identifier rest

@@ -35,7 +35,7 @@ pub(crate) struct Draft {
     pub classes: Names,
     pub budget: bool,
     pub shutdown: bool,
-    /// Whether a line was not passed over.
+    /// Whether a line was not ignored.
     pub started: bool,
     pub items: Items,
     pub begun: Option<Begun>,

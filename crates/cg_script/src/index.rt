@@ -75,7 +75,7 @@ impl Index {
         }
     }
 
-    /// The index of these lines. It answers `AllocError` for want of memory alone.
+    /// The index of these lines. It answers `AllocError` only where memory runs out.
     pub fn of(alloc: Global, items: &[Item]) -> Result<Index, AllocError>
         ensures { IfOk result (λ index. IsIndexOf items.now index) }
     {
@@ -86,7 +86,7 @@ impl Index {
         Ok(index)
     }
 
-    /// Adds the line at a position, behind those that stand before it. It answers `AllocError` for want of memory alone, and
+    /// Adds the line at a position, behind those that stand before it. It answers `AllocError` only where memory runs out, and
     /// then it is the index of those.
     #[inline(always)]
     pub fn add(&mut self, at: usize, item: &Item) -> Result<(), AllocError>

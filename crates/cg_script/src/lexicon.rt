@@ -75,7 +75,7 @@ impl Lexicon {
         }
     }
 
-    /// The number of a variable, which is remembered from now on. It answers `AllocError` for want of memory alone.
+    /// The number of a variable, which is remembered from now on. It answers `AllocError` only where memory runs out.
     pub fn learn(&mut self, word: &[u8]) -> Result<u32, AllocError>
         requires variable { is_variable word.now ≡ true }
         requires room { length self.old < 2 ^ 32 - 1 }
@@ -87,7 +87,7 @@ impl Lexicon {
         Ok(number)
     }
 
-    /// The number of a text. It answers `AllocError` for want of memory alone.
+    /// The number of a text. It answers `AllocError` only where memory runs out.
     pub fn intern(&mut self, text: &str) -> Result<u32, AllocError>
         requires { length self.old < 2 ^ 32 - 1 }
         ensures number { IfOk result (λ number. number ≡ text_number self.old text.now) }

@@ -12,7 +12,7 @@ use crate::limits::{MOST_FOUND, MOST_LINE_BYTES, MOST_LINES, MOST_WORDS};
 /// What a line means, beside its words.
 #[derive(Clone, Copy)]
 pub(crate) enum Line {
-    /// Nothing: it is passed over.
+    /// Nothing: it is ignored.
     Passed,
     /// Its words are to be read as this form; whether they fit it is not looked at yet.
     Of(Form),
@@ -51,7 +51,7 @@ fn form_of_binding(words: &[&[u8]]) -> Form
     }
 }
 
-/// A line of these words, which is not passed over.
+/// A line of these words that is not ignored.
 fn line_of_words(words: &[&[u8]]) -> Line
     requires { 1 ≤ length words.now }
     ensures { meaning_of result (map (λ w. w.now) words.now) ≡ worded (map (λ w. w.now) words.now) }
@@ -68,7 +68,7 @@ fn line_of_words(words: &[&[u8]]) -> Line
     }
 }
 
-/// Whether a line of these words is passed over: it has none, or it is a comment.
+/// Whether a line of these words is ignored: it has none, or it is a comment.
 fn is_passed_over(words: &[&[u8]]) -> bool
     ensures { result ≡ is_passed (map (λ w. w.now) words.now) }
 {

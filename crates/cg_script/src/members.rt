@@ -185,7 +185,7 @@ impl Items {
         }
     }
 
-    /// These members in order, with an index. It answers `AllocError` for want of memory alone.
+    /// These members in order, with an index. It answers `AllocError` only where memory runs out.
     pub fn indexed(alloc: Global, members: Vec<Item>) -> Result<Items, AllocError>
         ensures { IfOk result (λ items. items ≡ members.items) }
     {
@@ -209,7 +209,7 @@ impl Items {
         }
     }
 
-    /// Adds a member behind the others, and to the index while it is at hand. It answers `AllocError` for want of memory alone,
+    /// Adds a member behind the others, and to the index while it is at hand. It answers `AllocError` only where memory runs out,
     /// and then nothing has changed.
     #[inline(always)]
     pub(crate) fn push(&mut self, item: Item) -> Result<(), AllocError>

@@ -1,4 +1,4 @@
-//! What has a number, among lines that have no index: they are gone over up to it.
+//! Look-ups by number among lines without an index, by search.
 ghost use Rattle.std.specs.Prelude.{◌≡◌, ◌+◌, ◌<◌, ◌^◌, ◌∷◌, [], OnSome, slice_get, option_copied, option_to_list};
 ghost use Rattle.cg_script.specs.Items.{classes, procedures, commands_of};
 

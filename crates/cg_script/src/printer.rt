@@ -620,7 +620,7 @@ fn write_items(out: &mut Vec<u8>, naming: &Named<'_>, items: &[Item]) -> Result<
 /// Numbers have no leading zeros, a callback that is none is left out, `del=` stands before `legacy=`, `collect` has its
 /// generation, and the flags of `debug` stand in the order stats, collectable, uncollectable, saveall. A number of a text,
 /// procedure or class that the script does not have is printed as no bytes; no script that was read has one. `AllocError`
-/// is for want of memory alone.
+/// comes only where memory runs out.
 pub fn print(alloc: Global, script: &Script) -> Result<Vec<u8>, AllocError>
     ensures { IfOk result (λ bytes. bytes.items ≡ canonical script.now.names script.now.items) }
 {

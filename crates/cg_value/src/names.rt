@@ -13,7 +13,7 @@ const GUESSES: usize = 64;
 
 /// Which guess is that of a text. Texts may share one, and then it is the number of the last that was interned.
 ///
-/// Most names end otherwise than the others, as those that are numbered do, so that all bits of the last byte count.
+/// Most names differ in their last byte, as numbered ones do, so all its bits count.
 #[inline(always)]
 fn guess_place(text: &str) -> usize
     ensures { result < GUESSES }
@@ -101,7 +101,7 @@ impl Names {
 
     /// The number of a text: its position, after it was appended if it was not there.
     ///
-    /// It answers `AllocError` for want of memory alone, and then nothing has changed.
+    /// It answers `AllocError` only where memory runs out, and then nothing has changed.
     pub fn intern(&mut self, text: &str) -> Result<u32, AllocError>
         requires { length self.old < 2 ^ 32 - 1 }
         ensures number { IfOk result (λ number. number ≡ text_number self.old text.now) }

@@ -59,7 +59,7 @@ impl WeakTable {
 
     /// Makes room for one more row, so that `attach_reserved` may be called. (Ours.)
     ///
-    /// It answers `AllocError` for want of memory alone. The rows stay as they are either way.
+    /// It answers `AllocError` only where memory runs out. The rows stay as they are either way.
     pub fn reserve(&mut self) -> Result<(), AllocError>
         ensures ok { OnOk result (0 < self.new.room) }
         ensures rows { self.new.rows ≡ self.old.rows }
@@ -72,7 +72,7 @@ impl WeakTable {
 
     /// Gives a weak reference that is above every other one its referent. Its row goes last, and does not wait. (Ours.)
     ///
-    /// It answers `AllocError` for want of memory alone, and then the rows are as they were.
+    /// It answers `AllocError` only where memory runs out, and then the rows are as they were.
     pub fn attach(&mut self, weak: u64, referent: u64) -> Result<(), AllocError>
         requires { All (λ r. r.weak < weak) self.old.rows }
         ensures ok { OnOk result (self.new.rows ≡ self.old.rows ++ new_row weak referent ∷ []) }

@@ -29,23 +29,23 @@ use Rattle.cg_machine.proofs.Ending.{Run-append, last_world-append}
 use Rattle.cg_machine.proofs.Forgotten.{lives_within}
 use Rattle.cg_machine.proofs.Fronts.{events_of-append}
 use Rattle.cg_machine.proofs.Invariants.{FromTop, on}
-use Rattle.cg_promises.proofs.Told.{Says}
-use Rattle.cg_promises.proofs.ToldRuns.{run_back, run_front, step_goes}
+use Rattle.cg_promises.proofs.FinalizerOnce.{Says}
+use Rattle.cg_promises.proofs.FinalizerOnceRuns.{run_back, run_front, step_goes}
 use Rattle.cg_weakcoll.specs.Exits.{AllOther, Exit, ExitsBeginOnce, IsExit, IsOther, MakesWatch, calls_from, first_of, is_call, is_callback_of, names_of, next_command, watch_command}
-use Rattle.cg_weakcoll.proofs.Fresh.{Unborn, member_below, named_below, new_hidden, unborn, unborn_taken}
+use Rattle.cg_weakcoll.proofs.NewObjects.{Unborn, member_below, named_below, new_hidden, unborn, unborn_taken}
 use Rattle.cg_weakcoll.proofs.HiddenKept.{hidden_kept}
-use Rattle.cg_weakcoll.proofs.Names.{done_names, set_got}
-use Rattle.cg_weakcoll.proofs.Once.{Tells}
-use Rattle.cg_weakcoll.proofs.Own.{IsRef, ref_step}
-use Rattle.cg_weakcoll.proofs.Secret.{Hidden}
-use Rattle.cg_weakcoll.proofs.Stage.{After, AreTame, AtCall, AtDeref, AtObject, AtQuit, AtWatch, Before, During, InFirst, InLast, InOther, InSecond, InThird, IsTail, Position, Stage, high_tame, positioned, stage_told, top_is}
-use Rattle.cg_weakcoll.proofs.StageSteps.{Rests, stage_step}
-use Rattle.cg_weakcoll.proofs.Tame.{AreHidden, IsHigh, high_taken, same_top}
-use Rattle.cg_weakcoll.proofs.Tell.{went_tells}
-use Rattle.cg_weakcoll.proofs.Watch.{Standing, StandsDeref, Watching, callbacks, none_counted, standing_rests}
-use Rattle.cg_weakcoll.proofs.WatchKept.{object_there, watching_step}
-use Rattle.cg_weakcoll.proofs.WatchSteps.{standing_advances}
-use Rattle.cg_weakcoll.proofs.Went.{Acted, Bottomed, Commanded, Due, GaveUp, Known, Lasted, Over, Went, exactly, known_after, went}
+use Rattle.cg_weakcoll.proofs.ExitNamesKept.{done_names, set_got}
+use Rattle.cg_weakcoll.proofs.CallbacksOnce.{Tells}
+use Rattle.cg_weakcoll.proofs.OwnCommands.{IsRef, ref_step}
+use Rattle.cg_weakcoll.proofs.HiddenObjects.{Hidden}
+use Rattle.cg_weakcoll.proofs.ExitStages.{After, AreTame, AtCall, AtDeref, AtObject, AtQuit, AtWatch, Before, During, InFirst, InLast, InOther, InSecond, InThird, IsTail, Position, Stage, high_tame, positioned, stage_told, top_is}
+use Rattle.cg_weakcoll.proofs.ExitStageSteps.{Rests, stage_step}
+use Rattle.cg_weakcoll.proofs.OtherCommands.{AreHidden, IsHigh, high_taken, same_top}
+use Rattle.cg_weakcoll.proofs.WeakReferenceSteps.{went_tells}
+use Rattle.cg_weakcoll.proofs.WatchedReference.{Standing, StandsDeref, Watching, callbacks, none_counted, standing_rests}
+use Rattle.cg_weakcoll.proofs.WatchedReferenceKept.{object_there, watching_step}
+use Rattle.cg_weakcoll.proofs.WatchedReferenceSteps.{standing_advances}
+use Rattle.cg_weakcoll.proofs.KnownOfRuns.{Acted, Bottomed, Commanded, Due, GaveUp, Known, Lasted, Over, Went, exactly, known_after, went}
 
 pub sum_moved : (a b c : ℕ) → (a + b) + c ≡ a + (b + c)
 sum_moved a b c = omega arith

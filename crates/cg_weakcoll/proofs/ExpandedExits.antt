@@ -4,7 +4,7 @@ use Rattle.std.specs.Prelude.{option_map, reverse, slice_get, slice_index_or, un
 use Rattle.std.proofs.lemmas.List.{append_cancel_right, length-map, map-append, reverse-append}
 use Rattle.cg_graph.specs.Member.{Includes}
 use Rattle.cg_graph.proofs.Members.{either, Includes-append_cases, Includes-append_left, Includes-append_right, Includes-map_cases}
-use Rattle.cg_machine.proofs.There.{reversed_back}
+use Rattle.cg_machine.proofs.LinesNameLive.{reversed_back}
 use Rattle.cg_script.specs.declared.Script.{Script}
 use Rattle.cg_script.specs.declared.item.ClassDef.{ClassDef}
 use Rattle.cg_script.specs.declared.item.Item.{Item}
@@ -38,7 +38,7 @@ use Rattle.cg_weakcoll.proofs.FreeNames.{AreFree, IsClear}
 use Rattle.cg_weakcoll.proofs.LookLines.{ReadAs, read_as}
 use Rattle.cg_weakcoll.proofs.ReadLines.{does_all}
 use Rattle.cg_weakcoll.proofs.Passages.{Any, IsFine, Passage, behind, passage}
-use Rattle.cg_weakcoll.proofs.Stretches.{ArePlain, at_place, begun, begun_names, class_said, classes_split, command_said, commands_split, elsewhere, no_classes, no_procedures, procedure_said, procedures_split, run_each, through}
+use Rattle.cg_weakcoll.proofs.ItemsOfLines.{ArePlain, at_place, begun, begun_names, class_said, classes_split, command_said, commands_split, elsewhere, no_classes, no_procedures, procedure_said, procedures_split, run_each, through}
 
 -- numbers of `finalize` lines
 numbers-append : (front lines : List (List ℕ)) (l : ℕ) → finalize_numbers_from l (front ++ lines) ≡ finalize_numbers_from l front ++ finalize_numbers_from (l + length front) lines

@@ -28,15 +28,15 @@ use Rattle.cg_machine.proofs.Invariants.{Takes, on}
 use Rattle.cg_machine.proofs.ShapeLaws.{shape_comes}
 use Rattle.cg_machine.proofs.Shapes.{ByDict, ByFunc, ByInst, ByList, ByRef, ByTuple, IsMadeBy}
 use Rattle.cg_weakcoll.specs.Exits.{Exit}
-use Rattle.cg_weakcoll.proofs.Acts.{Acts, all_to_call}
-use Rattle.cg_weakcoll.proofs.Fresh.{new_hidden, old_hidden, unborn, unborn_taken}
-use Rattle.cg_weakcoll.proofs.Once.{lost_referent}
-use Rattle.cg_weakcoll.proofs.Own.{call_step, func_step}
-use Rattle.cg_weakcoll.proofs.Secret.{Hidden}
-use Rattle.cg_weakcoll.proofs.SecretSteps.{acted_hidden, called_hidden, done_hidden, pushed, restacked, set_free, taken_hidden}
-use Rattle.cg_weakcoll.proofs.Stage.{CallsIt, IsTold, MakesIt, Quiet}
-use Rattle.cg_weakcoll.proofs.Tame.{AreHidden}
-use Rattle.cg_weakcoll.proofs.Went.{Acted, Asked, Began, Bottomed, Changed, Commanded, Done, Due, GaveUp, Known, Lasted, Over, Stood, Stopped, Went, exactly}
+use Rattle.cg_weakcoll.proofs.ActivitySteps.{Acts, all_to_call}
+use Rattle.cg_weakcoll.proofs.NewObjects.{new_hidden, old_hidden, unborn, unborn_taken}
+use Rattle.cg_weakcoll.proofs.CallbacksOnce.{lost_referent}
+use Rattle.cg_weakcoll.proofs.OwnCommands.{call_step, func_step}
+use Rattle.cg_weakcoll.proofs.HiddenObjects.{Hidden}
+use Rattle.cg_weakcoll.proofs.HiddenObjectSteps.{acted_hidden, called_hidden, done_hidden, pushed, restacked, set_free, taken_hidden}
+use Rattle.cg_weakcoll.proofs.ExitStages.{CallsIt, IsTold, MakesIt, Quiet}
+use Rattle.cg_weakcoll.proofs.OtherCommands.{AreHidden}
+use Rattle.cg_weakcoll.proofs.KnownOfRuns.{Acted, Asked, Began, Bottomed, Changed, Commanded, Done, Due, GaveUp, Known, Lasted, Over, Stood, Stopped, Went, exactly}
 
 -- no frame of a stack has the object as a local
 abbrev pub HasLocals : ℕ → List Activity → Type 0

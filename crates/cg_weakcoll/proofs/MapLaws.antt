@@ -23,11 +23,11 @@ use Rattle.cg_machine.proofs.CommandRefs.{name_free}
 use Rattle.cg_machine.proofs.Forgotten.{Unheld, lives_within}
 use Rattle.cg_machine.proofs.Serials.{Rises}
 use Rattle.cg_machine.proofs.Unheld.{Calm, Stands}
-use Rattle.cg_machine.proofs.RunsCalm.{death_stands}
-use Rattle.cg_promises.proofs.ToldRuns.{Fit, opening_fit, run_back, run_fit, run_front, step_fit}
+use Rattle.cg_machine.proofs.UnheldRuns.{death_stands}
+use Rattle.cg_promises.proofs.FinalizerOnceRuns.{Fit, opening_fit, run_back, run_fit, run_front, step_fit}
 use Rattle.cg_weakcoll.specs.Maps.{IsUnder, Look, Looks, LooksAnswer, LooksFindReferents, MakesWeak, WeakMapsAnswer, WeakReferencesKeepTheirReferents, before_second, before_third, referent_value, since_making, steps_before_third, steps_of}
-use Rattle.cg_weakcoll.proofs.Wanes.{IsFading, is_frameless}
-use Rattle.cg_weakcoll.proofs.WanesRuns.{Keeps, keeps_refers, run_keeps}
+use Rattle.cg_weakcoll.proofs.ReferentsLost.{IsFading, is_frameless}
+use Rattle.cg_weakcoll.proofs.ReferentsLostRuns.{Keeps, keeps_refers, run_keeps}
 use Rattle.cg_weakcoll.proofs.Taking.{Done, Refs, changes_so, ref_refs, taken_done}
 use Rattle.cg_weakcoll.proofs.MapRuns.{Found, found, parts}
 

@@ -19,11 +19,11 @@ use Rattle.cg_machine.specs.Effects.{bound, given_up_by}
 use Rattle.cg_machine.specs.Commands.{DoesEffect}
 use Rattle.cg_machine.specs.Laws.{is_enter}
 use Rattle.cg_machine.specs.Run.{StepTaken, Step, Run, events_of, last_world}
-use Rattle.cg_machine.proofs.Tally.{tally, tally-append}
+use Rattle.cg_machine.proofs.Sums.{tally, tally-append}
 use Rattle.cg_machine.proofs.Ending.{last_world-append}
-use Rattle.cg_promises.proofs.ToldRuns.{run_back, run_front}
+use Rattle.cg_promises.proofs.FinalizerOnceRuns.{run_back, run_front}
 use Rattle.cg_weakcoll.specs.Maps.{LookFinds, Look, Looks, before_second, before_third, referent_value, steps_before_third, steps_of}
-use Rattle.cg_weakcoll.proofs.Burns.{Burns, step_burns, weight}
+use Rattle.cg_weakcoll.proofs.CommandsUsedUp.{Burns, step_burns, weight}
 use Rattle.cg_weakcoll.proofs.Taking.{Derefs, Done, Gets, changes_so, deref_derefs, get_gets, taken_done}
 
 -- names

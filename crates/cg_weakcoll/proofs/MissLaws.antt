@@ -16,8 +16,8 @@ use Rattle.cg_machine.specs.Run.{Step, events_of, last_world}
 use Rattle.cg_machine.proofs.Ending.{last_world-append}
 use Rattle.cg_machine.proofs.OriginsOfRuns.{opening_origin, worlds_have_origins}
 use Rattle.cg_machine.proofs.PrintableTexts.{commands_name_texts}
-use Rattle.cg_promises.proofs.MindedRuns.{minded_after, opening_minded}
-use Rattle.cg_promises.proofs.ToldRuns.{opening_fit, run_back, run_front}
+use Rattle.cg_promises.proofs.HoldersMoveRuns.{minded_after, opening_minded}
+use Rattle.cg_promises.proofs.FinalizerOnceRuns.{opening_fit, run_back, run_front}
 use Rattle.cg_weakcoll.specs.Maps.{MissesLeaveNone}
 use Rattle.cg_weakcoll.proofs.Taking.{changes_so, get_refused, none_binds, taken, taken_done}
 use Rattle.cg_weakcoll.proofs.MapRuns.{count_append, names_stay}

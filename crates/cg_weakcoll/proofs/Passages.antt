@@ -29,7 +29,7 @@ use Rattle.cg_script.proofs.Says.{says_of_line}
 use Rattle.cg_script.proofs.Shown.{Begins, begins_along, begins_texts, name_found, neither, text_found}
 use Rattle.cg_weakcoll.proofs.ReadLines.{First, Passes, Says, first_line}
 use Rattle.cg_weakcoll.proofs.LookLines.{all_begin}
-use Rattle.cg_weakcoll.proofs.Stretches.{IsPlain, begun, begun_by, through}
+use Rattle.cg_weakcoll.proofs.ItemsOfLines.{IsPlain, begun, begun_by, through}
 use Rattle.cg_weakcoll.proofs.FreeNames.{AreClear, AreFree, IsClear, names_free, said_names}
 
 abbrev is_whole : Said → Bool

@@ -26,21 +26,21 @@ unfolding digits expansion atoms openers bindings meaning meant
 spelled = refl
 
 -- tests that tell it
-abbrev makes_proc : ℕ → Command → Bool
+abbrev pub makes_proc : ℕ → Command → Bool
 makes_proc p (MakeFunc name proc cells) = proc == p
 makes_proc p command = false
 
-abbrev others_pass : Exit → List ℕ → Bool
+abbrev pub others_pass : Exit → List ℕ → Bool
 others_pass e names = list_all (λ t. not (includes (names_of e) t)) names
 
-abbrev other_passes : Exit → Command → Bool
+abbrev pub other_passes : Exit → Command → Bool
 other_passes e command = others_pass e (command_names command) && not (makes_proc e.proc command)
 
-abbrev all_pass : Exit → List Command → Bool
+abbrev pub all_pass : Exit → List Command → Bool
 all_pass e [] = true
 all_pass e (command ∷ commands) = other_passes e command && all_pass e commands
 
-abbrev bodies_pass : Exit → ℕ → List Proc → Bool
+abbrev pub bodies_pass : Exit → ℕ → List Proc → Bool
 bodies_pass e n [] = true
 bodies_pass e n (p ∷ procs) = (n == e.proc || all_pass e p.body) && bodies_pass e (n + 1) procs
 
@@ -48,7 +48,7 @@ not_true : (b : Bool) → not b ≡ true → b ≡ false
 not_true true i = cc
 not_true false i = refl
 
-others_told : (e : Exit) (names : List ℕ) → others_pass e names ≡ true → AreOthers e names
+pub others_told : (e : Exit) (names : List ℕ) → others_pass e names ≡ true → AreOthers e names
 others_told e [] passes name m = absurd m
 others_told e (t ∷ names) passes name (inl is) = λ own. let p = not_true (includes (names_of e) t) (true_and (not (includes (names_of e) t)) (others_pass e names) passes).0 in let no : true ≡ false = sym (includes-of (names_of e) t (subst (Includes (names_of e)) (sym is) own)) ∙ p in cc
 others_told e (t ∷ names) passes name (inr m) = others_told e names (true_and (not (includes (names_of e) t)) (others_pass e names) passes).1 name m
@@ -61,17 +61,17 @@ other_told e command passes =
       makes = λ name cells is. let no : true ≡ false = sym (ap (makes_proc e.proc) is ∙ eq-eqb e.proc e.proc refl) ∙ not_true (makes_proc e.proc command) both.1 in cc;
     }
 
-all_told : (e : Exit) (commands : List Command) → all_pass e commands ≡ true → AllOther e commands
+pub all_told : (e : Exit) (commands : List Command) → all_pass e commands ≡ true → AllOther e commands
 all_told e [] passes command m = absurd m
 all_told e (c ∷ commands) passes command (inl is) = subst (IsOther e) is (other_told e c (true_and (other_passes e c) (all_pass e commands) passes).0)
 all_told e (c ∷ commands) passes command (inr m) = all_told e commands (true_and (other_passes e c) (all_pass e commands) passes).1 command m
 
-bodies_told : (e : Exit) (n : ℕ) (procs : List Proc) → bodies_pass e n procs ≡ true → (i : ℕ) → n + i ≢ e.proc → AllOther e (unwrap_or (option_map (λ (x : Proc). x.body) (slice_get procs i)) [])
+pub bodies_told : (e : Exit) (n : ℕ) (procs : List Proc) → bodies_pass e n procs ≡ true → (i : ℕ) → n + i ≢ e.proc → AllOther e (unwrap_or (option_map (λ (x : Proc). x.body) (slice_get procs i)) [])
 bodies_told e n [] passes i apart = λ command m. absurd m
 bodies_told e n (p ∷ procs) passes zero apart = either (true_or (n == e.proc) (all_pass e p.body) (true_and (n == e.proc || all_pass e p.body) (bodies_pass e (n + 1) procs) passes).0) (λ t. absurd (apart (let same = eqb-true n e.proc t in omega (arith, same)))) (all_told e p.body)
 bodies_told e n (p ∷ procs) passes (suc i) apart = bodies_told e (n + 1) procs (true_and (n == e.proc || all_pass e p.body) (bodies_pass e (n + 1) procs) passes).1 i (λ same. apart (omega (arith, same)))
 
-classes_told : (p : ℕ) (class : ClassDef) → Includes (classes their_script.items) class → (class.del ≢ Some p) × (class.legacy ≢ Some p)
+pub classes_told : (p : ℕ) (class : ClassDef) → Includes (classes their_script.items) class → (class.del ≢ Some p) × (class.legacy ≢ Some p)
 classes_told p class (inl is) = subst (λ (c : ClassDef). (c.del ≢ Some p) × (c.legacy ≢ Some p)) is (λ i. cc, λ i. cc)
 classes_told p class (inr m) = absurd m
 

@@ -128,7 +128,7 @@ pub record BeginsOnce (script : Script) (budget : ℕ) (steps : List StepTaken) 
 abbrev pub ExitsBeginOnceIn : (Script → Type 0) → Type 0
 ExitsBeginOnceIn Fit = (script : Script) (budget : ℕ) (steps : List StepTaken) → Fit script → IsRun script budget steps → (e : Exit) → IsExit script e → BeginsOnce script budget steps e
 
--- so it is where a script names its own texts alone
+-- the same for each script that names only its own texts
 abbrev pub ExitsBeginOnce : Type 0
 ExitsBeginOnce = ExitsBeginOnceIn TextsAreKnown
 
@@ -162,7 +162,7 @@ pub record CallsFall (script : Script) (budget : ℕ) (steps : List StepTaken) (
 abbrev pub ExitsAreCalledLastFirstIn : (Script → Type 0) → Type 0
 ExitsAreCalledLastFirstIn Fit = (script : Script) (budget : ℕ) (steps : List StepTaken) → Fit script → IsRun script budget steps → (exits : List Exit) → (a : AreExits script exits) → CallsFall script budget steps a.lines exits
 
--- so it is where a script names its own texts alone
+-- the same for each script that names only its own texts
 abbrev pub ExitsAreCalledLastFirst : Type 0
 ExitsAreCalledLastFirst = ExitsAreCalledLastFirstIn TextsAreKnown
 
@@ -201,6 +201,6 @@ ExitsBeginAliveIn Fit = (script : Script) (budget : ℕ) (before during : List S
     → (frame : Frame) (below : List Activity) → FindsAlive e (world_after script budget before) frame below → NoneRefused below (world_after script budget before) during
     → IsUnderway below (last_world (world_after script budget before) during).stack ⊎ (0 < calls_from e.function (world_after script budget before) during)
 
--- so it is where a script names its own texts alone
+-- the same for each script that names only its own texts
 abbrev pub ExitsBeginAlive : Type 0
 ExitsBeginAlive = ExitsBeginAliveIn TextsAreKnown

@@ -114,7 +114,7 @@ opening_form word =
     else if bytes_eq word (codes "finalize") then Some Finalize
     else None
 
--- the form of a line of these words, where it has one and is not passed over
+-- the form of a line of these words, where it has one and is not ignored
 abbrev pub form_of : List (List ℕ) → Option Form
 form_of words =
     if is_passed words then None

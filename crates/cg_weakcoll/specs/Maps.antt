@@ -111,7 +111,7 @@ abbrev pub MissesLeaveNoneIn : (Script → Type 0) → Type 0
 MissesLeaveNoneIn Fit = (script : Script) (budget : ℕ) (before : List StepTaken) (first : StepTaken) (early : List StepTaken) (second : StepTaken) → Fit script → IsRun script budget (before ++ first ∷ early ++ second ∷ [])
     → (x : ℕ) (map key : Operand) → Misses (world_after script budget before) x map key first early second → value_of second.world (Name x) ≡ Some Nothing
 
--- so it is in each that names its own texts alone
+-- the same for each script that names only its own texts
 abbrev pub MissesLeaveNone : Type 0
 MissesLeaveNone = MissesLeaveNoneIn TextsAreKnown
 

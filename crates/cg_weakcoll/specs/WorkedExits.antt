@@ -1,13 +1,16 @@
--- A worked script with two exit finalizers: what its expansion spells has them, as the laws of `Exits` ask, though a string of it is
--- written like a name of the first one. (Ours.)
-use Rattle.std.specs.Prelude.{◌≡◌, ℕ, pos, List, [], ◌∷◌, None, codes}
+-- Worked scripts with exit finalizers. What the expansion of the first spells has two, as the laws of `Exits` ask, though a string of it
+-- is written like a name of the first one. In a run of the second its procedure finds its object alive, and calls the function. (Ours.)
+use Rattle.std.specs.Prelude.{◌≡◌, ℕ, pos, List, [], ◌∷◌, ◌++◌, None, codes}
 use Rattle.cg_script.specs.declared.Script.{Script}
 use Rattle.cg_script.specs.declared.Operand.TheVariants.{Int as IntWord, Name, Str as StrWord}
 use Rattle.cg_script.specs.declared.Item.TheVariants.{Run as Line, Class, Def}
 use Rattle.cg_script.specs.declared.Command.TheVariants.{Bind, Call, Del, MakeFunc, MakeInst, MakeRef, Print}
 use Rattle.cg_script.specs.Reading.{reading, spells}
+use Rattle.cg_script.specs.Texts.{TextsAreKnown}
 use Rattle.cg_weakcoll.specs.Expansion.{expansion}
-use Rattle.cg_weakcoll.specs.Exits.{AreExits, Exit, exit_body}
+use Rattle.cg_machine.specs.World.{Activity, Frame}
+use Rattle.cg_machine.specs.Run.{StepTaken, IsRun, world_after}
+use Rattle.cg_weakcoll.specs.Exits.{AreExits, Exit, FindsAlive, IsExit, NoneRefused, calls_from, exit_body}
 
 -- the extended script
 abbrev pub two_finalizers : List ℕ
@@ -34,3 +37,34 @@ their_script = record {
 pub record HasBoth : Type 0 where
   pub spelled : reading (expansion two_finalizers) ≡ spells their_script.names their_script.items
   pub exits : AreExits their_script (the_first ∷ the_second ∷ [])
+
+-- the extended script with one
+abbrev pub one_finalizer : List ℕ
+one_finalizer = codes "def p\nprint 5\nend\nclass C\nf = func p\na = new C\nfinalize a f\n"
+
+abbrev pub the_exit : Exit
+the_exit = record { proc = 1; object = 5; exit = 8; function = 7; watch = 6; source = Name 2; target = Name 3 }
+
+-- what its expansion spells
+abbrev pub one_script : Script
+one_script = record {
+  names = codes "p" ∷ codes "C" ∷ codes "f" ∷ codes "a" ∷ codes "wv_p_7" ∷ codes "wv_o_7" ∷ codes "wv_w_7" ∷ codes "wv_f_7" ∷ codes "wv_g_7" ∷ [];
+  items = Def (record { name = 0; body = Print (IntWord (pos 5)) ∷ [] }) ∷ Class (record { name = 1; del = None; legacy = None }) ∷ Line (MakeFunc 2 0 []) ∷ Line (MakeInst 3 0)
+      ∷ Def (record { name = 4; body = exit_body the_exit }) ∷ Line (MakeFunc 8 1 []) ∷ Line (Bind 7 (Name 2)) ∷ Line (MakeRef 6 (Name 3) (Name 7))
+      ∷ Line (Call (Name 8)) ∷ [];
+}
+
+-- A run of it meets what `ExitsBeginAlive` asks: its procedure finds its object alive, and none of its commands is refused. There the
+-- function's frame begins.
+pub record FindsAliveAndCalls : Type 0 where
+  pub spelled : reading (expansion one_finalizer) ≡ spells one_script.names one_script.items
+  pub known : TextsAreKnown one_script
+  pub exit : IsExit one_script the_exit
+  pub before : List StepTaken
+  pub during : List StepTaken
+  pub run : IsRun one_script 100 (before ++ during)
+  pub frame : Frame
+  pub below : List Activity
+  pub alive : FindsAlive the_exit (world_after one_script 100 before) frame below
+  pub none_refused : NoneRefused below (world_after one_script 100 before) during
+  pub calls : calls_from the_exit.function (world_after one_script 100 before) during ≡ 1

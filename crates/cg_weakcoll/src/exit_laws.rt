@@ -2,7 +2,7 @@
 ghost use Rattle.cg_script.specs.ReadScripts.{WasRead};
 ghost use Rattle.cg_weakcoll.specs.Exits.{ExitsAreCalledLastFirst, ExitsAreCalledLastFirstIn, ExitsBeginAlive, ExitsBeginAliveIn, ExitsBeginOnce, ExitsBeginOnceIn};
 ghost use Rattle.cg_weakcoll.specs.ExpandedExits.{ExpandedExitsAreThere};
-ghost use Rattle.cg_weakcoll.specs.WorkedExits.{HasBoth};
+ghost use Rattle.cg_weakcoll.specs.WorkedExits.{FindsAliveAndCalls, HasBoth};
 
 /// In every run of a script with an exit finalizer, the callback frames of its weak reference and the frames that its procedure's
 /// call begins are together at most one.
@@ -32,4 +32,10 @@ pub fn two_finalizers_are_there()
 /// In the script that an expansion spells each `finalize` line of the extended script has its exit finalizer, as these laws ask.
 pub fn expanded_exits_are_there()
     ensures { ExpandedExitsAreThere }
+{}
+
+/// There is a run of a worked script with one `finalize` line that `exits_begin_alive` speaks of: its procedure finds its object alive,
+/// none of its commands is refused, and the function's frame begins.
+pub fn a_finalizer_finds_its_object_alive()
+    ensures { FindsAliveAndCalls }
 {}

@@ -46,7 +46,7 @@ pub(crate) fn has_word(words: &[&[u8]], place: usize, text: &[u8]) -> bool
     is_text(word_in(words, place), text)
 }
 
-/// Whether a line of these words is passed over: it has none, or it is a comment.
+/// Whether a line of these words is ignored: it has none, or it is a comment.
 pub(crate) fn is_passed_over(words: &[&[u8]]) -> bool
     ensures { result ≡ is_passed (map (λ w. w.now) words.now) }
 {
@@ -84,7 +84,7 @@ fn opening_form(word: &[u8]) -> Option<Form>
     }
 }
 
-/// The form of a line of these words, where it has one and is not passed over.
+/// The form of a line of these words, where it has one and is not ignored.
 pub(crate) fn form_of(words: &[&[u8]]) -> Option<Form>
     ensures { result ≡ form_of (map (λ w. w.now) words.now) }
 {

@@ -14,8 +14,8 @@ mod worked;
 mod write;
 
 pub use exit_laws::{
-    exits_are_called_last_first, exits_begin_alive, exits_begin_once, expanded_exits_are_there,
-    two_finalizers_are_there,
+    a_finalizer_finds_its_object_alive, exits_are_called_last_first, exits_begin_alive,
+    exits_begin_once, expanded_exits_are_there, two_finalizers_are_there,
 };
 pub use expander::expand;
 pub use map_laws::{

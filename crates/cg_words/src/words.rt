@@ -22,7 +22,7 @@ const MOST_BLOCKS: u32 = 10_000;
 pub enum Job {
     /// To run the script that the source gives, with this budget or without one of its own.
     Run { budget: Option<u32> },
-    /// To run the generated script of so many blocks, and write the summary of its text.
+    /// Runs the generated script of a number of blocks and writes the summary of its text.
     Generate { blocks: u32 },
     /// To write the expansion of the extended script that the source gives.
     Expand,
@@ -171,7 +171,7 @@ fn job_in_matches(matches: &ArgMatches<'_>) -> Option<Job>
 /// an extended script, and `record` for the records of a run.
 ///
 /// The words are read by `clap`. It answers `None` where clap refuses them, or where the text taken for N has not this form
-/// and range, and `AllocError` for want of memory alone. (Ours.)
+/// and range, and `AllocError` only where memory runs out. (Ours.)
 pub fn read_words(alloc: Global, words: &[String]) -> Result<Option<Job>, AllocError>
     ensures job { IfOk result (λ job. job ≡ asked (map string_bytes words.now)) }
     ensures range { IfOk result (λ job. IfSome job IsInRange) }

@@ -2,36 +2,14 @@
 //! status.
 #![tactic(auto)]
 
+mod remarks;
+
+use crate::remarks::{remark_status, remark_verdict};
 use cg_cert::{CheckStatus, check_run};
+use cg_front::{remark_that_input_is_awaited, words_given};
 use cg_io::{ReadSource, WriteSink};
-use std::alloc::Global;
-use std::io::{BufWriter, ErrorKind, Write};
+use std::io::{BufWriter, Write};
 use std::process::ExitCode;
-use std::{env, io};
-
-/// The words after the program's name.
-fn words_after_name(rt: &HostRuntime) -> io::Result<Vec<String>> {
-    let mut words = Vec::new(rt.alloc());
-    for word in env::args(rt)?.skip(1) {
-        words.push(word)?;
-    }
-    Ok(words)
-}
-
-/// The one empty word: it stands for words of which one is not UTF-8.
-fn empty_word(alloc: Global) -> io::Result<Vec<String>> {
-    let mut words = Vec::new(alloc);
-    words.push(String::new(alloc))?;
-    Ok(words)
-}
-
-/// The words that the top call is given.
-fn words_given(rt: &HostRuntime) -> io::Result<Vec<String>> {
-    match words_after_name(rt) {
-        Err(e) if e.kind() == ErrorKind::InvalidData => empty_word(rt.alloc()),
-        words => words,
-    }
-}
 
 /// Checks standard input. What the top call wrote goes out at the end, and a failure there is one of the sink.
 fn check(rt: &HostRuntime, words: &[String]) -> CheckStatus {
@@ -41,6 +19,7 @@ fn check(rt: &HostRuntime, words: &[String]) -> CheckStatus {
     let mut source = ReadSource::new(rt.stdin());
     let mut sink = WriteSink::new(&mut output);
     let status = check_run(rt.alloc(), words, &mut source, &mut sink);
+    remark_verdict(rt, output.buffer());
     match output.flush() {
         Ok(()) => status,
         Err(_) => CheckStatus::WriteFault,
@@ -49,8 +28,14 @@ fn check(rt: &HostRuntime, words: &[String]) -> CheckStatus {
 
 fn main(rt: HostRuntime) -> ExitCode {
     let status = match words_given(&rt) {
-        Ok(words) => check(&rt, words.as_slice()),
+        Ok(words) => {
+            if words.is_empty() {
+                remark_that_input_is_awaited(&rt, "gccheck", "the text of some records");
+            }
+            check(&rt, words.as_slice())
+        }
         Err(_) => CheckStatus::OutOfMemory,
     };
+    remark_status(&rt, status);
     ExitCode::from(status as u8)
 }

@@ -37,8 +37,8 @@ impl<B: Kind> Heap<B> {
         self.names.replace(name as usize, None, Near::default())
     }
 
-    /// The bound name with the greatest number, `None` exactly where no name is bound. What this call passes over is passed
-    /// over once, unless a name above it is bound again.
+    /// The bound name with the greatest number, `None` exactly where no name is bound. It skips each unbound
+    /// name once, unless a name above it is bound again.
     pub fn greatest_name(&mut self) -> Option<u32>
         ensures same { self.new ≡ self.old }
         ensures greatest { IsGreatestBound self.old.names result }

@@ -124,7 +124,7 @@ impl<B: Kind> Heap<B> {
 
     /// Appends an item to a list other than the garbage list.
     ///
-    /// `EntryLimit` comes exactly where 4,000,000 entries stand, and `OutOfMemory` for want of memory alone. A refusal
+    /// `EntryLimit` comes exactly where 4,000,000 entries stand, and `OutOfMemory` only where memory runs out. A refusal
     /// changes nothing.
     #[inline(always)]
     pub fn append(&mut self, list: u64, val: Val) -> Result<(), HeapFault>
@@ -174,7 +174,7 @@ impl<B: Kind> Heap<B> {
     /// manual, `gc.is_tracked`.)
     ///
     /// A present key, and a list, refuse nothing. For a new key `EntryLimit` comes exactly where 4,000,000 entries stand,
-    /// and `OutOfMemory` for want of memory alone. A refusal changes nothing.
+    /// and `OutOfMemory` only where memory runs out. A refusal changes nothing.
     #[inline(always)]
     pub fn put(&mut self, object: u64, key: Val, val: Val) -> Result<Option<Val>, HeapFault>
         requires other { object ≢ 1 }

@@ -1,6 +1,7 @@
-//! Looks at an entry, which are counted.
-ghost use Rattle.std.specs.Prelude.{◌≡◌, ◌↔◌, ◌+◌, ◌<◌, ◌∷◌, ◌++◌, [], Some, IfSome, IfNone, IsNone, length, slice_get};
+//! Looks at an entry, or at the row of a weak reference, which are counted.
+ghost use Rattle.std.specs.Prelude.{◌≡◌, ◌↔◌, ◌+◌, ◌<◌, ◌∷◌, ◌++◌, [], Some, IfSome, IsSome, IfNone, IsNone, length, slice_get};
 ghost use Rattle.cg_graph.specs.Value.{without_last, entry_references};
+ghost use Rattle.cg_graph.specs.Rows.{referent_in, weak_references_in, next_older_in};
 ghost use Rattle.cg_graph.specs.Store.{IsLive, entries_of};
 ghost use Rattle.cg_graph.specs.Changes.{held, rewritten};
 ghost use Rattle.cg_heap.specs.Calls.{HasFewHolds};
@@ -43,5 +44,36 @@ impl<B: Kind> Heap<B> {
             }
             None => None,
         }
+    }
+
+    /// The referent of a weak reference, as `referent_of`, and the counter rises by 1.
+    pub fn referent_looking<L: Ledger>(&self, weak: u64, steps: &mut Steps<L>) -> Option<u64>
+        requires { IsLive self.now weak }
+        ensures referent { result ≡ referent_in self.now.rows weak }
+        ensures steps { steps.new ≡ steps.old + 1 }
+    {
+        steps.rise(1);
+        self.referent_of(weak)
+    }
+
+    /// The newest weak reference to an object, as `newest_of`, and the counter rises by 1.
+    pub fn newest_looking<L: Ledger>(&self, object: u64, steps: &mut Steps<L>) -> Option<u64>
+        requires { IsLive self.now object }
+        ensures newest { result ≡ slice_get (weak_references_in self.now.rows object) 0 }
+        ensures steps { steps.new ≡ steps.old + 1 }
+    {
+        steps.rise(1);
+        self.newest_of(object)
+    }
+
+    /// The next older weak reference to the same object, as `older_of`, and the counter rises by 1.
+    pub fn older_looking<L: Ledger>(&self, weak: u64, steps: &mut Steps<L>) -> Option<u64>
+        requires live { IsLive self.now weak }
+        requires refers { IsSome (referent_in self.now.rows weak) }
+        ensures older { result ≡ next_older_in self.now.rows weak }
+        ensures steps { steps.new ≡ steps.old + 1 }
+    {
+        steps.rise(1);
+        self.older_of(weak)
     }
 }

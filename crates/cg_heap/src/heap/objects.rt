@@ -30,7 +30,7 @@ impl<B: Kind> Heap<B> {
     /// 0, but a dictionary, which is untracked. (`gc` manual, `gc.is_tracked`.)
     ///
     /// `ObjectLimit` comes exactly where 1,000,000 objects are live, else `EntryLimit` exactly where entries and parts
-    /// pass 4,000,000, and `OutOfMemory` for want of memory alone. A refusal changes nothing.
+    /// pass 4,000,000, and `OutOfMemory` only where memory runs out. A refusal changes nothing.
     pub fn make(
         &mut self,
         code: KindCode,

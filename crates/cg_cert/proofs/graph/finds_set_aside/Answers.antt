@@ -4,8 +4,8 @@ use Rattle.cg_records.specs.declared.graph.Member.{Member}
 use Rattle.cg_cert.proofs.Sets.{legacy_answer, search_within}
 use Rattle.cg_cert.proofs.graph.finds_set_aside.Goals as goal
 
-pub search-requires-clause-within : goal.search-requires-clause-within
-search-requires-clause-within c =
+pub reached-requires-clause-within : goal.reached-requires-clause-within
+reached-requires-clause-within c =
     search_within c.args.graph.now c.args.located.now c.requires.located c.deref-2.result.now c.deref-3.result.now c.deref-3.ensures.value
     (ap length c.deref-2.ensures.value ∙ c.requires.located.lost.len ∙ length-map c.args.graph.now.members (λ (m : Member). m.serial))
 

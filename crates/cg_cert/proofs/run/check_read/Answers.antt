@@ -1,6 +1,6 @@
 use Rattle.std.proofs.Common.{inl, inr, arith}
 use Rattle.cg_cert.specs.Statuses.{verdict_row, large_row}
-use Rattle.cg_cert.proofs.Told.{answers_of}
+use Rattle.cg_cert.proofs.CheckFacts.{answers_of}
 use Rattle.cg_cert.proofs.run.check_read.Goals as goal
 
 pub returns-then-bytes-ge-LIMIT-clause-write : goal.returns-then-bytes-ge-LIMIT-clause-write

@@ -1,6 +1,6 @@
 use Rattle.std.proofs.Common.{subst, List, ℕ}
 use Rattle.cg_cert.specs.Statuses.{ToldFront}
-use Rattle.cg_cert.proofs.Told.{told_front}
+use Rattle.cg_cert.proofs.CheckFacts.{told_front}
 use Rattle.cg_cert.proofs.run.check_source.Goals as goal
 
 pub returns-in-Ok-clause-write : goal.returns-in-Ok-clause-write

@@ -2,7 +2,7 @@ use Rattle.std.proofs.Common.{sym, subst, List, ℕ, take, ◌+◌}
 use Rattle.cg_cert.specs.Judged.{serials_of}
 use Rattle.cg_cert.specs.Positions.{IsRowOf}
 use Rattle.cg_cert.proofs.Named.{no_name, row_more}
-use Rattle.cg_cert.proofs.Places.{includes_next}
+use Rattle.cg_search.proofs.Places.{includes_next}
 use Rattle.cg_cert.proofs.table.row_of.Goals as goal
 
 pub returns-in-None-clause-none : goal.returns-in-None-clause-none

@@ -2,5 +2,5 @@ use Rattle.std.proofs.Common.{sym}
 use Rattle.cg_heap.proofs.RowLemmas.{refers_live}
 use Rattle.cg_collect.proofs.detection.newest_beside.Goals as goal
 
-pub newest_of-requires : goal.newest_of-requires
-newest_of-requires g c = (refers_live c.args.heap.now c.sound.ensures.rows c.args.object c.in-Some.referent (sym c.in-Some.ensures)).1
+pub newest_looking-requires : goal.newest_looking-requires
+newest_looking-requires g c = (refers_live c.args.heap.now c.sound.ensures.rows c.args.object c.in-Some.referent (sym c.in-Some.ensures.referent)).1

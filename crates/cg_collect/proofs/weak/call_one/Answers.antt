@@ -16,13 +16,13 @@ pub frame_of_callback-requires-clause-callback : goal.frame_of_callback-requires
 frame_of_callback-requires-clause-callback g c = (c.requires.ready.1 c.in-Some.weak (head_in (list_at c.args.heap.now Pend) c.in-Some.weak (sym c.in-Some.ensures))).1
 
 -- a weak reference that waits is not the garbage list
-pub returns-in-Some : goal.returns-in-Some
-returns-in-Some g c = λ script facts policy.
+pub returns-in-Some-clause-takes : goal.returns-in-Some-clause-takes
+returns-in-Some-clause-takes g c = λ script facts policy.
     let at = (where_is c.args.heap.now c.sound.ensures.listed Pend c.in-Some.weak (head_in (list_at c.args.heap.now Pend) c.in-Some.weak (sym c.in-Some.ensures))).1 in
-    runs c.runs.ensures (turn-called script facts c.args.heap.now policy c.in-Some.weak (sym c.in-Some.ensures) c.frame_of_callback.result c.frame_of_callback.ensures)
+    runs c.runs.ensures (turn-called script facts c.args.heap.now policy c.in-Some.weak (sym c.in-Some.ensures) c.frame_of_callback.result c.frame_of_callback.ensures.frame)
     tt refl (not_garbage c.args.heap.now c.in-Some.weak Pend c.requires.ready.0.0.garbage at (λ e. cc)) (λ n few. few) (omega arith, refl) (keeps_all c.args.heap.now)
 
-pub returns-in-None : goal.returns-in-None
-returns-in-None g c = λ script facts policy.
+pub returns-in-None-clause-takes : goal.returns-in-None-clause-takes
+returns-in-None-clause-takes g c = λ script facts policy.
     goes_on c.to.ensures (turn-all_called script facts c.args.heap.now policy (sym c.in-None.ensures))
     c.requires.ready.0.0 tt (inl (omega arith)) (λ n few. omega (arith, few)) (omega arith, refl) (keeps_all c.args.heap.now)

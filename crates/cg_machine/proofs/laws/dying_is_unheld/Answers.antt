@@ -1,4 +1,4 @@
-use Rattle.cg_machine.proofs.RunsCalm.{dying_unheld}
+use Rattle.cg_machine.proofs.UnheldRuns.{dying_unheld}
 use Rattle.cg_machine.proofs.laws.dying_is_unheld.Goals as goal
 
 pub returns : goal.returns

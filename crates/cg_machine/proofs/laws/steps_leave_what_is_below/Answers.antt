@@ -1,4 +1,4 @@
-use Rattle.cg_machine.proofs.LeftRuns.{steps_leave}
+use Rattle.cg_machine.proofs.LeftBelowRuns.{steps_leave}
 use Rattle.cg_machine.proofs.laws.steps_leave_what_is_below.Goals as goal
 
 pub returns : goal.returns

@@ -1,5 +1,5 @@
 use Rattle.cg_script.proofs.ReadScripts.{read_known}
-use Rattle.cg_promises.proofs.Freed.{final_set_freed}
+use Rattle.cg_promises.proofs.FinalSetFreed.{final_set_freed}
 use Rattle.cg_promises.proofs.final_sets.final_sets_are_freed.Goals as goal
 
 pub returns : goal.returns

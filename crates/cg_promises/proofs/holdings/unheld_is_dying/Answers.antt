@@ -1,5 +1,5 @@
 use Rattle.cg_script.proofs.ReadScripts.{read_known}
-use Rattle.cg_promises.proofs.MindedRuns.{unheld_dying}
+use Rattle.cg_promises.proofs.HoldersMoveRuns.{unheld_dying}
 use Rattle.cg_promises.proofs.holdings.unheld_is_dying.Goals as goal
 
 pub returns : goal.returns

@@ -1,4 +1,4 @@
-use Rattle.cg_promises.proofs.SlackRuns.{untracked_slack}
+use Rattle.cg_promises.proofs.UntrackedStayRuns.{untracked_slack}
 use Rattle.cg_promises.proofs.holdings.untracked_are_slack.Goals as goal
 
 pub returns : goal.returns

@@ -1,5 +1,5 @@
 use Rattle.cg_script.proofs.ReadScripts.{read_known}
-use Rattle.cg_weakcoll.proofs.Order.{last_first}
+use Rattle.cg_weakcoll.proofs.CommandOrder.{last_first}
 use Rattle.cg_weakcoll.proofs.exit_laws.exits_are_called_last_first.Goals as goal
 
 pub returns : goal.returns

@@ -1,5 +1,5 @@
 use Rattle.cg_script.proofs.ReadScripts.{read_known}
-use Rattle.cg_weakcoll.proofs.Alive.{begins_alive}
+use Rattle.cg_weakcoll.proofs.ExitCalls.{begins_alive}
 use Rattle.cg_weakcoll.proofs.exit_laws.exits_begin_alive.Goals as goal
 
 pub returns : goal.returns

@@ -1,5 +1,5 @@
 use Rattle.std.proofs.lemmas.Result.{IfOk-weaker}
-use Rattle.cg_weakcoll.proofs.Fed.{all_written}
+use Rattle.cg_weakcoll.proofs.LinesAsBytes.{all_written}
 use Rattle.cg_weakcoll.proofs.expander.expand.Goals as goal
 
 pub returns-in-Ok-clause-ok : goal.returns-in-Ok-clause-ok

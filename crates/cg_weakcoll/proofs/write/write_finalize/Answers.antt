@@ -1,5 +1,5 @@
 use Rattle.cg_weakcoll.specs.Expansion.{exit_lines, watch_lines}
-use Rattle.cg_weakcoll.proofs.Fed.{both_written}
+use Rattle.cg_weakcoll.proofs.LinesAsBytes.{both_written}
 use Rattle.cg_weakcoll.proofs.write.write_finalize.Goals as goal
 
 pub returns : goal.returns

@@ -2,9 +2,10 @@ use Rattle.std.proofs.Common.{◌+◌, subst, sym, arith}
 use Rattle.std.proofs.lemmas.Grind.{common_steps}
 use Rattle.cg_heap.specs.Calls.{HasFewHolds}
 use Rattle.cg_collect.specs.declared.collection.Collection.{Collection}
+use Rattle.cg_collect.specs.Ready.{GivesUpIn}
 use Rattle.cg_collect.proofs.Staging.{TakesStep, also-ready, also-step}
 use Rattle.cg_collect.proofs.GivingUp.{gives_up-step}
-use Rattle.cg_collect.proofs.Stepping.{given_up_held, ready_on, held_on, looks_on, turned}
+use Rattle.cg_collect.proofs.Stepping.{given_up_held, ready_on, held_on, looks_on, none_left, turned}
 use Rattle.cg_collect.proofs.collection.Collection.step.Goals as goal
 
 pub give_up-requires : goal.give_up-requires
@@ -35,7 +36,7 @@ returns-in-Some g c =
       onward = s.onward;
       objects = s.keeps.objects;
       names = s.keeps.names;
-      looks = omega arith;
+      looks = let none = none_left was.phase now.phase c.in-Some.ensures.some.before c.give_up.new.heap (subst (GivesUpIn was.phase) c.in-Some.ensures.some.had c.requires.ready.gives_up) in omega (arith, none);
     }
 
 -- Its phase had a turn.
@@ -80,5 +81,5 @@ returns g c =
       onward = s.onward;
       objects = s.keeps.objects;
       names = s.keeps.names;
-      looks = looks_on old c.give_up.new.self c.args.heap.now c.give_up.new.heap same c.turn-turn.new.steps c.args.steps.now c.turn-turn.ensures.looks;
+      looks = looks_on old c.give_up.new.self c.args.heap.now c.give_up.new.heap same c.turn-turn.new.steps c.args.steps.now turn.phase c.turn-turn.new.heap c.turn-turn.ensures.looks;
     }

@@ -5,7 +5,7 @@ use Rattle.cg_graph.specs.Store.{Store, outside_of}
 use Rattle.cg_death.specs.Activities.{HasHolds}
 use Rattle.cg_collect.specs.declared.phase.Phase.{Phase}
 use Rattle.cg_collect.specs.Ready.{IsWalk, HasItsWalk}
-use Rattle.cg_collect.specs.Looks.{most_looks}
+use Rattle.cg_collect.specs.Looks.{looks_left, most_looks}
 use Rattle.cg_collect.specs.Collections.{facts_of, own_holds_at}
 use Rattle.cg_collect.proofs.TakingTurns.{at_phase, ready_at, ends}
 use Rattle.cg_collect.proofs.collection.Collection.turn.Goals as goal
@@ -20,10 +20,10 @@ pub returns-in-Telling-clause-takes : goal.returns-in-Telling-clause-takes
 returns-in-Telling-clause-takes g c = at_phase c.in-Telling.is (c.tell_condemned.ensures c.args.script.now (facts_of c.args.self.now) c.args.policy.now)
 
 pub returns-in-WeakClearing-clause-takes : goal.returns-in-WeakClearing-clause-takes
-returns-in-WeakClearing-clause-takes g c = at_phase c.in-WeakClearing.is (c.clear_one.ensures c.args.script.now (sym c.profile.ensures) (facts_of c.args.self.now) c.args.policy.now)
+returns-in-WeakClearing-clause-takes g c = at_phase c.in-WeakClearing.is (c.clear_one.ensures.takes c.args.script.now (sym c.profile.ensures) (facts_of c.args.self.now) c.args.policy.now)
 
 pub returns-in-WeakCalling-clause-takes : goal.returns-in-WeakCalling-clause-takes
-returns-in-WeakCalling-clause-takes g c = at_phase c.in-WeakCalling.is (c.call_one.ensures c.args.script.now (facts_of c.args.self.now) c.args.policy.now)
+returns-in-WeakCalling-clause-takes g c = at_phase c.in-WeakCalling.is (c.call_one.ensures.takes c.args.script.now (facts_of c.args.self.now) c.args.policy.now)
 
 pub returns-in-AfterCallback-clause-takes : goal.returns-in-AfterCallback-clause-takes
 returns-in-AfterCallback-clause-takes g c = at_phase c.in-AfterCallback.is (c.after_callback.ensures c.args.script.now (facts_of c.args.self.now) c.args.heap.now c.args.policy.now (ready_at c.args.heap.now c.args.self.now.generation c.in-AfterCallback.is c.requires.ready))
@@ -44,10 +44,10 @@ pub returns-in-Living-clause-takes : goal.returns-in-Living-clause-takes
 returns-in-Living-clause-takes g c = at_phase c.in-Living.is (c.tell_living.ensures c.args.script.now c.args.policy.now)
 
 pub returns-in-Detaching-clause-takes : goal.returns-in-Detaching-clause-takes
-returns-in-Detaching-clause-takes g c = at_phase c.in-Detaching.is (c.detach_one.ensures c.args.script.now (facts_of c.args.self.now) c.args.policy.now)
+returns-in-Detaching-clause-takes g c = at_phase c.in-Detaching.is (c.detach_one.ensures.takes c.args.script.now (facts_of c.args.self.now) c.args.policy.now)
 
 pub returns-in-Unlinking-clause-takes : goal.returns-in-Unlinking-clause-takes
-returns-in-Unlinking-clause-takes g c = at_phase c.in-Unlinking.is (c.unlink_one.ensures c.args.script.now (facts_of c.args.self.now) c.args.policy.now)
+returns-in-Unlinking-clause-takes g c = at_phase c.in-Unlinking.is (c.unlink_one.ensures.takes c.args.script.now (facts_of c.args.self.now) c.args.policy.now)
 
 pub returns-in-Turns-clause-takes : goal.returns-in-Turns-clause-takes
 returns-in-Turns-clause-takes g c = at_phase c.in-Turns.is (c.take_turn.ensures c.args.script.now c.args.policy.now)
@@ -86,14 +86,27 @@ empty_one-requires-clause-held g c = one_held c.args.heap.now c.in-Turn.object (
 
 -- the detections
 pub returns-in-Start-clause-looks : goal.returns-in-Start-clause-looks
-returns-in-Start-clause-looks g c = subst (λ (p : Phase). c.start.new.steps ≤ c.args.steps.now + most_looks c.args.self.now.generation p c.args.heap.now) (sym c.in-Start.is) c.start.ensures.looks
+returns-in-Start-clause-looks g c = subst (λ (p : Phase). c.start.new.steps + looks_left p c.start.result.phase c.start.new.heap ≤ c.args.steps.now + most_looks c.args.self.now.generation p c.args.heap.now) (sym c.in-Start.is) (let looks = c.start.ensures.looks in omega (arith, looks))
 
 pub returns-in-Split-clause-looks : goal.returns-in-Split-clause-looks
-returns-in-Split-clause-looks g c = subst (λ (p : Phase). c.detect.new.steps ≤ c.args.steps.now + most_looks c.args.self.now.generation p c.args.heap.now) (sym c.in-Split.is) c.detect.ensures.looks
+returns-in-Split-clause-looks g c = subst (λ (p : Phase). c.detect.new.steps + looks_left p c.detect.result.phase c.detect.new.heap ≤ c.args.steps.now + most_looks c.args.self.now.generation p c.args.heap.now) (sym c.in-Split.is) (let looks = c.detect.ensures.looks in omega (arith, looks))
 
 -- and the turns
 pub returns-in-Turn-clause-looks : goal.returns-in-Turn-clause-looks
-returns-in-Turn-clause-looks g c = subst (λ (p : Phase). c.empty_one.new.steps ≤ c.args.steps.now + most_looks c.args.self.now.generation p c.args.heap.now) (sym c.in-Turn.is) c.empty_one.ensures.looks
+returns-in-Turn-clause-looks g c = subst (λ (p : Phase). c.empty_one.new.steps + looks_left p c.empty_one.result.phase c.empty_one.new.heap ≤ c.args.steps.now + most_looks c.args.self.now.generation p c.args.heap.now) (sym c.in-Turn.is) (let looks = c.empty_one.ensures.looks in omega (arith, looks))
+
+-- the walks over weak references
+pub returns-in-WeakClearing-clause-looks : goal.returns-in-WeakClearing-clause-looks
+returns-in-WeakClearing-clause-looks g c = subst (λ (p : Phase). c.clear_one.new.steps + looks_left p c.clear_one.result.phase c.clear_one.new.heap ≤ c.args.steps.now + most_looks c.args.self.now.generation p c.args.heap.now) (sym c.in-WeakClearing.is) c.clear_one.ensures.looks
+
+pub returns-in-WeakCalling-clause-looks : goal.returns-in-WeakCalling-clause-looks
+returns-in-WeakCalling-clause-looks g c = subst (λ (p : Phase). c.call_one.new.steps + looks_left p c.call_one.result.phase c.call_one.new.heap ≤ c.args.steps.now + most_looks c.args.self.now.generation p c.args.heap.now) (sym c.in-WeakCalling.is) (let looks = c.call_one.ensures.looks in omega (arith, looks))
+
+pub returns-in-Detaching-clause-looks : goal.returns-in-Detaching-clause-looks
+returns-in-Detaching-clause-looks g c = subst (λ (p : Phase). c.detach_one.new.steps + looks_left p c.detach_one.result.phase c.detach_one.new.heap ≤ c.args.steps.now + most_looks c.args.self.now.generation p c.args.heap.now) (sym c.in-Detaching.is) c.detach_one.ensures.looks
+
+pub returns-in-Unlinking-clause-looks : goal.returns-in-Unlinking-clause-looks
+returns-in-Unlinking-clause-looks g c = subst (λ (p : Phase). c.unlink_one.new.steps + looks_left p c.unlink_one.result.phase c.unlink_one.new.heap ≤ c.args.steps.now + most_looks c.args.self.now.generation p c.args.heap.now) (sym c.in-Unlinking.is) c.unlink_one.ensures.looks
 
 -- the start comes before no other detection
 pub returns-in-Start-clause-apart : goal.returns-in-Start-clause-apart

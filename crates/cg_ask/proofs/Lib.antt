@@ -1,0 +1,15 @@
+pub mod Answering
+pub mod Asking
+pub mod Clearing
+pub mod Counting
+pub mod Dead
+pub mod Faulty
+pub mod Gone
+pub mod Holding
+pub mod Kept
+pub mod Marking
+pub mod Reaching
+pub mod Released
+pub mod Rows
+pub mod Sizes
+pub mod Ways

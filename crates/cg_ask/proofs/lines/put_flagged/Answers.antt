@@ -1,0 +1,19 @@
+use Rattle.std.proofs.Common.{◌≡◌}
+use Rattle.cg_search.specs.Places.{Marks}
+use Rattle.cg_ask.specs.Marked.{flags_of}
+use Rattle.cg_ask.proofs.Rows.{rows_first, flagged_row_push, flagged_row_skip, flagged_row_all}
+use Rattle.cg_ask.proofs.lines.put_flagged.Goals as goal
+use Rattle.cg_ask.proofs.lines.put_flagged.Goals.{then-marks-at+in_ok-put_line, else-marks-at}
+
+pub places-init : goal.places-init
+places-init c = rows_first (λ m ns. Marks c.args.marks.now m × (ns ≡ flags_of c.args.others.now m)) c.args.word.now c.args.out.now.items
+
+pub places-preserved : goal.places-preserved
+places-preserved c = elim c.if-marks-at.branch [
+  | then-marks-at+in_ok-put_line w ↦ rw (w.out-is)
+      (flagged_row_push c.args.marks.now c.args.others.now c.args.word.now c.places.at w.flag.result c.args.out.now.items c.places.out.items w.put_line.new.out.items w.if-marks-at.true w.flag.ensures w.in_ok-put_line.ensures c.places.invariant)
+  | else-marks-at w ↦ rw (w.out-is) (flagged_row_skip c.args.marks.now c.args.others.now c.args.word.now c.places.at c.args.out.now.items c.places.out.items w.if-marks-at.false c.places.invariant)
+]
+
+pub returns : goal.returns
+returns c = flagged_row_all c.args.marks.now c.args.others.now c.args.word.now c.places.at c.args.out.now.items c.places.out.items c.places-test.false c.places.invariant

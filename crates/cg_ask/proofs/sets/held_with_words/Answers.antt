@@ -1,0 +1,11 @@
+use Rattle.std.proofs.Common.{ap, length, List, ℕ, arith}
+use Rattle.cg_ask.proofs.Kept.{held_with_just}
+use Rattle.cg_ask.proofs.sets.held_with_words.Goals as goal
+
+pub below-requires : goal.below-requires
+below-requires c = omega (arith, ap (λ (ns : List ℕ). length ns) c.as_slice.ensures.value, c.requires.counts.words.len, c.requires.outside.len)
+
+pub returns : goal.returns
+returns c =
+    let less = rw (c.as_slice.ensures.value) at c.in_ok-held.ensures in
+    held_with_just c.args.members.now c.args.counts.now c.args.outside.now c.in_ok-held.held.items c.requires.counts c.requires.outside less

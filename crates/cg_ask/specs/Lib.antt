@@ -1,0 +1,10 @@
+pub mod Answers
+pub mod Asked
+pub mod Counted
+pub mod Dying
+pub mod Faults
+pub mod Marked
+pub mod Released
+pub mod Statuses
+pub mod Told
+pub mod Totals

@@ -1,0 +1,5 @@
+use Rattle.cg_cert.proofs.Counted.{CoverFirst}
+use Rattle.cg_cert.proofs.counts.cover.Given as goal
+
+abbrev pub invariant-members : goal.invariant-members
+invariant-members l = CoverFirst l.members l.at

@@ -1,0 +1,4 @@
+pub mod Counts
+pub mod Places
+pub mod Visits
+pub mod Walks
