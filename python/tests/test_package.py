@@ -125,8 +125,7 @@ class Programs(unittest.TestCase):
         crates = PYTHON.parent / "crates"
         for name, how in programs.BUILDING.items():
             self.assertTrue(how.startswith(f"cd crates/{name} && rt run"))
-            if name != "gcheap":
-                self.assertTrue((crates / name / "src").is_dir())
+            self.assertTrue((crates / name / "src").is_dir())
 
 
 class Fronts(unittest.TestCase):
