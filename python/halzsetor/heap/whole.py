@@ -1,8 +1,9 @@
 """The heap of this process, taken by one call in C in a child that is forked off, so that this process hardly waits.
 
 No bytecode runs between the fork and the last of the steps: no other thread, no signal handler and no hook of the
-program comes between. Members are what the collector tracks and what a path of references leads to from there. The
-objects of this module are left out. Where there is no fork, the steps are made here.
+program comes between, but for hooks of `sys.addaudithook`, which CPython tells of `gc.get_objects` and
+`gc.get_referents`. Members are what the collector tracks and what a path of references leads to from there. The objects
+of this module are left out. Where there is no fork, the steps are made here.
 """
 import ctypes
 import gc
