@@ -8,7 +8,7 @@ import sys
 from .front import run
 
 if sys.implementation.name == "cpython" and sys.version_info[:2] == (3, 12):
-    from .heap.api import Answer, drop, hidden, lost, referrers, untold, why
+    from .heap.api import Answer, drop, hidden, lost, picture, referrers, untold, why
     from .heap.made import since
     from .heap.record import on_signal
 

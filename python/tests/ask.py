@@ -1,13 +1,19 @@
 """A plain judge of questions about a heap, written from their definitions: nothing of it is shared with the recorder.
 
-It answers as gcheap does, and can stand for it:
+It answers as gcheap does, and can stand for it; where gcheap has been built, that has to give the same answer:
 
     python3.12 -m tests.ask < HEAP
 """
+import contextlib
+import io
 import re
+import subprocess
 import sys
 from collections import Counter, deque
+from functools import cached_property
 from typing import Iterable, Iterator
+
+from .recording import GCHEAP
 
 NUMBER = re.compile(r"0|[1-9][0-9]*")
 
@@ -44,6 +50,16 @@ class Graph:
                     waiting.append(target)
         return before
 
+    @cached_property
+    def held_now(self) -> list[int]:
+        """The members that are held from outside."""
+        return self.held(self.rows)
+
+    @cached_property
+    def alive(self) -> set[int]:
+        """The members that a path from a held one leads to."""
+        return set(self.reached(self.held_now, self.rows, set()))
+
     def held(self, rows: list[list[int]]) -> list[int]:
         """The members whose in-degree is above their occurrences."""
         times = self.occurrences(rows)
@@ -69,8 +85,7 @@ class Graph:
 
     def let_go(self, given: set[int]) -> set[int]:
         """What is reached now, and not by paths that avoid these."""
-        held = self.held(self.rows)
-        return set(self.reached(held, self.rows, set())) - set(self.reached(held, self.rows, given))
+        return self.alive - self.reached(self.held_now, self.rows, given).keys()
 
     def stuck(self) -> set[int]:
         """What is lost and left by the next full collection."""
@@ -244,5 +259,28 @@ def main(text: str) -> int:
     return 0
 
 
+def without_choice(answers: str) -> list[str]:
+    """The lines of answers; of a path only how long it is, since there may be several shortest ones."""
+    lines: list[str] = []
+    is_path = False
+    for line in answers.splitlines():
+        is_path = line.startswith("why ") or (is_path and line != "done")
+        lines.append(line.split()[0] if is_path and line.startswith(("held ", "via ")) else line)
+    return lines
+
+
+def compared(text: str) -> int:
+    """Answers all questions, and has gcheap answer them too, if it has been built; the status."""
+    with contextlib.redirect_stdout(io.StringIO()) as answers:
+        status = main(text)
+    sys.stdout.write(answers.getvalue())
+    if GCHEAP.exists():
+        done = subprocess.run([GCHEAP], input=text, capture_output=True, text=True)
+        if (done.returncode, without_choice(done.stdout)) != (status, without_choice(answers.getvalue())):
+            print(f"gcheap has another answer, with the status {done.returncode}", file=sys.stderr)
+            return 9
+    return status
+
+
 if __name__ == "__main__":
-    sys.exit(main(sys.stdin.read()))
+    sys.exit(compared(sys.stdin.read()))

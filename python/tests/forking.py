@@ -14,7 +14,7 @@ from typing import BinaryIO, NoReturn
 from halzsetor.beside.main import main
 
 # how many seconds one may take
-LONGEST = 60
+LONGEST = 600
 
 
 def child(words: list[str], files: list[BinaryIO]) -> NoReturn:

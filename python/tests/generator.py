@@ -31,7 +31,7 @@ GROUPS = (
     (30, ("append", "append", "setitem", "delitem", "put", "put", "drop", "setattr", "setattr", "setattr", "delattr")),
     (22, ("bind", "item", "get", "attr", "deref", "del", "del", "del", "del")),
     (9, ("call", "collect", "collect", "debug", "freeze", "unfreeze", "enable", "disable", "threshold", "quit")),
-    (9, ("print", "refs", "tracked", "finalized", "count", "gens")),
+    (11, ("print", "refs", "tracked", "finalized", "count", "gens", "referents", "referrers", "referrers")),
 )
 SMALL_BUDGET = 12
 LARGE_BUDGET = 150
@@ -260,6 +260,12 @@ class Generator:
 
     def command_tracked(self) -> str:
         return f"tracked {'garbage' if self.random.random() < 0.05 else self.name()}"
+
+    def command_referents(self) -> str:
+        return f"referents {self.name()}"
+
+    def command_referrers(self) -> str:
+        return f"referrers {self.name()}"
 
     def command_finalized(self) -> str:
         return f"finalized {self.name()}"

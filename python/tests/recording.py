@@ -1,11 +1,13 @@
 """Records a program in a process of its own, and asks for the verdict."""
+import importlib.util
 import os
+import shlex
 import subprocess
 import sys
 import tempfile
 import textwrap
 from pathlib import Path
-from typing import NamedTuple
+from typing import Iterable, NamedTuple
 
 from . import judge
 
@@ -13,7 +15,11 @@ HERE = Path(__file__).resolve().parent
 # where the package is
 PYTHON = HERE.parent
 JUDGED = PYTHON.parent / "examples" / "judged"
-GCCHECK = PYTHON.parent / "crates" / "gccheck" / "out" / "gccheck"
+# how many seconds a program may take: a starved machine is slow
+LONGEST = 600
+# where Debian has its Python's packages
+DEBIAN = Path("/usr/lib/python3/dist-packages")
+GCCHECK, GCHEAP = (PYTHON.parent / "crates" / name / "out" / name for name in ("gccheck", "gcheap"))
 
 
 class Recorded(NamedTuple):
@@ -51,23 +57,50 @@ def verdict(text: str) -> str:
     """The verdict of the plain judge; where gccheck has been built, it must say the same."""
     answer = judge.verdict(text)
     if GCCHECK.exists():
-        done = subprocess.run([GCCHECK], input=text, capture_output=True, text=True, timeout=120)
+        done = subprocess.run([GCCHECK], input=text, capture_output=True, text=True, timeout=LONGEST)
         if done.stdout != answer + "\n":
             raise AssertionError(f"gccheck says {done.stdout.strip()}, the plain judge {answer}")
     return answer
 
 
+def folder_of_pytest() -> Path | None:
+    """Where pytest is: that of this Python, or Debian's."""
+    found = importlib.util.find_spec("pytest")
+    if found is not None:
+        return Path(found.origin).parent.parent
+    return DEBIAN if (DEBIAN / "pytest").is_dir() else None
+
+
+def stand_in(folder: Path, name: str, *words: str) -> Path:
+    """A program that stands for a built one: a Python that finds the package and the tests, with these words."""
+    program = folder / name
+    front = " ".join(map(shlex.quote, [sys.executable, *words]))
+    program.write_text(f'#!/bin/sh\nPYTHONPATH={shlex.quote(str(PYTHON))} exec {front} "$@"\n')
+    program.chmod(0o755)
+    return program
+
+
+def stand_in_gccheck(folder: Path) -> Path:
+    """The plain judge in the place of gccheck."""
+    judging = "import sys; from tests.judge import verdict; print(verdict(sys.stdin.read()))"
+    return stand_in(folder, "gccheck", "-c", judging)
+
+
 def run_python(
-    *words: object, folder: Path | None = None, python: str = sys.executable
+    *words: object,
+    folder: Path | None = None,
+    python: str = sys.executable,
+    paths: Iterable[object] = (),
+    **variables: str,
 ) -> subprocess.CompletedProcess[str]:
-    """Runs a Python that finds the package."""
+    """Runs a Python that finds the package, and what is in these folders."""
     return subprocess.run(
         [python, *map(str, words)],
         capture_output=True,
         text=True,
         cwd=folder,
-        timeout=120,
-        env=os.environ | {"PYTHONPATH": str(PYTHON)},
+        timeout=LONGEST,
+        env=os.environ | {"PYTHONPATH": os.pathsep.join(map(str, [PYTHON, *paths]))} | variables,
     )
 
 

@@ -14,11 +14,12 @@ HERE = Path(__file__).resolve().parent
 PROGRAM = ("-m", "halzsetor.gcscript")
 EXAMPLES = HERE.parent.parent / "examples"
 OTHERWISE = EXAMPLES / "otherwise"
+PLAIN = EXAMPLES / "plain"
 TEXTS = HERE / "texts.jsonl"
 POINTS = HERE / "points.json"
 BOTH_BAD = "agrees: the script is bad, and nothing was run"
 # how many seconds a run may take
-LONGEST = 60
+LONGEST = 600
 PROCESSES = min(4, os.cpu_count() or 1)
 
 

@@ -5,8 +5,11 @@ from halzsetor.beside import points, reader
 from halzsetor.beside.main import OURS
 
 from .generator import Generator
+from .recording import run_python
 from .running import (
+    EXAMPLES,
     OTHERWISE,
+    PLAIN,
     Case,
     compare_all,
     example_cases,
@@ -17,7 +20,7 @@ from .running import (
 )
 
 NAMES = {value.partition(":")[0] for name, value in vars(points).items() if name.isupper()}
-FORMS = set(reader.BINDINGS) | set(reader.OPENERS) - OURS.keys()
+FORMS = set(reader.BINDINGS) | set(reader.OPENERS) - OURS.keys() - {"shutdown"}
 
 
 class Stored(unittest.TestCase):
@@ -50,6 +53,18 @@ class Otherwise(unittest.TestCase):
 
     def test_each_point_has_a_script(self) -> None:
         self.assertEqual(NAMES, {case.name.partition("-")[0] for case in folder_cases(OTHERWISE)})
+
+    def test_plain_programs(self) -> None:
+        for case in folder_cases(PLAIN):
+            with self.subTest(case.name):
+                stored = (PLAIN / f"{case.name}.cpython.txt").read_text()
+                self.assertEqual(stored, run_python(PLAIN / f"{case.name}.py").stdout)
+
+    def test_each_row_of_the_rules_has_a_script(self) -> None:
+        rules = (EXAMPLES.parent / "docs" / "RULES.md").read_text()
+        for folder, before in ((OTHERWISE, ""), (PLAIN, "plain/")):
+            for case in folder_cases(folder):
+                self.assertIn(f"| `{before}{case.name}` |", rules)
 
     def test_each_has_the_text_of_cpython(self) -> None:
         for case in folder_cases(OTHERWISE):

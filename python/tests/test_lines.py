@@ -1,6 +1,10 @@
 """What the program prints without a text of gcrun, and what it says where it can't do a script."""
+import tempfile
+import textwrap
 import unittest
+from pathlib import Path
 
+from .recording import run_python
 from .running import run
 
 WITHOUT_TESTCAPI = "import sys; sys.modules['_testcapi'] = None; from halzsetor.gcscript import main; main()"
@@ -65,3 +69,91 @@ class Lines(unittest.TestCase):
         outcome = run(script, python=("-c", WITHOUT_TESTCAPI))
         self.assertEqual(2, outcome.status)
         self.assertIn("_testcapi", outcome.message)
+
+
+class Listed(unittest.TestCase):
+    """What an object holds, and who holds it."""
+
+    def check(self, script: str, *wanted: str) -> None:
+        """Wants these lines that list objects, or refuse to."""
+        outcome = run(script.replace("; ", "\n"))
+        self.assertEqual((0, ""), (outcome.status, outcome.message))
+        words = ("referent", "referrer", "listed", "refused")
+        self.assertEqual(list(wanted), [line for line in outcome.output.splitlines() if line.startswith(words)])
+
+    def test_objects_of_the_script_alone(self) -> None:
+        script = "class C; a = new C; setattr a me a; d = dict; put d 'k a; l = list a 1; "
+        self.check(script + "referents a", "referent #2", "listed 1")
+        self.check(script + "referrers a", "referrer #2", "referrer #3", "referrer #4", "listed 3")
+        self.check(script + "referents d", "referent #2", "listed 1")
+
+    def test_the_garbage_list(self) -> None:
+        said = ("listed 0", "referrer #2", "listed 1", "referent #1", "listed 1")
+        self.check("l = list garbage; referents garbage; referrers garbage; referents l", *said)
+
+    def test_what_is_refused(self) -> None:
+        asks = "def p; referrers l; print 'unseen; end; class C del=p; l = list; a = new C; setattr a me a; del a; "
+        self.check(asks + "referents 1; referrers 'x; collect", "refused 2", "refused 2", "refused 13")
+
+
+class Shutdown(unittest.TestCase):
+    """The end of a script that has a shutdown."""
+
+    SCRIPT = """
+        shutdown
+        def d
+          print self
+        end
+        class C del=d
+        a = new C
+        b = new C
+        c = new C
+        setattr c me c
+        a = new C
+        del b
+        b = new C
+    """
+    PROGRAM = """
+        import os
+        class C:
+            number = 1
+            def __init__(self):
+                C.number += 1
+                self.serial = C.number
+            def __del__(self):
+                os.write(1, f"value #{self.serial}\\n".encode())
+        a = C()
+        b = C()
+        c = C()
+        c.me = c
+        a = C()
+        del b
+        b = C()
+    """
+
+    def test_finalizers_come_as_at_the_end_of_an_interpreter(self) -> None:
+        with tempfile.TemporaryDirectory() as folder:
+            program = Path(folder, "program.py")
+            program.write_text(textwrap.dedent(self.PROGRAM))
+            wanted = run_python(program).stdout
+        outcome = run(textwrap.dedent(self.SCRIPT).lstrip())
+        values = [line for line in outcome.output.splitlines(True) if line.startswith("value ")]
+        self.assertEqual(wanted, "".join(values))
+        self.assertEqual(["left 0", "end"], outcome.output.splitlines()[-2:])
+
+    def test_what_is_left(self) -> None:
+        frozen = "shutdown; x = list; t = tuple x; append x t; freeze"
+        legacy = "shutdown; def d; end; class C legacy=d; a = new C; setattr a me a; t = tuple 1; setattr a t t"
+        for script in (frozen, legacy):
+            self.assertIn("left 2\n", run(script.replace("; ", "\n")).output)
+
+    def test_frames_that_run_when_the_names_are_gone(self) -> None:
+        script = "shutdown; def d; y = self; print x; end; class C legacy=d; a = new C; "
+        script += "l = list a; append l l; x = 1; del a"
+        outcome = run(script.replace("; ", "\n"))
+        self.assertEqual(0, outcome.status, outcome.message)
+        self.assertRegex(outcome.output, r"enter legacy #2\nrefused 1\nleave\ngc stop 2 1 0\nleft 1\nend\n$")
+
+    def test_flags_at_the_end(self) -> None:
+        outcome = run("shutdown\ndebug saveall\n")
+        self.assertEqual((2, "", True), (outcome.status, outcome.output, "ends with debug flags" in outcome.message))

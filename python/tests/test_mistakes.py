@@ -143,10 +143,8 @@ class Gcscript(unittest.TestCase):
     def test_what_it_cannot_carry_out(self) -> None:
         for script, line, word in (
             ("profile 2\na = list\n", 1, "profile"),
-            ("a = list\nshutdown\n", 2, "shutdown"),
             ("a = list\nwhy a\n", 2, "why"),
-            ("a = list\ndef p\nreferrers a\nend\n", 3, "referrers"),
-            ("a = list\nreferents a\nreferrers a\n", 2, "referents"),
+            ("a = list\ndef p\nwhy a\nend\n", 3, "why"),
         ):
             for text in (None, "end\n"):
                 outcome = run(script, text=text)

@@ -12,11 +12,11 @@ import test
 
 from halzsetor import programs
 
-from .recording import JUDGED, PYTHON, run_python, verdict
+from .recording import JUDGED, LONGEST, PYTHON, folder_of_pytest, run_python, verdict
 
 # CPython 3.12 has these among its tests
 WHEELS = [str(wheel) for name in ("setuptools", "wheel") for wheel in Path(test.__file__).parent.glob(f"{name}-*.whl")]
-COMMANDS = ("gcheap", "gcplay", "gcrecord", "gcscript")
+COMMANDS = ("gcheap", "gcplay", "gcrecord", "gcscript", "gctest")
 # pip never asks a server
 ALONE = ("-m", "pip", "install", "--quiet", "--no-index", "--disable-pip-version-check")
 
@@ -44,7 +44,7 @@ class Installed(unittest.TestCase):
     def run_there(cls, command: str, *words: object) -> str:
         """What a command of the environment writes."""
         done = subprocess.run(
-            [cls.bin / command, *map(str, words)], capture_output=True, text=True, cwd=cls.folder, timeout=120
+            [cls.bin / command, *map(str, words)], capture_output=True, text=True, cwd=cls.folder, timeout=LONGEST
         )
         if done.returncode != 0:
             raise AssertionError(f"{command} {words} ended with {done.returncode}: {done.stdout}{done.stderr}")
@@ -59,6 +59,13 @@ class Installed(unittest.TestCase):
     def test_a_program_is_recorded(self) -> None:
         self.run_there("gcrecord", "-o", "cycles.out", JUDGED / "cycles.py", 2)
         self.assertRegex(verdict((self.folder / "cycles.out").read_text()), r"^yes \d+$")
+
+    def test_pytest_has_the_plugin(self) -> None:
+        folder = folder_of_pytest()
+        if folder is None:
+            self.skipTest("pytest is not there (apt-get install python3-pytest)")
+        with mock.patch.dict(os.environ, {"PYTHONPATH": str(folder)}):
+            self.assertIn("--gc-leaks-all", self.run_there("python", "-m", "pytest", "--help"))
 
     def test_a_script_is_run(self) -> None:
         (self.folder / "first.script").write_text("a = list\ndel a\n")
@@ -118,15 +125,14 @@ class Programs(unittest.TestCase):
         crates = PYTHON.parent / "crates"
         for name, how in programs.BUILDING.items():
             self.assertTrue(how.startswith(f"cd crates/{name} && rt run"))
-            if name != "gcheap":
-                self.assertTrue((crates / name / "src").is_dir())
+            self.assertTrue((crates / name / "src").is_dir())
 
 
 class Fronts(unittest.TestCase):
     """Words that are wrong."""
 
     def test_no_traceback(self) -> None:
-        for line in ("gcscript", "gcscript --automatc x", "gcscript missing.script", "gcrecord", "gcplay"):
+        for line in ("gcscript", "gcscript --automatc x", "gcscript missing.script", "gcrecord", "gcplay", "gctest"):
             command, *words = line.split()
             done = run_python("-m", f"halzsetor.{command}", *words)
             self.assertEqual((2, False), (done.returncode, "Traceback" in done.stderr), done.stderr)

@@ -14,7 +14,7 @@ from halzsetor.play.show import Columns, Screen
 from halzsetor.programs import NotFound, find
 
 from .generator import Generator
-from .recording import PYTHON, run_python
+from .recording import LONGEST, PYTHON, run_python, stand_in
 from .running import EXAMPLES, OTHERWISE, PROCESSES, example_cases, folder_cases, run_all
 
 GENERATED = 500
@@ -244,7 +244,7 @@ class Unchanged(unittest.TestCase):
 
     def output(self, program: str, word: str, script: str) -> str:
         """What the program writes."""
-        return subprocess.run([program, word], input=script, capture_output=True, text=True, timeout=60).stdout
+        return subprocess.run([program, word], input=script, capture_output=True, text=True, timeout=LONGEST).stdout
 
 
 class Shown(unittest.TestCase):
@@ -277,10 +277,7 @@ class Commands(unittest.TestCase):
         folder = tempfile.TemporaryDirectory()
         self.addCleanup(folder.cleanup)
         self.folder = Path(folder.name)
-        program = self.folder / "gcrun"
-        program.write_text(f'#!/bin/sh\nPYTHONPATH={PYTHON} exec {sys.executable} -S -m tests.stand_in "$@"\n')
-        program.chmod(0o755)
-        self.program = str(program)
+        self.program = str(stand_in(self.folder, "gcrun", "-S", "-m", "tests.stand_in"))
 
     def play(self, script: str, *words: str, program: str | None = None) -> tuple[int, str, str]:
         """Plays a script: the status, the output and the message."""
@@ -312,9 +309,9 @@ class Commands(unittest.TestCase):
         self.assertEqual((0, "differs in finalized: "), (status, output.splitlines()[-1][:22]))
 
     def test_what_cpython_cannot_do(self) -> None:
-        status, output, message = self.play("shutdown\na = list\n", "--cpython")
+        status, output, message = self.play("profile 2\na = list\n", "--cpython")
         self.assertEqual((2, ""), (status, output))
-        said = "^gcplay: line 1: `shutdown` can't be carried out by CPython: .*; play it without --cpython"
+        said = "^gcplay: line 1: `profile` can't be carried out by CPython: .*; play it without --cpython"
         self.assertRegex(message, said)
 
     def test_a_bad_script(self) -> None:
@@ -337,7 +334,7 @@ class Commands(unittest.TestCase):
             player.stdin.flush()
             self.assertEqual("1  a = list             made list #2  = a\n", player.stdout.readline())
             self.assertIsNone(player.poll())
-            self.assertIn("del a", player.communicate("\n", timeout=60)[0])
+            self.assertIn("del a", player.communicate("\n", timeout=LONGEST)[0])
 
     def test_what_a_user_can_do_wrong(self) -> None:
         missing = str(self.folder / "missing")
@@ -353,7 +350,7 @@ class Commands(unittest.TestCase):
         script.write_text("a = list\n" * 3000)
         words = f"{sys.executable} -m halzsetor.gcplay --gcrun {self.program} {script} | head -1"
         environment = os.environ | {"PYTHONPATH": str(PYTHON)}
-        done = subprocess.run(words, shell=True, capture_output=True, text=True, env=environment, timeout=60)
+        done = subprocess.run(words, shell=True, capture_output=True, text=True, env=environment, timeout=LONGEST)
         self.assertEqual("", done.stderr)
 
 

@@ -14,7 +14,7 @@ from halzsetor.recorder.explain import is_text_of_records
 from halzsetor.recorder.recorder import Collection
 from halzsetor.recorder.snapshot import OWN_REFERENCES, Snapshot
 
-from .recording import GCCHECK, JUDGED, PYTHON, explained, record, run, run_python, verdict
+from .recording import GCCHECK, JUDGED, PYTHON, explained, record, run, run_python, stand_in_gccheck, verdict
 from .test_judge import VERDICTS
 
 sys.path.insert(0, str(JUDGED))
@@ -518,10 +518,7 @@ class Judged(unittest.TestCase):
         folder = tempfile.TemporaryDirectory()
         self.addCleanup(folder.cleanup)
         self.folder = Path(folder.name)
-        program = self.folder / "gccheck"
-        judging = "import sys; from tests.judge import verdict; print(verdict(sys.stdin.read()))"
-        program.write_text(f"#!/bin/sh\nPYTHONPATH={PYTHON} exec {sys.executable} -c '{judging}'\n")
-        program.chmod(0o755)
+        program = stand_in_gccheck(self.folder)
         self.programs = [program, GCCHECK] if GCCHECK.exists() else [program]
 
     def judge(self, gccheck: Path, *words: object) -> tuple[int, str, str]:

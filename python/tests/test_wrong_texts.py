@@ -3,7 +3,7 @@ import unittest
 from random import Random
 from typing import Callable
 
-from halzsetor.beside.texts import seen
+from halzsetor.beside.texts import is_debug_line, seen
 
 from .running import OTHERWISE, Case, compare_all, folder_cases, run, stored_cases
 
@@ -42,6 +42,11 @@ def shown(lines: list[str]) -> list[tuple[str, ...]]:
     return [line.words for line in seen(lines)]
 
 
+def may_move(words: tuple[str, ...]) -> bool:
+    """Whether a line is one of those that a point lets come in any order."""
+    return is_debug_line(words) or words[0] in ("referent", "referrer")
+
+
 class WrongTexts(unittest.TestCase):
     """Each way to be wrong in one line."""
 
@@ -59,7 +64,7 @@ class WrongTexts(unittest.TestCase):
         wrong = []
         for case in self.cases:
             lines = case.text.splitlines()
-            places = [line.place for line in seen(lines)]
+            places = [line.place for line in seen(lines) if not may_move(line.words)]
             spoilt = [spoil(lines, place) for place in random.sample(places, len(places))]
             found = next(text for text in spoilt if shown(text) != shown(lines))
             wrong.append(Case(case.name, case.script, "\n".join(found) + "\n"))
@@ -132,6 +137,20 @@ class WrongPoints(unittest.TestCase):
 
     def test_a_late_weak_reference_that_keeps_its_referent(self) -> None:
         self.refuse_change("late", "cleared #5\n", "")
+
+    def test_a_holder_that_is_too_many(self) -> None:
+        self.refuse_change("listed", "referent #3\n", "referent #3\nreferent #3\n")
+        self.refuse_change("listed", "referent #3\n", "")
+        self.refuse_change("listed", "listed 2\n", "")
+        self.refuse("a = list; b = list a; referrers a", "made list #2; made list #3; referrer #2; listed 1; end")
+
+    def test_a_holder_that_is_seen(self) -> None:
+        self.refuse("a = list; b = list a; referrers a", "made list #2; made list #3; listed 0; end")
+        self.refuse("a = list; referrers a", "made list #2; referrer #2; listed 1; end")
+
+    def test_a_shutdown_with_other_frames(self) -> None:
+        self.refuse_change("shutdown", "enter del #3\nvalue #3\n", "enter del #3\nvalue #2\n")
+        self.refuse_change("shutdown", "enter del #3\nvalue #3\nleave\n", "")
 
     def test_a_saved_object_without_flags(self) -> None:
         self.refuse_change("turns", "gc stop 2", "gc saved #2\ngc stop 2")

@@ -19,6 +19,8 @@ class Collector:
         self.is_running = False
         # how many items of the garbage list have been told
         self.saved = 0
+        # how many objects of the reader's own are garbage
+        self.own = 0
 
     def watch(self) -> None:
         """Begins to tell what the collector does."""
@@ -37,7 +39,7 @@ class Collector:
         for position in range(self.saved, len(gc.garbage)):
             self.emit(f"gc saved #{self.registry.serial(gc.garbage[position])}")
         self.saved = len(gc.garbage)
-        self.emit(f"gc stop {generation} {info['collected']} {info['uncollectable']}")
+        self.emit(f"gc stop {generation} {info['collected'] - self.own} {info['uncollectable']}")
 
     def tell_sizes(self) -> None:
         """Tells the sizes of the generations."""

@@ -8,13 +8,28 @@ points of `points.py`, and to have the form that this point can give it:
   an object is gone behind them whose contents they may be about, or a function between two callbacks;
 - a line that differs is an answer about an object of which the run notes that the point bears on it;
 - lines on saved objects differ only in a collection in which a frame set the debug flags;
+- an answer that lists objects has the same in another order; holders that CPython lacks may be frozen or untracked;
+- from the shutdown on all lines but those of collections, and the number of what is left, come in another order;
 - a frame that CPython has alone is that of a callback of a weak reference which was made in the same collection.
 
 What follows from a point later on, as another value under a name, is explained by nothing.
 """
-from typing import NamedTuple
+from collections import Counter
+from typing import Iterator, NamedTuple
 
-from .points import CALLBACKS, COLLECTION, CONTENTS, FINALIZED, FLAGS, GARBAGE, HELD, LATE
+from .points import (
+    CALLBACKS,
+    COLLECTION,
+    CONTENTS,
+    FINALIZED,
+    FLAGS,
+    GARBAGE,
+    HELD,
+    HOLDERS,
+    LATE,
+    LISTED,
+    SHUTDOWN,
+)
 from .texts import UNSEEN, Block, Item, Line, is_debug_line, last_place, seen, tree
 
 FIRST_SERIAL = 2
@@ -48,6 +63,8 @@ class Evidence:
         self.wide: set[str] = set()
         # where a command sets the debug flags while a collection is under way
         self.debugged: list[int] = []
+        # where the shutdown begins
+        self.shutdown: int | None = None
 
 
 class Comparison:
@@ -85,7 +102,12 @@ class Comparison:
         mine = their = 0
         while mine < len(ours) or their < len(theirs):
             length = self.moving(theirs, their)
-            if length:
+            if self.is_of_shutdown(item_at(theirs, their)):
+                self.match_shutdown(ours[mine:], theirs[their:])
+                return
+            if is_listed(item_at(ours, mine)) and is_listed(item_at(theirs, their)):
+                mine, their = self.match_listed(ours, mine, theirs, their)
+            elif length:
                 frames = theirs[their : their + length]
                 mine += self.match_frames(ours[mine : mine + length], frames, collection)
                 their += length
@@ -146,11 +168,43 @@ class Comparison:
         explained = (
             (note == FINALIZED and pair == ("finalized yes", "finalized no"))
             or (note == GARBAGE and pair == ("tracked no", "tracked yes"))
-            or (note == HELD and pair[0] == f"refs {int(theirs.words[1]) + 1}")
+            or (note == HELD and abs(int(ours.words[1]) - int(theirs.words[1])) == 1)
         )
         if not explained:
             raise Differs(ours, theirs)
         self.points.add(note)
+
+    def match_listed(self, ours: list[Item], mine: int, theirs: list[Item], their: int) -> tuple[int, int]:
+        """Matches the lists of objects that begin here, in any order; answers where they end."""
+        last, other_last = end_of_list(ours, mine), end_of_list(theirs, their)
+        listed = [item.words for item in ours[mine:last]]
+        found = [self.ours_for(item.words) for item in theirs[their:other_last]]
+        missing = Counter(listed) - Counter(found)
+        is_frozen = self.evidence.notes.get(theirs[other_last].place) == HOLDERS
+        is_whole = ours[last].words[1] == str(len(listed)) and not Counter(found) - Counter(listed)
+        if not is_whole or not all(self.is_unseen(words, is_frozen) for words in missing):
+            raise Differs(ours[mine], theirs[their])
+        if missing:
+            self.points.add(HOLDERS)
+        elif listed != found:
+            self.points.add(LISTED)
+        return last + 1, other_last + 1
+
+    def is_unseen(self, words: tuple[str, ...], is_frozen: bool) -> bool:
+        """Whether CPython may not find a holder: where objects are frozen it may be one, and else not be tracked."""
+        return words[0] == "referrer" and (is_frozen or self.kinds.get(words[1]) in ("tuple", "dict"))
+
+    def is_of_shutdown(self, item: Item | None) -> bool:
+        """Whether an item of CPython's is of the shutdown."""
+        return self.evidence.shutdown is not None and item is not None and item.place >= self.evidence.shutdown
+
+    def match_shutdown(self, ours: list[Item], theirs: list[Item]) -> None:
+        """Matches the lines from the shutdown on: but for collections and what is left, the same in another order."""
+        mine, their = list(lines_in(ours)), [self.ours_for(words) for words in lines_in(theirs)]
+        if mine != their:
+            if sorted(filter(is_no_number, mine)) != sorted(filter(is_no_number, their)):
+                raise Differs(item_at(ours, 0), item_at(theirs, 0))
+            self.points.add(SHUTDOWN)
 
     def match_debug_lines(self, ours: Block, theirs: Block) -> None:
         """Matches a collection's lines on objects that are garbage or saved, which come in any order."""
@@ -256,6 +310,35 @@ def item_at(items: list, place: int) -> Item | None:
     return items[place] if place < len(items) else None
 
 
+def is_listed(item: Item | None) -> bool:
+    """Whether an item is of a list of objects."""
+    return item is not None and item.words[0] in ("referent", "referrer", "listed")
+
+
+def end_of_list(items: list[Item], place: int) -> int:
+    """Where a list of objects ends that has begun here or before."""
+    while is_listed(item_at(items, place)) and items[place].words[0] != "listed":
+        place += 1
+    if not is_listed(item_at(items, place)):
+        raise Differs(item_at(items, place), None)
+    return place
+
+
+def is_no_number(words: tuple[str, ...]) -> bool:
+    """Whether a line is none of a collection's own, and not the number of what is left."""
+    return words[0] not in ("gc", "left")
+
+
+def lines_in(items: list[Item]) -> Iterator[tuple[str, ...]]:
+    """The words of all lines of the items, in order."""
+    for item in items:
+        yield item.words
+        if isinstance(item, Block):
+            yield from lines_in(item.body)
+            if item.tail is not None:
+                yield item.tail.words
+
+
 def without_debug_lines(items: list[Item]) -> list[Item]:
     """The items of a collection that are in order."""
     return [item for item in items if not is_debug_line(item.words)]
@@ -263,9 +346,4 @@ def without_debug_lines(items: list[Item]) -> list[Item]:
 
 def words_of(items: list[Item]) -> set[tuple[str, ...]]:
     """The words of all lines of the items."""
-    found: set[tuple[str, ...]] = set()
-    for item in items:
-        found.add(item.words)
-        if isinstance(item, Block):
-            found |= words_of(item.body)
-    return found
+    return set(lines_in(items))

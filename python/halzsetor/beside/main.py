@@ -26,9 +26,6 @@ DEEPEST = 1_000_000
 # lines that are gcrun's alone, and why
 OURS = {
     "profile": "its collector has one rule for weak references",
-    "shutdown": "its own end does more than a script's",
-    "referents": "its answer has types and dictionaries that no script makes",
-    "referrers": "its answer would have what this program holds",
     "why": "it has no such question",
 }
 
@@ -129,7 +126,8 @@ def first_of_ours(script: Script) -> str | None:
     """Why a script can't be carried out, where it has a line that is gcrun's alone."""
     bodies = [script.commands, *(procedure.body for procedure in script.procedures.values())]
     found = {command.line: command.form for body in bodies for command in body if command.form in OURS}
-    found |= {line: word for word in ("profile", "shutdown") if (line := getattr(script, word)) is not None}
+    if script.profile is not None:
+        found[script.profile] = "profile"
     if not found:
         return None
     line = min(found)

@@ -112,12 +112,28 @@ class Registry:
         serial = self.serials.get(id(found), GARBAGE_SERIAL)
         return serial != GARBAGE_SERIAL and self.types[serial] is type(found)
 
+    def is_known(self, found: object) -> bool:
+        """Whether an object is one of the script's, or the garbage list."""
+        return found is gc.garbage or self.is_of_script(found)
+
     def size(self, generation: int) -> int:
         """How many of the script's objects stand in a generation."""
         size = 0
         for found in gc.get_objects(generation):
             size += self.is_of_script(found)
         return size
+
+    def left(self) -> int:
+        """How many of the script's objects live, when nothing else is to come: also what is frozen or not tracked."""
+        gc.unfreeze()
+        found = {id(one): one for one in gc.get_objects() + gc.garbage if self.is_of_script(one)}
+        left = list(found.values())
+        while left:
+            for one in gc.get_referents(left.pop()):
+                if id(one) not in found and self.is_of_script(one):
+                    found[id(one)] = one
+                    left.append(one)
+        return len(found)
 
     def forget_tuples_of_a_call(self, names: dict[str, object]) -> None:
         """Forgets what was at the addresses of the tuples that CPython has made to call a callback.

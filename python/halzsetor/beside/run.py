@@ -10,8 +10,10 @@ Nothing that the reader makes while a script runs becomes garbage of the collect
 collection are the script's alone; and it makes no list, tuple or dictionary that is there while a frame or `gens` runs,
 since that one might lie where an object of the script was.
 """
+import ctypes
 import gc
 import sys
+import weakref
 from typing import Callable, Iterable, NoReturn, Protocol
 
 from .collector import Collector
@@ -26,7 +28,7 @@ from .objects import (
     new_class,
     new_function,
 )
-from .points import FINALIZED, GARBAGE, HELD
+from .points import FINALIZED, GARBAGE, HELD, HOLDERS
 from .reader import Command, Operand, Procedure, Script, Sort
 
 NO_NAME = 1
@@ -38,8 +40,11 @@ NOT_WEAK = 6
 NOT_CALLABLE = 7
 BAD_GENERATION = 8
 UNHASHABLE = 9
+IN_A_COLLECTION = 13
 # the answer of `quit none`, which is no refusal
 QUIT = 0
+# what the names stand under in their own dictionary, and what tells that it is gone: no names of a script
+GLOBALS, SIGN = "globals()", "gone()"
 
 # how often the reader itself holds what a frame is about: see `finalizer_of`, `Function.__call__` and `Frame`; the
 # arguments of a callback are a tuple of CPython's
@@ -87,12 +92,18 @@ class Machine:
         self.budget = script.budget
         self.lines: list[str] = []
         self.evidence = Evidence()
-        self.names: dict[str, object] = {}
+        self.bound_names: dict[str, object] = {}
+        # the address of the dictionary of names while that is garbage
+        self.thrown_away: int | None = None
+        # tells when that dictionary is cleared
+        self.sign: weakref.ref | None = None
         self.registry = Registry()
         self.held: dict[int, int] = {}
         self.attributes: dict[type, set[str]] = {}
         self.classes: dict[str, type] = {}
         self.collector = Collector(self.registry, self.emit)
+        # whether objects of the script may be in the permanent generation
+        self.is_frozen = False
         # how often CPython itself holds the garbage list
         self.garbage_base = 0
         self.methods = {name[3:]: getattr(self, name) for name in dir(self) if name.startswith("do_")}
@@ -112,8 +123,58 @@ class Machine:
             gc.enable()
         self.run_commands(self.script.commands, None)
         self.collect_what_is_due(None)
+        if self.script.shutdown is not None:
+            self.shut_down()
         self.emit("end")
         self.ended(self.lines)
+
+    def shut_down(self) -> None:
+        """Ends as an interpreter does: a collection, then the names are given up, another one, and what is left."""
+        if self.collector.flags:
+            raise Unsupported("the script ends with debug flags, which would tell of the reader's own objects too")
+        self.evidence.shutdown = len(self.lines)
+        self.evidence.starts.add(len(self.lines))
+        if not self.is_frozen:
+            # so that the names are among what is collected, as a module's globals are
+            gc.unfreeze()
+        self.thrown_away = id(self.bound_names)
+        # the collector meets the names before their holder, as a module's globals before the modules: that makes the
+        # order of the names the order of what they hold
+        holder = [self.bound_names]
+        del self.bound_names
+        gc.collect()
+        self.give_names_up(holder)
+        gc.collect()
+        self.collector.own = 0
+        if self.thrown_away is not None:
+            self.begin_new_names()
+        self.emit(f"left {self.registry.left()}")
+
+    def begin_new_names(self, _: object = None) -> None:
+        """The dictionary of names is gone: what is bound from now on stands in a new one."""
+        self.thrown_away, self.bound_names = None, {}
+
+    def give_names_up(self, holder: list[dict[str, object]]) -> None:
+        """Gives the names up, as those of a module are when it goes."""
+        if self.script.procedures:
+            # functions hold their module's globals, so these are garbage together with all that only they hold
+            self.names[GLOBALS] = self.names
+            # the collector does not track code, so this dies when the dictionary is cleared, and no sooner
+            self.names[SIGN] = compile("", SIGN, "exec")
+            self.sign = weakref.ref(self.names[SIGN], self.begin_new_names)
+            self.collector.own = 1
+        else:
+            # the globals die, and give up their first entry first
+            while self.names:
+                del self.names[next(iter(self.names))]
+        holder.clear()
+
+    @property
+    def names(self) -> dict[str, object]:
+        """The names that are bound."""
+        if self.thrown_away is not None:
+            return ctypes.cast(self.thrown_away, ctypes.py_object).value
+        return self.bound_names
 
     def emit(self, line: str) -> None:
         """Writes a line."""
@@ -377,7 +438,6 @@ class Machine:
         target, found = self.value(operand, frame), self.value(key, frame)
         old = target.pop(found)
         del target
-        del found
         del old
 
     def do_get(self, frame: Frame | None, parts: tuple) -> int | None:
@@ -480,9 +540,11 @@ class Machine:
 
     def do_freeze(self, frame: Frame | None, parts: tuple) -> None:
         gc.freeze()
+        self.is_frozen = True
 
     def do_unfreeze(self, frame: Frame | None, parts: tuple) -> None:
         gc.unfreeze()
+        self.is_frozen = False
 
     # commands that answer
 
@@ -505,9 +567,19 @@ class Machine:
         count = sys.getrefcount(value) - 2
         if value is gc.garbage:
             count += 1 - self.garbage_base
-        if type(value) is WeakReference and self.held.get(id(value)) and value.__callback__ is None:
+        if self.is_held_otherwise(value, frame):
             self.note(HELD)
         self.emit(f"refs {count - self.held.get(id(value), 0)}")
+
+    def is_held_otherwise(self, value: object, frame: Frame | None) -> bool:
+        """Whether CPython may hold a weak reference to a dying object at other times than gcrun.
+
+        The one with a callback is not held, if it is the only one; one without a callback is, if it is of a subclass.
+        """
+        if type(value) is not WeakReference or value.__callback__ is not None:
+            return False
+        is_in_callback = frame is not None and frame.sort == "callback"
+        return bool(self.held.get(id(value))) or (is_in_callback and value() is None)
 
     def do_tracked(self, frame: Frame | None, parts: tuple) -> None:
         (operand,) = parts
@@ -522,6 +594,30 @@ class Machine:
         if self.is_instance(value) and self.held.get(id(value)):
             self.note(FINALIZED)
         self.emit("finalized yes" if gc.is_finalized(value) else "finalized no")
+
+    def do_referents(self, frame: Frame | None, parts: tuple) -> int | None:
+        return self.list_objects("referent", gc.get_referents, frame, parts)
+
+    def do_referrers(self, frame: Frame | None, parts: tuple) -> int | None:
+        return self.list_objects("referrer", gc.get_referrers, frame, parts)
+
+    def list_objects(
+        self, word: str, asked: Callable[[object], list[object]], frame: Frame | None, parts: tuple
+    ) -> int | None:
+        """Lists what a function of the collector's tells of an object, as far as it is the script's."""
+        (operand,) = parts
+        if is_atom(self.value(operand, frame)):
+            return WRONG_KIND
+        if self.collector.is_running:
+            return IN_A_COLLECTION
+        listed = 0
+        for found in asked(self.value(operand, frame)):
+            if self.registry.is_known(found):
+                self.emit(f"{word} #{self.registry.serial(found)}")
+                listed += 1
+        if self.is_frozen:
+            self.note(HOLDERS)
+        self.emit(f"listed {listed}")
 
     def do_count(self, frame: Frame | None, parts: tuple) -> None:
         """Prints nothing: CPython counts other things too."""

@@ -7,6 +7,7 @@ from .child import Failed, in_child
 from .frames import Frame
 from .heap import IMMORTAL, Heap
 from .labels import Link, edge, node, shortened, type_name
+from .picture import Names, picture_of
 from .scan import scan
 from .whole import Whole
 
@@ -36,6 +37,13 @@ def why(asked: object, *but: object, gcheap: str | None = None) -> Answer:
     address, without = id(asked), list(map(id, but))
     del asked, but
     return answered(Question("why", [address], without), gcheap)
+
+
+def picture(asked: object, *but: object, gcheap: str | None = None) -> Answer:
+    """The picture of that path, with what else holds each object of it, in the language DOT."""
+    address, without = id(asked), list(map(id, but))
+    del asked, but
+    return answered(Picture("why", [address], without), gcheap)
 
 
 def drop(*given: object, gcheap: str | None = None) -> Answer:
@@ -84,18 +92,38 @@ class Question:
 
     def answer(self, program: str, whole: Whole, frames: list[Frame]) -> tuple[str, bool]:
         """The answer in words, and whether there is something to tell."""
+        heap = self.heap(whole, frames, self.word in ("hidden", "untold"))
+        (lines,) = ask(program, heap.text(), [self.line(heap)])
+        return getattr(Telling(heap), self.word)(lines)
+
+    def heap(self, whole: Whole, frames: list[Frame], with_untold: bool) -> Heap:
+        """The heap that is asked."""
         if not whole.is_closed():
             raise Failed("the heap could not be taken: references were not followed to their end")
         heap = Heap(whole, frames, self.asked)
-        if self.word in ("hidden", "untold"):
+        if with_untold:
             heap.untold = scan(heap)
-        (lines,) = ask(program, heap.text(), [self.line(heap)])
-        return getattr(Telling(heap), self.word)(lines)
+        return heap
 
     def line(self, heap: Heap) -> str:
         """The question as gcheap reads it."""
         words = [self.word, *map(str, map(heap.position_of, self.asked))]
         return " ".join(words + ["but", *map(str, map(heap.position_of, self.but))] * bool(self.but))
+
+
+class Picture(Question):
+    """A question whose answer is drawn."""
+
+    def answer(self, program: str, whole: Whole, frames: list[Frame]) -> tuple[str, bool]:
+        """The picture of the answer, and whether there is one."""
+        heap = self.heap(whole, frames, True)
+        telling = Telling(heap)
+
+        def asked(questions: list[str]) -> list[list[str]]:
+            return ask(program, heap.text(), questions)
+
+        text = picture_of(self.line(heap), asked, heap.untold, Names(telling.name, telling.edge))
+        return text, bool(text)
 
 
 class Telling:

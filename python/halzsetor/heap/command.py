@@ -3,6 +3,7 @@
     gcheap -o OUT PROGRAM ARGS..     runs a program, and writes its heap to OUT when it ends
     gcheap -o OUT -m MODULE ARGS..   the same for a module
     gcheap --ask OUT QUESTION..      asks the heap in OUT, and names the objects of the answers
+    gcheap --ask OUT --dot 'why N'   draws the answer, in the language DOT
 """
 import argparse
 import atexit
@@ -20,6 +21,7 @@ from ..recorder.files import BESIDE, Refused
 from ..recorder.stand import write_to
 from .asking import ask
 from .child import Failed
+from .picture import Names, picture_of
 from .record import on_signal, write
 
 # the words of an answer that are followed by a member
@@ -32,7 +34,7 @@ def arguments_of(words: list[str]) -> argparse.Namespace:
         prog="gcheap",
         usage="%(prog)s [options] -o OUT PROGRAM ARGS..\n"
         "       %(prog)s [options] -o OUT -m MODULE ARGS..\n"
-        "       %(prog)s [--gcheap FILE] --ask OUT QUESTION..",
+        "       %(prog)s [--gcheap FILE] --ask OUT [--dot] QUESTION..",
         description="Takes the heap of a program, and asks it why objects are alive.",
         allow_abbrev=False,
     )
@@ -41,11 +43,14 @@ def arguments_of(words: list[str]) -> argparse.Namespace:
     parser.add_argument("--at-exit", action="store_true", help="write the heap at the end: usual without a signal")
     parser.add_argument("--on-signal", metavar="NAME", type=signal_of, help="write it to OUT.PROCESS.N at each signal")
     parser.add_argument("--ask", metavar="OUT", help="ask the heap in OUT")
+    parser.add_argument("--dot", action="store_true", help="with --ask: draw the answer to one `why`, for graphviz")
     parser.add_argument("--gcheap", metavar="FILE", help="with --ask: the built gcheap")
     parser.add_argument("words", metavar="PROGRAM ARGS..", nargs=argparse.REMAINDER, help="the program, or questions")
     given = parser.parse_args(words)
     if given.ask is not None and given.out is not None:
         parser.error("--ask takes no -o")
+    if given.dot and (given.ask is None or len(given.words) != 1 or not given.words[0].startswith("why ")):
+        parser.error("--dot is for --ask with one question `why N`")
     if not given.words:
         parser.error("a program is missing" if given.ask is None else "a question is missing, as `lost` or `why 17`")
     if given.ask is None and given.out is None:
@@ -134,16 +139,48 @@ def run(given: argparse.Namespace) -> None:
     program.run()
 
 
+class Stored:
+    """A heap in a file."""
+
+    def __init__(self, name: str, program: str) -> None:
+        self.name = name
+        self.program = program
+
+    def names(self) -> dict[str, str]:
+        """The names of members, where they are known."""
+        if not os.path.exists(self.name + BESIDE):
+            return {}
+        with open(self.name + BESIDE, encoding="ascii") as file:
+            return dict(line.rstrip("\n").split(" ", 1) for line in file)
+
+    def ask(self, questions: list[str]) -> list[list[str]]:
+        """The lines of each answer."""
+        with open(self.name, encoding="ascii") as heap:
+            return ask(self.program, heap, questions)
+
+    def untold(self) -> dict[int, list[int]]:
+        """For each member its untold words, as positions."""
+        found: dict[int, list[int]] = {}
+        position = -1
+        with open(self.name, encoding="ascii") as heap:
+            for line in heap:
+                position += line.startswith("m ")
+                if line.startswith("u "):
+                    found[position] = list(map(int, line.split()[1:]))
+        return found
+
+
 def asked(given: argparse.Namespace) -> None:
     """Asks a heap in a file, and prints the answers with names."""
-    program = find("gcheap", given.gcheap)
-    names: dict[str, str] = {}
-    if os.path.exists(given.ask + BESIDE):
-        with open(given.ask + BESIDE, encoding="ascii") as file:
-            names = dict(line.rstrip("\n").split(" ", 1) for line in file)
-    with open(given.ask, encoding="ascii") as heap:
-        found = ask(program, heap, given.words)
-    for question, lines in zip(given.words, found):
+    stored = Stored(given.ask, find("gcheap", given.gcheap))
+    names = stored.names()
+    if given.dot:
+        called = Names(lambda position: names.get(str(position), f"member {position}"), lambda holder, held: "")
+        picture = picture_of(given.words[0], stored.ask, stored.untold(), called)
+        sys.stdout.write(picture)
+        write_to(sys.__stderr__, "" if picture else "gcheap: no path of holders leads to it\n")
+        return
+    for question, lines in zip(given.words, stored.ask(given.words)):
         print(question)
         for line in lines:
             word, _, rest = line.partition(" ")

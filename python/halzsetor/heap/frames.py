@@ -31,10 +31,9 @@ class Frame(NamedTuple):
     # whether it is the one that asks
     is_asker: bool
 
-    def holds(self, content: bytes) -> list[tuple[str, int]]:
-        """What it holds, each with a name for the reference."""
-        words = array("Q", content)
-        if words[CODE] != self.code:
+    def holds(self, words: array) -> list[tuple[str, int]]:
+        """What it holds by its words, each with a name for the reference."""
+        if not words or words[CODE] != self.code:
             return []
         named = [(name, words[place]) for place, name in OWN]
         named += [(f"local '{name}'", word) for name, word in zip(self.variables, words[HEAD:])]

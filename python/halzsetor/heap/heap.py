@@ -51,9 +51,9 @@ class Heap:
 
     def frames_that_hold(self, frames: list[Frame]) -> Iterator[tuple[Frame, list[tuple[str, int]]]]:
         """What each frame holds, as far as the outside holds of each object cover that."""
-        for frame, content in zip(frames, self.whole.frame_bytes):
+        for frame, words in zip(frames, self.whole.words_of_frames()):
             covered: list[tuple[str, int]] = []
-            for name, address in () if frame.is_ours else frame.holds(content):
+            for name, address in () if frame.is_ours else frame.holds(words):
                 if address in self.positions and self.outside(address) > 0:
                     is_asked = frame.is_asker and address in self.asked
                     (self.given_up if is_asked else self.occurrences)[address] += 1

@@ -8,7 +8,7 @@ CACHE = "functools._lru_cache_wrapper"
 DICTIONARY = ".__dict__"
 CLOSURE, CONTENTS = ".__closure__", ".cell_contents"
 SIZED = (list, tuple, set, frozenset, dict)
-FUNCTION_PARTS = ("__globals__", "__closure__", "__defaults__", "__kwdefaults__", "__dict__", "__code__", "__builtins__")
+FUNCTION_PARTS = tuple("__globals__ __closure__ __defaults__ __kwdefaults__ __dict__ __code__ __builtins__".split())
 UNKNOWN = "(a reference)"
 
 

@@ -1,8 +1,9 @@
 """The heap of this process, taken by one call in C in a child that is forked off, so that this process hardly waits.
 
 No bytecode runs between the fork and the last of the steps: no other thread, no signal handler and no hook of the
-program comes between. Members are what the collector tracks and what a path of references leads to from there. The
-objects of this module are left out. Where there is no fork, the steps are made here.
+program comes between, but for hooks of `sys.addaudithook`, which CPython tells of `gc.get_objects` and
+`gc.get_referents`. Members are what the collector tracks and what a path of references leads to from there. The objects
+of this module are left out. Where there is no fork, the steps are made here.
 """
 import ctypes
 import gc
@@ -31,6 +32,21 @@ ITERATORS = map(type, (iter(()), iter([]), iter({}), iter(set()), {}.values(), i
 PARTS = frozenset((*MAKERS, *ITERATORS))
 
 
+def of_library(name: str, answer: type, *arguments: type) -> Callable[..., int]:
+    """A function of the C library. It keeps the interpreter's lock while it runs, and tells no hook of the program.
+
+    What gives the lock up, as `os.open` does, may wait for a thread that wanted it; in a child there is none.
+    """
+    function = ctypes.PyDLL(None)[name]
+    function.restype, function.argtypes = answer, arguments
+    return function
+
+
+if os.path.exists(MEMORY):
+    OPEN = of_library("open", ctypes.c_int, ctypes.c_char_p, ctypes.c_int)
+    PREAD = of_library("pread", ctypes.c_ssize_t, ctypes.c_int, ctypes.c_void_p, ctypes.c_size_t, ctypes.c_int64)
+
+
 class Whole:
     """The heap, once the steps were made: of each member the address, the type, the count, the size and references."""
 
@@ -44,10 +60,12 @@ class Whole:
         # for each member the address of the mark, and then those of its referents
         self.referents = array("Q")
         self.objects: list[object] = []
-        self.lengths = [length for _, length in frames]
         self.places = [place for place, _ in frames]
+        self.lengths = [length for _, length in frames]
+        # where the words of the frames go, and how many bytes of each could be read
+        self.frame_words = [array("Q", bytes(length)) for length in self.lengths]
+        self.frame_lengths: list[int] = []
         self.memory: list[int] = []
-        self.frame_bytes: list[bytes] = []
         mark = object()
         self.mark = id(mark)
         self.marker = (mark,)
@@ -63,9 +81,10 @@ class Whole:
         is_own = map(self.own.__contains__, map(id, listed))
         if self.places:
             # this opens the memory of the process that makes the step
-            yield partial(self.memory.extend, map(os.open, [MEMORY], [os.O_RDONLY]))
+            yield partial(self.memory.extend, map(OPEN, [MEMORY.encode()], [os.O_RDONLY]))
             memory = chain.from_iterable(repeat(self.memory))
-            yield partial(self.frame_bytes.extend, map(os.pread, memory, self.lengths, self.places))
+            targets = [words.buffer_info()[0] for words in self.frame_words]
+            yield partial(self.frame_lengths.extend, map(PREAD, memory, targets, self.lengths, self.places))
         yield partial(listed.extend, chain.from_iterable(map(gc.get_objects, range(3))))
         yield partial(self.fronts[0].extend, compress(listed, map(operator.not_, is_own)))
         yield listed.clear
@@ -100,6 +119,11 @@ class Whole:
         yield fresh.clear
         yield got.clear
         yield front.clear
+
+    def words_of_frames(self) -> list[array]:
+        """The words of each frame; none where they could not be read."""
+        pairs = zip(self.frame_words, self.lengths, self.frame_lengths)
+        return [words if length == read else array("Q") for words, length, read in pairs]
 
     def is_closed(self) -> bool:
         """Whether all references were followed to their end."""

@@ -4,13 +4,13 @@
     gcrecord -o OUT -m MODULE ARGS..   the same for a module
     gcrecord --judge PROGRAM ARGS..    has gccheck judge them too, and says which objects a fault is about
     gcrecord --explain OUT VERDICT     says which objects a verdict `no G C` on OUT is about
+    gcrecord --dot OUT G               draws the graph G of OUT, in the language DOT
 """
 import argparse
 import importlib.util
 import os
 import runpy
 import shutil
-import subprocess
 import sys
 import tempfile
 from typing import Iterable, NoReturn
@@ -19,8 +19,10 @@ from ..programs import NotFound, find
 from .explain import Records, WrongVerdict
 from .files import Files, Refused
 from .output import LIMIT
+from .picture import picture_of
 from .recorder import Recorder
 from .stand import write_to
+from .verdict import RIGHT, verdict_on
 
 
 def at_least_one(word: str) -> int:
@@ -38,7 +40,8 @@ def parser_of_words() -> argparse.ArgumentParser:
         usage="%(prog)s [options] -o OUT PROGRAM ARGS..\n"
         "       %(prog)s [options] -o OUT -m MODULE ARGS..\n"
         "       %(prog)s [options] --judge PROGRAM ARGS..\n"
-        "       %(prog)s --explain OUT VERDICT",
+        "       %(prog)s --explain OUT VERDICT\n"
+        "       %(prog)s --dot OUT GRAPH",
         description="Records the collections of a program for gccheck.",
         allow_abbrev=False,
     )
@@ -47,6 +50,7 @@ def parser_of_words() -> argparse.ArgumentParser:
     parser.add_argument("--judge", action="store_true", help="have gccheck judge the records, and explain a fault")
     parser.add_argument("--gccheck", metavar="FILE", help="with --judge: the built gccheck")
     parser.add_argument("--explain", metavar="OUT", help="say which objects the verdict on the records in OUT is about")
+    parser.add_argument("--dot", metavar="OUT", help="draw a graph of the records in OUT: DOT for graphviz")
     parser.add_argument("--generation", action="append", type=int, choices=(0, 1, 2), help="only collections of it")
     parser.add_argument("--most", type=at_least_one, metavar="N", help="record at most N collections")
     parser.add_argument(
@@ -66,16 +70,24 @@ def arguments_of(words: list[str]) -> argparse.Namespace:
     given = parser.parse_args(words)
     if given.limit > LIMIT:
         parser.error(f"the limit is at most {LIMIT}, which is all that gccheck reads")
-    if given.explain is not None:
-        if given.out is not None or given.is_module or given.judge:
-            parser.error("--explain takes none of -o, -m and --judge")
-        if not given.words:
-            parser.error("a verdict is missing: yes N, or no G C")
+    if given.explain is not None or given.dot is not None:
+        must_only_read(parser, given)
     elif not given.words:
         parser.error("a program is missing")
     elif given.out is None and not given.judge:
         parser.error("-o OUT is missing, the file to write")
     return given
+
+
+def must_only_read(parser: argparse.ArgumentParser, given: argparse.Namespace) -> None:
+    """Refuses words that don't go with a question about records that are there."""
+    option, other = ("--explain", "--dot") if given.dot is None else ("--dot", "--explain")
+    if given.out is not None or given.is_module or given.judge or (given.explain and given.dot):
+        parser.error(f"{option} takes none of -o, -m, --judge and {other}")
+    if given.dot is None and not given.words:
+        parser.error("a verdict is missing: yes N, or no G C")
+    if given.dot is not None and (len(given.words) != 1 or not given.words[0].isdecimal()):
+        parser.error("the number of one graph is wanted, counted from 1 over all records")
 
 
 class Program:
@@ -125,8 +137,8 @@ class Judge:
 
     def are_right(self, names: Iterable[str]) -> bool:
         """Whether all records are right; this is said on standard error, as standard output is the program's."""
-        verdicts = {name: self.verdict(name) for name in names}
-        wrong = {name: verdict for name, verdict in verdicts.items() if not verdict.startswith("yes ")}
+        verdicts = {name: verdict_on(name, self.program) for name in names}
+        wrong = {name: verdict for name, verdict in verdicts.items() if not verdict.startswith(RIGHT)}
         for name, verdict in wrong.items():
             write_to(sys.__stderr__, f"gcrecord: {name}: {verdict}: {Records(name).explain([verdict])}")
         if not wrong:
@@ -135,16 +147,6 @@ class Judge:
         if not wrong and self.folder is not None:
             shutil.rmtree(self.folder, ignore_errors=True)
         return not wrong
-
-    def verdict(self, name: str) -> str:
-        """The verdict on a file."""
-        with open(name, "rb") as file:
-            done = subprocess.run([self.program], stdin=file, capture_output=True, text=True)
-        verdict = done.stdout.strip()
-        if not verdict.startswith(("yes ", "no ")):
-            said = verdict or done.stderr.strip()
-            raise Refused(f"{self.program} ended with status {done.returncode} on {name}: {said}")
-        return verdict
 
 
 def record(given: argparse.Namespace) -> NoReturn:
@@ -204,10 +206,13 @@ def leave(message: str) -> NoReturn:
 def main(words: list[str]) -> NoReturn:
     """Runs the command line."""
     given = arguments_of(words)
-    if given.explain is None:
+    if given.explain is None and given.dot is None:
         record(given)
     try:
-        sys.stdout.write(Records(given.explain).explain(given.words))
+        if given.dot is None:
+            sys.stdout.write(Records(given.explain).explain(given.words))
+        else:
+            sys.stdout.write(picture_of(Records(given.dot), int(given.words[0])))
     except (OSError, WrongVerdict) as fault:
         leave(str(fault))
     sys.exit(0)

@@ -214,6 +214,13 @@ class Records:
         """Its graphs, in order."""
         return graphs_of(self.text.decode("ascii").splitlines())
 
+    def graph(self, position: int) -> Graph:
+        """The graph at a position."""
+        found = next(islice(self.graphs(), position - 1, None), None) if position > 0 else None
+        if found is None:
+            raise WrongVerdict(f"there is no graph {position} in {self.out}")
+        return found
+
     def must_be_readable(self) -> None:
         """Refuses another text."""
         if not is_text_of_records(self.text):
@@ -253,9 +260,7 @@ class Records:
 
     def explain_no(self, position: int, code: int, most: int) -> str:
         """The objects that a fault is about, at most so many."""
-        graph = next(islice(self.graphs(), position - 1, None), None) if position > 0 else None
-        if graph is None:
-            raise WrongVerdict(f"there is no graph {position} in {self.out}")
+        graph = self.graph(position)
         explanation = Explanation(graph, self.names(position))
         found = explanation.code()
         if found != code:
