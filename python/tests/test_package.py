@@ -83,7 +83,8 @@ class Programs(unittest.TestCase):
         for patch in patches:
             patch.start()
             self.addCleanup(patch.stop)
-        os.environ.pop("GCRUN", None)
+        for name in ("GCRUN", "GCHEAP"):
+            os.environ.pop(name, None)
 
     def program(self, *parts: str) -> str:
         """A program that stands there."""
@@ -111,6 +112,13 @@ class Programs(unittest.TestCase):
         self.assertEqual(in_environment, programs.find("gcrun"))
         given = self.program("third")
         self.assertEqual(given, programs.find("gcrun", given))
+
+    def test_a_command_of_the_package_is_no_program(self) -> None:
+        built = self.program("crates", "gcheap", "out", "gcheap")
+        command = Path(self.program("path", "gcheap"))
+        command.write_text("#!/usr/bin/python3.12\nfrom halzsetor.gcheap import main\n")
+        os.environ["PATH"] = str(self.folder / "path")
+        self.assertEqual(built, programs.find("gcheap"))
 
     def test_a_name_that_is_wrong(self) -> None:
         missing = str(self.folder / "missing")
