@@ -1,0 +1,5 @@
+pub mod Counts
+pub mod Between
+pub mod Caught
+pub mod Deaths
+pub mod Exactly
