@@ -47,7 +47,7 @@ none_else degree roots entries inside outside stack given under count a b c d e 
 all_none : (degree roots entries inside outside under : ℕ) → degree ≡ roots + entries + under → entries ≡ inside + outside → roots ≡ 0 → inside ≡ 0 → outside ≡ 0 → under ≡ 0 → degree ≡ 0
 all_none degree roots entries inside outside under a b c d e f = omega (arith, a, b, c, d, e, f)
 
-not_both : (b : Bool) → b ≡ true → b ≡ false → ⊥
+pub not_both : (b : Bool) → b ≡ true → b ≡ false → ⊥
 not_both b e f = let no : true ≡ false = sym e ∙ f in cc
 
 module _ (w : World) (given : List ℕ) (below : List Activity) (top : w.stack ≡ Releasing given ∷ below)

@@ -3,3 +3,4 @@ pub mod Between
 pub mod Caught
 pub mod Deaths
 pub mod Exactly
+pub mod Placed
