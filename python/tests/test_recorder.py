@@ -287,7 +287,7 @@ class Lines(unittest.TestCase):
             (["--most", "few", "-o", "out", "p"], "argument --most: invalid at_least_one value: 'few'"),
             (["--mo", 1, "-o", "out", "p"], "unrecognized arguments: --mo"),
             (["--explain", "out"], "a verdict is missing"),
-            (["--explain", "out", "-o", "out", "no"], "--explain takes none of -o, -m and --judge"),
+            (["--explain", "out", "-o", "out", "no"], "--explain takes none of -o, -m, --judge and --dot"),
             (["--judge"], "a program is missing"),
         ):
             with tempfile.TemporaryDirectory() as folder:
@@ -350,7 +350,9 @@ class Kept(unittest.TestCase):
         self.assertRegex(verdict((self.folder / "out").read_text()), r"^yes \d+$")
 
     def test_what_an_earlier_run_left_is_taken_away(self) -> None:
-        self.write("prog.py", "import gc; l = [[] for _ in range(1000)]; gc.collect(0); gc.collect(1); gc.collect(1)")
+        # what there is before the program is collected first, and does not fit
+        program = "import gc; gc.collect()\nfor _ in range(4): l = [[] for _ in range(1000)]; gc.collect(0)\n"
+        self.write("prog.py", program)
         run("--limit", 30_000, "--more-files", "-o", "out", "prog.py", folder=self.folder)
         self.assertTrue((self.folder / "out.2.objects").exists())
         run("--most", 1, "--more-files", "-o", "out", "prog.py", folder=self.folder)
