@@ -1,8 +1,7 @@
 -- Each worked heap is answered: its rows compute, and so does the text.
-use Rattle.std.proofs.Common.{refl, List, [], ◌∷◌, ◌++◌, Bool, true, arith}
+use Rattle.std.proofs.Common.{refl, [], ◌∷◌, ◌++◌, true, arith}
 use Rattle.std.specs.Prelude.{codes}
 use Rattle.std.specs.Fmt.{digits}
-use Rattle.cg_snapshot.specs.declared.heap.Member.{Member}
 use Rattle.cg_ask.specs.Faults.{AreRight}
 use Rattle.cg_ask.specs.Asked.{outside_at}
 use Rattle.cg_ask.specs.Answers.{line, rows_text, totals_of, way_text, by_path, by_none}

@@ -1,6 +1,6 @@
 -- A plain search for what dies by count, once a further step finds no more.
-use Rattle.std.proofs.Common.{◌≡◌, refl, sym, ◌∙◌, ap, subst, ℕ, zero, suc, ◌<◌, ◌≤◌, nat_lt, Bool, true, ◌&&◌, ◌||◌, inl, inr, List, [], length, arith}
-use Rattle.std.specs.Prelude.{◌↔◌, ◌==◌}
+use Rattle.std.proofs.Common.{◌≡◌, sym, ◌∙◌, ap, subst, ℕ, zero, suc, ◌<◌, nat_lt, Bool, true, ◌&&◌, ◌||◌, List, [], length, arith}
+use Rattle.std.specs.Prelude.{◌==◌}
 use Rattle.std.proofs.lemmas.Bool.{cases_lt, eqb-true, eq-eqb, ltb-true, lt-ltb}
 use Rattle.std.proofs.lemmas.List.{length-map}
 use Rattle.std.proofs.lemmas.Option.{slice_get_within}

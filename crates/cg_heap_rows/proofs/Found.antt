@@ -1,8 +1,8 @@
 -- A plain search that computes: what paths by rows lead to, once a further step finds no more.
-use Rattle.std.proofs.Common.{◌≡◌, refl, sym, ◌∙◌, ap, subst, ℕ, zero, suc, ◌<◌, Bool, true, ◌&&◌, ◌||◌, inl, inr, List, [], length, Some, arith}
-use Rattle.std.specs.Prelude.{◌↔◌, slice_get}
+use Rattle.std.proofs.Common.{◌≡◌, sym, ◌∙◌, ap, subst, ℕ, zero, suc, Bool, true, ◌&&◌, ◌||◌, List, [], length}
+use Rattle.std.specs.Prelude.{◌↔◌}
 use Rattle.std.proofs.lemmas.Option.{slice_get_within}
-use Rattle.cg_graph.specs.Member.{Includes, includes}
+use Rattle.cg_graph.specs.Member.{includes}
 use Rattle.cg_graph.proofs.Members.{either, true_or, true_and, or_left, or_right, Includes-of, includes-of}
 use Rattle.cg_search.specs.Places.{Marks, is_marked, Leads, begins, follows}
 use Rattle.cg_search.specs.Counts.{targets_from}

@@ -1,27 +1,23 @@
 -- The sets of members that the questions speak of, as marks that compute.
-use Rattle.std.proofs.Common.{◌≡◌, refl, sym, ◌∙◌, ap, subst, ℕ, suc, ◌+◌, ◌-◌, ◌<◌, ◌≤◌, nat_lt, Bool, true, false, not, ◌&&◌, inl, inr, List, [], ◌∷◌, length, replicate, arith, get_or}
-use Rattle.std.specs.Prelude.{◌↔◌}
+use Rattle.std.proofs.Common.{◌≡◌, refl, sym, ◌∙◌, subst, ℕ, ◌+◌, nat_lt, Bool, true, false, not, ◌&&◌, List, [], length, replicate, arith, get_or}
 use Rattle.std.proofs.lemmas.Bool.{cases_lt, ltb-true, lt-ltb}
-use Rattle.std.proofs.lemmas.List.{length-replicate}
-use Rattle.std.proofs.lemmas.Option.{slice_get_within}
 use Rattle.cg_graph.specs.Member.{Includes, includes}
 use Rattle.cg_graph.specs.Holdings.{occurrences}
 use Rattle.cg_graph.specs.Reach.{Reach}
 use Rattle.cg_graph.proofs.Members.{either, true_and, Includes-of, includes-of}
-use Rattle.cg_search.specs.Places.{Marks, is_marked, edges_of}
 use Rattle.cg_search.specs.Counts.{targets_from}
 use Rattle.cg_snapshot.specs.declared.heap.Member.{Member}
 use Rattle.cg_snapshot.specs.Text.{AreMembers}
 use Rattle.cg_snapshot.specs.Reading.{are_below}
 use Rattle.cg_snapshot.proofs.Machine.{of_below}
-use Rattle.cg_ask.specs.Asked.{rows_of, words_of, references_of, all_words_of, degree_at, edges, tracked_of, legacy_of, all_told, IsMember, IsHeld, IsOther, IsReached, IsLost, IsHeldElsewhere, IsCandidate, IsUnreachable, IsCleared, IsStuck, IsGone, IsKeptByWords}
+use Rattle.cg_ask.specs.Asked.{rows_of, words_of, references_of, all_words_of, degree_at, edges, tracked_of, legacy_of, all_told, IsMember, IsHeld, IsOther, IsReached, IsLost, IsHeldElsewhere, IsStuck, IsGone, IsKeptByWords}
 use Rattle.cg_ask.specs.Dying.{Dies}
 use Rattle.cg_ask.specs.Faults.{AreRight}
 use Rattle.cg_ask.specs.Marked.{MarkJust}
 use Rattle.cg_ask.proofs.Counting.{no_degree}
 use Rattle.cg_ask.proofs.Marking.{only, any, zipped, just_only, just_any, just_all, member_of}
 use Rattle.cg_ask.proofs.Reaching.{found_just, lost_just}
-use Rattle.cg_ask.proofs.Clearing.{candidates_long, unreachable_just, cleared_just, stuck_just}
+use Rattle.cg_ask.proofs.Clearing.{unreachable_just, cleared_just, stuck_just}
 use Rattle.cg_ask.proofs.Dead.{dead_just as dead_same}
 use Rattle.cg_ask.proofs.Gone.{gone_just}
 use Rattle.cg_ask.proofs.Kept.{kept_just, length-all_told}
@@ -148,14 +144,14 @@ pub record CollectsAll (ms : List Member) : Type 0 where
 pub stuck_is : (ms : List Member) → AreRight ms true → CollectsAll ms → MarkJust (length ms) (IsStuck ms) (stuck ms)
 stuck_is ms right c =
     let h : MarkJust (length ms) (IsHeldElsewhere ms) (held_elsewhere ms) = just_to (length ms) (λ i. nat_lt (occurrences i (targets_from (tracked_of ms) (rows_of ms))) (degree_at ms i)) (IsHeldElsewhere ms)
-        (λ i below. (λ e. ltb-true (occurrences i (targets_from (tracked_of ms) (rows_of ms))) (degree_at ms i) e, λ h. lt-ltb (occurrences i (targets_from (tracked_of ms) (rows_of ms))) (degree_at ms i) h))
-        (λ i h. either (cases_lt i (length ms)) (λ l. l) (λ g. absurd (omega (arith, h, no_degree ms i g)))) in
+    (λ i below. (λ e. ltb-true (occurrences i (targets_from (tracked_of ms) (rows_of ms))) (degree_at ms i) e, λ h. lt-ltb (occurrences i (targets_from (tracked_of ms) (rows_of ms))) (degree_at ms i) h))
+    (λ i h. either (cases_lt i (length ms)) (λ l. l) (λ g. absurd (omega (arith, h, no_degree ms i g)))) in
     let found_len = found_long (held_elsewhere ms) (tracked_of ms) (rows_of ms) (reached_in_collection ms) c.finds in
     let u = unreachable_just ms (tracked_of ms) (held_elsewhere ms) (reached_in_collection ms) (unreachable ms) refl h found_len (led (held_elsewhere ms) (tracked_of ms) (rows_of ms) (length ms) c.finds)
-        (just_only (tracked_of ms) (reached_in_collection ms) (unreachable ms) (sym found_len) refl) in
+    (just_only (tracked_of ms) (reached_in_collection ms) (unreachable ms) (sym found_len) refl) in
     let aside_len = found_long (legacy_of ms) (unreachable ms) (rows_of ms) (aside ms) c.sets_aside in
     let k = cleared_just ms (unreachable ms) (legacy_of ms) (aside ms) (cleared ms) u refl aside_len (led (legacy_of ms) (unreachable ms) (rows_of ms) (length ms) c.sets_aside)
-        (just_only (unreachable ms) (aside ms) (cleared ms) (sym aside_len) refl) in
+    (just_only (unreachable ms) (aside ms) (cleared ms) (sym aside_len) refl) in
     let d = dead_just ms (cleared ms) right k.len (length ms) c.dies in
     let l = all_lost_just ms c.reaches in
     stuck_just ms (lost ms) (cleared ms) (dead_by_collection ms) (stuck ms) l k d (just_only (lost ms) (dead_by_collection ms) (stuck ms) (l.len ∙ sym d.len) refl)
@@ -181,7 +177,7 @@ pub record DropsAll (ms : List Member) (places : List ℕ) : Type 0 where
 pub dead_is : (ms : List Member) (places : List ℕ) → AreRight ms true → AreMembers (length ms) places → DropsAll ms places → MarkJust (length ms) (Dies ms (Includes places)) (dead ms places)
 dead_is ms places right members d =
     let g : MarkJust (length ms) (Includes places) (these ms places) = just_to (length ms) (λ i. includes places i) (Includes places)
-        (λ i below. (λ e. Includes-of places i e, λ m. includes-of places i m)) (λ i m. member_of (length ms) places i members m) in
+    (λ i below. (λ e. Includes-of places i e, λ m. includes-of places i m)) (λ i m. member_of (length ms) places i members m) in
     dead_same ms (these ms places) (dead ms places) (Includes places) g (dead_just ms (these ms places) right g.len (length ms) d.dies)
 
 pub gone_is : (ms : List Member) (places : List ℕ) → AreRight ms true → AreMembers (length ms) places → DropsAll ms places → MarkJust (length ms) (IsGone ms places) (gone ms places)

@@ -1,17 +1,16 @@
 -- The rows of each answer, which compute, tell what is to be told.
-use Rattle.std.proofs.Common.{◌≡◌, refl, sym, ◌∙◌, ap, subst, ℕ, zero, suc, ◌+◌, ◌-◌, ◌<◌, ◌≤◌, nat_lt, Bool, true, List, [], ◌∷◌, ◌++◌, length, arith, get_or}
-use Rattle.std.specs.Prelude.{codes}
+use Rattle.std.proofs.Common.{ℕ, zero, suc, ◌-◌, ◌<◌, nat_lt, Bool, true, List, [], ◌∷◌, length, arith, get_or}
 use Rattle.std.proofs.lemmas.Bool.{cases_lt, ltb-true, lt-ltb}
 use Rattle.std.proofs.lemmas.List.{length-map}
 use Rattle.std.proofs.lemmas.Option.{slice_get_within}
 use Rattle.cg_graph.specs.Member.{Includes}
 use Rattle.cg_graph.specs.Holdings.{occurrences}
 use Rattle.cg_graph.proofs.Members.{either}
-use Rattle.cg_search.specs.Places.{Marks, is_marked}
+use Rattle.cg_search.specs.Places.{is_marked}
 use Rattle.cg_search.proofs.Edges.{marks_of_is, is_of_marks}
 use Rattle.cg_snapshot.specs.declared.heap.Member.{Member}
 use Rattle.cg_snapshot.specs.Text.{AreMembers}
-use Rattle.cg_ask.specs.Asked.{rows_of, all_words_of, degree_at, outside_at, times_at, IsLost, IsStuck, IsGone, IsKeptByWords}
+use Rattle.cg_ask.specs.Asked.{rows_of, all_words_of, outside_at, times_at, IsLost, IsStuck, IsGone}
 use Rattle.cg_ask.specs.Dying.{Dies}
 use Rattle.cg_ask.specs.Faults.{AreRight}
 use Rattle.cg_ask.specs.Marked.{MarkJust, flags_of}

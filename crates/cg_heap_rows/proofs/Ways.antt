@@ -1,9 +1,9 @@
 -- Shortest paths of one and of two members, and that there is none.
-use Rattle.std.proofs.Common.{◌≡◌, refl, sym, ◌∙◌, ap, subst, ℕ, ◌<◌, ◌≤◌, Bool, true, false, inl, inr, List, [], ◌∷◌, length, Some, arith}
+use Rattle.std.proofs.Common.{◌≡◌, refl, subst, ℕ, ◌≤◌, Bool, true, false, List, [], ◌∷◌, length, Some, arith}
 use Rattle.std.specs.Prelude.{slice_get}
-use Rattle.cg_graph.specs.Member.{Includes, includes}
+use Rattle.cg_graph.specs.Member.{includes}
 use Rattle.cg_graph.proofs.Members.{either, Includes-of}
-use Rattle.cg_search.specs.Places.{Marks, is_marked}
+use Rattle.cg_search.specs.Places.{is_marked}
 use Rattle.cg_search.proofs.Edges.{edge_in, marks_of_is, is_of_marks}
 use Rattle.cg_snapshot.specs.declared.heap.Member.{Member}
 use Rattle.cg_ask.specs.Asked.{rows_of, IsHeld, IsOther, IsWay, IsShortest, HasNone}

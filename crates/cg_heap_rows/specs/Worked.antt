@@ -1,6 +1,6 @@
 -- Worked heaps, each with a question and its answer: what the questions mean by example. An arrow is a reference, `out` is
 -- what is no member, and `..>` is an untold word. (Ours, written from docs/HEAPS.md.)
-use Rattle.std.specs.Prelude.{ℕ, Bool, true, false, List, [], ◌∷◌, codes}
+use Rattle.std.specs.Prelude.{ℕ, true, false, List, [], ◌∷◌, codes}
 use Rattle.cg_snapshot.specs.declared.heap.Member.{Member}
 use Rattle.cg_snapshot.specs.declared.question.Question.{Question}
 use Rattle.cg_snapshot.specs.declared.question.Question.TheVariants.{Why, Referrers, Hidden, Lost, Dropped, Untold}
