@@ -16,7 +16,7 @@ use Rattle.cg_ask.specs.Faults.{AreRight}
 use Rattle.cg_ask.specs.Marked.{MarkJust}
 use Rattle.cg_ask.proofs.Counting.{targets_few, targets_mono, no_degree}
 use Rattle.cg_ask.proofs.Faulty.{covered_all}
-use Rattle.cg_heap_rows.proofs.Tables.{marks_to, passes, marks_of, length-marks_to}
+use Rattle.cg_heap_rows.proofs.Tables.{both, marks_to, passes, marks_of, length-marks_to}
 
 module _ (ms : List Member) (given : List Bool) where
   -- its in-degree, above 0, is the number of its occurrences among the references of the dead
@@ -44,9 +44,6 @@ module _ (ms : List Member) (given : List Bool) where
         let all : occurrences i (targets_from (dead_in k) (rows_of ms)) ≡ degree_at ms i = eqb-true (occurrences i (targets_from (dead_in k) (rows_of ms))) (degree_at ms i) parts.1 in
         let more = targets_mono i (dead_in k) closed (rows_of ms) (c.len ∙ sym (length-map ms (λ (m : Member). m.refs))) (λ j d. in_each closed c k j d) in
         c.dies i (ltb-true 0 (degree_at ms i) parts.0) (omega (arith, all, more, targets_few i closed (rows_of ms), covered_all ms true right i)))
-
-    both : (a b : Bool) → a ≡ true → b ≡ true → (a && b) ≡ true
-    both a b p q = ap (λ c. c && b) p ∙ q
 
     is_closed : (dead : List Bool) → step dead ≡ dead → IsClosed ms (Marks given) dead
     is_closed dead settled = record {

@@ -7,7 +7,7 @@ use Rattle.cg_graph.proofs.Members.{either, true_or, true_and, or_left, or_right
 use Rattle.cg_search.specs.Places.{Marks, is_marked, Leads, begins, follows}
 use Rattle.cg_search.specs.Counts.{targets_from}
 use Rattle.cg_search.proofs.Edges.{marks_of_is, is_of_marks}
-use Rattle.cg_heap_rows.proofs.Tables.{marks_to, passes, marks_of, length-marks_to, target_out, target_in}
+use Rattle.cg_heap_rows.proofs.Tables.{both, marks_to, passes, marks_of, length-marks_to, target_out, target_in}
 
 module _ (starts allowed : List Bool) (rows : List (List ℕ)) where
   -- allowed, and a start or a target of what is found
@@ -21,9 +21,6 @@ module _ (starts allowed : List Bool) (rows : List (List ℕ)) where
   abbrev pub found_in : ℕ → List Bool
   found_in zero = []
   found_in (suc k) = step (found_in k)
-
-  both : (a b : Bool) → a ≡ true → b ≡ true → (a && b) ≡ true
-  both a b p q = ap (λ c. c && b) p ∙ q
 
   pub leads_found : (k : ℕ) (i : ℕ) → Marks (found_in k) i → Leads starts allowed rows i
   leads_found zero i m = absurd (cc)

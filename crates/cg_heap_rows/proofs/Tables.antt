@@ -58,13 +58,17 @@ just_to n test P decides below = record {
   just = λ i. (λ m. (decides i (within n test i m)).0 (passes n test i m), λ p. marks_of n test i (below i p) ((decides i (below i p)).1 p));
 }
 
+-- two tests that pass
+pub both : (a b : Bool) → a ≡ true → b ≡ true → (a && b) ≡ true
+both a b p q = ap (λ c. c && b) p ∙ q
+
 -- what the rows tell
 pub record IsRow (n : ℕ) (test : ℕ → Bool) (tell : ℕ → List ℕ) (m : ℕ) (ns : List ℕ) : Type 0 where
   pub below : m < n
   pub passes : test m ≡ true
   pub numbers : ns ≡ tell m
 
-clash : {b : Bool} → b ≡ true → b ≡ false → ⊥
+pub clash : {b : Bool} → b ≡ true → b ≡ false → ⊥
 clash p q = absurd (cc)
 
 module _ (test : ℕ → Bool) (numbers : ℕ → List ℕ) where

@@ -1,5 +1,5 @@
 -- Shortest paths of one and of two members, and that there is none.
-use Rattle.std.proofs.Common.{◌≡◌, refl, subst, ℕ, ◌≤◌, Bool, true, false, List, [], ◌∷◌, length, Some, arith}
+use Rattle.std.proofs.Common.{◌≡◌, refl, subst, ℕ, ◌≤◌, true, false, List, [], ◌∷◌, length, Some, arith}
 use Rattle.std.specs.Prelude.{slice_get}
 use Rattle.cg_graph.specs.Member.{includes}
 use Rattle.cg_graph.proofs.Members.{either, Includes-of}
@@ -8,10 +8,8 @@ use Rattle.cg_search.proofs.Edges.{edge_in, marks_of_is, is_of_marks}
 use Rattle.cg_snapshot.specs.declared.heap.Member.{Member}
 use Rattle.cg_ask.specs.Asked.{rows_of, IsHeld, IsOther, IsWay, IsShortest, HasNone}
 use Rattle.cg_ask.proofs.Ways.{ways_are_reach}
+use Rattle.cg_heap_rows.proofs.Tables.{clash}
 use Rattle.cg_heap_rows.proofs.Sets.{held, held_just, others, others_just, reached_without, reached_without_just, ReachesAllWithout}
-
-clash : {b : Bool} → b ≡ true → b ≡ false → ⊥
-clash p q = absurd (cc)
 
 module _ (ms : List Member) (without : List ℕ) where
   is_held : (o : ℕ) → is_marked (held ms) o ≡ true → IsHeld ms o
