@@ -255,7 +255,10 @@ class Lines(unittest.TestCase):
 
     def test_generations_and_how_many(self) -> None:
         program = QUIET + "for g in 0, 1, 2, 1, 0: gc.collect(g)"
-        self.assertEqual([2, 1, 2], self.generations(program, "--generation", 1, "--generation", 2, "--most", 3))
+        both = ("--generation", 1, "--generation", 2)
+        # (before the program's first line CPython may start collections by itself)
+        self.assertEqual([2, 1, 2, 1], self.generations(program, *both)[-4:])
+        self.assertEqual(3, len(self.generations(program, *both, "--most", 3)))
         self.assertEqual([2, 2], self.generations(program, "--generation", 2))
 
     def generations(self, program: str, *options: object) -> list[int]:
