@@ -8,6 +8,7 @@ import sysconfig
 import tempfile
 import textwrap
 import unittest
+from concurrent.futures import ThreadPoolExecutor
 from pathlib import Path
 
 from . import ask
@@ -303,15 +304,22 @@ class Heaps(unittest.TestCase):
         names = "test_gc test_weakref test_finalization test_asyncio.test_futures test_asyncio.test_queues".split()
         if importlib.util.find_spec("test.test_gc") is None:
             self.skipTest("this Python has no tests of its own")
-        said = self.output(
-            f"""
+        with ThreadPoolExecutor(4) as pool:
+            for name, said in zip(names, pool.map(self.said_behind, names)):
+                self.assertTrue(said.endswith("True\n"), f"{name}: {said}")
+
+    def said_behind(self, name: str) -> str:
+        """What a program writes that runs tests of CPython and then asks of its heap."""
+        folder = self.folder / name
+        folder.mkdir()
+        text = f"""
             import io, unittest
-            suite = unittest.defaultTestLoader.loadTestsFromNames([f"test.{{name}}" for name in {names}])
+            suite = unittest.defaultTestLoader.loadTestsFromName("test.{name}")
             unittest.TextTestRunner(stream=io.StringIO()).run(suite)
-            print(gcheap.lost(gcheap=GCHEAP) is not None)
+            print(gcheap.lost(gcheap={str(self.program)!r}) is not None)
             """
-        )
-        self.assertTrue(said.endswith("True\n"), said)
+        (folder / "prog.py").write_text(IMPORTS + textwrap.dedent(text))
+        return run_python("prog.py", folder=folder).stdout
 
     def test_no_count_is_too_low(self) -> None:
         # of many modules: the judge would say `fault`
