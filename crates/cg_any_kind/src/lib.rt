@@ -1,5 +1,5 @@
 //! Any of the six kinds in one type, and six of them for a heap: `Heap<AnyKind>` is a heap without boxes. The tests of
-//! the layers above are over it.
+//! the layers above use it.
 #![tactic(auto)]
 
 ghost use Rattle.std.specs.Prelude.{◌≡◌, IfOk, map, replicate};
@@ -23,7 +23,7 @@ pub enum AnyKind {
     Weak(WeakKind),
 }
 
-/// A call on the kind, whichever it is.
+/// Dispatches a call to the kind.
 macro_rules! pass_on {
     ($any:expr, $kind:ident => $call:expr) => {
         match $any {
@@ -126,7 +126,7 @@ impl AnyKind {
     }
 }
 
-/// Six kinds without objects, in the order of their codes. It is refused only where memory runs out.
+/// Six kinds without objects, in the order of their codes. Fails only if memory runs out.
 pub fn six(alloc: Global) -> Result<Vec<AnyKind>, AllocError>
     ensures kinds { IfOk result (λ kinds. map ⟦<AnyKind as Kind>⟧.kind kinds.items ≡ six_kinds) }
     ensures empty { IfOk result (λ kinds. map ⟦<AnyKind as Kind>⟧.bodies kinds.items ≡

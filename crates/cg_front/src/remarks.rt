@@ -1,16 +1,16 @@
-//! Remarks for a person, on standard error. A failure there is ignored: a remark adds nothing to the answer.
+//! Remarks for a person, on standard error. A failure there is ignored: no answer depends on a remark.
 use std::alloc::{AllocError, Global};
 use std::io::IsTerminal;
 
-/// How many bytes of a line are shown at most.
+/// The maximum number of bytes of a line that are shown.
 const SHOWN: usize = 200;
 
-/// Says something on a line of its own.
+/// Writes a remark on its own line.
 pub fn remark(rt: &HostRuntime, text: &str) {
     let _ = eprintln!(rt; "{text}");
 }
 
-/// Where standard input is a terminal, says what is awaited there.
+/// If standard input is a terminal, says what input is expected.
 pub fn remark_that_input_is_awaited(rt: &HostRuntime, program: &str, what: &str) {
     if rt.stdin().is_terminal() {
         let _ = eprintln!(rt;
@@ -19,7 +19,7 @@ pub fn remark_that_input_is_awaited(rt: &HostRuntime, program: &str, what: &str)
     }
 }
 
-/// Text that shows some bytes: `?` for each that is not printable ASCII.
+/// Some bytes as text, with `?` for each that is not printable ASCII.
 fn printable(alloc: Global, bytes: &[u8]) -> Result<String, AllocError> {
     let mut text = String::new(alloc);
     for byte in bytes {
@@ -33,7 +33,7 @@ fn printable(alloc: Global, bytes: &[u8]) -> Result<String, AllocError> {
     Ok(text)
 }
 
-/// Shows a line of the input by its number, from 1: its first 200 bytes. It shows nothing where the input has no such line.
+/// Shows a line of the input by its number, from 1: its first 200 bytes. Shows nothing if there is no such line.
 pub fn remark_line(rt: &HostRuntime, input: &[u8], number: u64) {
     let place = usize::try_from(number.saturating_sub(1)).unwrap_or(usize::MAX);
     let Some(line) = input.split(|byte| *byte == b'\n').nth(place) else {

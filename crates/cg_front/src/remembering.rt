@@ -1,12 +1,13 @@
-//! A reader that remembers the first bytes that it gave.
+//! A reader that remembers the first bytes it read.
 use std::alloc::Global;
 use std::io;
 use std::io::Read;
 
-/// How many bytes are remembered.
+/// The maximum number of bytes remembered.
 const MOST: usize = 1_048_576;
 
-/// A reader, and the first mebibyte of what it gave. It reads just as the reader does. Where memory is refused it remembers less.
+/// A reader, and the first mebibyte of what it read. It reads exactly as the reader does. If memory runs out, it
+/// remembers less.
 #[derive(Drop)]
 pub struct Remembering<R: Read + Drop> {
     inner: R,
@@ -14,7 +15,7 @@ pub struct Remembering<R: Read + Drop> {
 }
 
 impl<R: Read + Drop> Remembering<R> {
-    /// This reader, of which nothing is remembered yet.
+    /// This reader, with nothing remembered yet.
     pub fn new(alloc: Global, inner: R) -> Remembering<R> {
         Remembering {
             inner,
@@ -22,13 +23,13 @@ impl<R: Read + Drop> Remembering<R> {
         }
     }
 
-    /// The first bytes that it gave.
+    /// The first bytes read.
     pub fn remembered(&self) -> &[u8] {
         self.remembered.as_slice()
     }
 }
 
-/// Keeps these bytes too, as far as there is room and memory.
+/// Remembers these bytes too, as far as the limit and memory allow.
 fn remember(remembered: &mut Vec<u8>, bytes: &[u8]) {
     let room = MOST.saturating_sub(remembered.len());
     let kept = bytes.len().min(room);

@@ -12,15 +12,15 @@ fn words_after_name(rt: &HostRuntime) -> io::Result<Vec<String>> {
     Ok(words)
 }
 
-/// The one empty word, which asks for nothing.
+/// A single empty word, which asks for nothing.
 fn empty_word(alloc: Global) -> io::Result<Vec<String>> {
     let mut words = Vec::new(alloc);
     words.push(String::new(alloc))?;
     Ok(words)
 }
 
-/// The words after the program's name, for its top call. Where one is not UTF-8, they are the one empty word: no program has a job
-/// of that name. An error comes where memory was refused alone.
+/// The words after the program's name, for its top call. If one is not UTF-8, they are a single empty word, which is
+/// no program's job. Returns an error only if memory runs out.
 pub fn words_given(rt: &HostRuntime) -> io::Result<Vec<String>> {
     match words_after_name(rt) {
         Err(e) if e.kind() == ErrorKind::InvalidData => empty_word(rt.alloc()),

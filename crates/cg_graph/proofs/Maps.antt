@@ -29,7 +29,7 @@ module _ {X : Type 0} where
   pub get-remove_other : (m : fin.FinMap nat_cmp X) (k q : ℕ) → q ≢ k → fin.get (fin.remove m k) q ≡ fin.get m q
   get-remove_other m k q n = fin.get-remove nat_cmp_total m k q ∙ ap (λ b. cond b None (fin.get m q)) (apart q k n)
 
-  -- maps that answer alike are equal
+  -- maps with the same look-ups are equal
   pub same_map : (m n : fin.FinMap nat_cmp X) → ((q : ℕ) → fin.get m q ≡ fin.get n q) → m ≡ n
   same_map m n h = fin.same_map nat_cmp_total fin.nat_cmp-IsAntisymmetric m n h
 
@@ -78,7 +78,7 @@ module _ {X Y : Type 0} (g : ℕ → X → Y) where
       ∙ (λ i. same e.0 e.1 i + sum-rows f h same es i)
       ∙ sym (sum_by-cons (λ e. h e.1) e es)
 
-  -- a sum that the change leaves
+  -- a sum that the change keeps
   pub total-mapped : (f : Y → ℕ) (h : X → ℕ) (m : fin.FinMap nat_cmp X) → ((s : ℕ) (x : X) → f (g s x) ≡ h x) → total f (mapped g m) ≡ total h m
   total-mapped f h m same = ap (λ es. sum_by (λ e. f e.1) es) (entries-mapped m) ∙ sum-rows f h same (fin.entries m)
 
@@ -98,7 +98,7 @@ module _ {X : Type 0} (f : X → X) (o : ℕ) (m : fin.FinMap nat_cmp X) where
       as_it_is None = refl
       as_it_is (Some x) = refl
 
-  -- a change of what is there is an insertion
+  -- changing a present value is an insertion
   pub changed-insert : (x : X) → fin.get m o ≡ Some x → changed f o m ≡ fin.insert m o (f x)
   changed-insert x found =
       same_map _ _
@@ -142,21 +142,19 @@ module _ {X : Type 0} (f : X → ℕ) where
         | Greater ↦ λ p. omega (arith, sum-cons e (put nat_cmp k v es), sum-cons e es, sum-put k v es (tail_sorted e es h))
       ] refl
 
-  -- a value is put in, and what was there leaves
+  -- inserting a value, which replaces the old one
   pub total-insert : (m : fin.FinMap nat_cmp X) (k : ℕ) (v : X) → total f (fin.insert m k v) + part f (fin.get m k) ≡ total f m + f v
   total-insert m k v =
       ap (λ es. sum es + part f (fin.get m k)) (fin.entries-insert nat_cmp_total m k v)
       ∙ ap (λ o. sum (put nat_cmp k v (fin.entries m)) + part f o) (fin.get-entries m k)
       ∙ sum-put k v (fin.entries m) (fin.entries_sorted m)
 
-  -- one value is changed
   pub total-changed : (g : X → X) (m : fin.FinMap nat_cmp X) (k : ℕ) (x : X) → fin.get m k ≡ Some x → total f (changed g k m) + f x ≡ total f m + f (g x)
   total-changed g m k x found =
       ap (λ n. total f n + f x) (changed-insert g k m x found)
       ∙ ap (λ y. total f (fin.insert m k (g x)) + part f y) (sym found)
       ∙ total-insert m k (g x)
 
-  -- a value leaves
   pub total-remove : (m : fin.FinMap nat_cmp X) (k : ℕ) → total f (fin.remove m k) + part f (fin.get m k) ≡ total f m
   total-remove m k =
       elim (fin.get m k) as (λ y. fin.get m k ≡ y → total f (fin.remove m k) + part f y ≡ total f m) [

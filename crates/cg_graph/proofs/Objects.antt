@@ -1,4 +1,4 @@
--- The objects of a store as a list, once its nodes have changed.
+-- The list of a store's objects after its nodes change.
 use Rattle.std.proofs.Common.{◌≡◌, ◌<◌, ◌≤◌, IsSome, ℕ, ◌+◌, Bool, true, false, cond, not, List, [], ◌∷◌, ◌++◌, map, Option, Some, None, refl, sym, ap, ◌∙◌, subst, inl, inr, arith, sum_by}
 use Rattle.std.specs.Prelude.{◌==◌, if◌then◌else◌, option_map, filter, find}
 use Rattle.std.proofs.lemmas.Bool.{cases_eq, eq-eqb, ne_eqb}
@@ -20,7 +20,7 @@ use Rattle.cg_graph.specs.Changes.{made, new_node}
 use Rattle.cg_graph.proofs.Maps.{entries-mapped, same_map, get-remove_same, get-remove_other}
 use Rattle.cg_graph.proofs.Counts.{occurrences-entry_holdings}
 
--- each node changed is each object changed
+-- changing each node changes each object
 pub objects-mapped : (store : Store) (g : ℕ → Node → Node) (F : Object → Object) → ((s : ℕ) (n : Node) → object_from store.rows s (g s n) ≡ F (object_from store.rows s n)) → objects_of (record store { nodes = mapped g store.nodes }) ≡ map F (objects_of store)
 objects-mapped store g F same = ap (map (λ (e : ℕ × Node). object_from store.rows e.0 e.1)) (entries-mapped g store.nodes) ∙ each (fin.entries store.nodes)
   where
@@ -28,7 +28,7 @@ objects-mapped store g F same = ap (map (λ (e : ℕ × Node). object_from store
     each [] = refl
     each (e ∷ es) = λ i. same e.0 e.1 i ∷ each es i
 
--- a change that no object shows
+-- a change of nodes that no object shows
 pub objects-same : (store : Store) (g : ℕ → Node → Node) → ((s : ℕ) (n : Node) → object_from store.rows s (g s n) ≡ object_from store.rows s n) → objects_of (record store { nodes = mapped g store.nodes }) ≡ objects_of store
 objects-same store g same = objects-mapped store g (λ x. x) same ∙ map_id (objects_of store)
   where
@@ -36,7 +36,7 @@ objects-same store g same = objects-mapped store g (λ x. x) same ∙ map_id (ob
     map_id [] = refl
     map_id (x ∷ xs) = ap (λ l. x ∷ l) (map_id xs)
 
--- one node changed is one object changed
+-- changing one node changes one object
 pub objects-changed : (store : Store) (o : ℕ) (g : Node → Node) (f : Object → Object) → ((s : ℕ) (n : Node) → object_from store.rows s (g n) ≡ f (object_from store.rows s n)) → objects_of (record store { nodes = changed g o store.nodes }) ≡ change f o (objects_of store)
 objects-changed store o g f same = objects-mapped store (λ s n. if s == o then g n else n) (λ x. if x.serial == o then f x else x) (λ s n. one (s == o) s n)
   where
@@ -72,14 +72,14 @@ sums-alike rows s (e ∷ es) =
     ∙ ap (λ k. held_by s e.1 + k) (sums-alike rows s es)
     ∙ sym (sum_by-cons {X = ℕ × Node} (λ e. held_by s e.1) e es)
 
--- what the heap counts is what the objects hold
+-- the heap's count of holds is the count in its objects
 pub inner-holdings : (store : Store) (s : ℕ) → inner store s ≡ occurrences s (name_holdings store.names ++ (1 ∷ []) ++ entry_holdings (graph_of (objects_of store)))
 unfolding held_within
 inner-holdings store s =
     let entries : occurrences s (entry_holdings (graph_of (objects_of store))) ≡ total (held_by s) store.nodes = occurrences-entry_holdings s (graph_of (objects_of store)) ∙ sums-alike store.rows s (fin.entries store.nodes) in
     omega (arith, entries, occurrences-append s (name_holdings store.names ++ (1 ∷ [])) (entry_holdings (graph_of (objects_of store))), occurrences-append s (name_holdings store.names) (1 ∷ []))
 
--- the entries of a map without a key
+-- the entries of a map with a key removed
 pub entries-remove : {X : Type 0} (m : fin.FinMap nat_cmp X) (k : ℕ) → fin.entries (fin.remove m k) ≡ filter (λ e. not (e.0 == k)) (fin.entries m)
 entries-remove {X} m k = ap fin.entries (sym same) ∙ fin.entries-from_sorted nat_cmp (where_key nat_cmp keep (fin.entries m)) (is_sorted-where_key nat_cmp keep (fin.entries m) (fin.entries_sorted m))
   where
@@ -117,7 +117,7 @@ objects-remove store o = ap (map (λ (e : ℕ × Node). object_from store.rows e
 greater : (a b : ℕ) → b < a → nat_cmp a b ≡ Greater
 greater a b h = sym (nat_cmp_is a b Greater h)
 
--- A new key above all others goes last.
+-- A new greatest key goes last.
 module _ {X : Type 0} (k : ℕ) (v : X) where
   put-last : (es : List (ℕ × X)) → ((q : ℕ) → IsSome (fin.find nat_cmp q es) → q < k) → put nat_cmp k v es ≡ es ++ (k, v) ∷ []
   put-last [] below = refl

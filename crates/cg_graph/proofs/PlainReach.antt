@@ -1,4 +1,4 @@
--- The plain search: what it has found is reached, and when no edge leads further, it has found all.
+-- The plain search: it finds only reachable members, and all of them once no edge leads further.
 use Rattle.std.proofs.Common.{◌≡◌, refl, sym, ◌∙◌, ap, subst, ℕ, suc, ◌+◌, ◌<◌, ◌≤◌, Bool, true, false, cond, not, ◌⊎◌, inl, inr, List, [], ◌∷◌, ◌++◌, length, take, drop, remove, Option, Some, None, arith, get_or, take_all}
 use Rattle.std.specs.Prelude.{◌↔◌, filter, position, slice_get}
 use Rattle.std.specs.List.{position_from}
@@ -17,7 +17,7 @@ use Rattle.cg_graph.specs.Reach.{Reach, first, next}
 use Rattle.cg_graph.proofs.Members.{either, Includes-of, includes-of, Includes-append_left, Includes-append_right, Includes-append_cases, Includes-filter, Includes-filter_cases}
 use Rattle.cg_graph.proofs.Search.{touched, touching, touched_by}
 
--- a key put in is a member, and so is what was there
+-- inserting a key keeps the members and adds the key
 pub Includes-insert_key : (k : ℕ) (ks : List ℕ) (o : ℕ) → Includes (insert_key nat_cmp ks k) o ↔ (Includes ks o ⊎ (k ≡ o))
 Includes-insert_key k [] o = (λ h. either h (λ e. inr e) (λ f. absurd f), λ h. either h (λ f. absurd f) (λ e. inl e))
 Includes-insert_key k (x ∷ ks) o = go (nat_cmp k x) refl (Includes-insert_key k ks o)
@@ -27,7 +27,7 @@ Includes-insert_key k (x ∷ ks) o = go (nat_cmp k x) refl (Includes-insert_key 
     go Equal e rec = rw e (λ h. inl h, λ h. either h (λ m. m) (λ i. inl (sym (exact_unsigned k x e) ∙ i)))
     go Greater e rec = rw e (λ h. either h (λ i. inl (inl i)) (λ m. either (rec.0 m) (λ n. inl (inr n)) (λ i. inr i)), λ h. either h (λ m. either m (λ i. inl i) (λ n. inr (rec.1 (inl n)))) (λ i. inr (rec.1 (inr i))))
 
--- what is put in next is the next of a list
+-- the next member inserted is the next in the list
 pub one_more : (objects keys : List ℕ) (i o : ℕ) → ((p : ℕ) → Includes keys p ↔ Includes (take i objects) p) → i < length objects → o ≡ get_or objects i 0
     → (p : ℕ) → Includes (insert_key nat_cmp keys o) p ↔ Includes (take (i + 1) objects) p
 one_more objects keys i o so within value p =
@@ -38,12 +38,11 @@ one_more objects keys i o so within value p =
       λ h. step.1 (either (Includes-append_cases (take i objects) (o ∷ []) p (subst (λ (xs : List ℕ). Includes xs p) now h)) (λ m. inl ((so p).1 m)) (λ m. either m (λ e. inr e) (λ f. absurd f))),
     )
 
--- all of them, in order
 pub all_in : (objects keys list : List ℕ) (i : ℕ) → ((p : ℕ) → Includes keys p ↔ Includes (take i objects) p) → length objects ≤ i → list ≡ keys → (p : ℕ) → Includes list p ↔ Includes objects p
 all_in objects keys list i so end same p =
     subst (λ (xs : List ℕ). Includes xs p ↔ Includes objects p) (sym same) (subst (λ (xs : List ℕ). Includes keys p ↔ Includes xs p) (take_all i objects end) (so p))
 
--- where a test passes first
+-- the first element that passes a test
 finds : (test : ℕ → Bool) (k : ℕ) (xs : List ℕ) (j : ℕ) → position_from test k xs ≡ Some j → (i : ℕ) × (x : ℕ) × (j ≡ k + i) × (slice_get xs i ≡ Some x) × (test x ≡ true)
 finds test k [] j h = absurd (cc)
 finds test k (x ∷ xs) j h = go (test x) refl h (finds test (k + 1) xs j)
@@ -62,7 +61,7 @@ none_finds test k (y ∷ ys) h x m = go (test y) refl h m (none_finds test (k + 
     go false e s (inl i) rec = ap test (sym i) ∙ e
     go false e s (inr i) rec = rec s x i
 
--- a list with one of it taken out
+-- a list with one element removed
 module _ (xs : List ℕ) (i x : ℕ) (at : slice_get xs i ≡ Some x) where
   one : i + 1 ≡ suc i
   one = omega arith
@@ -89,7 +88,7 @@ module _ (xs : List ℕ) (i x : ℕ) (at : slice_get xs i ≡ Some x) where
   is_there : Includes xs x
   is_there = subst (λ (ys : List ℕ). Includes ys x) (sym parts) (Includes-append_right (take i xs) (x ∷ drop (suc i) xs) x (inl refl))
 
--- How far the search has come: what was found is reached, and the other members are left.
+-- The search so far: every member found is reached, and the rest are still to do.
 pub record Spreads (held inside : List ℕ) (arrows : List Edge) (found rest : List ℕ) : Type 0 where
   pub reached : (o : ℕ) → Includes found o → Reach (Includes held) (Includes inside) arrows o
   pub left : (o : ℕ) → Includes rest o → Includes inside o
@@ -152,7 +151,7 @@ module _ (held inside : List ℕ) (arrows : List Edge) where
           let yes : touched arrows found p ≡ true = touched_by arrows found (record { from = q; to = p }) arrow (all q r) in
           absurd (cc))
 
-  -- the end: the same objects in another list
+  -- at the end: the same objects in another list
   pub spreads_all : (found rest seen left same : List ℕ) (answer : Option ℕ) → Spreads held inside arrows found rest → seen ≡ found → left ≡ rest → answer ≡ position (touched arrows seen) left → answer ≡ None
       → ((o : ℕ) → Includes same o ↔ Includes found o) → (o : ℕ) → Includes same o ↔ Reach (Includes held) (Includes inside) arrows o
   spreads_all found rest seen left same answer so e f is none among o =

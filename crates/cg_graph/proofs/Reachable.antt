@@ -1,4 +1,4 @@
--- Reachability in a heap is reachability in the objects and holdings that it stands for.
+-- Reachability in a heap equals reachability in its objects and holdings.
 use Rattle.std.proofs.Common.{◌≡◌, ℕ, List, sym, subst, arith}
 use Rattle.std.specs.Prelude.{◌↔◌}
 use Rattle.cg_value.specs.declared.Place.{Place}
@@ -21,7 +21,7 @@ module _ (store : Store) (holdings : List ℕ) (p : Place) (counts : (o : ℕ) �
       Reach-mono (λ q h. let e = counts q in omega (arith, h, e)) (λ q h. h) (λ e h. h)
       (subst (λ (xs : List Object). Reach (IsOutsideHeld holdings (graph_of (objects_at xs p))) (Includes (serials_at xs p)) (edges (graph_of (objects_at xs p))) o) (sym is) r)
 
-  -- where the objects are these, and each count is the number of occurrences in the holdings
+  -- if these are the objects, and each count is the number of occurrences in the holdings
   pub reachable_alike : (objects : List Object) → objects_of store ≡ objects → (o : ℕ) → IsReachable store p o ↔ Reach (IsOutsideHeld holdings (graph_of (objects_at objects p))) (Includes (serials_at objects p)) (edges (graph_of (objects_at objects p))) o
   reachable_alike objects is o = (there objects is o, back objects is o)
 

@@ -1,4 +1,4 @@
--- What the calls of a heap do to what it means. (Ours.)
+-- What the calls of a heap do to its store. (Ours.)
 use Rattle.std.specs.Prelude.{replicate, false, ℕ, ◌+◌, ◌-◌, List, [], Option, None, slice_set}
 use Rattle.std.specs.FinMap as fin
 use Rattle.cg_value.specs.declared.Val.{Val}
@@ -33,26 +33,25 @@ unheld refs store = record store { nodes = mapped (λ s n. less (occurrences s r
 abbrev pub with_entries : List Entry → Node → Node
 with_entries es n = record n { entries = es }
 
--- the entries of one object are replaced
+-- one object's entries replaced
 abbrev pub rewritten : ℕ → List Entry → Store → Store
 rewritten o es store = record store { nodes = changed (with_entries es) o store.nodes }
 
--- a name with a value, or without one
+-- a name bound to a value, or unbound
 abbrev pub named : ℕ → Option Val → Store → Store
 named i v store = record store { names = slice_set store.names i v }
 
--- one object goes to the end of a place
 abbrev pub with_place : Place → Node → Node
 with_place p n = record n { place = p }
 
--- it stands last there
+-- one object moved to the end of a place
 abbrev pub moved : ℕ → Place → Store → Store
 moved o p store = record store {
   nodes = changed (with_place p) o store.nodes;
   lists = move_between store.lists o (place_number (place_of store o)) (place_number p);
 }
 
--- one object is gone
+-- one object removed
 abbrev pub gone : ℕ → Store → Store
 gone o store = record store {
   nodes = fin.remove store.nodes o;
@@ -71,7 +70,7 @@ new_node code class parts = record {
   outside = 1;
 }
 
--- its serial is one above the last
+-- a new object, whose serial is one above the last
 abbrev pub made : KindCode → Option ℕ → List Entry → Store → Store
 made code class parts store = record store {
   nodes = fin.insert store.nodes (store.last + 1) (new_node code class parts);
@@ -79,7 +78,7 @@ made code class parts store = record store {
   lists = joins_list store.lists (store.last + 1) (place_number (first_place code));
 }
 
--- the garbage list, which the garbage root holds (`gc` manual, `gc.garbage`)
+-- the garbage list, held by the garbage root (`gc` manual, `gc.garbage`)
 abbrev pub garbage_node : Node
 garbage_node = record {
   code = ListKind;
@@ -91,7 +90,7 @@ garbage_node = record {
   outside = 0;
 }
 
--- the garbage list alone, and no name bound
+-- the garbage list alone, with no name bound
 abbrev pub opening_store : ℕ → Store
 opening_store names = record {
   nodes = fin.insert fin.empty 1 garbage_node;

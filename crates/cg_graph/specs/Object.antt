@@ -1,5 +1,5 @@
--- Objects, and the finite map from serials to objects, as the list of its objects by rising serial. (The list computes,
--- so that worked scripts run in a proof.)
+-- Objects by serial, as the list of objects in ascending order of serials. (The list computes, so worked scripts run
+-- in a proof.)
 use Rattle.std.specs.Prelude.{ℕ, Bool, true, false, not, List, [], ◌==◌, Option, if◌then◌else◌, option_map, unwrap_or, filter, map, is_some, find}
 use Rattle.cg_value.specs.declared.KindCode.{KindCode}
 use Rattle.cg_value.specs.declared.KindCode.TheVariants.{List as ListKind, Tuple, Dict, Inst, Func, Weak}
@@ -7,11 +7,11 @@ use Rattle.cg_value.specs.declared.Place.{Place}
 use Rattle.cg_value.specs.declared.Place.TheVariants.{Untracked, Gen, Frozen, Cand, Seen, Back, Legacy, Pend}
 use Rattle.cg_value.specs.declared.Entry.{Entry}
 
--- An object. It is tracked where its place is not Untracked.
+-- An object. It is tracked if its place is not Untracked.
 pub record Object : Type 0 where
   pub serial : ℕ
   pub code : KindCode
-  pub class : Option ℕ  -- the class of an instance, the procedure of a function
+  pub class : Option ℕ  -- an instance's class, a function's procedure
   pub entries : List Entry
   pub place : Place
   pub finalized : Bool
@@ -21,7 +21,7 @@ pub record Object : Type 0 where
 abbrev pub object_at : List Object → ℕ → Option Object
 object_at objects o = find (λ x. x.serial == o) objects
 
--- whether an object with the serial lives
+-- whether an object with the serial exists
 abbrev pub is_in_map : List Object → ℕ → Bool
 is_in_map objects o = is_some (object_at objects o)
 
@@ -33,15 +33,13 @@ change f o objects = map (λ x. if x.serial == o then f x else x) objects
 abbrev pub without : ℕ → List Object → List Object
 without o objects = filter (λ x. not (x.serial == o)) objects
 
--- what one change may do
+-- an object with other entries
 abbrev pub with_entries : List Entry → Object → Object
 with_entries es x = record x { entries = es }
 
--- another place
 abbrev pub with_place : Place → Object → Object
 with_place p x = record x { place = p }
 
--- another referent, or none
 abbrev pub with_referent : Option ℕ → Object → Object
 with_referent r x = record x { referent = r }
 
@@ -49,7 +47,7 @@ with_referent r x = record x { referent = r }
 abbrev pub marked : Object → Object
 marked x = record x { finalized = true }
 
--- the entries of the object, none where there is no such object
+-- the entries of the object, none if there is no such object
 abbrev pub entries_of : List Object → ℕ → List Entry
 entries_of objects o = unwrap_or (option_map (λ x. x.entries) (object_at objects o)) []
 
@@ -69,11 +67,11 @@ same_place p q = false
 abbrev pub is_tracked : Object → Bool
 is_tracked x = not (same_place x.place Untracked)
 
--- the objects of a place, and their serials
+-- whether an object is in a place
 abbrev pub is_at : Place → Object → Bool
 is_at p x = same_place x.place p
 
--- all of a place
+-- the objects of a place
 abbrev pub objects_at : List Object → Place → List Object
 objects_at objects p = filter (is_at p) objects
 
@@ -85,17 +83,16 @@ serials objects = map (λ x. x.serial) objects
 abbrev pub serials_at : List Object → Place → List ℕ
 serials_at objects p = serials (objects_at objects p)
 
--- Where an object stands when it is made: a dictionary is untracked until it holds what may be tracked. (`gc` manual,
+-- The place of a new object: a dictionary is untracked until it holds something that may be tracked. (`gc` manual,
 -- `gc.is_tracked`.)
 abbrev pub first_place : KindCode → Place
 first_place Dict = Untracked
 first_place code = Gen 0
 
--- whether an object is a tuple
 abbrev pub is_tuple : Object → Bool
 is_tuple x = elim x.code [ ListKind ↦ false | Tuple ↦ true | Dict ↦ false | Inst ↦ false | Func ↦ false | Weak ↦ false ]
 
--- An object may be tracked when it is no tuple, or a tracked one. (Developer guide, "optimization: delay tracking
--- containers".)
+-- An object may be tracked if it is not a tuple, or is a tracked tuple. (Developer guide, "optimization: delay
+-- tracking containers".)
 abbrev pub may_be_tracked : Object → Bool
 may_be_tracked x = if is_tuple x then is_tracked x else true

@@ -1,5 +1,5 @@
--- Why an object is alive: a path of holders that leads to it, from one that is held by a root. (Ours.
--- `gc.get_referrers` answers one step of it.)
+-- Why an object is alive: a path of holders that leads to it from an object held by a root. (Ours. `gc.get_referrers`
+-- gives one step of it.)
 use Rattle.std.specs.Prelude.{◌≡◌, ℕ, ◌<◌, ◌≤◌, Bool, List, [], ◌∷◌, length}
 use Rattle.cg_graph.specs.declared.Edge.{Edge}
 use Rattle.cg_graph.specs.Member.{Includes, includes}
@@ -11,18 +11,17 @@ use Rattle.cg_graph.specs.Holdings.{occurrences}
 abbrev pub refers_to : ℕ → Object → Bool
 refers_to o x = includes (references x.entries) o
 
--- A root other than the name that is asked about holds an object. That name holds the object of the
--- question once. The first argument says how often roots hold an object: names, the garbage root, and what
--- is under way.
+-- A root other than the queried name holds an object. The queried name holds the object of the question once. The
+-- first argument counts the holds of roots: names, the garbage root, and work in progress.
 abbrev pub IsHeldElse : (ℕ → ℕ) → ℕ → ℕ → Type 0
 IsHeldElse holdings object o = occurrences o (object ∷ []) < holdings o
 
--- each next is a reference of an entry of the one before, and the last is the object
+-- each next object is referenced by an entry of the one before, and the last is the object
 abbrev pub LeadsTo : List Edge → ℕ → List ℕ → ℕ → Type 0
 LeadsTo arrows last [] object = last ≡ object
 LeadsTo arrows from (next ∷ path) object = Includes arrows (record { from = from; to = next }) × LeadsTo arrows next path object
 
--- a path of holders, the first of which a root holds
+-- a path of holders whose first is held by a root
 abbrev pub IsPath : (ℕ → Type 0) → List Edge → List ℕ → ℕ → Type 0
 IsPath Held arrows [] object = ⊥
 IsPath Held arrows (first ∷ path) object = Held first × LeadsTo arrows first path object

@@ -1,10 +1,10 @@
--- The list of the objects of each place, in the order in which they came there. (Developer guide, "optimization:
--- generations": each generation is a list.)
+-- The list of the objects of each place, in the order of arrival. (Developer guide, "optimization: generations": each
+-- generation is a list.)
 use Rattle.std.specs.Prelude.{nat_eq, ℕ, ◌+◌, not, List, [], ◌∷◌, ◌++◌, filter, slice_set, slice_index_or}
 use Rattle.cg_value.specs.declared.Place.{Place}
 use Rattle.cg_value.specs.declared.Place.TheVariants.{Untracked, Gen, Frozen, Cand, Seen, Back, Legacy, Pend}
 
--- The number of a place among the lists. The generations come last, so that no two places share a number.
+-- The index of a place's list. The generations come last, so no two places share a number.
 abbrev pub place_number : Place → ℕ
 place_number Untracked = 0
 place_number Frozen = 1
@@ -31,10 +31,10 @@ leaves_list lists s p = slice_set lists p (without_serial s (list_of lists p))
 abbrev pub joins_list : List (List ℕ) → ℕ → ℕ → List (List ℕ)
 joins_list lists s p = slice_set lists p (list_of lists p ++ s ∷ [])
 
--- a serial goes from the list of one place to the end of that of another, which may be the same
+-- a serial moves from the list of one place to the end of another's, which may be the same
 abbrev pub move_between : List (List ℕ) → ℕ → ℕ → ℕ → List (List ℕ)
 move_between lists s p q = joins_list (leaves_list lists s p) s q
 
--- the list of one place is appended to that of another, and is empty
+-- the list of one place is appended to another's and emptied
 abbrev pub merge_lists : List (List ℕ) → ℕ → ℕ → List (List ℕ)
 merge_lists lists p q = slice_set (slice_set lists q (list_of lists q ++ list_of lists p)) p []

@@ -1,5 +1,5 @@
--- What is reachable among the objects of one place of a heap, in the words of `Reach`. (Developer guide, "identifying
--- reference cycles": the collector looks for it in one generation, or among the candidates.)
+-- What is reachable among the objects of one place, in terms of `Reach`. (Developer guide, "identifying reference
+-- cycles": the collector searches one generation, or the candidates.)
 use Rattle.std.specs.Prelude.{ℕ, ◌<◌}
 use Rattle.cg_value.specs.declared.Place.{Place}
 use Rattle.cg_graph.specs.Member.{Includes}
@@ -12,18 +12,18 @@ use Rattle.cg_graph.specs.Store.{Store, objects_of, count_of}
 abbrev pub graph_at : Store → Place → Graph
 graph_at store p = graph_of (objects_at (objects_of store) p)
 
--- an object stands there
+-- an object is in a place
 abbrev pub StandsAt : Store → Place → ℕ → Type 0
 StandsAt store p o = Includes (serials_at (objects_of store) p) o
 
--- It is held more often than the entries of the place's objects hold it.
+-- It has more holds than the entries of the place's objects give it.
 abbrev pub IsHeldFromOutside : Store → Place → ℕ → Type 0
 IsHeldFromOutside store p o = occurrences o (entry_holdings (graph_at store p)) < count_of store o
 
--- a path from one that is held from outside leads to it, and goes by objects of the place
+-- a path through objects of the place leads to it from one held from outside
 abbrev pub IsReachable : Store → Place → ℕ → Type 0
 IsReachable store p o = Reach (IsHeldFromOutside store p) (StandsAt store p) (edges (graph_at store p)) o
 
--- it stands there, and no such path leads to it
+-- it is in the place, and no such path leads to it
 abbrev pub IsUnreachable : Store → Place → ℕ → Type 0
 IsUnreachable store p o = Unreachable (IsHeldFromOutside store p) (StandsAt store p) (edges (graph_at store p)) o

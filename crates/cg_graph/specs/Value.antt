@@ -12,26 +12,26 @@ reference_in (Int n) = None
 reference_in (Str s) = None
 reference_in (Ref o) = Some o
 
--- the references of a value that may be missing: one or none
+-- the references of an optional value: one or none
 abbrev pub references_of_value : Option Val → List ℕ
 references_of_value v = option_to_list (option_and_then reference_in v)
 
--- The references of an entry: the one in its value, and then the one in its key. They are given up in this order. (Ours.)
+-- The references of an entry: the value's, then the key's. They are released in this order. (Ours.)
 abbrev pub entry_references : Entry → List ℕ
 entry_references e = option_to_list (reference_in e.val) ++ option_to_list (reference_in e.key)
 
--- the references of entries, one for each time that one is stored
+-- the references of entries, each as often as it is stored
 abbrev pub references : List Entry → List ℕ
 references entries = flat_map entry_references entries
 
--- whether two whole numbers are the same
+-- whether two integers are equal
 abbrev pub same_int : ℤ → ℤ → Bool
 same_int (pos m) (pos n) = m == n
 same_int (pos m) (negsuc n) = false
 same_int (negsuc m) (pos n) = false
 same_int (negsuc m) (negsuc n) = m == n
 
--- Whether two values are the same. Objects are the same only as themselves. (Ours: instances and functions as keys.)
+-- Whether two values are equal. Objects are compared by identity. (Ours: instances and functions as keys.)
 abbrev pub same_value : Val → Val → Bool
 same_value Nothing Nothing = true
 same_value Nothing (Int n) = false
@@ -50,21 +50,22 @@ same_value (Ref o) (Int n) = false
 same_value (Ref o) (Str t) = false
 same_value (Ref o) (Ref p) = o == p
 
--- an entry of a list, a tuple, a function or a weak reference has the key none
+-- an entry of a list, tuple, function or weak reference: its key is None
 abbrev pub item : Val → Entry
 item value = record { key = Nothing; val = value }
 
--- the value under a key, that of the first entry with it
+-- the value of the first entry with a key
 abbrev pub value_at : List Entry → Val → Option Val
 value_at [] key = None
 value_at (e ∷ entries) key = if same_value e.key key then Some e.val else value_at entries key
 
--- A present key keeps its place and gets the value; a new key goes last. (Python's dictionaries keep the order of insertion.)
+-- An existing key keeps its position and gets the value; a new key goes last. (Python's dictionaries keep insertion
+-- order.)
 abbrev pub put : List Entry → Val → Val → List Entry
 put [] key value = record { key = key; val = value } ∷ []
 put (e ∷ entries) key value = if same_value e.key key then record { key = e.key; val = value } ∷ entries else e ∷ put entries key value
 
--- the entries without the one under a key
+-- the entries without that of a key
 abbrev pub without_key : List Entry → Val → List Entry
 without_key [] key = []
 without_key (e ∷ entries) key = if same_value e.key key then entries else e ∷ without_key entries key
@@ -74,7 +75,7 @@ abbrev pub entry_at : List Entry → Val → Option Entry
 entry_at [] key = None
 entry_at (e ∷ entries) key = if same_value e.key key then Some e else entry_at entries key
 
--- the last entry, if there is one, and the entries without it
+-- the last entry, if any, and the entries before it
 abbrev pub last_entry : List Entry → Option Entry
 last_entry entries = slice_get entries (length entries - 1)
 

@@ -1,9 +1,9 @@
-//! The object graph as plain data: who holds whom, what a path of references reaches, and what a heap means.
+//! The object graph as plain data: who holds whom, what a path of references reaches, and the model of a heap.
 //!
-//! Nearly all of this crate is `specs/`. The machine rests on `Holdings` and `Reach`, which count references and
-//! follow them; the heap and the crates below it rest on `Maps`, `Places`, `Rows` and `Store`, which say what a heap
-//! stands for, so that heap and machine speak with the same words. `reference_in` answers the reference in a value.
-//! `reach_plain` finds by a plain search what `Reach` says; tests compare with it.
+//! Nearly all of this crate is `specs/`. The machine rests on `Holdings` and `Reach`, which count and follow
+//! references; the heap and the crates below it rest on `Maps`, `Places`, `Rows` and `Store`, the model of a heap, so
+//! heap and machine share their terms. `reference_in` returns the reference in a value. `reach_plain` computes `Reach`
+//! by a plain search; tests compare with it.
 #![tactic(auto)]
 
 mod limits;

@@ -1,7 +1,7 @@
-//! How large an object graph gets. (Ours.)
+//! The size limits of an object graph. (Ours.)
 
-/// The most objects that live at once, the list of uncollectable ones not counted.
+/// The maximum number of live objects, not counting the garbage list.
 pub const MOST_OBJECTS: u64 = 1_000_000;
 
-/// The most entries that all objects have at once, those of the list of uncollectable ones not counted.
+/// The maximum number of entries of all objects, not counting those of the garbage list.
 pub const MOST_ENTRIES: u64 = 4_000_000;

@@ -11,7 +11,7 @@ use crate::Edge;
 use std::alloc::{AllocError, Global};
 use std::collections::BTreeSet;
 
-/// Whether an edge leads to the object from one that was found.
+/// Whether an edge leads to the object from a found one.
 fn is_next(edges: &[Edge], found: &[u64], object: u64) -> bool
     ensures { result ≡ list_any (λ e. (e.to == object) && includes found.now e.from) edges.now }
 {
@@ -20,7 +20,7 @@ fn is_next(edges: &[Edge], found: &[u64], object: u64) -> bool
         .any(|edge| edge.to == object && found.contains(&edge.from))
 }
 
-/// The position of the first object to which an edge leads from one that was found.
+/// The position of the first object that an edge leads to from a found one.
 fn next_of(edges: &[Edge], found: &[u64], rest: &[u64]) -> Option<usize>
     ensures { result ≡ position (λ o. list_any (λ e. (e.to == o) && includes found.now e.from) edges.now) rest.now }
 {
@@ -28,7 +28,6 @@ fn next_of(edges: &[Edge], found: &[u64], rest: &[u64]) -> Option<usize>
         .position(|object| is_next(edges, found, *object))
 }
 
-/// The members that are held.
 fn held_members(alloc: Global, inside: &[u64], held: &[u64]) -> Result<Vec<u64>, AllocError>
     ensures { IfOk result (λ members. members.items ≡ filter (λ o. includes held.now o) inside.now) }
 {
@@ -39,7 +38,7 @@ fn held_members(alloc: Global, inside: &[u64], held: &[u64]) -> Result<Vec<u64>,
         .collect(alloc)
 }
 
-/// The other members.
+/// The members that are not held.
 fn other_members(alloc: Global, inside: &[u64], held: &[u64]) -> Result<Vec<u64>, AllocError>
     ensures { IfOk result (λ members. members.items ≡ filter (λ o. not (includes held.now o)) inside.now) }
 {
@@ -50,7 +49,6 @@ fn other_members(alloc: Global, inside: &[u64], held: &[u64]) -> Result<Vec<u64>
         .collect(alloc)
 }
 
-/// The members of a set, in order.
 fn listed(alloc: Global, set: &BTreeSet<u64>) -> Result<Vec<u64>, AllocError>
     ensures same { IfOk result (λ list. list.items ≡ keys set.now) }
     ensures ordered { IsOrdered nat_cmp set.now }
@@ -58,7 +56,7 @@ fn listed(alloc: Global, set: &BTreeSet<u64>) -> Result<Vec<u64>, AllocError>
     set.iter().copied().collect(alloc)
 }
 
-/// The same objects, rising, each once.
+/// The same objects in ascending order, each once.
 fn rising(alloc: Global, objects: &[u64]) -> Result<Vec<u64>, AllocError>
     ensures same { IfOk result (λ list. (o : ℕ) → Includes list.items o ↔ Includes objects.now o) }
     ensures rising { IfOk result (λ list. IsStrictlyIncreasing list.items) }
@@ -70,9 +68,9 @@ fn rising(alloc: Global, objects: &[u64]) -> Result<Vec<u64>, AllocError>
     listed(alloc, &set)
 }
 
-/// The members of `inside` that a path of members of `inside` reaches from a member of `held`, rising, each once.
+/// The members of `inside` reachable through members of `inside` from a member of `held`, ascending, each once.
 ///
-/// It looks at every edge for every member, and is for tests. It answers `AllocError` only where memory runs out.
+/// For tests: it checks every edge for every member. Returns `AllocError` only if memory runs out.
 pub fn reach_plain(
     alloc: Global,
     edges: &[Edge],

@@ -1,17 +1,17 @@
--- What a call that wrote a front of some bytes left.
+-- What a call that wrote a prefix of some bytes left.
 use Rattle.std.proofs.Common.{◌≡◌, ℕ, List, [], ◌++◌, take, drop, Some, Bool, true, false, if◌then◌else◌, refl, sym, ap, ◌∙◌, take-append-drop, append-nil, append_assoc}
 use Rattle.std.specs.declared.option.Option.{Option}
 use Rattle.std.specs.Io.KnownBytes.{Appends}
 use Rattle.std.proofs.KnownBytes.{Appends-trans}
 use Rattle.cg_io.specs.Causes.{AppendsFront}
 
--- a front of the bytes was written, and this is their rest
+-- a prefix of the bytes was written, and this is the rest
 pub record WroteSoFar (old now : Option (List ℕ)) (bytes rest : List ℕ) : Type 0 where
   pub front : List ℕ
   pub whole : bytes ≡ front ++ rest
   pub appended : Appends old now front
 
--- one front more
+-- one more prefix
 pub wrote_more : (a b c : Option (List ℕ)) (bytes rest left : List ℕ) (n : ℕ) → WroteSoFar a b bytes rest → Appends b c (take n rest) → left ≡ drop n rest
     → WroteSoFar a c bytes left
 wrote_more a b c bytes rest left n so_far more is_left = record {
@@ -20,7 +20,7 @@ wrote_more a b c bytes rest left n so_far more is_left = record {
   appended = Appends-trans a b c so_far.front (take n rest) so_far.appended more;
 }
 
--- a growth by a front of the bytes that was refused or not
+-- an append of a prefix, which may have failed
 pub grown_or_not : (old new bytes front rest : List ℕ) (ok : Bool) → bytes ≡ front ++ rest → new ≡ (if ok then old ++ front else old) → AppendsFront (Some old) (Some new) bytes
 grown_or_not old new bytes front rest true whole grown = record { front = front; rest = rest; whole = whole; appended = grown }
 grown_or_not old new bytes front rest false whole grown = record { front = []; rest = bytes; whole = refl; appended = grown ∙ sym (append-nil old) }

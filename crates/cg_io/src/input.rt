@@ -1,4 +1,4 @@
-//! Reading a source to its end.
+//! Reads a source to its end.
 ghost use Rattle.std.specs.Prelude.{◌≡◌, ◌<◌, ◌≤◌, length, IfOk, Err};
 ghost use Rattle.std.specs.Io.KnownBytes.{Consumes, IsAtEnd};
 ghost use Rattle.cg_io.specs.Causes.{Rose};
@@ -6,7 +6,7 @@ ghost use Rattle.cg_io.specs.Causes.{Rose};
 use crate::traits::{ReadFailed, Source};
 use std::alloc::Global;
 
-/// How many bytes are asked for at a time.
+/// The number of bytes requested per read.
 const ROOM: usize = 4096;
 
 /// Why a source was not read.
@@ -14,14 +14,14 @@ const ROOM: usize = 4096;
 pub enum InputFault {
     /// The source failed.
     ReadFault,
-    /// Memory for its bytes was refused.
+    /// Memory for the bytes ran out.
     OutOfMemory,
 }
 
-/// Reads until the source answers its end, or `most` bytes were read, and answers the bytes.
+/// Reads until the source reports its end or `most` bytes were read, and returns the bytes.
 ///
-/// Fewer than `most` bytes are all that the source had. `ReadFault` comes only where its faults rose, and `OutOfMemory` leaves
-/// it somewhere before its end.
+/// Fewer than `most` bytes means all that the source had. `ReadFault` comes only if its fault count rose;
+/// `OutOfMemory` leaves the source somewhere before its end.
 pub fn read_up_to<S: Source>(
     alloc: Global,
     source: &mut S,

@@ -1,4 +1,4 @@
-//! A sink in memory that fails where it is told to.
+//! A sink in memory that fails on listed calls.
 ghost use Rattle.std.specs.Prelude.{◌≡◌, ◌<◌, ◌⊎◌, [], take, Some, IsTrue, IsErr, OnOk, OnErr};
 ghost use Rattle.std.specs.Io.KnownBytes.{Appends};
 ghost use Rattle.cg_io.specs.Causes.{HasCause, AppendsFront};
@@ -9,11 +9,11 @@ use crate::{Sink, WriteFailed};
 use std::alloc::Global;
 use std::marker::Model;
 
-/// A list of bytes in memory, told to contracts, that grows by what is written. Its calls are numbered from 1; those
-/// whose numbers are in a list fail and keep the first few bytes.
+/// A growing list of the bytes written, visible to contracts. Calls are numbered from 1; the listed calls fail and
+/// keep the first few bytes.
 ///
-/// A contract sees a `MemoryOutput`: the bytes, the calls so far, that list, how many bytes a listed call keeps, and the
-/// faults so far.
+/// A contract sees a `MemoryOutput`: the bytes, the calls so far, that list, how many bytes a listed call keeps, and
+/// the faults so far.
 #[derive(Drop)]
 pub struct MemSink {
     bytes: Vec<u8>,
@@ -30,8 +30,8 @@ impl Model for MemSink {
 }
 
 impl MemSink {
-    /// An empty sink, before its first call. The calls whose numbers, from 1, stand in `fails` will fail, and keep the
-    /// first `keep` bytes of those given. With no such number a fault stands for lack of memory.
+    /// An empty sink, before its first call. Calls whose numbers (from 1) are in `fails` will fail and keep the first
+    /// `keep` bytes given. With an empty list every fault is an allocation failure.
     pub fn new(alloc: Global, fails: Vec<u64>, keep: usize) -> MemSink
         ensures { result ≡ record { bytes = []; calls = 0; fails = fails.items; keep = keep; faults = 0 } }
     {
@@ -52,7 +52,7 @@ impl MemSink {
     }
 }
 
-/// The front that a listed call keeps.
+/// The prefix that a listed call keeps.
 fn kept(bytes: &[u8], keep: usize) -> &[u8]
     ensures { result.now ≡ take keep bytes.now }
 {
@@ -64,8 +64,8 @@ impl Sink for MemSink {
 
     ghost faults = { λ s. s.faults };
 
-    /// Appends the bytes. A call whose number is in the list of those that fail appends the first few of them and fails.
-    /// A call whose growth is refused, listed or not, appends nothing and fails. Each failure is counted as a fault.
+    /// Appends the bytes. A listed call appends the first few and fails. If the allocation fails, the call, listed or
+    /// not, appends nothing and fails. Each failure counts as a fault.
     fn write(&mut self, bytes: &[u8]) -> Result<(), WriteFailed>
         ensures ok { OnOk result (Appends (Some self.old.bytes) (Some self.new.bytes) bytes.now) }
         ensures err { OnErr result (AppendsFront (Some self.old.bytes) (Some self.new.bytes) bytes.now) }
@@ -74,7 +74,7 @@ impl Sink for MemSink {
         // The listed calls fail.
         ensures listed { IsTrue (next_write_fails self.old) → IsErr result }
 
-        // The sink after a call. Where a growth is refused, nothing is kept.
+        // The sink after a call. If the allocation fails, nothing is kept.
         ensures wrote { OnOk result (self.new ≡ after_write self.old bytes.now) }
         ensures failed { OnErr result ((self.new ≡ after_failed_write self.old (kept_at_fault self.old bytes.now))
             ⊎ (self.new ≡ after_failed_write self.old [])) }

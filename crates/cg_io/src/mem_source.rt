@@ -1,4 +1,4 @@
-//! A source in memory that fails where it is told to.
+//! A source in memory that fails on listed calls.
 ghost use Rattle.std.specs.Prelude.{◌≡◌, ◌+◌, ◌<◌, ◌≤◌, ◌↔◌, ◌++◌, length, take, drop, min, Some, Ok, IsTrue, IfOk, IsErr, OnErr};
 ghost use Rattle.std.specs.Io.{ReadsAtMost};
 ghost use Rattle.std.specs.Io.KnownBytes.{ReadConsumes};
@@ -9,9 +9,9 @@ use crate::memory::{copy_front, is_next_listed};
 use crate::{ReadFailed, Source};
 use std::marker::Model;
 
-/// Bytes in memory, told to contracts. Its calls are numbered from 1, and exactly those fail whose numbers are in a list.
+/// Bytes in memory, visible to contracts. Calls are numbered from 1; exactly the listed ones fail.
 ///
-/// A contract sees a `MemoryInput`: the bytes that are left, the calls so far, that list, and the faults so far.
+/// A contract sees a `MemoryInput`: the remaining bytes, the calls so far, that list, and the faults so far.
 #[derive(Drop)]
 pub struct MemSource {
     bytes: Vec<u8>,
@@ -30,7 +30,7 @@ impl Model for MemSource {
 }
 
 impl MemSource {
-    /// A source of these bytes, before its first call. The calls whose numbers, from 1, stand in `fails` will fail.
+    /// A source of these bytes, before its first call. Calls whose numbers (from 1) are in `fails` will fail.
     pub fn new(bytes: Vec<u8>, fails: Vec<u64>) -> MemSource
         ensures { result ≡ record { left = bytes.items; calls = 0; fails = fails.items; faults = 0 } }
     {
@@ -49,19 +49,19 @@ impl Source for MemSource {
 
     ghost faults = { λ s. s.faults };
 
-    /// Takes as many bytes as are left and as fit into `buf`. `ReadFailed` comes exactly where the number of this call
-    /// is in the list of those that fail; then the bytes and `buf` stay, and the fault is counted.
+    /// Reads as many bytes as remain and fit into `buf`. `ReadFailed` comes exactly if this call is listed; then the
+    /// bytes and `buf` are unchanged, and the fault is counted.
     fn read(&mut self, buf: &mut [u8]) -> Result<usize, ReadFailed>
         requires { 0 < length buf.old }
         ensures bound { ReadsAtMost result buf.new }
         ensures bytes { ReadConsumes (Some self.old.left) (Some self.new.left) result buf.new }
         ensures cause { HasCause self.old.faults self.new.faults result }
 
-        // Which calls fail, and how many bytes the others take.
+        // Which calls fail, and how many bytes the others read.
         ensures failed { IsErr result ↔ IsTrue (next_read_fails self.old) }
         ensures count { IfOk result (λ n. n ≡ min (length self.old.left) (length buf.old)) }
 
-        // The source and the buffer after both.
+        // The source and the buffer in both cases.
         ensures ok { IfOk result (λ n. self.new ≡ after_read self.old n) }
         ensures copied { IfOk result (λ n. buf.new ≡ take n self.old.left ++ drop n buf.old) }
         ensures err { OnErr result (self.new ≡ after_failed_read self.old) }

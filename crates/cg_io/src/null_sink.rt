@@ -5,7 +5,7 @@ ghost use Rattle.cg_io.specs.Causes.{HasCause, AppendsFront};
 
 use crate::{Sink, WriteFailed};
 
-/// Takes what it is given, keeps nothing, tells nothing, and never fails.
+/// Discards what it is given. It never fails.
 #[derive(Clone, Copy, Debug, Drop)]
 pub struct NullSink;
 
@@ -24,7 +24,7 @@ impl Sink for NullSink {
 
     ghost faults = { λ _. 0 };
 
-    /// Forgets the bytes. It never fails.
+    /// Discards the bytes. It never fails.
     fn write(&mut self, bytes: &[u8]) -> Result<(), WriteFailed>
         ensures ok { OnOk result (Appends None None bytes.now) }
         ensures err { OnErr result (AppendsFront None None bytes.now) }

@@ -8,9 +8,9 @@ use crate::memory::copy_front;
 use crate::{ReadFailed, Source};
 use std::marker::Model;
 
-/// Bytes in memory, told to contracts, which are read without a fault.
+/// Bytes in memory, visible to contracts; reads never fail.
 ///
-/// A contract sees the list of the bytes that are left.
+/// A contract sees the list of the remaining bytes.
 #[derive(Drop)]
 pub struct PlainSource {
     bytes: Vec<u8>,
@@ -39,14 +39,14 @@ impl Source for PlainSource {
 
     ghost faults = { λ _. 0 };
 
-    /// Takes as many bytes as are left and as fit into `buf`. It never fails.
+    /// Reads as many bytes as remain and fit into `buf`. It never fails.
     fn read(&mut self, buf: &mut [u8]) -> Result<usize, ReadFailed>
         requires { 0 < length buf.old }
         ensures bound { ReadsAtMost result buf.new }
         ensures bytes { ReadConsumes (Some self.old) (Some self.new) result buf.new }
         ensures cause { HasCause 0 0 result }
 
-        // The answer, what is left, and what stands in the buffer.
+        // The result, the remaining bytes, and the contents of the buffer.
         ensures ok { result ≡ Ok (min (length self.old) (length buf.old)) }
         ensures left { self.new ≡ drop (length buf.old) self.old }
         ensures copied { buf.new ≡ take (length buf.old) self.old ++ drop (length self.old) buf.old }

@@ -9,13 +9,13 @@ use crate::{ReadFailed, Source};
 use std::io::{ErrorKind, Read};
 use std::marker::Model;
 
-/// How often a read or a write is tried before an answer `Interrupted` counts as a fault: once, and 100 times more.
+/// How often a read or write is attempted before `Interrupted` counts as a fault: once, and 100 retries.
 pub(crate) const TRIES: usize = 101;
 
 /// Any reader, with a count of its faults. Over `std::io::Read`.
 ///
-/// A contract sees a `ReaderInUse`: what the reader would give from here on, where it tells that, and the faults so
-/// far. As a source it tells nothing.
+/// A contract sees a `ReaderInUse`: the bytes the reader has left, if known, and the faults so far. As a source it
+/// reveals nothing about its bytes.
 #[derive(Drop)]
 pub struct ReadSource<R: Read + Drop> {
     inner: R,
@@ -29,7 +29,7 @@ impl<R: Read + Drop> Model for ReadSource<R> {
 }
 
 impl<R: Read + Drop> ReadSource<R> {
-    /// A source over this reader, which has not failed yet.
+    /// A source over this reader, with no faults yet.
     pub fn new(inner: R) -> ReadSource<R>
         ensures { result ≡ record { remaining = R.remaining inner; faults = 0 } }
     {
@@ -37,7 +37,7 @@ impl<R: Read + Drop> ReadSource<R> {
     }
 }
 
-/// Reads, and tries again where the reader was interrupted.
+/// Reads, and retries if the reader was interrupted.
 fn read_patiently<R: Read>(inner: &mut R, buf: &mut [u8]) -> Result<usize, ReadFailed>
     ensures bound { ReadsAtMost result buf.new }
     ensures bytes { ReadConsumes (R.remaining inner.old) (R.remaining inner.new) result buf.new }
@@ -60,8 +60,8 @@ impl<R: Read + Drop> Source for ReadSource<R> {
 
     ghost faults = { λ s. s.faults };
 
-    /// Reads once from the reader. A read that the reader answers with `Interrupted` is tried again, at most 100 times;
-    /// any other error, and one `Interrupted` more, is a fault.
+    /// Reads once from the reader. A read that returns `Interrupted` is retried, at most 100 times; any other error,
+    /// or one more `Interrupted`, is a fault.
     fn read(&mut self, buf: &mut [u8]) -> Result<usize, ReadFailed>
         requires { 0 < length buf.old }
         ensures bound { ReadsAtMost result buf.new }

@@ -12,8 +12,8 @@ use std::marker::Model;
 
 /// Any writer, with a count of its faults. Over `std::io::Write`.
 ///
-/// A contract sees a `WriterInUse`: what the writer holds, where it tells that, and the faults so far. As a sink it
-/// tells nothing.
+/// A contract sees a `WriterInUse`: what the writer holds, if known, and the faults so far. As a sink it reveals
+/// nothing about its bytes.
 #[derive(Drop)]
 pub struct WriteSink<W: Write + Drop> {
     inner: W,
@@ -27,7 +27,7 @@ impl<W: Write + Drop> Model for WriteSink<W> {
 }
 
 impl<W: Write + Drop> WriteSink<W> {
-    /// A sink over this writer, which has not failed yet.
+    /// A sink over this writer, with no faults yet.
     pub fn new(inner: W) -> WriteSink<W>
         ensures { result ≡ record { contents = W.contents inner; faults = 0 } }
     {
@@ -35,7 +35,7 @@ impl<W: Write + Drop> WriteSink<W> {
     }
 }
 
-/// Writes a front of the bytes, and tries again where the writer was interrupted.
+/// Writes a prefix of the bytes, and retries if the writer was interrupted.
 fn write_patiently<W: Write>(inner: &mut W, bytes: &[u8]) -> Result<usize, WriteFailed>
     ensures bound { WritesAtMost result bytes.now }
     ensures bytes { WriteAppends (W.contents inner.old) (W.contents inner.new) result bytes.now }
@@ -53,7 +53,7 @@ fn write_patiently<W: Write>(inner: &mut W, bytes: &[u8]) -> Result<usize, Write
     Err(WriteFailed)
 }
 
-/// Writes all of the bytes, front by front.
+/// Writes all of the bytes, prefix by prefix.
 fn write_fronts<W: Write>(inner: &mut W, bytes: &[u8]) -> Result<(), WriteFailed>
     ensures ok { OnOk result (Appends (W.contents inner.old) (W.contents inner.new) bytes.now) }
     ensures err { OnErr result (AppendsFront (W.contents inner.old) (W.contents inner.new) bytes.now) }
@@ -74,15 +74,15 @@ impl<W: Write + Drop> Sink for WriteSink<W> {
 
     ghost faults = { λ s. s.faults };
 
-    /// Writes the bytes to the writer, in as many calls as it takes. A write that the writer answers with `Interrupted`
-    /// is tried again, at most 100 times, as `Write::write_all` does without a bound; any other error, one `Interrupted`
-    /// more, and a write that takes nothing is a fault.
+    /// Writes the bytes to the writer, in as many calls as it takes. A write that returns `Interrupted` is retried, at
+    /// most 100 times (`Write::write_all` retries without limit). Any other error, one more `Interrupted`, or a write
+    /// of zero bytes is a fault.
     fn write(&mut self, bytes: &[u8]) -> Result<(), WriteFailed>
         ensures ok { OnOk result (Appends None None bytes.now) }
         ensures err { OnErr result (AppendsFront None None bytes.now) }
         ensures cause { HasCause self.old.faults self.new.faults result }
 
-        // The writer was given all of the bytes, or a front of them where the call fails, and each failure is counted.
+        // The writer received all of the bytes, or a prefix of them if the call fails; each failure is counted.
         ensures to_writer { OnOk result (Appends self.old.contents self.new.contents bytes.now) }
         ensures front { OnErr result (AppendsFront self.old.contents self.new.contents bytes.now) }
         ensures unfailed { OnOk result (self.new.faults ≡ self.old.faults) }

@@ -1,4 +1,4 @@
--- Look-ups in the map of bodies once one place has another body.
+-- Look-ups in the map of bodies after one body changes.
 use Rattle.std.proofs.Common.{◌≡◌, ◌≢◌, ℕ, List, [], ◌∷◌, ◌++◌, Some, cond, refl, sym, ap, ◌∙◌, subst, inl, inr, IsSome}
 use Rattle.std.proofs.lemmas.Bool.{cases_eq, eq-eqb, ne_eqb}
 use Rattle.std.specs.Cmp.{nat_cmp_total, unsigned_tied}
@@ -29,14 +29,14 @@ module _ (bodies : Bodies) (at : ℕ) (entries : List Entry) (spare : ℕ) where
   pub Holds-with_body : Holds (with_body bodies at entries spare) at
   Holds-with_body = rw get-with_body refl
 
-  -- each place that held a body holds one
+  -- every place that held a body still holds one
   pub still_holds : (other : ℕ) → Holds bodies other → Holds (with_body bodies at entries spare) other
   still_holds other held = elim (cases_eq other at) [
     | inl same ↦ subst (Holds (with_body bodies at entries spare)) (sym same) Holds-with_body
     | inr differs ↦ subst IsSome (sym (get-other other differs)) held
   ]
 
--- each place that held a body holds one, in a map with one other body
+-- the same, for a map with one body changed
 pub holds_after : (old new : Bodies) (at : ℕ) (entries : List Entry) (spare : ℕ) → new ≡ with_body old at entries spare → (place : ℕ) → Holds old place → Holds new place
 holds_after old new at entries spare is place held = subst (λ m. Holds m place) (sym is) (still_holds old at entries spare place held)
 
@@ -46,7 +46,7 @@ holds_same old new is place held = subst (λ m. Holds m place) (sym is) held
 pub holds_new : (old new : Bodies) (at : ℕ) (entries : List Entry) (spare : ℕ) → new ≡ with_body old at entries spare → Holds new at
 holds_new old new at entries spare is = subst (λ m. Holds m at) (sym is) (Holds-with_body old at entries spare)
 
--- the second write at a place hides the first
+-- the second write at a place overwrites the first
 insert_twice : (m : Bodies) (k : ℕ) (v w : Body) → fin.insert (fin.insert m k v) k w ≡ fin.insert m k w
 insert_twice m k v w =
     same_map _ _
@@ -55,7 +55,7 @@ insert_twice m k v w =
       | inr differs ↦ get-insert_other (fin.insert m k v) k q w differs ∙ get-insert_other m k q v differs ∙ sym (get-insert_other m k q w differs)
     ])
 
--- an item appended where room was made before
+-- an item appended after room was reserved
 pub appended : (old mid new : Bodies) (at n k : ℕ) (x : Val) → mid ≡ with_body old at (entries_at old at) n → new ≡ with_body mid at (entries_at mid at ++ item x ∷ []) k → new ≡ with_body old at (entries_at old at ++ item x ∷ []) (spare_at new at)
 appended old mid new at n k x e f =
     let both : new ≡ with_body old at (entries_at old at ++ item x ∷ []) k =

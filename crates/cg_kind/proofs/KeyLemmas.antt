@@ -1,4 +1,4 @@
--- The first position of a key, what stands there, and what is left once it is taken.
+-- The first position of a key, the entry there, and the entries without it.
 use Rattle.std.proofs.Common.{◌≡◌, refl, sym, ◌∙◌, ap, subst, ℕ, suc, ◌+◌, Bool, true, false, cond, List, [], ◌∷◌, Some, None, arith, remove}
 use Rattle.std.specs.Prelude.{if◌then◌else◌, slice_get, position, option_map}
 use Rattle.std.specs.List.{position_from}
@@ -10,7 +10,7 @@ use Rattle.cg_value.specs.declared.KindCode.TheVariants.{List as ListKind, Tuple
 use Rattle.cg_kind.specs.Calls.{has_key, after_take, after_take_key}
 use Rattle.cg_graph.specs.Value.{same_value, value_at, entry_at, without_key}
 
--- the entry of a key, at its first position
+-- the first entry with the key is at this position
 pub record Stands (es : List Entry) (key : Val) (i : ℕ) (e : Entry) : Type 0 where
   pub here : slice_get es i ≡ Some e
   pub entry : entry_at es key ≡ Some e
@@ -72,7 +72,7 @@ none_from key k (x ∷ es) at = go (same_value x.key key) at (none_from key (k +
 pub key_missing : (es : List Entry) (key : Val) → position (has_key key) es ≡ None → Lacks es key
 key_missing es key at = lacks_key key es (none_from key 0 es (sym (position_from-zero (has_key key) es) ∙ at))
 
--- the entry of a key stands at its first position
+-- a present key has a first position
 pub stands_somewhere : (key : Val) (es : List Entry) (e : Entry) → entry_at es key ≡ Some e → (i : ℕ) × Stands es key i e
 stands_somewhere key [] e at = absurd (cc)
 stands_somewhere key (x ∷ es) e at =
@@ -84,7 +84,7 @@ stands_somewhere key (x ∷ es) e at =
     go true at next = (0, (at, at, ap (option_map (λ (y : Entry). y.val)) at, refl))
     go false at next = let (i, there) = next at in (suc i, (there.here, there.entry, there.value, ap (λ l. x ∷ l) there.rest))
 
--- the entry of a key is taken where it stands
+-- taking the entry of a key at its position
 pub after_take-key : (kind : KindCode) (es : List Entry) (key : Val) (i : ℕ) (e : Entry) → Stands es key i e → after_take kind es i ≡ after_take_key kind es key
 after_take-key ListKind es key i e there = sym there.rest
 after_take-key Tuple es key i e there = refl

@@ -1,10 +1,10 @@
--- What a kind of objects keeps: at each place a body, which is a list of entries and a spare. (Ours.)
+-- The data of a kind of objects: at each place a body, which is a list of entries and a spare capacity. (Ours.)
 use Rattle.std.specs.Prelude.{ℕ, List, [], Option, Some, None, IsSome}
 use Rattle.std.specs.Ordering.{nat_cmp}
 use Rattle.std.specs.FinMap as fin
 use Rattle.cg_value.specs.declared.Entry.{Entry}
 
--- the entries of an object, and how many more items fit without memory
+-- the entries of an object, and how many more items fit without allocating
 pub record Body : Type 0 where
   pub entries : List Entry
   pub spare : ℕ
@@ -28,14 +28,14 @@ abbrev pub spare_of : Option Body → ℕ
 spare_of None = 0
 spare_of (Some b) = b.spare
 
--- the entries at a place, and none where it holds no body
+-- the entries at a place, none if it holds no body
 abbrev pub entries_at : Bodies → ℕ → List Entry
 entries_at bodies at = entries_of (fin.get bodies at)
 
--- the spare at a place, and 0 where it holds no body
+-- the spare capacity at a place, 0 if it holds no body
 abbrev pub spare_at : Bodies → ℕ → ℕ
 spare_at bodies at = spare_of (fin.get bodies at)
 
--- all other places as they were, and these entries and this spare at one
+-- these entries and this spare at one place; all others unchanged
 abbrev pub with_body : Bodies → ℕ → List Entry → ℕ → Bodies
 with_body bodies at entries spare = fin.insert bodies at (body_of entries spare)

@@ -1,4 +1,4 @@
--- The six kinds in their order. (Ours.)
+-- The six kinds in order. (Ours.)
 use Rattle.std.specs.Prelude.{List, [], ◌∷◌}
 use Rattle.cg_value.specs.declared.KindCode.{KindCode}
 use Rattle.cg_value.specs.declared.KindCode.TheVariants.{List as ListKind, Tuple, Dict, Inst, Func, Weak}

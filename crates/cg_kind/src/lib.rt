@@ -1,7 +1,7 @@
 //! The boxed interface of a kind of objects: lists, tuples, dictionaries, instances, functions or weak references.
 //!
-//! The layer above rests on one contract: a kind is a map from places to bodies, and after each call the whole map is
-//! known. So a call on one place leaves all other places, and a refusal leaves the map.
+//! The layer above rests on one contract: a kind is a map from places to bodies, and each call determines the whole
+//! map after it. So a call on one place keeps all other places, and an error keeps the map.
 #![tactic(auto)]
 
 ghost use Rattle.std.specs.Prelude.{◌≡◌, ◌≢◌, ◌<◌, ◌≤◌, ◌+◌, ◌-◌, ◌++◌, ◌∷◌, ◌↔◌, [], length, take, IfOk, OnOk, OnErr, IfSome, OnSome, IfNone, IsNone, IsSome, IsOk, None, Some, position, slice_get};
@@ -18,9 +18,9 @@ use cg_value::{Entry, KindCode, Val};
 pub use notes::{AT_ONCE, Noted, ROOM, note_entry, note_reference};
 use std::alloc::AllocError;
 
-/// A kind of objects: it keeps the entries of its objects, each at a place.
+/// A kind of objects. It keeps the entries of its objects, each object at a place.
 ///
-/// Every call but `code` and `make` wants a place that holds an object. An entry that leaves is handed out.
+/// Every call except `code` and `make` needs a place that holds an object. An entry that leaves is returned.
 pub trait Kind: Drop {
     /// Which of the six kinds it is.
     ghost kind: { Self → KindCode };
@@ -32,10 +32,10 @@ pub trait Kind: Drop {
     fn code(&self) -> KindCode
         ensures { result ≡ kind self.now };
 
-    /// Makes an object of these entries, and answers its place. It is refused only where memory runs out.
+    /// Makes an object from these entries and returns its place. Fails only if memory runs out.
     ///
-    /// Lists and tuples take any items, dictionaries and instances none, functions at most eight cells, weak references
-    /// at most one callback.
+    /// Lists and tuples take any items, dictionaries and instances none, functions at most eight cells, weak
+    /// references at most one callback.
     fn make(&mut self, parts: &[Entry]) -> Result<usize, AllocError>
         requires { IsParts (kind self.old) parts.now }
         ensures made { IfOk result (λ at. bodies self.new ≡
@@ -55,7 +55,7 @@ pub trait Kind: Drop {
         requires within { i < length (entries_at (bodies self.now) at) }
         ensures { slice_get (entries_at (bodies self.now) at) i ≡ Some result };
 
-    /// The entry at a position, `None` exactly where that is the length or more.
+    /// The entry at a position, `None` exactly if that is the length or more.
     fn get(&self, at: usize, i: usize) -> Option<Entry>
         requires { Holds (bodies self.now) at }
         ensures { result ≡ slice_get (entries_at (bodies self.now) at) i }
@@ -67,9 +67,9 @@ pub trait Kind: Drop {
         }
     }
 
-    /// Goes over the entries from a position on, `AT_ONCE` of them or as many as there are, and writes the references
-    /// that they have to the front of `found`, which has `ROOM` at least: of each entry its value's and then its key's. A
-    /// kind may go over them without asking for each by its position.
+    /// Visits the entries from a position on, at most `AT_ONCE`, and writes their references to the front of `found`,
+    /// which has length `ROOM` or more: for each entry its value's, then its key's. A kind may visit them faster than
+    /// by position.
     fn note_from(&self, at: usize, from: usize, found: &mut [u64]) -> Noted
         requires held { Holds (bodies self.now) at }
         requires within { from ≤ length (entries_at (bodies self.now) at) }
@@ -88,12 +88,12 @@ pub trait Kind: Drop {
         Noted { next, references }
     }
 
-    /// The first position whose key is this one, `None` exactly where there is none.
+    /// The first position with this key, `None` exactly if there is none.
     fn find(&self, at: usize, key: Val) -> Option<usize>
         requires { Holds (bodies self.now) at }
         ensures { result ≡ position (has_key key) (entries_at (bodies self.now) at) };
 
-    /// The value of the first entry with this key, `None` exactly where there is none. A kind may know it without the
+    /// The value of the first entry with this key, `None` exactly if there is none. A kind may find it without the
     /// position.
     fn value_of(&self, at: usize, key: Val) -> Option<Val>
         requires { Holds (bodies self.now) at }
@@ -105,11 +105,11 @@ pub trait Kind: Drop {
         }
     }
 
-    /// Puts a value at an index of a list, or under a key of a dictionary or an instance, and answers the value that it
-    /// replaces. `Ok(None)` comes exactly for a new key, and a refusal only for one, for lack of memory.
+    /// Puts a value at an index of a list, or under a key of a dictionary or instance, and returns the value that it
+    /// replaces. `Ok(None)` means exactly a new key; only a new key can fail, if memory runs out.
     ///
-    /// A present key keeps its place and its key, as in Python's dictionaries; a new one goes last. On a tuple, a
-    /// function or a weak reference it does nothing.
+    /// An existing key keeps its position and its key, as in Python's dictionaries; a new one goes last. A tuple,
+    /// function or weak reference ignores the call.
     fn put(&mut self, at: usize, key: Val, val: Val) -> Result<Option<Val>, AllocError>
         requires held { Holds (bodies self.old) at }
         requires can { CanPut (kind self.old) (entries_at (bodies self.old) at) key }
@@ -122,8 +122,8 @@ pub trait Kind: Drop {
         ensures err { OnErr result (bodies self.new ≡ bodies self.old) }
         ensures same_kind { kind self.new ≡ kind self.old };
 
-    /// Takes the entry at a position below the length out of a list, a dictionary or an instance; those after it move
-    /// down by one. An object of another kind keeps it.
+    /// Removes the entry at a position below the length from a list, dictionary or instance; later ones move down. An
+    /// object of another kind keeps it.
     fn take(&mut self, at: usize, i: usize) -> Entry
         requires held { Holds (bodies self.old) at }
         requires within { i < length (entries_at (bodies self.old) at) }
@@ -133,8 +133,8 @@ pub trait Kind: Drop {
             (spare_after_leave (kind self.old) (spare_at (bodies self.old) at)) }
         ensures same_kind { kind self.new ≡ kind self.old };
 
-    /// Takes the first entry with this key as `take` takes one at a position, `None` exactly where there is none. A kind
-    /// may find it without the position.
+    /// Takes the first entry with this key, as `take` does by position; `None` exactly if there is none. A kind may
+    /// find it without the position.
     fn take_key(&mut self, at: usize, key: Val) -> Option<Entry>
         requires { Holds (bodies self.old) at }
         ensures entry { result ≡ entry_under (entries_at (bodies self.old) at) key }
@@ -150,7 +150,7 @@ pub trait Kind: Drop {
         }
     }
 
-    /// Takes the last entry off, whatever the kind. `None` comes exactly where there is none.
+    /// Removes the last entry, whatever the kind. `None` exactly if there is none.
     fn detach(&mut self, at: usize) -> Option<Entry>
         requires { Holds (bodies self.old) at }
         ensures last { IfSome result (λ e. entries_at (bodies self.old) at ≡
@@ -162,7 +162,7 @@ pub trait Kind: Drop {
         ensures none { IfNone result (bodies self.new ≡ bodies self.old) }
         ensures same_kind { kind self.new ≡ kind self.old };
 
-    /// Makes room in a list for `n` items more, or is refused because memory ran out. The spare never falls.
+    /// Reserves room in a list for `n` more items; fails if memory runs out. The spare capacity never falls.
     fn reserve(&mut self, at: usize, n: usize) -> Result<(), AllocError>
         requires { Holds (bodies self.old) at }
         ensures ok { OnOk result (bodies self.new ≡ with_body (bodies self.old) at
@@ -172,7 +172,7 @@ pub trait Kind: Drop {
         ensures err { OnErr result (bodies self.new ≡ bodies self.old) }
         ensures same_kind { kind self.new ≡ kind self.old };
 
-    /// Appends an item to a list that has room for it. On an object of another kind it does nothing.
+    /// Appends an item to a list that has room for it. An object of another kind ignores it.
     fn append_reserved(&mut self, at: usize, val: Val)
         requires held { Holds (bodies self.old) at }
         requires room { kind self.old ≡ code.List → 0 < spare_at (bodies self.old) at }
@@ -181,7 +181,7 @@ pub trait Kind: Drop {
         ensures others { kind self.old ≢ code.List → bodies self.new ≡ bodies self.old }
         ensures same_kind { kind self.new ≡ kind self.old };
 
-    /// Appends an item to a list, or is refused because memory ran out. A kind may look for the list once.
+    /// Appends an item to a list; fails if memory runs out. A kind may look the list up once.
     fn append(&mut self, at: usize, val: Val) -> Result<(), AllocError>
         requires held { Holds (bodies self.old) at }
         requires list { kind self.old ≡ code.List }
@@ -195,7 +195,7 @@ pub trait Kind: Drop {
         Ok(())
     }
 
-    /// Gives the place of an empty object back.
+    /// Frees the place of an empty object.
     fn free(&mut self, at: usize)
         requires held { Holds (bodies self.old) at }
         requires empty { entries_at (bodies self.old) at ≡ [] }

@@ -1,25 +1,25 @@
-//! The references of entries, written into an array for walks over many objects.
+//! Writes the references of entries into an array, for walks over many objects.
 ghost use Rattle.std.specs.Prelude.{◌≡◌, ◌+◌, ◌<◌, ◌≤◌, ◌++◌, length, option_to_list, take};
 ghost use Rattle.cg_graph.specs.Value.{entry_references};
 
 use cg_graph::reference_in;
 use cg_value::Entry;
 
-/// The most entries that one call goes over.
+/// The maximum number of entries per call.
 pub const AT_ONCE: usize = 32;
 
-/// Room for their references: an entry has at most two, one in its value and one in its key.
+/// Room for their references: an entry has at most two, its value's and its key's.
 pub const ROOM: usize = 2 * AT_ONCE;
 
-/// How far entries were gone over, and how many references they have.
+/// The position reached, and the number of references written.
 #[derive(Clone, Copy, Debug)]
 pub struct Noted {
-    /// The position behind the last of them.
+    /// The position after the last entry visited.
     pub next: usize,
     pub references: usize,
 }
 
-/// Writes a reference, if there is one, after the first `count`, and answers the new number.
+/// Writes an optional reference after the first `count`, and returns the new count.
 #[inline(always)]
 pub fn note_reference(found: &mut [u64], count: usize, reference: Option<u64>) -> usize
     requires { count < length found.old }
@@ -35,8 +35,7 @@ pub fn note_reference(found: &mut [u64], count: usize, reference: Option<u64>) -
     }
 }
 
-/// Writes the references of an entry, its value's and then its key's, after the first `count`, and answers the new
-/// number.
+/// Writes the references of an entry, its value's then its key's, after the first `count`, and returns the new count.
 #[inline(always)]
 pub fn note_entry(found: &mut [u64], count: usize, entry: Entry) -> usize
     requires { count + 2 ≤ length found.old }

@@ -4,7 +4,7 @@ use Rattle.bitflags.specs.Sets.{known_bits}
 use Rattle.bitflags.proofs.OnLiterals.{bitflags_on_literals}
 use Rattle.cg_policy.specs.Flagset.{flag_table}
 
--- a bit other than 1, 2, 4 and 32 is not known
+-- only bits 1, 2, 4 and 32 are known
 pub known_bits-flag_table : known_bits flag_table ≡ 39
 unfolding bitflags_on_literals
 known_bits-flag_table = refl

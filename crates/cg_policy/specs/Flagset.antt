@@ -4,7 +4,6 @@ use Rattle.bitflags.specs.Sets.{Row}
 use Rattle.cg_machine.specs.Collect.{stats, collectable, uncollectable, save_all}
 use Rattle.cg_policy.specs.declared.flagset.Flagset.{Flagset}
 
--- its bits
 abbrev pub bits_of : Flagset → ℕ
 bits_of flags = flags.0
 

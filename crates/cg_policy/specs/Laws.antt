@@ -1,4 +1,4 @@
--- What the calls of a `Policy` do, as the machine does it.
+-- What each call of a `Policy` does, in terms of the machine.
 use Rattle.std.specs.Prelude.{◌≡◌, ℕ, true, false, List, [], Option, None, Ok}
 use Rattle.cg_value.specs.declared.Entry.{Entry}
 use Rattle.cg_value.specs.declared.KindCode.{KindCode}
@@ -15,8 +15,8 @@ use Rattle.cg_policy.specs.Policy.{Policy, due_of, with_one_made, with_one_freed
 abbrev pub policy_of : World → Policy
 policy_of w = record { numbers = w.numbers; running = is_collecting w }
 
--- What is due is what the machine finds due, and the numbers after each call are those after its step or command. (The
--- numbers at a collection's start and after its survivors are cited from the machine as they are.)
+-- A collection is due exactly if it is in the machine, and the numbers after each call are those after the machine's
+-- step or command. (The machine's own functions give the numbers at a collection's start and after its survivors.)
 pub record FollowsMachine : Type 0 where
   pub due : (w : World) → due_of (policy_of w) ≡ due w
   pub made : (w : World) (code : KindCode) (class : Option ℕ) (entries : List Entry) (referent : Option ℕ) → (with_new w code class entries referent).numbers ≡ with_one_made w.numbers

@@ -8,16 +8,15 @@ pub record Policy : Type 0 where
   pub numbers : Numbers
   pub running : Bool
 
--- the policy with other numbers
 abbrev pub with_numbers : Numbers → Policy → Policy
 with_numbers n p = record p { numbers = n }
 
--- The generation of the collection that is due, if one is and none is running. (The machine's own rule, on a policy.)
+-- The generation of the collection that is due, if any, while none is running. (The machine's rule, on a policy.)
 abbrev pub due_of : Policy → Option ℕ
 due_of p = if is_due p.numbers && not p.running then Some (due_generation p.numbers) else None
 
--- The numbers that rise are within bounds. (Ours: a run makes far fewer than 2 ^ 63 objects. Pending rises at each collection
--- of generation 1 by all that survive it, the same ones again, so the number of objects does not bound it.)
+-- The rising numbers are in range. (Ours: a run makes far fewer than 2 ^ 63 objects. Pending grows at each collection
+-- of generation 1 by all survivors, counted again each time, so the number of objects does not bound it.)
 pub record IsBounded (n : Numbers) : Type 0 where
   pub zero : n.zero_count < 2 ^ 63
   pub one : n.one_count < 2 ^ 63
@@ -25,15 +24,15 @@ pub record IsBounded (n : Numbers) : Type 0 where
   pub pending : n.pending < 2 ^ 127
   pub total : n.total < 2 ^ 63
 
--- The numbers after an object was made, and after one was freed. (`gc.set_threshold`, and CPython's
--- `PyObject_GC_Del`: count 0 does not fall below 0.)
+-- The numbers after an object is made, and after one is freed. (`gc.set_threshold`, and CPython's `PyObject_GC_Del`:
+-- count 0 does not fall below 0.)
 abbrev pub with_one_made : Numbers → Numbers
 with_one_made n = record n { zero_count = n.zero_count + 1 }
 
 abbrev pub with_one_freed : Numbers → Numbers
 with_one_freed n = record n { zero_count = n.zero_count - 1 }
 
--- automatic collections are on or off (`gc.enable`, `gc.disable`)
+-- automatic collections on or off (`gc.enable`, `gc.disable`)
 abbrev pub with_enabled : Bool → Numbers → Numbers
 with_enabled on n = record n { enabled = on }
 
@@ -41,7 +40,7 @@ with_enabled on n = record n { enabled = on }
 abbrev pub with_flags : ℕ → Numbers → Numbers
 with_flags bits n = record n { flags = bits }
 
--- other thresholds; an absent one stays (`gc.set_threshold`)
+-- other thresholds; a missing one is kept (`gc.set_threshold`)
 abbrev pub with_thresholds : ℕ → Option ℕ → Option ℕ → Numbers → Numbers
 with_thresholds first second third n = record n {
   zero_threshold = first;
@@ -49,6 +48,6 @@ with_thresholds first second third n = record n {
   two_threshold = unwrap_or third n.two_threshold;
 }
 
--- the three counts are 0 (`gc.freeze`)
+-- all three counts set to 0 (`gc.freeze`)
 abbrev pub with_zero_counts : Numbers → Numbers
 with_zero_counts n = record n { zero_count = 0; one_count = 0; two_count = 0 }

@@ -3,28 +3,27 @@ use bitflags::{Flag, Flags};
 
 /// A set of debug flags: contracts see its bits as a number, `bits_of`.
 ///
-/// `Flagset::from_bits` of the trait `Flags` makes it of bits, and answers None exactly where a bit other than 1, 2, 4
-/// and 32 is set. `Flagset::from_bits_retain` keeps any bits.
+/// `Flagset::from_bits` of the trait `Flags` makes it from bits, and returns None exactly if a bit other than 1, 2, 4
+/// and 32 is set. `Flagset::from_bits_retain` accepts any bits.
 #[derive(Clone, Copy, Debug, PartialEq, Eq)]
 pub struct Flagset(u32);
 
 impl Flagset {
-    /// The start of a collection tells the sizes of the generations.
+    /// Each collection prints the sizes of the generations at its start.
     pub const STATS: Flagset = Flagset(1);
 
-    /// A collection tells the objects that it condemns.
+    /// A collection prints the objects that it condemns.
     pub const COLLECTABLE: Flagset = Flagset(2);
 
-    /// A collection tells the objects that it cannot free.
+    /// A collection prints the objects that it cannot free.
     pub const UNCOLLECTABLE: Flagset = Flagset(4);
 
-    /// What a collection finds is saved in the garbage list, and not freed.
+    /// A collection saves what it finds in the garbage list instead of freeing it.
     pub const SAVEALL: Flagset = Flagset(32);
 
-    /// The flags of a search for leaks: COLLECTABLE, UNCOLLECTABLE and SAVEALL.
+    /// The flags for finding leaks: COLLECTABLE, UNCOLLECTABLE and SAVEALL.
     pub const LEAK: Flagset = Flagset(38);
 
-    // Each flag with its name.
     const FLAGS: &'static [Flag<Flagset>] = &[
         Flag {
             name: "STATS",

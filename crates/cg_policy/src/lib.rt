@@ -1,11 +1,11 @@
-//! When a collection is due, of which generation, and what it leaves in the counters.
+//! When a collection is due, of which generation, and how it changes the counters.
 //!
 //! The layers above rest on one contract: a `Policy` is the machine's record of numbers and whether a collection is
-//! running, and each call does to that record exactly what the machine does.
+//! running, and each call changes that record exactly as the machine does.
 //!
 //! - `policy`: counts, thresholds and the rules of `gc.set_threshold`.
 //! - `flagset`: the debug flags of `gc.set_debug`.
-//! - `laws`: that the definitions which the contracts cite are the machine's own.
+//! - `laws`: the definitions cited by the contracts are the machine's.
 #![tactic(auto)]
 
 mod flagset;

@@ -1,4 +1,4 @@
-//! The counters of the collector, and when they make a collection due.
+//! The collector's counters, and when they make a collection due.
 ghost use Rattle.std.specs.Prelude.{◌≡◌, ◌≤◌, true, false};
 ghost use Rattle.cg_machine.specs.World.{first_numbers};
 ghost use Rattle.cg_machine.specs.Collect.{begun, survived};
@@ -12,7 +12,7 @@ use std::marker::Model;
 
 /// The counts of generations 0, 1 and 2. (`gc.get_count`.)
 ///
-/// Count 0 goes up and down with the objects made and freed since the last collection. Each other one is the number of
+/// Count 0 rises and falls with objects made and freed since the last collection. Each other count is the number of
 /// collections of the generation before it since its own or an older one was collected.
 #[derive(Clone, Copy, Debug, PartialEq, Eq, Drop)]
 pub struct Counts {
@@ -21,7 +21,6 @@ pub struct Counts {
     pub two: u64,
 }
 
-// The thresholds of generations 0, 1 and 2.
 #[derive(Drop)]
 struct Thresholds {
     zero: u32,
@@ -31,15 +30,15 @@ struct Thresholds {
 
 /// The numbers of the `gc` module, and whether a collection is running.
 ///
-/// A call leaves what it does not speak of. None takes memory.
+/// A call keeps everything it does not mention. None allocates.
 #[derive(Drop)]
 pub struct Policy {
     counts: Counts,
     thresholds: Thresholds,
     // The objects that survived collections of generation 1 since the last of generation 2. An object counts again at
-    // each one that it survives, so the number of objects does not bound it: 64 bits are not known to be enough.
+    // each collection it survives, so the number of objects does not bound this sum, and 64 bits might not suffice.
     pending: u128,
-    // The objects that the last collection of generation 2 left.
+    // The objects that survived the last collection of generation 2.
     total: u64,
     enabled: bool,
     flags: Flagset,
@@ -70,7 +69,7 @@ impl Model for Policy {
 }
 
 impl Policy {
-    /// The policy of a new run: the machine's opening numbers, no debug flag, and no collection running.
+    /// The policy of a new run: the machine's initial numbers, no debug flags, and no collection running.
     ///
     /// Collecting is enabled, and the thresholds are CPython's 700, 10 and 10. (`gc.get_threshold`.)
     pub fn new() -> Policy
@@ -110,12 +109,12 @@ impl Policy {
         self.counts.zero = self.counts.zero.saturating_sub(1);
     }
 
-    /// The generation of the collection that is due, 0 to 2, and None exactly where none is due.
+    /// The generation of the collection that is due, 0 to 2, and None exactly if none is due.
     ///
-    /// One is due where collecting is enabled, none is running, threshold 0 is not 0, and count 0 is above it
-    /// (`gc.set_threshold`). The generation is the greatest whose count is above its threshold, but 2 is skipped
-    /// where fewer objects are pending than a quarter of the total, rounded down (developer guide, "collecting the
-    /// oldest generation").
+    /// One is due if collecting is enabled, none is running, threshold 0 is not 0, and count 0 is above it
+    /// (`gc.set_threshold`). The generation is the greatest whose count is above its threshold, but 2 is skipped if
+    /// fewer objects are pending than a quarter of the total, rounded down (developer guide, "collecting the oldest
+    /// generation").
     #[inline(always)]
     pub fn due(&self) -> Option<u8>
         ensures { result ≡ due_of self.now }
@@ -127,7 +126,7 @@ impl Policy {
         }
     }
 
-    // Whether the numbers alone make a collection due. The count is asked first, since it is what says no as a rule.
+    // Whether the numbers alone make a collection due. Tests the count first, since it usually decides.
     #[inline(always)]
     fn has_enough(&self) -> bool
         ensures { result ≡ is_due self.now.numbers }
@@ -137,7 +136,7 @@ impl Policy {
             && self.enabled
     }
 
-    // The generation that the numbers choose.
+    // The generation that the numbers select.
     fn oldest(&self) -> u8
         ensures { result ≡ due_generation self.now.numbers }
     {
@@ -152,8 +151,8 @@ impl Policy {
         }
     }
 
-    /// A collection of a generation, 0 to 2, begins: its count and those below it become 0, the next one rises by 1,
-    /// and one is running. (Developer guide, "generations".)
+    /// A collection of a generation, 0 to 2, begins: its count and the younger ones become 0, the next one rises by 1,
+    /// and a collection is running. (Developer guide, "generations".)
     pub fn begin(&mut self, generation: u8)
         requires generation { generation ≤ 2 }
         requires idle { self.old.running ≡ false }
@@ -175,8 +174,8 @@ impl Policy {
         self.running = true;
     }
 
-    /// So many objects survived a collection of a generation: after one of 1 they are pending too, and after one of 2
-    /// none is pending and they are the total. (Developer guide, "collecting the oldest generation".)
+    /// `n` objects survived a collection of a generation. After generation 1 they are added to pending; after
+    /// generation 2 pending is 0 and they are the total. (Developer guide, "collecting the oldest generation".)
     pub fn survived(&mut self, generation: u8, n: u64)
         requires { IsBounded (survived generation n self.old.numbers) }
         ensures { self.new ≡ with_numbers (survived generation n self.old.numbers) self.old }
@@ -191,7 +190,7 @@ impl Policy {
         }
     }
 
-    /// The collection ends: none is running.
+    /// The collection ends; none is running.
     pub fn ended(&mut self)
         ensures { self.new ≡ record self.old { running = false } }
     {
@@ -236,8 +235,8 @@ impl Policy {
         self.enabled = on;
     }
 
-    /// Sets the thresholds of generations 0, 1 and 2; an absent one keeps its value. A threshold 0 of 0 switches
-    /// automatic collections off. (`gc.set_threshold`.)
+    /// Sets the thresholds of generations 0, 1 and 2; a missing one is kept. Threshold 0 set to 0 disables automatic
+    /// collections. (`gc.set_threshold`.)
     pub fn set_threshold(&mut self, first: u32, second: Option<u32>, third: Option<u32>)
         ensures { self.new
             ≡ with_numbers (with_thresholds first second third self.old.numbers) self.old }
@@ -251,7 +250,7 @@ impl Policy {
         }
     }
 
-    /// The three counts become 0, as `gc.freeze` leaves them.
+    /// Sets all three counts to 0, as `gc.freeze` does.
     pub fn zero_counts(&mut self)
         ensures { self.new ≡ with_numbers (with_zero_counts self.old.numbers) self.old }
     {

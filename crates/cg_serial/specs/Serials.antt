@@ -7,10 +7,10 @@ use Rattle.cg_serial.specs.declared.hasher.SerialHasher.{SerialHasher}
 abbrev pub initial : SerialHasher
 initial = record { hash = 0 }
 
--- above, the place of the serial in its eight; below, the eight times a factor, its highest 29 bits
+-- the position of the serial in its group of eight, plus the group's number times a factor, with its top 29 bits
 abbrev pub spread : ℕ → ℕ
 spread serial = serial % 8 * 2 ^ 29 + (serial / 8 * 0xfb1f_f91a_c50e_2b99) % 2 ^ 64 / 2 ^ 35
 
--- the hasher after a write: eight bytes are a serial, and no other bytes count
+-- the hasher after a write: eight bytes are a serial, other bytes are ignored
 abbrev pub serial_write : SerialHasher → List ℕ → SerialHasher
 serial_write h bytes = if length bytes == 8 then record { hash = spread (from_le_bytes w64 bytes) } else h

@@ -4,14 +4,14 @@ ghost use Rattle.cg_serial.specs.Serials.{spread, serial_write, initial};
 
 use std::hash::{BuildHasherDefault, Hasher};
 
-/// Makes a hasher for each serial.
+/// Builds a hasher for each serial.
 pub type SerialHashing = BuildHasherDefault<SerialHasher>;
 
 /// Hashes one serial, for an `IndexMap`.
 ///
-/// Eight serials in a row share a group of the map, which is one line of the processor's cache, and differ in their tags.
-/// The eights are spread by a multiplication, so that the eights of a dense range fill the groups evenly. The factor is
-/// one of some hundred that were tried: it keeps the longest probes short for dense serials and for every 2nd, 3rd, 8th,
+/// Eight consecutive serials share a group of the map, which is one cache line, and differ in their tags. A
+/// multiplication spreads the groups of eight, so those of a dense range fill the map's groups evenly. The factor is
+/// the best of about a hundred tried: it keeps the longest probes short for dense serials and for every 2nd, 3rd, 8th,
 /// 64th, 100th, 1,000th and more.
 #[derive(Clone, Copy)]
 pub struct SerialHasher {
@@ -26,7 +26,7 @@ impl Default for SerialHasher {
     }
 }
 
-/// The hash of a serial: below the tag's bits the eight's, above them the place within the eight.
+/// The hash of a serial: its group of eight in the bits below the tag, its position within the group in the tag.
 #[inline(always)]
 fn spread(serial: u64) -> u64
     ensures { result ≡ spread serial }
@@ -55,7 +55,7 @@ impl Hasher for SerialHasher {
     }
 }
 
-/// Makes a hasher for each serial.
+/// Builds a hasher for each serial.
 pub fn serial_hashing() -> SerialHashing {
     BuildHasherDefault::new()
 }

@@ -1,4 +1,4 @@
-//! How a serial is hashed, so that serials near one another lie near one another in a table.
+//! Hashes serials so that nearby serials are close together in a table.
 #![tactic(auto)]
 
 mod hasher;

@@ -1,4 +1,4 @@
--- What a table of texts finds and what goes into it.
+-- Where a table of texts finds a text, and what interning appends.
 use Rattle.std.proofs.Common.{◌<◌, ◌≡◌, ℕ, zero, suc, slice_get, is_some, unwrap_or, subst, true≢false, ◌+◌, List, [], ◌∷◌, ◌++◌, map, length, Bool, true, false, cond, not, ◌||◌, Some, None, position, nat_lt, refl, sym, ap, ◌∙◌, arith}
 use Rattle.std.proofs.lemmas.Option.{slice_get_within}
 use Rattle.std.proofs.lemmas.Map.Keys.{IsDistinct-head, IsDistinct-tail}
@@ -45,7 +45,7 @@ module _ {A : Type 0} (f : A → List ℕ) (keys : List A) (text : List ℕ) whe
   abbrev test : A → Bool
   test k = bytes_eq text (f k)
 
-  -- a text that is new goes last
+  -- a new text goes last
   pub fresh : (eq : A → A → Bool) (x : A) (after : List A) → f x ≡ text → ((k : A) → eq x k ≡ bytes_eq (f x) (f k)) → false ≡ list_any test keys
       → after ≡ cond (list_any (eq x) keys) keys (keys ++ x ∷ []) → (length keys ≡ text_number (map f keys) text) × (map f after ≡ with_text (map f keys) text)
   fresh eq x after is same absent e =
@@ -75,7 +75,7 @@ within i n a b lt = grind (arith, lt)
 past_all : {A : Type 0} (n : ℕ) (a b : A) → cond (nat_lt n n) a b ≡ b
 past_all n a b = grind (arith)
 
--- keys are distinct, so one that passes the test of a key stands at the test's first place
+-- Keys are distinct, so the entry that passes a key's test is at the test's first position.
 module _ {K : Type 0} {eq : K → K → Bool} (laws : IsEquivalence eq) (test : K → Bool) (k : K) (passes : test k ≡ true) (same : (x : K) → test x ≡ eq k x) where
   own_place : (keys : List K) (i : ℕ) → IsDistinct eq keys → slice_get keys i ≡ Some k → position_or_len test keys ≡ i
   own_place [] i apart at = absurd (true≢false (sym (ap is_some at)))
@@ -89,7 +89,7 @@ module _ {K : Type 0} {eq : K → K → Bool} (laws : IsEquivalence eq) (test : 
       ap (λ n. cond (nat_lt n (length keys)) (Some n) None) (own_place keys i apart at)
       ∙ within i (length keys) (Some i) None (slice_get_within keys i k at)
 
--- what has a first place is there
+-- a text with a first position is in the list
 pub found_there : {A : Type 0} (p : A → Bool) (xs : List A) (i : ℕ) → position p xs ≡ Some i → list_any p xs ≡ true
 found_there p xs i at = by (list_any p xs) refl
   where

@@ -1,19 +1,19 @@
-//! The words of the object graph that all layers share: values, entries, kinds, places and interned texts.
+//! The basic types of the object graph: values, entries, kinds, places and interned texts.
 //!
 //! The layers above rest on one contract: an interned text has one number, its first position, and `Names::text`
-//! gives it back.
+//! returns it.
 #![tactic(auto)]
 
 mod names;
 
 pub use names::Names;
 
-/// A value. `None`, whole numbers and texts are atoms, which nobody counts; a reference is counted.
+/// A value. `None`, integers and texts are atoms and are not counted; a reference is counted.
 #[derive(Clone, Copy, Debug, PartialEq, Eq, Hash, Drop)]
 pub enum Val {
     /// Python's `None`.
     None,
-    /// A whole number of 64 bits with sign.
+    /// A signed 64-bit integer.
     Int(i64),
     /// The number of an interned text, its position in `Names`.
     Str(u32),
@@ -45,10 +45,10 @@ pub enum KindCode {
     Weak,
 }
 
-/// Where the collector has an object. Each object is in exactly one place.
+/// Where the collector keeps an object. Each object is in exactly one place.
 ///
-/// The generations and the permanent one are CPython's (`gc` manual); the sets of a collection that is under way are
-/// this project's names for what the developer guide calls the unreachable list and its parts.
+/// The generations and the permanent generation are CPython's (`gc` manual). The sets of a running collection are this
+/// project's names for parts of what the developer guide calls the unreachable list.
 #[derive(Clone, Copy, Debug, PartialEq, Eq, Drop)]
 pub enum Place {
     /// Not tracked by the collector.
@@ -59,12 +59,12 @@ pub enum Place {
     Frozen,
     /// The condemned set of a collection.
     Cand,
-    /// Condemned, and looked at for its finalizer.
+    /// Condemned, and already checked for a finalizer.
     Seen,
-    /// Condemned once, and found alive by the second detection.
+    /// Condemned once, and found reachable by the second detection.
     Back,
-    /// Set aside, since a legacy finalizer keeps it from being cleared.
+    /// Set aside: a legacy finalizer keeps it from being cleared.
     Legacy,
-    /// A weak reference that waits for its callback.
+    /// A weak reference waiting for its callback.
     Pend,
 }

@@ -1,4 +1,4 @@
-//! Interned texts. (Interning is ours; CPython interns identifiers likewise.)
+//! Interned texts. (Interning is ours; CPython interns identifiers in the same way.)
 ghost use Rattle.std.specs.Prelude.{◌≡◌, ◌↔◌, is_some, ◌-◌, ◌^◌, ◌<◌, List, [], length, map, position, IsTrue, IfOk, OnOk, OnErr, slice_get, Some};
 ghost use Rattle.std.specs.String.{string_bytes};
 ghost use Rattle.std.specs.Str.{bytes_eq};
@@ -8,12 +8,12 @@ use indexmap::IndexSet;
 use std::alloc::{AllocError, Global};
 use std::marker::Model;
 
-/// How many guesses there are.
+/// The number of guesses.
 const GUESSES: usize = 64;
 
-/// Which guess is that of a text. Texts may share one, and then it is the number of the last that was interned.
+/// The index of a text's guess. Texts may share a guess; it then holds the number of the last one interned.
 ///
-/// Most names differ in their last byte, as numbered ones do, so all its bits count.
+/// Most names differ in their last byte, as numbered names do, so all its bits count.
 #[inline(always)]
 fn guess_place(text: &str) -> usize
     ensures { result < GUESSES }
@@ -26,15 +26,15 @@ fn guess_place(text: &str) -> usize
     (last ^ (first << 2) ^ (bytes.len() << 4)) % GUESSES
 }
 
-/// Texts by number, each once: contracts see the list of their bytes, in the order of their numbers.
+/// Texts by number, each once. Contracts see the list of their bytes in the order of their numbers.
 ///
-/// It has at most 2^32 - 1 texts, so that each number is a `u32`.
+/// There are at most 2^32 - 1 texts, so each number is a `u32`.
 #[derive(Drop)]
 pub struct Names {
     alloc: Global,
     texts: IndexSet<String>,
-    // The number that a text may have, by its `guess_place`. Any is right: a text whose number is another is looked up. It only
-    // saves time, since most texts were read a moment ago.
+    // A text's likely number, by its `guess_place`. A wrong guess is harmless: the text is looked up. It saves time,
+    // since most texts were read a moment ago.
     guesses: [u32; GUESSES],
 }
 
@@ -50,7 +50,7 @@ impl Model for Names {
 }
 
 impl Names {
-    /// The empty list of texts. It takes no memory yet.
+    /// The empty list of texts. It allocates nothing yet.
     pub fn new(alloc: Global) -> Names
         ensures { result ≡ [] }
     {
@@ -61,7 +61,7 @@ impl Names {
         }
     }
 
-    /// Whether this is a text's number. The text is compared, and not hashed.
+    /// Whether this is the number of a text. Compares the text; hashes nothing.
     #[inline(always)]
     fn is_number_of(&self, number: u32, text: &str) -> bool
         ensures { IsTrue result ↔ (position (bytes_eq text.now) self.now ≡ Some number) }
@@ -72,7 +72,7 @@ impl Names {
         }
     }
 
-    /// As `find`, by the text's hash.
+    /// `find`, by the text's hash.
     fn find_by_hash(&self, text: &str) -> Option<u32>
         ensures index { result ≡ position (bytes_eq text.now) self.now }
         ensures found { is_some result ≡ has_text self.now text.now }
@@ -83,7 +83,7 @@ impl Names {
         }
     }
 
-    /// As `intern`, by the text's hash.
+    /// `intern`, by the text's hash.
     #[inline(never)]
     fn intern_by_hash(&mut self, text: &str) -> Result<u32, AllocError>
         requires { length self.old < 2 ^ 32 - 1 }
@@ -99,9 +99,9 @@ impl Names {
         Ok(number)
     }
 
-    /// The number of a text: its position, after it was appended if it was not there.
+    /// The number of a text: its position, after appending it if it is new.
     ///
-    /// It answers `AllocError` only where memory runs out, and then nothing has changed.
+    /// Returns `AllocError` only if memory runs out; then nothing has changed.
     pub fn intern(&mut self, text: &str) -> Result<u32, AllocError>
         requires { length self.old < 2 ^ 32 - 1 }
         ensures number { IfOk result (λ number. number ≡ text_number self.old text.now) }
@@ -118,7 +118,7 @@ impl Names {
         Ok(number)
     }
 
-    /// The number of a text, `None` exactly where it is not there.
+    /// The number of a text, `None` exactly if it is not there.
     pub fn find(&self, text: &str) -> Option<u32>
         ensures { result ≡ position (bytes_eq text.now) self.now }
     {
@@ -136,7 +136,7 @@ impl Names {
         self.texts.contains(text)
     }
 
-    /// The text with a number, which is below `len`.
+    /// The text with a number below `len`.
     pub fn text(&self, id: u32) -> &str
         requires { id < length self.now }
         ensures { slice_get self.now id ≡ Some result.now }
@@ -147,7 +147,7 @@ impl Names {
         }
     }
 
-    /// How many texts there are.
+    /// The number of texts.
     pub fn len(&self) -> u32
         ensures { result ≡ length self.now }
     {

@@ -1,5 +1,5 @@
-//! `gccheck < RECORDS`: checks records of collections, writes the line of the verdict, and ends with the status as its exit
-//! status.
+//! `gccheck < RECORDS`: checks records of collections and writes one line, the verdict; the exit status is the top
+//! call's status.
 #![tactic(auto)]
 
 mod remarks;
@@ -11,7 +11,7 @@ use cg_io::{ReadSource, WriteSink};
 use std::io::{BufWriter, Write};
 use std::process::ExitCode;
 
-/// Checks standard input. What the top call wrote goes out at the end, and a failure there is one of the sink.
+/// Checks standard input. The output is flushed at the end; a failure there is a sink failure.
 fn check(rt: &HostRuntime, words: &[String]) -> CheckStatus {
     let Ok(mut output) = BufWriter::new(rt.alloc(), rt.stdout()) else {
         return CheckStatus::OutOfMemory;

@@ -1,11 +1,11 @@
-//! What is said on standard error. Standard output and the exit status do not depend on it.
+//! Messages on standard error. Standard output and the exit status do not depend on them.
 use cg_cert::CheckStatus;
 use cg_front::{number_at, remark};
 
 const USAGE: &str = "usage: gccheck < RECORDS
 docs/RECORDS.md says what is read, and how a real process is recorded.";
 
-/// Says what the code of a verdict `no G C` means. (docs/RECORDS.md.)
+/// Explains the code of a verdict `no G C`. (docs/RECORDS.md.)
 pub fn remark_verdict(rt: &HostRuntime, text: &[u8]) {
     if !text.starts_with(b"no ") {
         return;
@@ -26,7 +26,7 @@ pub fn remark_verdict(rt: &HostRuntime, text: &[u8]) {
     }
 }
 
-/// Says why there is no verdict, where standard output does not.
+/// Explains why there is no verdict, unless standard output does.
 pub fn remark_status(rt: &HostRuntime, status: CheckStatus) {
     match status {
         CheckStatus::BadWords => remark(rt, USAGE),

@@ -1,4 +1,4 @@
-//! `gcheap < HEAP`: answers questions about a recorded heap, and ends with the status as its exit status.
+//! `gcheap < HEAP`: answers questions about a recorded heap; the exit status is the top call's status.
 #![tactic(auto)]
 
 mod remarks;
@@ -10,7 +10,7 @@ use cg_io::{ReadSource, WriteSink};
 use std::io::{BufWriter, Write};
 use std::process::ExitCode;
 
-/// Answers standard input. What the top call wrote goes out at the end, and a failure there is one of the sink.
+/// Answers standard input. The output is flushed at the end; a failure there is a sink failure.
 fn ask(rt: &HostRuntime, words: &[String]) -> AskStatus {
     let Ok(mut output) = BufWriter::new(rt.alloc(), rt.stdout()) else {
         return AskStatus::OutOfMemory;
@@ -19,7 +19,7 @@ fn ask(rt: &HostRuntime, words: &[String]) -> AskStatus {
     let mut source = ReadSource::new(&mut input);
     let mut sink = WriteSink::new(&mut output);
     let status = ask_run(rt.alloc(), words, &mut source, &mut sink);
-    // (the one line of a faulty heap is in the buffer still)
+    // (the buffer still holds the one line of a faulty heap)
     if status == AskStatus::Faulty {
         remark_bad_heap(rt, input.remembered(), output.buffer());
     }

@@ -1,11 +1,11 @@
-//! What is said on standard error. Standard output and the exit status do not depend on it.
+//! Messages on standard error. Standard output and the exit status do not depend on them.
 use cg_ask::AskStatus;
 use cg_front::{number_at, remark, remark_line};
 
 const USAGE: &str = "usage: gcheap < HEAP
 docs/HEAPS.md has the text of a heap with its questions; python/README.md says how the heap of a process is taken.";
 
-/// Shows the bad line, or says what the code of a fault means. (docs/HEAPS.md.)
+/// Shows the bad line, or explains the code of a fault. (docs/HEAPS.md.)
 pub fn remark_bad_heap(rt: &HostRuntime, input: &[u8], text: &[u8]) {
     if text.starts_with(b"bad line ") {
         if let Some(number) = number_at(text, 2) {
@@ -30,7 +30,7 @@ pub fn remark_bad_heap(rt: &HostRuntime, input: &[u8], text: &[u8]) {
     }
 }
 
-/// Says why there are no answers, or not all, where standard output does not.
+/// Explains why answers are missing, unless standard output does.
 pub fn remark_status(rt: &HostRuntime, status: AskStatus) {
     match status {
         AskStatus::BadWords => remark(rt, USAGE),

@@ -12,7 +12,7 @@ returns-in-Some-clause-number c = found_place _ _ c.in-Some.number c.in-Some.ens
 pub returns-in-Some-clause-ok : goal.returns-in-Some-clause-ok
 returns-in-Some-clause-ok c = ap (λ b. cond b c.args.self.now (c.args.self.now ++ c.args.text.now ∷ [])) c.in-Some.ensures.found
 
--- what the insertion of a new text does
+-- what inserting a new text does
 inserted : (c : goal.In_ok-insert) → (length c.self.inside.texts.keys ≡ text_number (map string_bytes c.self.inside.texts.keys) c.args.text.now)
     × (map string_bytes c.insert.new.self.keys ≡ with_text (map string_bytes c.self.inside.texts.keys) c.args.text.now)
 inserted c =
