@@ -1,4 +1,4 @@
--- The fields once a node is added.
+-- The fields after a node is added.
 use Rattle.std.proofs.Common.{◌≡◌, ◌≢◌, ◌⊎◌, ℕ, ◌+◌, ◌-◌, ◌<◌, ◌≤◌, ◌^◌, true, List, [], ◌∷◌, map, Option, Some, None, refl, sym, ap, ◌∙◌, subst, inl, inr, arith}
 use Rattle.std.specs.Prelude.{option_map, is_some, nat_eq, unwrap_or, slice_set, min, if◌then◌else◌}
 use Rattle.std.proofs.lemmas.Bool.{cases_eq, eq-eqb, ne_eqb}
@@ -31,13 +31,13 @@ no_value : {X Y : Type 0} (f : X → Y) (o : Option X) → option_map f o ≡ No
 no_value f None none = refl
 no_value f (Some x) none = absurd (cc)
 
--- a serial that is not there has no row
+-- a missing serial has no row
 pub no_row_there : (s : Slab Slot) (ends : List Ends) (rows : List (ℕ × ℕ)) (spare : ℕ) (v : Nodes) → value_of s ends rows spare ≡ v → (t : ℕ) → fin.get v.nodes t ≡ None → row_of rows t ≡ None
 no_row_there s ends rows spare v view_is t none =
     no_value (λ k. node_in (get s k)) (row_of rows t)
     (sym (get-nodes_of rows s t) ∙ ap (λ (w : Nodes). fin.get w.nodes t) view_is ∙ none)
 
--- what stands in a place is an occupied slot
+-- a slot that has a place is occupied
 pub some_numbered : (p : ℕ) (o : Option Slot) → count_in_list p (place_in_slot o) ≡ 1 → is_some o ≡ true
 some_numbered p None stands = absurd (omega (arith, stands))
 some_numbered p (Some c) stands = refl

@@ -1,4 +1,4 @@
--- Chains of linked slots: what a change of links leaves of them.
+-- Chains of linked slots, and what a change of links keeps of them.
 use Rattle.std.proofs.Common.{◌≡◌, ◌≢◌, ℕ, ◌+◌, ◌<◌, ◌≤◌, List, [], ◌∷◌, ◌++◌, length, Option, Some, None, refl, sym, ap, ◌∙◌, arith}
 use Rattle.slab.specs.Slab.{Slab, get}
 use Rattle.cg_graph.specs.Holdings.{occurrences}
@@ -7,11 +7,11 @@ use Rattle.cg_arena.specs.Slots.{before_in, after_in}
 use Rattle.cg_arena.specs.Links.{IsLinked, first_or, last_or, chain_from}
 use Rattle.cg_arena.proofs.Standing.{one, one-same, occurrences-cons, last-stands, last_of-stands, first-stands, first_or-append}
 
--- a slot has the same links
+-- the slot has the same links
 abbrev pub HasLinks : (ℕ → Option Slot) → (ℕ → Option Slot) → ℕ → Type 0
 HasLinks cell new j = (before_in (new j) ≡ before_in (cell j)) × (after_in (new j) ≡ after_in (cell j))
 
--- a chain whose slots have the same links is a chain still
+-- a chain whose slots keep their links remains a chain
 pub linked_still : (cell new : ℕ → Option Slot) (before : Option ℕ) (ks : List ℕ) (after : Option ℕ) → ((j : ℕ) → 0 < occurrences j ks → HasLinks cell new j)
     → IsLinked cell before ks after → IsLinked new before ks after
 linked_still cell new before [] after same linked = tt
@@ -19,7 +19,7 @@ linked_still cell new before (k ∷ ks) after same linked =
     let here = same k (omega (arith, occurrences-cons k k ks, one-same k k refl)) in
     (here.0 ∙ linked.0, here.1 ∙ linked.1, linked_still cell new (Some k) ks after (λ j stands. same j (omega (arith, stands, occurrences-cons j k ks))) linked.2)
 
--- two chains that name each other's ends are one
+-- two chains whose ends name each other are one chain
 pub linked-append : (cell : ℕ → Option Slot) (before : Option ℕ) (ks ls : List ℕ) (after : Option ℕ) → IsLinked cell before ks (first_or ls after) → IsLinked cell (last_or before ks) ls after
     → IsLinked cell before (ks ++ ls) after
 linked-append cell before [] ls after front back = back
@@ -35,14 +35,14 @@ pub linked_back : (cell : ℕ → Option Slot) (before : Option ℕ) (ks ls : Li
 linked_back cell before [] ls after linked = linked
 linked_back cell before (k ∷ ks) ls after linked = linked_back cell (Some k) ks ls after linked.2
 
--- a chain is read off from its first slot on
+-- a chain is determined by its first slot
 pub chain-read : (s : Slab Slot) (before : Option ℕ) (ks : List ℕ) → IsLinked (get s) before ks None → chain_from s (length ks) (first_or ks None) ≡ ks
 chain-read s before [] linked = refl
 chain-read s before (k ∷ ks) linked =
     ap (λ o. k ∷ chain_from s (length ks) o) linked.1
     ∙ ap (λ ls. k ∷ ls) (chain-read s (Some k) ks linked.2)
 
--- the last slot of a chain names another one as the next
+-- the last slot of a chain gets another successor
 pub relast : (cell new : ℕ → Option Slot) (before : Option ℕ) (ks : List ℕ) (old after : Option ℕ)
     → ((j : ℕ) → occurrences j ks ≤ 1)
     → ((j : ℕ) → 0 < occurrences j ks → before_in (new j) ≡ before_in (cell j))
@@ -67,14 +67,14 @@ relast cell new before (k ∷ l ∷ ks) old after once befores afters at_last li
           linked.2,
     )
 
--- two slots, each of which may be missing, now name each other, and no other link has changed
+-- two slots, either of which may be missing, now name each other; no other link has changed
 pub record IsTied (cell new : ℕ → Option Slot) (before after : Option ℕ) : Type 0 where
   pub befores : (j : ℕ) → after ≢ Some j → before_in (new j) ≡ before_in (cell j)
   pub afters : (j : ℕ) → before ≢ Some j → after_in (new j) ≡ after_in (cell j)
   pub next : (j : ℕ) → before ≡ Some j → after_in (new j) ≡ after
   pub last : (j : ℕ) → after ≡ Some j → before_in (new j) ≡ before
 
--- the end of one chain is tied to the beginning of another: they are one
+-- tying the end of one chain to the beginning of another joins them
 module _ (cell new : ℕ → Option Slot) (ks ls : List ℕ) (old : Option ℕ) (gone : Option ℕ) (is_tied : IsTied cell new (last_or None ks) (first_or ls None)) (once : (j : ℕ) → occurrences j ks + occurrences j ls ≤ 1) where
   front : IsLinked cell None ks old → IsLinked new None ks (first_or ls None)
   front linked =
@@ -105,7 +105,7 @@ module _ (cell new : ℕ → Option Slot) (ks ls : List ℕ) (old : Option ℕ) 
   pub tied_chain : IsLinked cell None ks old → IsLinked cell gone ls None → IsLinked new None (ks ++ ls) None
   tied_chain linked_ks linked_ls = linked-append new None ks ls None (front linked_ks) (tied_back ls refl linked_ls)
 
-  -- a chain apart from the two keeps its links
+  -- a chain without the two slots keeps its links
   pub tied_elsewhere : (ms : List ℕ) (after : Option ℕ) → ((j : ℕ) → 0 < occurrences j ms → occurrences j ks + occurrences j ls ≡ 0) → IsLinked cell None ms after → IsLinked new None ms after
   tied_elsewhere ms after apart linked =
       linked_still cell new None ms after

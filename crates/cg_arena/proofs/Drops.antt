@@ -1,4 +1,4 @@
--- The fields once a node is dropped.
+-- The fields after a node is dropped.
 use Rattle.std.proofs.Common.{◌≡◌, ◌≢◌, ℕ, ◌+◌, ◌-◌, ◌<◌, ◌≤◌, true, List, map, Some, None, sym, ap, ◌∙◌, subst, inl, inr, arith}
 use Rattle.std.specs.Prelude.{is_some, nat_eq, min, slice_set, ◌==◌, if◌then◌else◌}
 use Rattle.std.proofs.lemmas.Bool.{cases_eq, eq-eqb, ne_eqb}
@@ -28,7 +28,7 @@ use Rattle.cg_arena.proofs.Sound.{value_of, StandsFor, node_here}
 use Rattle.cg_arena.proofs.Lookups.{list_is, lists_ten, with_serial}
 use Rattle.cg_arena.proofs.Adds.{some_numbered}
 
--- a node leaves its list: its neighbours are tied, and the ends are those without it
+-- a node leaves its list: its neighbours are tied, and the ends updated
 module _ (s new : Slab Slot) (ends : List Ends) (rows : List (ℕ × ℕ)) (sound : IsSound s ends rows) (t k : ℕ) (c : Slot) (row_is : row_of rows t ≡ Some k) (slot_is : get s k ≡ Some c) (p : ℕ) (p_is : p ≡ place_number c.place) (below : p < 10) (tied_is : new ≡ tied c.word.before (after_of c) s) where
   stood : occurrences k (sound.chain p) ≡ 1
   stood = sound.spelled.standing p k below ∙ ap (λ o. count_in_list p (place_in_slot o)) slot_is ∙ count_in_list-same p c.place (sym p_is)

@@ -1,4 +1,4 @@
--- What an index says of slots, and once a serial comes or goes.
+-- What an index says of slots, and how it changes when a serial is added or removed.
 use Rattle.std.proofs.Common.{◌≡◌, ◌≢◌, ◌⊎◌, ℕ, zero, suc, ◌+◌, ◌<◌, ◌≤◌, length, List, [], ◌∷◌, map, get_or, Option, Some, None, IsSome, cond, Contains, refl, sym, ap, ◌∙◌, subst, inl, inr, arith}
 use Rattle.std.specs.Prelude.{option_map, nat_eq, slice_set, slice_index_or, ◌==◌, if◌then◌else◌}
 use Rattle.std.proofs.lemmas.Bool.{cases_eq, eq-eqb, ne_eqb}
@@ -21,7 +21,7 @@ first_or_later q e es = (
   λ differs. ap (λ b. cond b (Some e.0) (row_of (map row es) q)) (ne_eqb q e.1.serial differs),
 )
 
--- a row of some slots is that of one of them
+-- each row comes from one of the slots
 listed : (q : ℕ) (es : List (ℕ × Slot)) (j : ℕ) → row_of (map row es) q ≡ Some j → (c : Slot) × Contains es (j, c) × (c.serial ≡ q)
 listed q [] j is = absurd (cc)
 listed q (e ∷ es) j is = elim (cases_eq q e.1.serial) [
@@ -38,7 +38,7 @@ later : (q : ℕ) (e : ℕ × Slot) (es : List (ℕ × Slot)) (j : ℕ) (c : Slo
 later q e es j c is differs (inl here) = absurd (differs (sym is ∙ ap (λ (p : ℕ × Slot). p.1.serial) (sym here)))
 later q e es j c is differs (inr there) = there
 
--- and each of them has one
+-- each slot has a row
 in_row : (q : ℕ) (es : List (ℕ × Slot)) (j : ℕ) (c : Slot) → Contains es (j, c) → c.serial ≡ q → IsSome (row_of (map row es) q)
 in_row q [] j c stands is = absurd (omega (arith, stands.1))
 in_row q (e ∷ es) j c stands is = elim (cases_eq q e.1.serial) [
@@ -46,26 +46,26 @@ in_row q (e ∷ es) j c stands is = elim (cases_eq q e.1.serial) [
   | inr differs ↦ subst IsSome (sym ((first_or_later q e es).1 differs)) (in_row q es j c (later q e es j c is differs (Contains-cons_cases e (j, c) es stands)) is)
 ]
 
--- a row names a slot with the serial
+-- a row names a slot with that serial
 pub row_stands : (s : Slab Slot) (q j : ℕ) → row_of (rows_of s) q ≡ Some j → serial_in (get s j) ≡ Some q
 unfolding rows_of
 row_stands s q j is =
     let found = listed q (entries s) j is in
     ap serial_in ((Contains-entries s j found.0).0 found.1) ∙ ap Some found.2
 
--- what has a serial is a node
+-- a slot with a serial is occupied
 pub the_node : (o : Option Slot) (q : ℕ) → serial_in o ≡ Some q → (c : Slot) × (o ≡ Some c) × (c.serial ≡ q)
 the_node None q is = absurd (cc)
 the_node (Some c) q is = (c, refl, cc)
 
--- and each serial of a slot has a row
+-- the serial of each slot has a row
 pub stands_row : (s : Slab Slot) (q j : ℕ) → serial_in (get s j) ≡ Some q → IsSome (row_of (rows_of s) q)
 unfolding rows_of
 stands_row s q j is =
     let found = the_node (get s j) q is in
     in_row q (entries s) j found.0 ((Contains-entries s j found.0).1 found.1) found.2
 
--- the row of a serial that stands in one slot at most
+-- the row of a serial that is in at most one slot
 pub row-is : (s : Slab Slot) (q : ℕ) (o : Option ℕ) → ((j : ℕ) → serial_in (get s j) ≡ Some q → o ≡ Some j) → ((j : ℕ) → o ≡ Some j → serial_in (get s j) ≡ Some q) → row_of (rows_of s) q ≡ o
 row-is s q o there back = go (row_of (rows_of s) q) refl o refl
   where
@@ -74,7 +74,7 @@ row-is s q o there back = go (row_of (rows_of s) q) refl o refl
     go None none (Some j) is = let some : IsSome {T = ℕ} None = subst IsSome none (stands_row s q j (back j is)) in absurd (cc)
     go (Some i) is p same = is ∙ sym (there i (row_stands s q i is))
 
--- a field other than the serial is written
+-- writing a field other than the serial keeps the rows
 rows-set : (f : Slot → Slot) → ((x : Slot) → (f x).serial ≡ x.serial) → (os : List (Option Slot)) (k i : ℕ)
     → map row (entries_from i (slice_set os k (option_map f (get_or os k None)))) ≡ map row (entries_from i os)
 rows-set f keeps [] k i = refl
@@ -87,7 +87,7 @@ pub rows-rewritten : (f : Slot → Slot) → ((x : Slot) → (f x).serial ≡ x.
 unfolding rows_of rewritten
 rows-rewritten f keeps k s = rows-set f keeps s.slots k 0
 
--- the slots have the serials that they had
+-- the index holds while the slots keep their serials
 pub index_still : (serial new : ℕ → Option ℕ) (x : SlotIndex) → ((k : ℕ) → new k ≡ serial k) → IsIndex serial x → IsIndex new x
 index_still serial new x same index =
     record {
@@ -97,7 +97,7 @@ index_still serial new x same index =
     }
 
 module _ (s : Slab Slot) (x : SlotIndex) (index : IsIndexOf s x) (t : ℕ) where
-  -- a serial that does not stand where its guess says has a row
+  -- a serial that is not in its guessed slot has a row
   pub by_row : (guess : ℕ) → guess ≡ guess_at x.hints t → serial_in (get s guess) ≢ Some t → row_of x.rows.entries t ≡ row_of (rows_of s) t
   by_row guess guess_is elsewhere = go (row_of (rows_of s) t) refl (row_of x.rows.entries t) refl
     where
@@ -109,14 +109,14 @@ module _ (s : Slab Slot) (x : SlotIndex) (index : IsIndexOf s x) (t : ℕ) where
         | inr rowed ↦ rowed ∙ sym is
       ]
 
-  -- and it is right
+  -- that row is right
   pub row_right : (at : ℕ) → row_of x.rows.entries t ≡ Some at → row_of (rows_of s) t ≡ Some at
   row_right at is = index.names.named at t (index.finds.right t at is)
 
   pub here_row : (c : Slot) (at : ℕ) → get s at ≡ Some c → c.serial ≡ t → row_of (rows_of s) t ≡ Some at
   here_row c at is serial = index.names.named at t (ap serial_in is ∙ ap Some serial)
 
--- the guess that found one serial is told another's slot, and the one has a row
+-- a guess is reset to another slot, and the serial that it found gets a row
 pub displaced_found : (s : Slab Slot) (x y : SlotIndex) → IsNamed (λ k. serial_in (get s k)) (row_of (rows_of s)) → (t other : ℕ) → serial_in (get s (guess_at x.hints t)) ≡ Some other
     → ((q : ℕ) → guess_index x.hints q ≢ guess_index x.hints t → guess_at y.hints q ≡ guess_at x.hints q)
     → ((q : ℕ) → row_of y.rows.entries q ≡ (if other == q then Some (guess_at x.hints t) else row_of x.rows.entries q))
@@ -137,7 +137,7 @@ displaced_found s x y named t other stands guesses rows k q is leads = elim (cas
   ]
 ]
 
--- a serial that stands nowhere comes to a vacant slot
+-- a new serial is put into a vacant slot
 module _ (s : Slab Slot) (x y : SlotIndex) (index : IsIndexOf s x) (t at : ℕ) (fresh : row_of (rows_of s) t ≡ None) (vacant : get s at ≡ None) (below : HasRowsBelow y) (noted : LeadsTo y t at) (others : (k q : ℕ) → serial_in (get s k) ≡ Some q → q ≢ t → LeadsTo x q k → LeadsTo y q k) (rows : (q k : ℕ) → row_of y.rows.entries q ≡ Some k → (row_of x.rows.entries q ≡ Some k) ⊎ ((serial_in (get s k) ≡ Some q) ⊎ ((q ≡ t) × (k ≡ at)))) where
   abbrev with_it : ℕ → Option ℕ
   with_it k = if k == at then Some t else serial_in (get s k)
@@ -182,7 +182,7 @@ pub record FindsBelow (s : Slab Slot) (x : SlotIndex) (n : ℕ) : Type 0 where
   pub right : (q k : ℕ) → row_of x.rows.entries q ≡ Some k → serial_in (get s k) ≡ Some q
   pub below : HasRowsBelow x
 
--- room for rows changes nothing
+-- reserving rows changes nothing
 pub reserved_found : (s : Slab Slot) (x y : SlotIndex) (n : ℕ) → y.hints ≡ x.hints → y.rows.entries ≡ x.rows.entries → y.most ≡ x.most → FindsBelow s x n → FindsBelow s y n
 reserved_found s x y n hints entries most below =
     record {
@@ -195,7 +195,7 @@ reserved_found s x y n hints entries most below =
     }
 
 module _ (s : Slab Slot) (x : SlotIndex) (at : ℕ) (below : FindsBelow s x at) where
-  -- one slot more, if it is vacant
+  -- the next slot, if vacant
   pub vacant_found : get s at ≡ None → FindsBelow s x (at + 1)
   vacant_found vacant =
       record {
@@ -207,7 +207,7 @@ module _ (s : Slab Slot) (x : SlotIndex) (at : ℕ) (below : FindsBelow s x at) 
         below = below.below;
       }
 
-  -- or once its serial is noted down
+  -- the next slot, after its serial is noted
   pub noted_found : IsNamed (λ k. serial_in (get s k)) (row_of (rows_of s)) → (y : SlotIndex) → HasRowsBelow y → (c : Slot) → get s at ≡ Some c → LeadsTo y c.serial at
       → ((k q : ℕ) → serial_in (get s k) ≡ Some q → q ≢ c.serial → LeadsTo x q k → LeadsTo y q k)
       → ((q k : ℕ) → row_of y.rows.entries q ≡ Some k → (row_of x.rows.entries q ≡ Some k) ⊎ ((serial_in (get s k) ≡ Some q) ⊎ ((q ≡ c.serial) × (k ≡ at))))
@@ -238,7 +238,7 @@ the_serial [] k q is = absurd (cc)
 the_serial (o ∷ os) zero q is = omega arith
 the_serial (o ∷ os) (suc k) q is = omega (arith, the_serial os k q is)
 
--- all slots were looked at
+-- all slots were checked
 pub all_found : (s : Slab Slot) (x : SlotIndex) (n : ℕ) → IsNamed (λ k. serial_in (get s k)) (row_of (rows_of s)) → length s.slots ≤ n → FindsBelow s x n → IsIndexOf s x
 all_found s x n named enough below =
     record {
@@ -250,7 +250,7 @@ all_found s x n named enough below =
       names = named;
     }
 
--- the rows once a serial comes to a vacant slot, and once that of a slot goes
+-- the rows after a serial is put into a vacant slot, and after a slot's serial is removed
 module _ (s new : Slab Slot) (named : IsNamed (λ k. serial_in (get s k)) (row_of (rows_of s))) (t k : ℕ) (there : (j : ℕ) → j ≢ k → serial_in (get new j) ≡ serial_in (get s j)) where
   module _ (fresh : row_of (rows_of s) t ≡ None) (vacant : get s k ≡ None) (here : serial_in (get new k) ≡ Some t) where
     pub rows_with : (q : ℕ) → row_of (rows_of new) q ≡ (if nat_eq t q then Some k else row_of (rows_of s) q)

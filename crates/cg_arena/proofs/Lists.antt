@@ -1,4 +1,4 @@
--- The lists of serials that chains of slots stand for.
+-- The lists of serials that chains of slots represent.
 use Rattle.std.proofs.Common.{◌≡◌, ◌≢◌, ◌⊎◌, ℕ, ◌<◌, not, List, [], ◌∷◌, ◌++◌, map, length, get_or, set, Option, Some, None, cond, refl, sym, ap, ◌∙◌, inl, inr, arith}
 use Rattle.std.specs.Prelude.{unwrap_or, slice_get, if◌then◌else◌}
 use Rattle.std.proofs.lemmas.Bool.{cases_eq, eq-eqb, ne_eqb}
@@ -17,19 +17,19 @@ use Rattle.cg_arena.proofs.Chains.{chain-read}
 use Rattle.cg_arena.proofs.Spelled.{appended_at, appended-here, appended-there}
 use Rattle.cg_arena.proofs.Merged.{merged_chain, merged-to, merged-from, merged-other, Which, To, From, Other, which}
 
--- the serial of a slot, and those of some slots
+-- the serial of a slot, and those of a list of slots
 abbrev pub serial_at : Slab Slot → ℕ → ℕ
 serial_at s k = unwrap_or (serial_in (get s k)) 0
 
 abbrev pub serials : Slab Slot → List ℕ → List ℕ
 serials s ks = map (serial_at s) ks
 
--- a slot that stands in a place has a serial
+-- a slot that has a place has a serial
 pub has_serial : (p : ℕ) (o : Option Slot) → count_in_list p (place_in_slot o) ≡ 1 → (u : ℕ) × (serial_in o ≡ Some u)
 has_serial p None stands = absurd (omega (arith, stands))
 has_serial p (Some c) stands = (c.serial, refl)
 
--- the list of a place is that of the serials of its chain
+-- the list of a place is the serials of its chain
 pub list-at : (s : Slab Slot) (ends : List Ends) (chain : ℕ → List ℕ) (loose : Option ℕ) → length ends ≡ 10 → IsSpelled (get s) (ends_at ends) chain loose → (r : ℕ) → r < 10 → list_of (map (serials_of s) ends) r ≡ serials s (chain r)
 unfolding serials_of
 list-at s ends chain loose ten spelled r below =
@@ -37,7 +37,7 @@ list-at s ends chain loose ten spelled r below =
     ∙ ap (λ (e : Ends). serials s (chain_from s e.size e.first)) (spelled.ended r below)
     ∙ ap (serials s) (chain-read s None (chain r) (spelled.linked r below))
 
--- ten lists that are the same each
+-- ten lists are equal if each is
 pub ten_lists : (xs ys : List (List ℕ)) → length xs ≡ 10 → length ys ≡ 10 → ((r : ℕ) → r < 10 → list_of xs r ≡ list_of ys r) → xs ≡ ys
 ten_lists xs ys xs_ten ys_ten same = ext_get_or [] xs ys (xs_ten ∙ sym ys_ten) (λ r below. same r (omega (arith, below, xs_ten)))
 
@@ -75,7 +75,7 @@ module _ (s : Slab Slot) (row : ℕ → Option ℕ) (names : IsNamed (λ k. seri
           ∙ ap (λ ys. serial_at s x ∷ ys) rest
           ∙ sym (ap (λ b. serials s (cond (not b) (x ∷ without_serial k ks) (without_serial k ks))) (ne_eqb k x differs))
 
-  -- how often it stands there
+  -- how often it occurs in the list
   pub occurrences-serials : (ks : List ℕ) → ((j : ℕ) → 0 < occurrences j ks → (u : ℕ) × (serial_in (get s j) ≡ Some u)) → occurrences t (serials s ks) ≡ occurrences k ks
   occurrences-serials [] there = refl
   occurrences-serials (x ∷ ks) there = go (cases_eq x k) (there x (omega (arith, occurrences-cons x x ks, one-same x x refl))) (occurrences-serials ks (λ j stands. there j (omega (arith, stands, occurrences-cons j x ks))))
@@ -93,7 +93,7 @@ module _ (s : Slab Slot) (row : ℕ → Option ℕ) (names : IsNamed (λ k. seri
       ap (λ b. if b then slice_get (serials s (front ++ k ∷ back)) 0 else following t (serials s (front ++ k ∷ back))) (ne_eqb (serial_at s x) t (serial-there x found.0 found.1 differs))
       ∙ following-serials front back (omega (arith, absent, occurrences-cons k x front)) (λ j stands. there j (omega (arith, stands, occurrences-cons j x front)))
 
--- a serial with no row stands nowhere
+-- a serial without a row is in no list
 pub serials-absent : (s : Slab Slot) (row : ℕ → Option ℕ) → IsNamed (λ k. serial_in (get s k)) row → (t : ℕ) → row t ≡ None → (ks : List ℕ) → ((j : ℕ) → 0 < occurrences j ks → (u : ℕ) × (serial_in (get s j) ≡ Some u)) → occurrences t (serials s ks) ≡ 0
 serials-absent s row names t none [] there = refl
 serials-absent s row names t none (x ∷ ks) there =
@@ -106,7 +106,7 @@ serials-absent s row names t none (x ∷ ks) there =
     absurd (cc) in
     omega (arith, rest, occurrences-cons t (serial_at s x) (serials s ks), one-apart t (serial_at s x) differs)
 
--- the ten lists when a serial leaves its list, joins one, or one list is appended to another
+-- the ten lists after a serial leaves or joins one, or one list is appended to another
 module _ (s : Slab Slot) (lists : List (List ℕ)) (chain : ℕ → List ℕ) (ten : length lists ≡ 10) (are : (r : ℕ) → r < 10 → list_of lists r ≡ serials s (chain r)) where
   pub lists-left : (row : ℕ → Option ℕ) → IsNamed (λ k. serial_in (get s k)) row → (t k p : ℕ) → row t ≡ Some k → p < 10 → ((j r : ℕ) → r < 10 → 0 < occurrences j (chain r) → (u : ℕ) × (serial_in (get s j) ≡ Some u))
       → ((r : ℕ) → r < 10 → r ≢ p → occurrences k (chain r) ≡ 0) → (r : ℕ) → r < 10 → list_of (leaves_list lists t p) r ≡ serials s (without_serial k (chain r))

@@ -116,7 +116,7 @@ module _ (s : Slab Slot) (ends : List Ends) (rows : List (ℕ × ℕ)) (spare : 
           ∙ ap (λ o. count_in_list p (place_in_slot o)) found.1
           ∙ sym (ap (count_of_node p) (node_here s ends rows spare v view_is t k found.0 row_is found.1))
 
--- an arena with no node
+-- an arena without nodes
 module _ (s : Slab Slot) (e : Ends) (x : SlotIndex) (vacant : s.slots ≡ []) (ends_are : e ≡ no_ends) (no_rows : x.rows.entries ≡ []) where
   abbrev rows : List (ℕ × ℕ)
   rows = rows_of s

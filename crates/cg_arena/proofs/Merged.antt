@@ -1,4 +1,4 @@
--- The chains of all places, when one of them is appended to another.
+-- The chains of all places after one is appended to another.
 use Rattle.std.proofs.Common.{◌≡◌, ◌≢◌, ℕ, ◌+◌, ◌<◌, ◌≤◌, List, [], ◌++◌, Option, Some, None, sym, ap, ◌∙◌, subst, inl, inr, arith}
 use Rattle.std.specs.Prelude.{◌==◌, if◌then◌else◌}
 use Rattle.std.proofs.lemmas.Bool.{cases_eq, eq-eqb, ne_eqb}
@@ -16,7 +16,7 @@ use Rattle.cg_arena.proofs.Chains.{HasLinks, linked_still, IsTied, tied_chain, t
 use Rattle.cg_arena.proofs.EndsLemmas.{ends-joined}
 use Rattle.cg_arena.proofs.Spelled.{count_in_list-same, count_in_list-other, stands_once, stands_either}
 
--- the chains once the one of p is appended to that of q
+-- the chains after that of p is appended to that of q
 abbrev pub merged_chain : ℕ → ℕ → (ℕ → List ℕ) → ℕ → List ℕ
 merged_chain p q chain r = if r == q then chain q ++ chain p else if r == p then [] else chain r
 
@@ -34,7 +34,7 @@ module _ (p q : ℕ) (differ : p ≢ q) (chain : ℕ → List ℕ) (r : ℕ) whe
       ap (λ b. if b then chain q ++ chain p else if r == p then [] else chain r) (ne_eqb r q not_to)
       ∙ ap (λ b. if b then [] else chain r) (ne_eqb r p not_from)
 
--- which number r is: that of the list appended to, that of the list appended, or another
+-- which number r is: the target's, the source's, or another
 pub data Which (p q r : ℕ) : Type 0 where
   To : r ≡ q → Which p q r
   From : r ≡ p → Which p q r
@@ -73,7 +73,7 @@ module _ (cell placed new : ℕ → Option Slot) (ends later : ℕ → Ends) (ch
   not_in_from : (j : ℕ) → occurrences j (chain p) ≡ 0 → (r : ℕ) → count_in_list r (place_in_slot (new j)) ≡ count_in_list r (place_in_slot (cell j))
   not_in_from j none r = ap (count_in_list r) (places j ∙ aside j none)
 
-  -- a slot of the chain appended, or not
+  -- whether a slot is in the appended chain
   pub data Stands (j : ℕ) : Type 0 where
     There : 0 < occurrences j (chain p) → occurrences j (chain p) ≡ 1 → Stands j
     Elsewhere : occurrences j (chain p) ≡ 0 → Stands j

@@ -1,4 +1,4 @@
--- The fields once one list is appended to another.
+-- The fields after one list is appended to another.
 use Rattle.std.proofs.Common.{◌≡◌, ◌≢◌, ℕ, ◌+◌, ◌<◌, ◌^◌, true, List, [], map, length, Option, Some, None, refl, sym, ap, ◌∙◌, subst, inl, inr, arith}
 use Rattle.std.specs.Prelude.{option_map, is_some, slice_set, if◌then◌else◌}
 use Rattle.std.proofs.lemmas.Bool.{cases_eq, eq-eqb, ne_eqb}
@@ -37,7 +37,7 @@ place_written : (place : Place) (o : Option Slot) → is_some o ≡ true → pla
 place_written place None there = absurd (cc)
 place_written place (Some c) there = refl
 
--- two lists fit together into one
+-- the sizes of two lists add up without overflow
 pub sizes_fit : (s : Slab Slot) (ends : List Ends) (rows : List (ℕ × ℕ)) → IsSound s ends rows → (p q : ℕ) → p < 10 → q < 10 → p ≢ q → (ends_at ends q).size + (ends_at ends p).size < 2 ^ 64
 sizes_fit s ends rows sound p q below_p below_q differ = omega (arith, two_sizes ends p q sound.ten below_p below_q differ, sound.counted, sound.few)
 

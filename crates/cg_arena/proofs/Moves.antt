@@ -1,4 +1,4 @@
--- The fields once a node is moved.
+-- The fields after a node is moved.
 use Rattle.std.proofs.Common.{◌≡◌, ◌≢◌, ℕ, ◌+◌, ◌<◌, ◌^◌, true, List, [], ◌∷◌, map, length, Option, Some, None, refl, sym, ap, ◌∙◌, subst, inl, inr, arith}
 use Rattle.std.specs.Prelude.{option_map, is_some, unwrap_or, slice_set}
 use Rattle.std.proofs.lemmas.Bool.{cases_eq}
@@ -40,7 +40,8 @@ ended_there : (o : Option Slot) → is_some o ≡ true → after_in (option_map 
 ended_there None there = absurd (cc)
 ended_there (Some c) there = refl
 
--- s is left by the node, and is `left` then; there the node gets its place, and then no slot after it; then it is tied to the last of the other list
+-- In s the node leaves its list, giving `left`; then it gets its place, then no successor, and is tied to the last of
+-- the other list.
 module _ (s left placed ended new : Slab Slot) (ends : List Ends) (x : SlotIndex) (kept : IsKept s x ends) (spare : ℕ) (v : Nodes) (view_is : value_of s ends (rows_of s) spare ≡ v) (t k : ℕ) (c : Slot) (row_is : row_of (rows_of s) t ≡ Some k) (slot_is : get s k ≡ Some c) (p : ℕ) (p_is : p ≡ place_number c.place) (below_p : p < 10) (left_is : left ≡ tied c.word.before (after_of c) s) (d : Ends) (d_is : d ≡ ends_without c.word.before (after_of c) (ends_at ends p)) (place : Place) (placed_is : placed ≡ rewritten (with_place place) k left) (ended_is : ended ≡ rewritten (with_after None) k placed) (q : ℕ) (q_is : q ≡ place_number place) (below_q : q < 10) where
   abbrev rows : List (ℕ × ℕ)
   rows = rows_of s

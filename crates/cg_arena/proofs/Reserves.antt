@@ -1,4 +1,4 @@
--- The fields once room is made.
+-- The fields after room is reserved.
 use Rattle.std.proofs.Common.{◌≡◌, ℕ, List, map, sym, ap, ◌∙◌, subst}
 use Rattle.slab.specs.Slab.{Slab, get, slab_len}
 use Rattle.cg_arena.specs.declared.slot.Slot.{Slot}

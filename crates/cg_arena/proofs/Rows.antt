@@ -1,4 +1,4 @@
--- The nodes that rows and slots stand for, when a slot or a row changes.
+-- The nodes that rows and slots represent, when a slot or a row changes.
 use Rattle.std.proofs.Common.{◌≡◌, ◌≢◌, ℕ, Bool, true, false, List, [], ◌∷◌, map, Option, Some, None, cond, refl, sym, ap, ◌∙◌, inl, inr}
 use Rattle.std.specs.Prelude.{nat_eq, option_map, if◌then◌else◌}
 use Rattle.std.specs.Map.{lookup}
@@ -27,7 +27,7 @@ lookup-map {X} {Y} f q (e ∷ es) = go (nat_eq q e.0) (lookup-map f q es)
     go true rest = refl
     go false rest = rest
 
--- the node of a serial is that of the slot that its row names
+-- the node of a serial is that of the slot its row names
 pub get-nodes_of : (rows : List (ℕ × ℕ)) (s : Slab Slot) (q : ℕ) → fin.get (nodes_of rows s) q ≡ option_map (λ k. node_in (get s k)) (row_of rows q)
 unfolding nodes_of
 get-nodes_of rows s q =
@@ -35,7 +35,7 @@ get-nodes_of rows s q =
     ∙ find-lookup q (map (λ (e : ℕ × ℕ). (e.0, node_in (get s e.1))) rows)
     ∙ lookup-map (λ k. node_in (get s k)) q rows
 
--- a value at each key where there is one
+-- a function applied to each value of a map
 at_each : {X Y : Type 0} (f g : X → Y) (o : Option X) → ((x : X) → o ≡ Some x → f x ≡ g x) → option_map f o ≡ option_map g o
 at_each f g None same = refl
 at_each f g (Some x) same = ap Some (same x refl)
@@ -44,7 +44,7 @@ option_map-map : {X Y Z : Type 0} (g : Y → Z) (f : X → Y) (o : Option X) →
 option_map-map g f None = refl
 option_map-map g f (Some x) = refl
 
--- what a change of other parts leaves
+-- a change of other parts keeps the nodes
 pub nodes-same : (rows : List (ℕ × ℕ)) (s new : Slab Slot) → ((k : ℕ) → node_in (get new k) ≡ node_in (get s k)) → nodes_of rows new ≡ nodes_of rows s
 nodes-same rows s new same =
     same_map (nodes_of rows new) (nodes_of rows s)
@@ -61,7 +61,7 @@ one_serial serial row names s t k s_is t_is =
     let both : Some s ≡ Some t = sym s_there ∙ t_there in
     cc
 
--- one slot has another node
+-- one slot gets another node
 pub nodes-changed : (rows : List (ℕ × ℕ)) (s new : Slab Slot) → IsNamed (λ k. serial_in (get s k)) (row_of rows) → (g : ArenaNode → ArenaNode) (t k : ℕ) → row_of rows t ≡ Some k
     → node_in (get new k) ≡ g (node_in (get s k)) → ((j : ℕ) → j ≢ k → node_in (get new j) ≡ node_in (get s j)) → nodes_of rows new ≡ changed g t (nodes_of rows s)
 nodes-changed rows s new names g t k row_is here there =
@@ -83,7 +83,7 @@ nodes-changed rows s new names g t k row_is here there =
           ∙ sym (get-changed_other g t (nodes_of rows s) q differs ∙ get-nodes_of rows s q)
     ])
 
--- each slot has another node
+-- each slot gets another node
 pub nodes-mapped : (rows : List (ℕ × ℕ)) (s new : Slab Slot) (g : ArenaNode → ArenaNode) → ((q k : ℕ) → row_of rows q ≡ Some k → node_in (get new k) ≡ g (node_in (get s k))) → nodes_of rows new ≡ mapped (λ q n. g n) (nodes_of rows s)
 nodes-mapped rows s new g each =
     same_map (nodes_of rows new) (mapped (λ q n. g n) (nodes_of rows s))
@@ -93,7 +93,7 @@ nodes-mapped rows s new g each =
     ∙ sym (option_map-map g (λ k. node_in (get s k)) (row_of rows q))
     ∙ sym (get-mapped (λ q n. g n) (nodes_of rows s) q ∙ ap (option_map g) (get-nodes_of rows s q)))
 
--- a row more
+-- a row is added
 pub nodes-insert : (rows later : List (ℕ × ℕ)) (s new : Slab Slot) → IsNamed (λ k. serial_in (get s k)) (row_of rows) → (t k : ℕ) (n : ArenaNode) → get s k ≡ None
     → ((q : ℕ) → row_of later q ≡ (if nat_eq t q then Some k else row_of rows q)) → node_in (get new k) ≡ n → ((j : ℕ) → j ≢ k → node_in (get new j) ≡ node_in (get s j))
     → nodes_of later new ≡ fin.insert (nodes_of rows s) t n
@@ -114,7 +114,7 @@ nodes-insert rows later s new names t k n vacant rows_are here there =
           ∙ sym (get-insert_other (nodes_of rows s) t q n differs ∙ get-nodes_of rows s q)
     ])
 
--- a row less
+-- a row is removed
 pub nodes-remove : (rows later : List (ℕ × ℕ)) (s new : Slab Slot) → IsNamed (λ k. serial_in (get s k)) (row_of rows) → (t k : ℕ) → row_of rows t ≡ Some k
     → ((q : ℕ) → row_of later q ≡ (if nat_eq t q then None else row_of rows q)) → ((j : ℕ) → j ≢ k → node_in (get new j) ≡ node_in (get s j))
     → nodes_of later new ≡ fin.remove (nodes_of rows s) t

@@ -1,4 +1,4 @@
--- What every write to slots leaves: the serials, how many slots are occupied, and the room.
+-- What every write to slots keeps: the serials, the number of occupied slots, and the room.
 use Rattle.std.proofs.Common.{◌≡◌, ◌≢◌, ℕ, ◌<◌, Bool, List, [], ◌∷◌, length, Option, Some, None, refl, sym, ap, ◌∙◌, inl, inr, arith, cond}
 use Rattle.std.specs.Prelude.{option_map, is_some, count_by}
 use Rattle.std.proofs.lemmas.Bool.{cases_lt, cases_eq}
@@ -85,7 +85,7 @@ shape-all_placed (k ∷ ks) place s =
     (shape-rewritten (with_place place) k s (λ x. refl))
     (shape-all_placed ks place (rewritten (with_place place) k s))
 
--- a tie changes no node
+-- tying slots changes no node
 pub nodes-tied : (before after : Option ℕ) (s : Slab Slot) (k : ℕ) → node_in (get (tied before after s) k) ≡ node_in (get s k)
 nodes-tied before after s k = part-tied node_in (λ o x. refl) (λ o x. refl) before after s k
 
@@ -95,7 +95,7 @@ places-tied before after s k = part-tied place_in_slot (λ o x. refl) (λ o x. r
 pub there-tied : (before after : Option ℕ) (s : Slab Slot) (k : ℕ) → is_some (get (tied before after s) k) ≡ is_some (get s k)
 there-tied before after s k = part-tied is_some (λ o x. refl) (λ o x. refl) before after s k
 
--- nodes that get a place: those of the list, and no other
+-- the nodes that get a place are exactly those of the list
 module _ {X : Type 0} (part : Option Slot → X) (keeps : (p : Place) (x : Slot) → part (Some (with_place p x)) ≡ part (Some x)) where
   pub part-all_placed : (ks : List ℕ) (place : Place) (s : Slab Slot) (j : ℕ) → part (get (all_placed ks place s) j) ≡ part (get s j)
   part-all_placed [] place s j = refl
@@ -110,7 +110,7 @@ get-all_placed_aside (k ∷ ks) place s j none =
     get-all_placed_aside ks place (rewritten (with_place place) k s) j (omega (arith, none, occurrences-cons j k ks))
     ∙ get-rewritten_other (with_place place) k s j differs
 
--- a slot that is placed twice is placed once
+-- placing a slot twice equals placing it once
 placed_twice : (place : Place) (o : Option Slot) → option_map (with_place place) (option_map (with_place place) o) ≡ option_map (with_place place) o
 placed_twice place None = refl
 placed_twice place (Some x) = refl

@@ -1,4 +1,4 @@
--- The sizes of the ten lists, together and after one of them has changed.
+-- The total size of the ten lists, and after one of them changes.
 use Rattle.std.proofs.Common.{◌≡◌, ◌≢◌, ℕ, ◌+◌, ◌<◌, ◌≤◌, List, length, Option, ap, ◌∙◌, arith}
 use Rattle.std.specs.Prelude.{sum_by, slice_set, ◌==◌}
 use Rattle.std.proofs.lemmas.List.{get_or-set_same, get_or-set_other, length-set}
@@ -9,7 +9,6 @@ use Rattle.cg_arena.specs.declared.ends.Ends.{Ends}
 use Rattle.cg_arena.specs.Links.{no_ends}
 use Rattle.cg_arena.specs.Table.{IsSpelled, ends_at}
 
--- the sum of the sizes
 abbrev pub sizes : List Ends → ℕ
 sizes ends = sum_by (λ e. e.size) ends
 
@@ -33,7 +32,7 @@ two_sizes ends p q ten below_p below_q differ =
     let same : (ends_at (slice_set ends q no_ends) p).size ≡ (ends_at ends p).size = ap (λ (e : Ends). e.size) (ends_set-other ends q p no_ends differ) in
     omega (arith, left, same, size_within (slice_set ends q no_ends) left_ten p below_p)
 
--- where a slot stands, the size is above 0
+-- a place that has a slot has size above 0
 pub size_above : (cell : ℕ → Option Slot) (ends : ℕ → Ends) (chain : ℕ → List ℕ) (loose : Option ℕ) → IsSpelled cell ends chain loose → (p k : ℕ) → p < 10 → 0 < occurrences k (chain p) → 0 < (ends p).size
 size_above cell ends chain loose spelled p k below stands =
     let size : (ends p).size ≡ length (chain p) = ap (λ (e : Ends). e.size) (spelled.ended p below) in

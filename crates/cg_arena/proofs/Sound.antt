@@ -1,4 +1,4 @@
--- What the fields of an arena say of one serial, and what a change of other parts of a slot leaves of them.
+-- What the fields of an arena say of one serial, and what a change of other parts of a slot keeps.
 use Rattle.std.proofs.Common.{◌≡◌, ◌≢◌, ℕ, ◌+◌, ◌-◌, ◌<◌, ◌^◌, List, [], ◌∷◌, map, Option, Some, None, refl, sym, ap, ◌∙◌, subst, inl, inr, arith}
 use Rattle.std.specs.Prelude.{Bool, ◌↔◌, IsTrue, option_map, IsSome, min, ◌==◌, if◌then◌else◌}
 use Rattle.std.proofs.lemmas.Bool.{cases_eq, eqb-true, eq-eqb, ne_eqb}
@@ -25,11 +25,11 @@ use Rattle.cg_arena.proofs.Indexes.{index_still, the_node, by_row, here_row}
 use Rattle.cg_arena.proofs.Rows.{get-nodes_of, nodes-changed}
 use Rattle.cg_arena.proofs.Lists.{serials-same, list-at, ten_lists}
 
--- the value of some fields
+-- the value of given fields
 abbrev pub value_of : Slab Slot → List Ends → List (ℕ × ℕ) → ℕ → Nodes
 value_of s ends rows spare = record { nodes = nodes_of rows s; lists = map (serials_of s) ends; room = room_of spare s }
 
--- some fields are kept, and that is their value
+-- the fields satisfy the invariant, and that is their value
 pub record StandsFor (s : Slab Slot) (ends : List Ends) (x : SlotIndex) (spare : ℕ) (v : Nodes) : Type 0 where
   pub kept : IsKept s x ends
   pub view : value_of s ends (rows_of s) spare ≡ v
@@ -46,7 +46,7 @@ some_serial None t is = absurd (cc)
 some_serial (Some c) t is = refl
 
 module _ (s : Slab Slot) (ends : List Ends) (rows : List (ℕ × ℕ)) (spare : ℕ) (v : Nodes) (view_is : value_of s ends rows spare ≡ v) (t : ℕ) where
-  -- what is there has a row
+  -- a serial with a node has a row
   pub row_there : HasNode v t → IsSome (row_of rows t)
   row_there has =
       some_mapped (λ k. node_in (get s k)) (row_of rows t)
@@ -61,7 +61,7 @@ module _ (s : Slab Slot) (ends : List Ends) (rows : List (ℕ × ℕ)) (spare : 
       mapped_some None h = absurd (cc)
       mapped_some (Some x) h = refl
 
-  -- and its node is that of the slot
+  -- its node is that of the slot
   pub node_here : (k : ℕ) (c : Slot) → row_of rows t ≡ Some k → get s k ≡ Some c → fin.get v.nodes t ≡ Some (node_of c)
   node_here k c row_is slot_is =
       ap (λ (w : Nodes). fin.get w.nodes t) (sym view_is)
@@ -69,7 +69,6 @@ module _ (s : Slab Slot) (ends : List Ends) (rows : List (ℕ × ℕ)) (spare : 
       ∙ ap (option_map (λ j. node_in (get s j))) row_is
       ∙ ap (λ o. Some (node_in o)) slot_is
 
--- what is there is something
 pub some_value : {X : Type 0} (o : Option X) → IsSome o → (x : X) × (o ≡ Some x)
 some_value None some = absurd (cc)
 some_value (Some x) some = (x, refl)
@@ -78,7 +77,7 @@ some_value (Some x) some = (x, refl)
 pub slot_there : (s : Slab Slot) (ends : List Ends) (rows : List (ℕ × ℕ)) → IsSound s ends rows → (t k : ℕ) → row_of rows t ≡ Some k → IsSome (get s k)
 slot_there s ends rows sound t k row_is = some_serial (get s k) t (sound.names.rowed t k row_is)
 
--- the place of an occupied slot has a number below 10
+-- an occupied slot's place has a number below 10
 pub slot_placed : (s : Slab Slot) (ends : List Ends) (rows : List (ℕ × ℕ)) → IsSound s ends rows → (k : ℕ) (c : Slot) → get s k ≡ Some c → IsPlace c.place
 slot_placed s ends rows sound k c is = sound.placed k c.place (ap place_in_slot is)
 
@@ -97,7 +96,7 @@ named_still serial new row same names =
       rowed = λ s k is. same k ∙ names.rowed s k is;
     }
 
--- links, places and serials are the same
+-- links, places and serials are unchanged
 module _ (s new : Slab Slot) (ends : List Ends) (rows : List (ℕ × ℕ)) (sound : IsSound s ends rows) (links : (j : ℕ) → HasLinks (get s) (get new) j) (places : (j : ℕ) → place_in_slot (get new j) ≡ place_in_slot (get s j)) (names : (j : ℕ) → serial_in (get new j) ≡ serial_in (get s j)) (len : slab_len new ≡ slab_len s) where
   pub sound_still : IsSound new ends rows
   sound_still =
@@ -122,7 +121,7 @@ module _ (s new : Slab Slot) (ends : List Ends) (rows : List (ℕ × ℕ)) (soun
       ∙ serials-same s new (sound.chain r) (λ j stands. names j)
       ∙ sym (list-at s ends sound.chain None sound.ten sound.spelled r below))
 
--- all serials stand where they stood
+-- all serials are in their old slots
 module _ (s new : Slab Slot) (shape : SameShape s new) where
   pub kept_by : (x : SlotIndex) (ends later : List Ends) → IsKept s x ends → IsSound new later (rows_of s) → IsKept new x later
   kept_by x ends later kept sound =
@@ -134,7 +133,7 @@ module _ (s new : Slab Slot) (shape : SameShape s new) where
   pub seen_by : (ends : List Ends) (spare : ℕ) (v : Nodes) → value_of new ends (rows_of s) spare ≡ v → value_of new ends (rows_of new) spare ≡ v
   seen_by ends spare v is = ap (λ rows. value_of new ends rows spare) shape.rows ∙ is
 
--- a field of one node is written
+-- one field of one node is written
 module _ (f : Slot → Slot) (befores : (x : Slot) → (f x).word.before ≡ x.word.before) (afters : (x : Slot) → after_of (f x) ≡ after_of x) (serial_same : (x : Slot) → (f x).serial ≡ x.serial) (place_same : (x : Slot) → (f x).place ≡ x.place) (s : Slab Slot) (ends : List Ends) (x : SlotIndex) (kept : IsKept s x ends) (k : ℕ) where
   abbrev rows : List (ℕ × ℕ)
   rows = rows_of s
@@ -171,7 +170,7 @@ module _ (f : Slot → Slot) (befores : (x : Slot) → (f x).word.before ≡ x.w
       ∙ seen_by s (rewritten f k s) shape ends spare (with_node_changed g t (value_of s ends rows spare)) changed_is
       ∙ ap (with_node_changed g t) view_is
 
--- one count is raised, or lowered
+-- one count rises or falls
 once_changed : (step : ℕ → ArenaNode → ArenaNode) → ((n : ArenaNode) → step 0 n ≡ n) → (t : ℕ) (m : fin.FinMap nat_cmp ArenaNode) → mapped (λ q n. step (occurrences q (t ∷ [])) n) m ≡ changed (step 1) t m
 once_changed step nothing t m = ap (λ (g : ℕ → ArenaNode → ArenaNode). mapped g m) (λ i q n. each q n i)
   where
@@ -198,12 +197,12 @@ up_once t v = ap (λ m. record v { nodes = m }) (sym (once_changed node_counted_
 pub down_once : (t : ℕ) (v : Nodes) → with_node_changed (node_counted_down 1) t v ≡ counted_down (t ∷ []) v
 down_once t v = ap (λ m. record v { nodes = m }) (sym (once_changed node_counted_down down_by_none t v.nodes))
 
--- a count above 0 is that of a node
+-- a count above 0 belongs to a node
 pub counted_there : (o : Option ArenaNode) → 0 < count_in o → IsSome o
 counted_there None counted = absurd (omega (arith, counted))
 counted_there (Some n) counted = refl
 
--- what the fields say of the index, and of a serial whose slot is found
+-- the index, and a serial whose slot is found
 module _ (s : Slab Slot) (ends : List Ends) (x : SlotIndex) (kept : IsKept s x ends) where
   pub index_kept : IsIndexOf s x
   index_kept = record { finds = kept.indexed; names = kept.sound.names }
@@ -215,11 +214,11 @@ module _ (s : Slab Slot) (ends : List Ends) (x : SlotIndex) (kept : IsKept s x e
   count_kept n k = field_kept (with_count n) (λ c. refl) (λ c. refl) (λ c. refl) (λ c. refl) s ends x kept k
 
   module _ (spare : ℕ) (v : Nodes) (view_is : value_of s ends (rows_of s) spare ≡ v) (t : ℕ) where
-    -- the index finds what has a node
+    -- the index finds each serial that has a node
     pub found : HasNode v t → Finds s x t
     found has = record { index = index_kept; there = row_there s ends (rows_of s) spare v view_is t has }
 
-    -- by its row, if it does not lie where its guess says
+    -- by its row, if it is not in its guessed slot
     pub found_by_row : HasNode v t → (guess : ℕ) → guess ≡ guess_at x.hints t → serial_in (get s guess) ≢ Some t → HasRow s x t
     found_by_row has guess guess_is elsewhere =
         let row = some_value (row_of x.rows.entries t) (subst IsSome (sym (by_row s x index_kept t guess guess_is elsewhere)) (found has).there) in
@@ -247,7 +246,7 @@ module _ (s : Slab Slot) (ends : List Ends) (x : SlotIndex) (kept : IsKept s x e
           field_view (with_count (c.count - 1)) (λ d. refl) (λ d. refl) (λ d. refl) (λ d. refl) s ends x kept k new is spare v view_is (node_counted_down 1) t c row_is slot_is refl
           ∙ down_once t v
 
-      -- whether the count is 0 then
+      -- whether the count is then 0
       pub down_to_none : (b : Bool) → b ≡ (c.count - 1 == 0) → (w : Nodes) → w ≡ counted_down (t ∷ []) v → IsTrue b ↔ (count_of w t ≡ 0)
       down_to_none b b_is w down = ((λ yes. left ∙ eqb-true (c.count - 1) 0 (sym b_is ∙ yes)), (λ none. b_is ∙ eq-eqb (c.count - 1) 0 (sym left ∙ none)))
         where

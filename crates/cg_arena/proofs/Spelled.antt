@@ -1,4 +1,4 @@
--- The chains of all places, when a slot leaves its chain, joins one, or a chain is appended to another.
+-- The chains of all places when a slot leaves or joins one, or one is appended to another.
 use Rattle.std.proofs.Common.{◌≡◌, ◌≢◌, ℕ, ◌+◌, ◌<◌, ◌≤◌, Bool, true, false, List, [], ◌∷◌, ◌++◌, Option, Some, None, refl, sym, ap, ◌∙◌, subst, inl, inr, arith}
 use Rattle.std.specs.Prelude.{◌==◌, if◌then◌else◌}
 use Rattle.std.proofs.lemmas.Bool.{cases_eq, eq-eqb, ne_eqb}
@@ -15,7 +15,7 @@ use Rattle.cg_arena.proofs.Standing.{last_of-stands, first-stands, one, one-same
 use Rattle.cg_arena.proofs.Chains.{HasLinks, linked_still, linked_front, linked_back, IsTied, tied_chain, tied_elsewhere}
 use Rattle.cg_arena.proofs.EndsLemmas.{ends-without, ends-joined}
 
--- a place has one number
+-- places with the same number are equal
 pub count_in_list-same : (p : ℕ) (q : Place) → place_number q ≡ p → count_in_list p (Some q) ≡ 1
 count_in_list-same p q is = ap (λ b. if b then 1 else 0) (eq-eqb (place_number q) p is)
 
@@ -43,7 +43,7 @@ stands-loose p k at = ap (λ b. if b then 0 else count_in_list p at) (eq-eqb k k
 pub stands-other : (p j k : ℕ) (at : Option Place) → j ≢ k → stands_at (Some k) p j at ≡ count_in_list p at
 stands-other p j k at differs = ap (λ b. if b then 0 else count_in_list p at) (ne_eqb j k differs)
 
--- each slot stands at most once, in whatever chain
+-- each slot occurs at most once, over all chains
 once_at : (loose : Option ℕ) (p k : ℕ) (at : Option Place) → stands_at loose p k at ≤ count_in_list p at
 once_at None p k at = omega arith
 once_at (Some l) p k at = elim (cases_eq k l) [
@@ -66,11 +66,11 @@ module _ (cell : ℕ → Option Slot) (ends : ℕ → Ends) (chain : ℕ → Lis
         numbered_either p r (place_in_slot (cell j)) differs,
       )
 
-  -- a slot in a chain has the place
+  -- a slot in a chain has the chain's place
   pub stands_placed : (p j : ℕ) → p < 10 → 0 < occurrences j (chain p) → count_in_list p (place_in_slot (cell j)) ≡ 1
   stands_placed p j below stands = omega (arith, stands, spelled.standing p j below, once_at loose p j (place_in_slot (cell j)), numbered_once p (place_in_slot (cell j)))
 
--- the neighbours of a slot stand in its chain
+-- the neighbours of a slot are in its chain
 module _ (cell : ℕ → Option Slot) (ends : ℕ → Ends) (chain : ℕ → List ℕ) (loose : Option ℕ) (spelled : IsSpelled cell ends chain loose) (k p : ℕ) (below : p < 10) (stood : 0 < occurrences k (chain p)) where
   parts : IsBetween k (chain p)
   parts = stands_between k (chain p) stood
@@ -172,7 +172,7 @@ module _ (cell new : ℕ → Option Slot) (ends later : ℕ → Ends) (chain : �
         standing = standing_still;
       }
 
--- what happens to a slot in no chain is no matter
+-- a loose slot may change freely
 pub loose_spelled : (cell new : ℕ → Option Slot) (ends : ℕ → Ends) (chain : ℕ → List ℕ) (k : ℕ) → IsSpelled cell ends chain (Some k) → ((j : ℕ) → j ≢ k → HasLinks cell new j) → ((j : ℕ) → j ≢ k → place_in_slot (new j) ≡ place_in_slot (cell j))
     → IsSpelled new ends chain (Some k)
 loose_spelled cell new ends chain k spelled links places =
@@ -194,7 +194,7 @@ loose_spelled cell new ends chain k spelled links places =
       ];
     }
 
--- a vacant slot is in no chain, and may be taken as loose or not
+-- a vacant slot is in no chain, and may count as loose or not
 pub vacant_loose : (cell : ℕ → Option Slot) (ends : ℕ → Ends) (chain : ℕ → List ℕ) (k : ℕ) → cell k ≡ None → IsSpelled cell ends chain None → IsSpelled cell ends chain (Some k)
 vacant_loose cell ends chain k vacant spelled =
     record {
@@ -224,7 +224,7 @@ loose_vacant cell ends chain k vacant spelled =
       ];
     }
 
--- the chains once some slots are appended to one of them
+-- the chains after some slots are appended to one of them
 abbrev pub appended_at : ℕ → List ℕ → (ℕ → List ℕ) → ℕ → List ℕ
 appended_at q ks chain r = if r == q then chain r ++ ks else chain r
 

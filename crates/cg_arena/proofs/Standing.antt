@@ -1,4 +1,4 @@
--- How often a number stands in a list, and where.
+-- How often a number occurs in a list, and where.
 use Rattle.std.proofs.Common.{◌≡◌, ◌≢◌, ◌⊎◌, ℕ, ◌+◌, ◌<◌, Bool, true, false, not, List, [], ◌∷◌, ◌++◌, Option, Some, None, cond, refl, sym, ap, ◌∙◌, inl, inr, arith}
 use Rattle.std.specs.Prelude.{◌==◌, nat_eq, if◌then◌else◌}
 use Rattle.std.proofs.lemmas.Bool.{cases_eq, eq-eqb, ne_eqb}
@@ -7,7 +7,7 @@ use Rattle.cg_graph.specs.Holdings.{occurrences}
 use Rattle.cg_graph.specs.Places.{without_serial}
 use Rattle.cg_arena.specs.Links.{first_or, last_or}
 
--- 1 where the two are the same
+-- 1 if the two are equal, else 0
 abbrev pub one : ℕ → ℕ → ℕ
 one j k = if k == j then 1 else 0
 
@@ -26,7 +26,7 @@ occurrences-append j ks ls = sum_by-append {X = ℕ} (λ r. cond (r == j) 1 0) k
 pub occurrences-single : (j k : ℕ) → occurrences j (k ∷ []) ≡ one j k
 occurrences-single j k = occurrences-cons j k [] ∙ omega arith
 
--- what stands somewhere in a list stands between two parts of it
+-- an element splits the list into the parts before and after it
 pub record IsBetween (k : ℕ) (ks : List ℕ) : Type 0 where
   pub front : List ℕ
   pub back : List ℕ
@@ -42,7 +42,7 @@ stands_between k (x ∷ ks) some = go (cases_eq x k) (stands_between k ks)
         let found = later (omega (arith, occurrences-cons k x ks, one-apart k x differs)) in
         record { front = x ∷ found.front; back = found.back; is = ap (λ ys. x ∷ ys) found.is }
 
--- the last of a list stands in it
+-- the last of a list occurs in it
 pub last-stands : (before : Option ℕ) (k : ℕ) (ks : List ℕ) (j : ℕ) → last_or before (k ∷ ks) ≡ Some j → 0 < occurrences j (k ∷ ks)
 last-stands before k [] j is =
     let same : k ≡ j = cc in
@@ -53,7 +53,7 @@ pub last_of-stands : (ks : List ℕ) (j : ℕ) → last_or None ks ≡ Some j �
 last_of-stands [] j is = absurd (cc)
 last_of-stands (k ∷ ks) j is = last-stands None k ks j is
 
--- and so does the first
+-- so does the first
 pub first-stands : (ks : List ℕ) (j : ℕ) → first_or ks None ≡ Some j → 0 < occurrences j ks
 first-stands [] j is = absurd (cc)
 first-stands (k ∷ ks) j is =
@@ -68,7 +68,7 @@ pub last_or-append : (before : Option ℕ) (ks ls : List ℕ) → last_or before
 last_or-append before [] ls = refl
 last_or-append before (k ∷ ks) ls = last_or-append (Some k) ks ls
 
--- a list without a number
+-- removing an absent number changes nothing
 pub without-absent : (k : ℕ) (ks : List ℕ) → occurrences k ks ≡ 0 → without_serial k ks ≡ ks
 without-absent k [] none = refl
 without-absent k (x ∷ ks) none =

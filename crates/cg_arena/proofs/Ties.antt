@@ -1,4 +1,4 @@
--- Two slots that are tied: what their links are then, and what else of each slot stays.
+-- Two tied slots: their new links, and what else of each slot is kept.
 use Rattle.std.proofs.Common.{◌≡◌, ◌≢◌, ℕ, true, Option, Some, None, refl, sym, ap, ◌∙◌}
 use Rattle.std.specs.Prelude.{option_map, is_some}
 use Rattle.slab.specs.Slab.{Slab, get}
@@ -41,7 +41,7 @@ before_set-same (Some k) before s j is there =
     ∙ ap before_in (get-rewritten_same (with_before before) k s)
     ∙ before_written before (get s k) (ap (λ i. is_some (get s i)) (sym same) ∙ there)
 
--- a part of a slot that has nothing to do with a link
+-- a part of a slot independent of its links
 module _ {X : Type 0} (part : Option Slot → X) where
   part-after_set : ((o : Option ℕ) (x : Slot) → part (Some (with_after o x)) ≡ part (Some x)) → (at after : Option ℕ) (s : Slab Slot) (j : ℕ) → part (get (after_set at after s) j) ≡ part (get s j)
   part-after_set keeps None after s j = refl

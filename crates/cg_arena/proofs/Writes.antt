@@ -1,4 +1,4 @@
--- What a write to one slot leaves in each slot.
+-- What a write to one slot keeps in each slot.
 use Rattle.std.proofs.Common.{◌≡◌, ◌≢◌, ℕ, zero, suc, ◌+◌, ◌-◌, ◌<◌, ◌≤◌, [], ◌∷◌, length, get_or, Option, Some, None, refl, sym, ap, ◌∙◌, inl, inr, arith}
 use Rattle.std.specs.Prelude.{option_map, option_and_then, slice_set}
 use Rattle.std.proofs.lemmas.Bool.{cases_eq, cases_lt}
@@ -37,7 +37,7 @@ module _ (f : Slot → Slot) (k : ℕ) (s : Slab Slot) where
   unfolding rewritten
   get-rewritten_other j differs = get_or-set_other s.slots k j (option_map f (get s k)) None differs
 
--- a slot that is written twice
+-- two writes to one slot
 pub rewritten-rewritten : (f g : Slot → Slot) (k : ℕ) (s : Slab Slot) → rewritten g k (rewritten f k s) ≡ rewritten (λ x. g (f x)) k s
 unfolding rewritten
 rewritten-rewritten f g k s =
@@ -49,7 +49,7 @@ rewritten-rewritten f g k s =
     known None = refl
     known (Some x) = refl
 
--- a part of each slot that the write leaves
+-- a part of each slot that the write keeps
 module _ {X : Type 0} (part : Option Slot → X) (f : Slot → Slot) (keeps : (x : Slot) → part (Some (f x)) ≡ part (Some x)) (k : ℕ) (s : Slab Slot) where
   part-mapped : (o : Option Slot) → part (option_map f o) ≡ part o
   part-mapped None = refl
@@ -65,7 +65,7 @@ module _ {X : Type 0} (part : Option Slot → X) (f : Slot → Slot) (keeps : (x
     | inr differs ↦ ap part (get-rewritten_other f k s j differs)
   ]
 
--- the places do not tell on the links
+-- placing nodes keeps the links
 chain-placed : (place : Place) (k : ℕ) (s : Slab Slot) (n : ℕ) (at : Option ℕ) → chain_from (rewritten (with_place place) k s) n at ≡ chain_from s n at
 chain-placed place k s zero at = refl
 chain-placed place k s (suc n) None = refl
@@ -77,12 +77,12 @@ nowhere : (s : Slab Slot) (n : ℕ) → chain_from s n None ≡ []
 nowhere s zero = refl
 nowhere s (suc n) = refl
 
--- one node is placed, and then those after it
+-- placing one node, then those after it
 placed_more : (place : Place) (s : Slab Slot) (n : ℕ) (at : Option ℕ) → all_placed (chain_from (place_set at place s) n (option_and_then (λ k. after_in (get s k)) at)) place (place_set at place s) ≡ all_placed (chain_from s (suc n) at) place s
 placed_more place s n None = ap (λ xs. all_placed xs place s) (nowhere s n)
 placed_more place s n (Some k) = ap (λ xs. all_placed xs place (rewritten (with_place place) k s)) (chain-placed place k s n (after_in (get s k)))
 
--- a turn of the loop over a list
+-- one iteration of the loop over a list
 pub placed_turn : (place : Place) (s new : Slab Slot) (n done : ℕ) (at next : Option ℕ) → done < n → new ≡ place_set at place s → next ≡ option_and_then (λ k. after_in (get s k)) at
     → all_placed (chain_from new (n - (done + 1)) next) place new ≡ all_placed (chain_from s (n - done) at) place s
 placed_turn place s new n done at next below is goes =

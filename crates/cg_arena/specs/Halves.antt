@@ -7,8 +7,8 @@ use Rattle.cg_arena.specs.Word.{Shared}
 abbrev pub bit : Bool → ℕ
 bit b = if b then 1 else 0
 
--- Bit 0 is the mark, bit 1 says whether there is a slot before, the bits from 2 on are the number, and the second half is
--- the slot before.
+-- Bit 0 is the mark, bit 1 says whether there is a previous slot, the bits from 2 on are the number, and the second
+-- half is the previous slot.
 abbrev pub shared_in : ℕ → ℕ → Shared
 shared_in low high = record {
   marked = low % 2 == 1;
@@ -16,16 +16,15 @@ shared_in low high = record {
   before = if low / 2 % 2 == 1 then Some high else None;
 }
 
--- the number has 32 bits, and the second half is 0 where there is no slot before
+-- the number has 32 bits, and the second half is 0 if there is no previous slot
 pub record AreHalves (low high : ℕ) : Type 0 where
   pub few : low < 2 ^ 34
   pub bare : (low / 2 % 2 == 1) ≡ false → high ≡ 0
 
--- the halves of what they say
+-- the halves that encode a value
 abbrev pub halves_of : Shared → ℕ × ℕ
 halves_of w = (bit w.marked + 2 * bit (is_some w.before) + 4 * w.number, unwrap_or w.before 0)
 
--- a bit is what its test says
 bit-is : (n : ℕ) → n < 2 → bit (n == 1) ≡ n
 bit-is zero below = refl
 bit-is (suc zero) below = refl
@@ -39,7 +38,7 @@ link-is : (b : Bool) (high : ℕ) → (b ≡ false → high ≡ 0) → unwrap_or
 link-is true high bare = refl
 link-is false high bare = sym (bare refl)
 
--- the halves give back what they say
+-- decoding and encoding returns the same halves
 pub halves-shared_in : (low high : ℕ) → AreHalves low high → halves_of (shared_in low high) ≡ (low, high)
 halves-shared_in low high h =
     let mark : bit (low % 2 == 1) ≡ low % 2 = bit-is (low % 2) (omega arith) in

@@ -1,4 +1,4 @@
--- Chains of slots: what their links spell, and what a change of links writes.
+-- Chains of slots: what the links spell, and what link updates write.
 use Rattle.std.specs.Prelude.{◌≡◌, ℕ, zero, suc, ◌+◌, ◌-◌, List, [], ◌∷◌, length, Option, Some, None, option_map, slice_set}
 use Rattle.slab.specs.Slab.{Slab, get}
 use Rattle.cg_value.specs.declared.Place.{Place}
@@ -10,7 +10,7 @@ use Rattle.cg_arena.specs.Slots.{before_in, after_in, with_before, with_after, w
 unfoldable pub rewritten : (Slot → Slot) → ℕ → Slab Slot → Slab Slot
 rewritten f k s = record s { slots = slice_set s.slots k (option_map f (get s k)) }
 
--- one of the links of a slot that may be missing is set
+-- sets one link of an optional slot
 abbrev pub after_set : Option ℕ → Option ℕ → Slab Slot → Slab Slot
 after_set None after s = s
 after_set (Some k) after s = rewritten (with_after after) k s
@@ -19,7 +19,7 @@ abbrev pub before_set : Option ℕ → Option ℕ → Slab Slot → Slab Slot
 before_set None before s = s
 before_set (Some k) before s = rewritten (with_before before) k s
 
--- and its place
+-- sets its place
 abbrev pub place_set : Option ℕ → Place → Slab Slot → Slab Slot
 place_set None place s = s
 place_set (Some k) place s = rewritten (with_place place) k s
@@ -33,18 +33,18 @@ abbrev pub all_placed : List ℕ → Place → Slab Slot → Slab Slot
 all_placed [] place s = s
 all_placed (k ∷ ks) place s = all_placed ks place (rewritten (with_place place) k s)
 
--- the slots that the links name one after the other, up to a number of them
+-- the slots reached by following the links, up to a number of them
 abbrev pub chain_from : Slab Slot → ℕ → Option ℕ → List ℕ
 chain_from s zero at = []
 chain_from s (suc n) None = []
 chain_from s (suc n) (Some k) = k ∷ chain_from s n (after_in (get s k))
 
--- the first of some slots, or what comes after them
+-- the first of some slots, else what comes after them
 abbrev pub first_or : List ℕ → Option ℕ → Option ℕ
 first_or [] after = after
 first_or (k ∷ ks) after = Some k
 
--- the last of some slots, or what comes before them
+-- the last of some slots, else what comes before them
 abbrev pub last_or : Option ℕ → List ℕ → Option ℕ
 last_or before [] = before
 last_or before (k ∷ ks) = last_or (Some k) ks
@@ -55,7 +55,7 @@ IsLinked cell before [] after = Unit {0}
 IsLinked cell before (k ∷ ks) after =
     (before_in (cell k) ≡ before) × (after_in (cell k) ≡ first_or ks after) × IsLinked cell (Some k) ks after
 
--- the ends of an empty list, of one slot, of a list that a slot leaves, and of two lists together
+-- the ends of an empty list, of one slot, of a list after a slot leaves, and of two lists joined
 abbrev pub no_ends : Ends
 no_ends = record { first = None; last = None; size = 0 }
 
@@ -66,7 +66,7 @@ abbrev pub or_else : Option ℕ → Option ℕ → Option ℕ
 or_else None other = other
 or_else (Some k) other = Some k
 
--- the second where there is none at the first, else the third
+-- the second if the first is missing, else the third
 abbrev pub at_end : Option ℕ → Option ℕ → Option ℕ → Option ℕ
 at_end None beyond end = beyond
 at_end (Some k) beyond end = end

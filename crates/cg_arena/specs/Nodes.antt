@@ -1,6 +1,6 @@
 -- What a contract sees of an arena: the nodes by serial, the list of each place, and the room for further nodes. (What
--- is kept of an object beside its entries; developer guide, "Memory layout and object structure". The count and the
--- collector's number stand there in the object's head.)
+-- is kept of an object beside its entries; developer guide, "Memory layout and object structure": the object's head
+-- holds the count and the collector's number.)
 use Rattle.std.specs.Prelude.{◌≡◌, ℕ, ◌+◌, ◌-◌, ◌<◌, ◌==◌, Bool, true, false, List, [], ◌∷◌, Option, Some, None, IsSome, length, slice_get, option_map, if◌then◌else◌, refl, replicate}
 use Rattle.std.specs.Ordering.{nat_cmp}
 use Rattle.std.specs.FinMap as fin
@@ -14,20 +14,20 @@ use Rattle.cg_graph.specs.Maps.{mapped, changed}
 use Rattle.cg_graph.specs.Holdings.{occurrences}
 use Rattle.cg_graph.specs.Places.{place_number, list_of, leaves_list, joins_list, move_between, merge_lists}
 
--- a node, its serial aside
+-- a node without its serial
 pub record ArenaNode : Type 0 where
   pub code : KindCode
-  pub class : Option ℕ  -- the class of an instance, the procedure of a function
+  pub class : Option ℕ  -- an instance's class, a function's procedure
   pub body : ℕ  -- where its entries are
   pub count : ℕ
   pub finalized : Bool
   pub place : Place
-  pub number : ℕ  -- the collector's
+  pub number : ℕ  -- the collector's number
 
 pub record Nodes : Type 0 where
   pub nodes : fin.FinMap nat_cmp ArenaNode  -- by serial
   pub lists : List (List ℕ)  -- the serials of each place, by its number
-  pub room : ℕ  -- how many nodes can be added without memory, at least
+  pub room : ℕ  -- a lower bound on the nodes that can be added without allocating
 
 -- a node is stored as the tuple of its fields
 abbrev pub node_code : Coded ArenaNode
@@ -52,8 +52,8 @@ nodes_code =
 abbrev pub IsPlace : Place → Type 0
 IsPlace p = place_number p < 10
 
--- The collector numbers the objects of a generation, which it is to look through, and the candidates. (Developer guide,
--- "Identifying reference cycles": `gc_refs` counts while a generation is looked through. The rule is ours.)
+-- The collector numbers the objects of a generation that it is about to search, and the candidates. (Developer guide,
+-- "Identifying reference cycles": `gc_refs` counts during the search of a generation. The rule is ours.)
 abbrev pub TakesNumber : Place → Type 0
 TakesNumber (Gen i) = Unit {0}
 TakesNumber Cand = Unit {0}
@@ -63,7 +63,7 @@ TakesNumber place = ⊥
 abbrev pub HasNode : Nodes → ℕ → Type 0
 HasNode v s = IsSome (fin.get v.nodes s)
 
--- the count of a node that may be there
+-- the count of an optional node
 abbrev pub count_in : Option ArenaNode → ℕ
 count_in None = 0
 count_in (Some n) = n.count
@@ -71,7 +71,6 @@ count_in (Some n) = n.count
 abbrev pub count_of : Nodes → ℕ → ℕ
 count_of v s = count_in (fin.get v.nodes s)
 
--- its place
 abbrev pub place_in : Option ArenaNode → Place
 place_in None = Untracked
 place_in (Some n) = n.place
@@ -83,28 +82,27 @@ place_of v s = place_in (fin.get v.nodes s)
 abbrev pub list_at : Nodes → Place → List ℕ
 list_at v p = list_of v.lists (place_number p)
 
--- what comes after a serial in a list
+-- the element after a serial in a list
 abbrev pub following : ℕ → List ℕ → Option ℕ
 following s [] = None
 following s (x ∷ xs) = if x == s then slice_get xs 0 else following s xs
 
--- how often something with this place stands in the list with a number: once, or not at all
+-- 1 if this is the number of the place, else 0: how often it is in the list with that number
 abbrev pub count_in_list : ℕ → Option Place → ℕ
 count_in_list p None = 0
 count_in_list p (Some q) = if place_number q == p then 1 else 0
 
--- Each node stands once in the list of its place, and in no other list. (Developer guide, "Optimization: generations": each
--- tracked object is in one generation.)
+-- Each node is once in the list of its place, and in no other list. (Developer guide, "Optimization: generations":
+-- each tracked object is in one generation.)
 pub record IsListed (v : Nodes) : Type 0 where
   pub ten : length v.lists ≡ 10
   pub placed : (s : ℕ) (n : ArenaNode) → fin.get v.nodes s ≡ Some n → IsPlace n.place
   pub once : (p s : ℕ) → p < 10 → occurrences s (list_of v.lists p) ≡ count_in_list p (option_map (λ n. n.place) (fin.get v.nodes s))
 
--- no node
 abbrev pub no_nodes : ℕ → Nodes
 no_nodes room = record { nodes = fin.empty; lists = replicate 10 []; room = room }
 
--- a new node: nothing refers to it yet, and it is not finalized
+-- a new node: no references to it yet, not finalized
 abbrev pub new_node : KindCode → Option ℕ → ℕ → Place → ArenaNode
 new_node code class body place = record {
   code = code;
@@ -116,15 +114,15 @@ new_node code class body place = record {
   number = 0;
 }
 
--- the same nodes and lists, with another room
+-- the same nodes and lists, with other room
 abbrev pub with_room : ℕ → Nodes → Nodes
 with_room room v = record v { room = room }
 
--- one node more, last in the list of its place
+-- one node added, last in the list of its place
 abbrev pub with_node : ℕ → ArenaNode → Nodes → Nodes
 with_node s n v = record v { nodes = fin.insert v.nodes s n; lists = joins_list v.lists s (place_number n.place) }
 
--- one node less
+-- one node removed
 abbrev pub without_node : ℕ → Nodes → Nodes
 without_node s v = record v { nodes = fin.remove v.nodes s; lists = leaves_list v.lists s (place_number (place_of v s)) }
 
@@ -132,14 +130,14 @@ without_node s v = record v { nodes = fin.remove v.nodes s; lists = leaves_list 
 abbrev pub with_node_changed : (ArenaNode → ArenaNode) → ℕ → Nodes → Nodes
 with_node_changed f s v = record v { nodes = changed f s v.nodes }
 
--- the finalized mark is set for good (PEP 442: a finalizer is called once)
+-- the finalized mark is permanent (PEP 442: a finalizer is called once)
 abbrev pub node_finalized : ArenaNode → ArenaNode
 node_finalized n = record n { finalized = true }
 
 abbrev pub node_numbered : ℕ → ArenaNode → ArenaNode
 node_numbered number n = record n { number = number }
 
--- the number of a candidate is one lower, if it was above 0
+-- a candidate's number falls by one, if it is above 0
 abbrev pub number_lowered : Place → ℕ → ℕ
 number_lowered Cand number = number - 1
 number_lowered place number = number
@@ -150,21 +148,21 @@ node_lowered n = record n { number = number_lowered n.place n.number }
 abbrev pub node_placed : Place → ArenaNode → ArenaNode
 node_placed p n = record n { place = p }
 
--- the count of a node, with some references more or less
+-- the count of a node after some references are added or removed
 abbrev pub node_counted_up : ℕ → ArenaNode → ArenaNode
 node_counted_up k n = record n { count = n.count + k }
 
 abbrev pub node_counted_down : ℕ → ArenaNode → ArenaNode
 node_counted_down k n = record n { count = n.count - k }
 
--- each node counts one more, or one less, for each time that it stands in a list of references
+-- each node's count rises or falls by the number of its occurrences in a list of references
 abbrev pub counted_up : List ℕ → Nodes → Nodes
 counted_up refs v = record v { nodes = mapped (λ s n. node_counted_up (occurrences s refs) n) v.nodes }
 
 abbrev pub counted_down : List ℕ → Nodes → Nodes
 counted_down refs v = record v { nodes = mapped (λ s n. node_counted_down (occurrences s refs) n) v.nodes }
 
--- a node goes from the list of its place to the end of that of another, which may be the same
+-- a node moves from its list to the end of another place's, which may be the same
 abbrev pub with_node_moved : ℕ → Place → Nodes → Nodes
 with_node_moved s q v = record v {
   nodes = changed (node_placed q) s v.nodes;
@@ -175,7 +173,7 @@ with_node_moved s q v = record v {
 abbrev pub place_merged : Place → Place → ArenaNode → ArenaNode
 place_merged p q n = if place_number n.place == place_number p then node_placed q n else n
 
--- all nodes of one place go to the end of the list of another, in their order
+-- all nodes of one place move to the end of another's list, in order
 abbrev pub with_lists_merged : Place → Place → Nodes → Nodes
 with_lists_merged p q v = record v {
   nodes = mapped (λ s n. place_merged p q n) v.nodes;

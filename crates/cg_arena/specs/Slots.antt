@@ -1,4 +1,4 @@
--- What a slot holds: a node, its serial, and its two links.
+-- The contents of a slot: a node, its serial, and its two links.
 use Rattle.std.specs.Prelude.{ℕ, Option, Some, None, is_some, unwrap_or, if◌then◌else◌}
 use Rattle.cg_value.specs.declared.Place.{Place}
 use Rattle.cg_value.specs.declared.Place.TheVariants.{Untracked, Gen}
@@ -7,7 +7,6 @@ use Rattle.cg_arena.specs.Nodes.{ArenaNode, new_node, number_lowered}
 use Rattle.cg_arena.specs.Word.{word_marked, word_numbered, word_linked}
 use Rattle.cg_arena.specs.declared.slot.Slot.{Slot}
 
--- the node
 abbrev pub node_of : Slot → ArenaNode
 node_of c = record {
   code = c.code;
@@ -19,7 +18,7 @@ node_of c = record {
   number = c.word.number;
 }
 
--- the number of a generation, and 0 of another place
+-- the number of a generation, 0 for another place
 abbrev pub generation_in : Place → ℕ
 generation_in (Gen i) = i
 generation_in place = 0
@@ -28,7 +27,7 @@ generation_in place = 0
 abbrev pub with_before : Option ℕ → Slot → Slot
 with_before before c = record c { word = word_linked before c.word }
 
--- what comes after it in its list, if anything does
+-- the next slot in its list, if any
 abbrev pub after_of : Slot → Option ℕ
 after_of c = if c.is_followed then Some c.next else None
 
@@ -50,7 +49,7 @@ with_number number c = record c { word = word_numbered number c.word }
 abbrev pub with_lowered : Slot → Slot
 with_lowered c = with_number (number_lowered c.place c.word.number) c
 
--- the parts of a slot that may be vacant
+-- the parts of an optional slot
 abbrev pub before_in : Option Slot → Option ℕ
 before_in None = None
 before_in (Some c) = c.word.before
@@ -67,7 +66,7 @@ abbrev pub place_in_slot : Option Slot → Option Place
 place_in_slot None = None
 place_in_slot (Some c) = Some c.place
 
--- a vacant slot has no node: what is said of it there never matters
+-- a vacant slot has no node: its value here is never used
 abbrev pub node_in : Option Slot → ArenaNode
 node_in None = new_node ListCode None 0 Untracked
 node_in (Some c) = node_of c

@@ -1,7 +1,7 @@
--- What a contract sees of the word that a node keeps its mark, its number and its link backwards in.
+-- What a contract sees of the word with a node's mark, number and backward link.
 use Rattle.std.specs.Prelude.{ℕ, Bool, true, false, Option, None}
 
--- the finalized mark, the collector's number, and the slot before
+-- the finalized mark, the collector's number, and the previous slot
 pub record Shared : Type 0 where
   pub marked : Bool
   pub number : ℕ

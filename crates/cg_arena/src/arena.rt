@@ -26,8 +26,8 @@ use std::marker::Model;
 /// A node is what CPython keeps in the head of an object: its count, and its links in a list of the collector.
 /// (Developer guide, "Garbage collector design": each generation is a doubly linked list.) Serials are ours.
 ///
-/// A call that takes a serial takes constant time, and so do `first`, `next` and `size`; `merge` takes time in the
-/// size of `from` alone. Only `reserve` and `add` take memory.
+/// A call that takes a serial takes constant time, and so do `first`, `next` and `size`; `merge` is linear in the size
+/// of `from`. Only `reserve` and `add` allocate.
 #[derive(Drop)]
 pub struct Arena {
     slots: Slab<Slot>,
@@ -56,7 +56,7 @@ impl Model for Arena {
     ghost invariant = { λ a. IsKept a.slots a.index a.ends };
 }
 
-/// The number of a place among the lists.
+/// The index of a place's list.
 #[inline(always)]
 fn number_of(place: Place) -> usize
     requires { place_number place < 10 }
@@ -66,7 +66,7 @@ fn number_of(place: Place) -> usize
     first_of(place) + generation_of(place)
 }
 
-/// The number of a generation, and 0 of another place.
+/// The number of a generation, 0 for another place.
 #[inline(always)]
 fn generation_of(place: Place) -> usize
     ensures { result ≡ generation_in place }
@@ -77,10 +77,10 @@ fn generation_of(place: Place) -> usize
     }
 }
 
-/// The number of a place among the lists, and of a generation that of the first one.
+/// The index of a place's list; for a generation, that of generation 0.
 ///
-/// Each answer is a number that is written here, for which a table does. A `match` that also added the generation would become a
-/// jump by way of one.
+/// Each arm is a constant, so this compiles to a table look-up. A `match` that also added the generation would compile
+/// to an indirect jump.
 #[inline(always)]
 fn first_of(place: Place) -> usize
     ensures { result + generation_in place ≡ place_number place }
@@ -97,7 +97,7 @@ fn first_of(place: Place) -> usize
     }
 }
 
-/// Puts a node into the vacant slot, which `reserve` made room for.
+/// Puts a node into the vacant slot that `reserve` made room for.
 fn occupy(slots: &mut Slab<Slot>, slot: Slot)
     requires { HasRoomFor slots.old 1 }
     ensures updates { Updates slots.old slots.new slots.old.vacant_key (Some slot) }
@@ -106,11 +106,11 @@ fn occupy(slots: &mut Slab<Slot>, slot: Slot)
     ensures few { slab_len slots.new < 2 ^ 64 }
 {
     let _at = slots.insert_reserved(slot);
-    // A slab has fewer than 2^64 nodes, since this answer is a `usize`. So no size of a list overflows.
+    // A slab has fewer than 2^64 nodes, since this result is a `usize`. So no list size overflows.
     let _count = slots.len();
 }
 
-/// `inc` of a node that does not lie where its guess says, by its row.
+/// `inc` by row, for a node that is not in its guessed slot.
 #[inline(never)]
 fn inc_by_row(index: &SlotIndex, slots: &mut Slab<Slot>, serial: u64)
     requires { (r : HasRow slots.old index.now serial) × (r.slot.count < 2 ^ 32 - 1) }
@@ -122,7 +122,7 @@ fn inc_by_row(index: &SlotIndex, slots: &mut Slab<Slot>, serial: u64)
     set_count(slots, at, count);
 }
 
-/// `dec` of a node that does not lie where its guess says, by its row.
+/// `dec` by row, for a node that is not in its guessed slot.
 #[inline(never)]
 fn dec_by_row(index: &SlotIndex, slots: &mut Slab<Slot>, serial: u64) -> bool
     requires { (r : HasRow slots.old index.now serial) × (0 < r.slot.count) }
@@ -136,7 +136,7 @@ fn dec_by_row(index: &SlotIndex, slots: &mut Slab<Slot>, serial: u64) -> bool
     count == 0
 }
 
-/// `lower` of a node that does not lie where its guess says, by its row.
+/// `lower` by row, for a node that is not in its guessed slot.
 #[inline(never)]
 fn lower_by_row(index: &SlotIndex, slots: &mut Slab<Slot>, serial: u64)
     requires { HasRow slots.old index.now serial }
@@ -149,7 +149,7 @@ impl Arena {
     ghost use Rattle.cg_arena.specs.Nodes.{HasNode, IsPlace, TakesNumber, IsListed, count_of as count_at, place_of as place_at, list_at, following, no_nodes, new_node, with_room, with_node, without_node, with_node_changed, node_finalized, node_numbered, node_lowered, counted_up, counted_down, with_node_moved, with_lists_merged};
     ghost use Rattle.cg_arena.specs.Slots.{node_of};
 
-    /// No node. It takes no memory yet.
+    /// An arena without nodes. It allocates nothing yet.
     pub fn new(alloc: Global) -> Arena
         ensures { result ≡ no_nodes result.room }
     {
@@ -162,7 +162,7 @@ impl Arena {
 
     /// Makes room for one more node, so that `add_reserved` may be called.
     ///
-    /// It answers `AllocError` only where memory runs out. The nodes and lists stay as they are either way.
+    /// Returns `AllocError` only if memory runs out. Nodes and lists are unchanged either way.
     pub fn reserve(&mut self) -> Result<(), AllocError>
         ensures ok { OnOk result (0 < self.new.room) }
         ensures stays { self.new ≡ with_room self.new.room self.old }
@@ -173,10 +173,9 @@ impl Arena {
         self.slots.reserve(1)
     }
 
-    /// Adds a node for a new serial, last in the list of its place: its count is 0, it is not finalized, and the
-    /// collector's number is 0.
+    /// Adds a node for a new serial, last in the list of its place: count 0, not finalized, collector's number 0.
     ///
-    /// It answers `AllocError` only where memory runs out, and then the nodes and lists are as they were.
+    /// Returns `AllocError` only if memory runs out; then nodes and lists are unchanged.
     pub fn add(
         &mut self,
         serial: u64,
@@ -198,7 +197,7 @@ impl Arena {
         Ok(())
     }
 
-    /// `add`, where there is room for the node, as after `reserve`. It cannot fail.
+    /// `add`, given room for the node, as after `reserve`. It cannot fail.
     pub fn add_reserved(
         &mut self,
         serial: u64,
@@ -221,7 +220,7 @@ impl Arena {
         join(&mut self.slots, &mut self.ends[list], Ends::one(at));
     }
 
-    /// The node, whose count is 0, is gone, from its list too. Its serial may be added again.
+    /// Removes the node, whose count is 0, from its list too. Its serial may be added again.
     pub fn drop_node(&mut self, serial: u64)
         requires has { HasNode self.old serial }
         requires unheld { count_at self.old serial ≡ 0 }
@@ -231,7 +230,7 @@ impl Arena {
         let _seat = self.drop_seat(serial);
     }
 
-    /// `drop_node`, and `seat_of` before it.
+    /// `seat_of`, then `drop_node`.
     pub fn drop_seat(&mut self, serial: u64) -> (KindCode, usize)
         requires has { HasNode self.old serial }
         requires unheld { count_at self.old serial ≡ 0 }
@@ -249,7 +248,7 @@ impl Arena {
         seat
     }
 
-    /// The count rises by 1. It is below 2^32 - 1 before. (Developer guide: the count is the number of references.)
+    /// Raises the count by 1. It is below 2^32 - 1 before. (Developer guide: the count is the number of references.)
     #[inline(always)]
     pub fn inc(&mut self, serial: u64)
         requires has { HasNode self.old serial }
@@ -260,7 +259,7 @@ impl Arena {
         self.inc_located(serial, &mut near);
     }
 
-    /// `inc`, and where the node is.
+    /// `inc`, and returns the node's slot.
     #[inline(always)]
     pub fn inc_located(&mut self, serial: u64, near: &mut Near)
         requires has { HasNode self.old serial }
@@ -278,7 +277,7 @@ impl Arena {
         }
     }
 
-    /// `inc`, where the node is near.
+    /// `inc`, with a hint of the node's slot.
     #[inline(always)]
     pub fn inc_near(&mut self, serial: u64, near: Near)
         requires has { HasNode self.old serial }
@@ -294,7 +293,7 @@ impl Arena {
         }
     }
 
-    /// `inc` of a node that was not where it was thought to be.
+    /// `inc` of a node that is not in the slot of the hint.
     #[inline(never)]
     fn inc_far(&mut self, serial: u64)
         requires has { HasNode self.old serial }
@@ -304,8 +303,8 @@ impl Arena {
         self.inc(serial);
     }
 
-    /// The count, which is above 0, falls by 1. It answers whether the count is now 0. (Developer guide: an object
-    /// whose count reaches 0 is deallocated.)
+    /// Lowers the count, which is above 0, by 1. Returns whether it is now 0. (Developer guide: an object whose count
+    /// reaches 0 is deallocated.)
     #[inline(always)]
     pub fn dec(&mut self, serial: u64) -> bool
         requires { 0 < count_at self.old serial }
@@ -339,7 +338,7 @@ impl Arena {
         self.index.slot_of(&self.slots, serial).1
     }
 
-    /// `node`, where it is near.
+    /// `node`, with a hint of its slot.
     #[inline(always)]
     fn node_near(&self, serial: u64, near: Near) -> Slot
         requires { HasNode self.now serial }
@@ -366,7 +365,7 @@ impl Arena {
         self.node(serial).code
     }
 
-    /// The number that the node was added with: the class of an instance, or the procedure of a function.
+    /// The number given at `add`: the class of an instance, or the procedure of a function.
     #[inline(always)]
     pub fn class_of(&self, serial: u64) -> Option<u32>
         requires { HasNode self.now serial }
@@ -384,7 +383,7 @@ impl Arena {
         self.node(serial).body
     }
 
-    /// The kind, and where the node is. Nothing is looked up where it is near already.
+    /// The kind, and the node's slot. A right hint saves the look-up.
     #[inline(always)]
     pub fn locate(&self, serial: u64, near: &mut Near) -> KindCode
         requires { HasNode self.now serial }
@@ -395,7 +394,7 @@ impl Arena {
         slot.code
     }
 
-    /// The kind, and the place of the object's entries among the bodies of its kind, by one look-up.
+    /// The kind, and the place of the object's entries among the bodies of its kind, in one look-up.
     #[inline(always)]
     pub fn seat_of(&self, serial: u64) -> (KindCode, usize)
         requires { HasNode self.now serial }
@@ -406,7 +405,7 @@ impl Arena {
         (slot.code, slot.body)
     }
 
-    /// `seat_of`, where the node is near.
+    /// `seat_of`, with a hint of the node's slot.
     #[inline(always)]
     pub fn seat_near(&self, serial: u64, near: Near) -> (KindCode, usize)
         requires { HasNode self.now serial }
@@ -417,8 +416,8 @@ impl Arena {
         (slot.code, slot.body)
     }
 
-    /// The kind, the place, the collector's number and the place of the object's entries among the bodies of its kind, by
-    /// one look-up.
+    /// The kind, the place, the collector's number and the place of the object's entries among the bodies of its kind,
+    /// in one look-up.
     #[inline(always)]
     pub fn head_of(&self, serial: u64) -> Head
         requires { HasNode self.now serial }
@@ -430,7 +429,7 @@ impl Arena {
         Head::of(self.node(serial))
     }
 
-    /// `head_of`, where the node is near.
+    /// `head_of`, with a hint of the node's slot.
     #[inline(always)]
     pub fn head_near(&self, serial: u64, near: Near) -> Head
         requires { HasNode self.now serial }
@@ -442,7 +441,7 @@ impl Arena {
         Head::of(self.node_near(serial, near))
     }
 
-    /// The place, in whose list the node stands.
+    /// The place whose list has the node.
     #[inline(always)]
     pub fn place_of(&self, serial: u64) -> Place
         requires { HasNode self.now serial }
@@ -478,7 +477,7 @@ impl Arena {
         mark_finalized(&mut self.slots, at);
     }
 
-    /// Gives the node, which stands in a generation or among the candidates, another collector's number.
+    /// Sets the collector's number of a node in a generation or among the candidates.
     #[inline(always)]
     pub fn set_gc(&mut self, serial: u64, number: u32)
         requires has { HasNode self.old serial }
@@ -489,8 +488,8 @@ impl Arena {
         set_number(&mut self.slots, at, number);
     }
 
-    /// The collector's number of a node that is near, which stands in a generation or among the candidates, becomes its
-    /// count. (Developer guide, "Identifying reference cycles": `gc_refs` is set to the reference count.)
+    /// Sets the collector's number of a node in a generation or among the candidates to its count; takes a hint of its
+    /// slot. (Developer guide, "Identifying reference cycles": `gc_refs` is set to the reference count.)
     #[inline(always)]
     pub fn set_gc_to_count(&mut self, serial: u64, near: Near)
         requires has { HasNode self.old serial }
@@ -501,7 +500,7 @@ impl Arena {
         set_number(&mut self.slots, at, slot.count);
     }
 
-    /// The collector's number of a candidate falls by 1, if it is above 0; any other node stays as it is.
+    /// Lowers the collector's number of a candidate by 1, if it is above 0; any other node is unchanged.
     #[inline(always)]
     pub fn lower(&mut self, serial: u64)
         requires { HasNode self.old serial }
@@ -514,7 +513,7 @@ impl Arena {
         }
     }
 
-    /// The node goes to the end of the list of a place, which may be its own. (Ours; CPython's `gc_list_move`.)
+    /// Moves the node to the end of the list of a place, which may be its own. (Ours; CPython's `gc_list_move`.)
     pub fn move_to(&mut self, serial: u64, place: Place)
         requires has { HasNode self.old serial }
         requires place { IsPlace place }
@@ -523,7 +522,7 @@ impl Arena {
         self.move_near(serial, Near::default(), place);
     }
 
-    /// `move_to`, where the node is near.
+    /// `move_to`, with a hint of the node's slot.
     pub fn move_near(&mut self, serial: u64, near: Near, place: Place)
         requires has { HasNode self.old serial }
         requires place { IsPlace place }
@@ -537,7 +536,7 @@ impl Arena {
         join(&mut self.slots, &mut self.ends[to], Ends::one(at));
     }
 
-    /// All nodes of one place go to the end of the list of another, in their order. (Developer guide, "Optimization:
+    /// Moves all nodes of one place to the end of the list of another, in order. (Developer guide, "Optimization:
     /// generations": the survivors are merged into the next generation.)
     pub fn merge(&mut self, from: Place, to: Place)
         requires from { IsPlace from }
@@ -553,7 +552,7 @@ impl Arena {
         self.ends[leaving] = Ends::none();
     }
 
-    /// The first of the list of a place, or `None` where it is empty.
+    /// The first of the list of a place, or `None` if it is empty.
     pub fn first(&self, place: Place) -> Option<u64>
         requires { IsPlace place }
         ensures { result ≡ slice_get (list_at self.now place) 0 }
@@ -561,7 +560,7 @@ impl Arena {
         serial_at(&self.slots, self.ends[number_of(place)].first)
     }
 
-    /// `first`, and where it is.
+    /// `first`, with its slot.
     #[inline(always)]
     pub fn first_near(&self, place: Place, near: &mut Near) -> Option<u64>
         requires { IsPlace place }
@@ -572,7 +571,7 @@ impl Arena {
         serial_at(&self.slots, first)
     }
 
-    /// `next` of a node that is near, and where that is. So a walk over a list looks nothing up.
+    /// `next`, with a hint of the node's slot, and the slot of the result. So a walk over a list needs no look-ups.
     #[inline(always)]
     pub fn next_near(&self, serial: u64, near: &mut Near) -> Option<u64>
         requires { HasNode self.now serial }
@@ -584,7 +583,7 @@ impl Arena {
         serial_at(&self.slots, after)
     }
 
-    /// What comes after a node in its list, or `None` at the end.
+    /// The successor of a node in its list, or `None` at the end.
     pub fn next(&self, serial: u64) -> Option<u64>
         requires { HasNode self.now serial }
         ensures { result ≡ following serial (list_at self.now (place_at self.now serial)) }
@@ -593,7 +592,7 @@ impl Arena {
         serial_at(&self.slots, slot.after())
     }
 
-    /// How many nodes stand in a place. It tells besides that each node stands once in the list of its place alone.
+    /// The number of nodes in a place. It also proves that each node is once in the list of its place and in no other.
     pub fn size(&self, place: Place) -> u64
         requires { IsPlace place }
         ensures size { result ≡ length (list_at self.now place) }

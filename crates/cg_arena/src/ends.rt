@@ -1,7 +1,7 @@
 //! The ends of a list of slots, and its size.
 ghost use Rattle.std.specs.Prelude.{◌≡◌, ◌+◌, ◌-◌, ◌<◌, ◌^◌, Some, None};
 
-/// The first and the last slot of a list, and how many slots it has.
+/// The first and the last slot of a list, and its size.
 #[derive(Clone, Copy, Debug)]
 pub struct Ends {
     pub first: Option<usize>,
@@ -34,7 +34,7 @@ impl Ends {
         }
     }
 
-    /// A slot between these two is taken out of the list.
+    /// Takes out a slot between these two.
     #[inline(always)]
     pub fn lose(&mut self, before: Option<usize>, after: Option<usize>)
         requires { 0 < self.old.size }
@@ -49,7 +49,7 @@ impl Ends {
         self.size -= 1;
     }
 
-    /// Another list is appended to this one.
+    /// Appends another list to this one.
     #[inline(always)]
     pub fn gain(&mut self, other: Ends)
         requires { self.old.size + other.size < 2 ^ 64 }

@@ -1,33 +1,33 @@
-//! Guesses of where nodes lie.
+//! Guesses of the nodes' slots.
 ghost use Rattle.std.specs.Prelude.{◌≡◌, ◌≢◌, ◌⊎◌, ◌<◌, ◌^◌, ℕ, ◌↔◌, IsTrue, IsFalse, length};
 ghost use Rattle.cg_arena.specs.Index.{guess_at, guess_index};
 
 use std::alloc::{AllocError, Global};
 
-/// The slot in which a serial may lie, for serials that were told. Whoever takes a guess looks whether the serial stands there.
+/// The likely slot of each serial that was noted. The caller checks whether the serial is really there.
 ///
-/// Serials in a row have guesses in a row, so that those of neighbours share a line of the processor's cache. What is above the
-/// bits that choose a guess is mixed in, so that serials at an even distance do not choose the same ones.
+/// Consecutive serials have consecutive guesses, so neighbours share a cache line. The higher bits are mixed into the
+/// index, so that evenly spaced serials do not collide.
 #[derive(Drop)]
 pub struct Hints {
-    // As many as a power of two, or none.
+    // Its length is a power of two, or 0.
     guesses: Vec<u32>,
-    // That power.
+    // The exponent of that power.
     bits: u32,
-    // The bits that choose a guess.
+    // Masks the bits that select a guess.
     mask: usize,
 }
 
-/// The number of guesses that are made at first, and its power.
+/// The initial number of guesses, a power of two.
 const FIRST: usize = 64;
 
 const FIRST_BITS: u32 = 6;
 
-/// What is guessed where nothing is told.
+/// The guess where nothing is noted.
 const NONE: u32 = 0;
 
 impl Hints {
-    /// No guess. It takes no memory yet.
+    /// No guesses. It allocates nothing yet.
     pub fn new(alloc: Global) -> Hints {
         Hints {
             guesses: Vec::new(alloc),
@@ -36,13 +36,13 @@ impl Hints {
         }
     }
 
-    /// How many guesses there are.
+    /// The number of guesses.
     #[inline(always)]
     pub fn len(&self) -> usize {
         self.guesses.len()
     }
 
-    /// Which guess is that of a serial.
+    /// The index of a serial's guess.
     #[inline(always)]
     fn index_of(&self, serial: u64) -> usize
         ensures { result ≡ guess_index self.now serial }
@@ -51,7 +51,7 @@ impl Hints {
         mixed as usize & self.mask
     }
 
-    /// A slot in which a serial may lie.
+    /// The likely slot of a serial.
     #[inline(always)]
     pub fn guess(&self, serial: u64) -> usize
         ensures { result ≡ guess_at self.now serial }
@@ -62,7 +62,7 @@ impl Hints {
         }
     }
 
-    /// Whether two serials have one guess.
+    /// Whether two serials share a guess.
     #[inline(always)]
     pub fn is_shared(&self, serial: u64, other: u64) -> bool
         ensures { IsTrue result ↔ (guess_index self.now other ≡ guess_index self.now serial) }
@@ -70,8 +70,8 @@ impl Hints {
         self.index_of(other) == self.index_of(serial)
     }
 
-    /// Tells the slot in which a serial lies. It takes the place of what was told of another serial with the same guess. It
-    /// answers whether there is a guess for the serial, and the slot's number fits.
+    /// Notes the slot of a serial, overwriting what another serial with the same guess had noted. Returns whether
+    /// there is a guess for the serial and the slot's number fits.
     #[inline(always)]
     pub fn tell(&mut self, serial: u64, slot: usize) -> bool
         ensures can { IsTrue result ↔ (slot < 2 ^ 32) × (guess_index self.old serial < length self.old.guesses.items) }
@@ -93,7 +93,7 @@ impl Hints {
         }
     }
 
-    /// Forgets that a serial lies in a slot, where its guess says so.
+    /// Clears the guess of a serial if it names this slot.
     #[inline(always)]
     pub fn forget(&mut self, serial: u64, slot: usize)
         ensures others { (q : ℕ) → (guess_at self.new q ≡ guess_at self.old q) ⊎ (guess_at self.old q ≡ slot) }
@@ -107,7 +107,7 @@ impl Hints {
         }
     }
 
-    /// Twice as many guesses, of which none is told.
+    /// Twice as many guesses, all empty.
     pub fn doubled(&self, alloc: Global) -> Result<Hints, AllocError> {
         let (count, bits) = match self.guesses.len() {
             0 => (FIRST, FIRST_BITS),

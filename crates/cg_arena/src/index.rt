@@ -1,4 +1,4 @@
-//! Where the node of a serial lies.
+//! Finds the slot of a serial's node.
 ghost use Rattle.std.specs.Prelude.{◌≡◌, max, ◌≢◌, ◌⊎◌, ℕ, [], ◌+◌, ◌<◌, ◌≤◌, ◌↔◌, ◌==◌, if◌then◌else◌, IsTrue, IsNone, IsSome, IfSome, IfOk, OnOk, IsOk, Some, None};
 ghost use Rattle.slab.specs.Slab.{get};
 ghost use Rattle.indexmap.specs.IndexMap.{spare};
@@ -17,16 +17,16 @@ use std::alloc::{AllocError, Global};
 
 /// The slot of each serial that has a node.
 ///
-/// Most lie where their guesses say. A row names the slot of a serial whose guess says where another one lies.
+/// Most are found by their guesses. Rows hold the serials whose guess belongs to another serial.
 #[derive(Drop)]
 pub struct SlotIndex {
     hints: Hints,
     rows: IndexMap<u64, usize, SerialHashing>,
-    // No serial above this one has a row. So most nodes that die young are not sought among the rows.
+    // No serial above this one has a row. So most nodes that die young need no search among the rows.
     most: u64,
 }
 
-/// The node in a slot, if it is that of a serial.
+/// The node in a slot, if it has this serial.
 #[inline(always)]
 pub fn node_if(slots: &Slab<Slot>, at: usize, serial: u64) -> Option<Slot>
     ensures node { IfSome result (λ c. get slots.now at ≡ Some c) }
@@ -39,7 +39,7 @@ pub fn node_if(slots: &Slab<Slot>, at: usize, serial: u64) -> Option<Slot>
     }
 }
 
-/// The serial that is found by the guess of another one, which is to be told where that lies.
+/// The serial found by the guess that another serial is about to take over.
 #[inline(always)]
 fn displaced_by(hints: &Hints, slots: &Slab<Slot>, serial: u64) -> Option<u64>
     ensures some { IfSome result (λ q. serial_in (get slots.now (guess_at hints.now serial)) ≡ Some q) }
@@ -53,7 +53,7 @@ fn displaced_by(hints: &Hints, slots: &Slab<Slot>, serial: u64) -> Option<u64>
 }
 
 impl SlotIndex {
-    /// Of no serial. It takes no memory yet.
+    /// An empty index. It allocates nothing yet.
     pub fn new(alloc: Global) -> SlotIndex
         ensures { result.rows.entries ≡ [] }
     {
@@ -64,7 +64,7 @@ impl SlotIndex {
         }
     }
 
-    /// A slot in which a serial may lie.
+    /// The likely slot of a serial.
     #[inline(always)]
     pub fn guess(&self, serial: u64) -> usize
         ensures { result ≡ guess_at self.now.hints serial }
@@ -83,7 +83,7 @@ impl SlotIndex {
         }
     }
 
-    /// The slot of a serial that does not lie where its guess says, by its row.
+    /// The slot of a serial that is not in its guessed slot, by its row.
     #[inline(never)]
     pub fn slot_by_row(&self, serial: u64) -> usize
         requires { IsSome (row_of self.now.rows.entries serial) }
@@ -95,8 +95,7 @@ impl SlotIndex {
         }
     }
 
-    /// The slot of a serial that has a node, and the node. Where the serial stands in the slot that is guessed, its row is not
-    /// looked up.
+    /// The slot and node of a serial that has one. If the guess is right, the row is not looked up.
     #[inline(always)]
     pub fn slot_of(&self, slots: &Slab<Slot>, serial: u64) -> (usize, Slot)
         requires { Finds slots.now self.now serial }
@@ -113,7 +112,7 @@ impl SlotIndex {
         }
     }
 
-    /// `slot_of`, which looks nothing up where the serial stands in the slot `near`.
+    /// `slot_of`, with the hint `near`, which saves the look-up if it is right.
     #[inline(always)]
     pub fn slot_near(&self, slots: &Slab<Slot>, serial: u64, near: Near) -> (usize, Slot)
         requires { Finds slots.now self.now serial }
@@ -126,7 +125,7 @@ impl SlotIndex {
         }
     }
 
-    /// Makes room for one serial more, and for its guess. Where there is no memory for that, the guesses stay as they are.
+    /// Makes room for one more serial and its guess. If memory for more guesses runs out, they stay as they are.
     #[inline(always)]
     pub fn reserve(&mut self, slots: &Slab<Slot>) -> Result<(), AllocError>
         requires { IsIndexOf slots.now self.old }
@@ -141,7 +140,7 @@ impl SlotIndex {
         self.rows.reserve(1)
     }
 
-    /// Doubles the guesses, if there is memory for them and for the rows that they leave.
+    /// Doubles the guesses, if there is memory for them and for the rows they displace.
     #[inline(never)]
     fn grow(&mut self, slots: &Slab<Slot>) -> Result<(), AllocError>
         requires { IsIndexOf slots.now self.old }
@@ -155,8 +154,8 @@ impl SlotIndex {
         Ok(())
     }
 
-    /// Notes down where a serial lies: by its guess, if there is one for it, else in a row. A node that was found by that guess
-    /// gets a row, since objects that were made of late are looked up the most.
+    /// Notes the slot of a serial: by its guess, if it has one, else in a row. The node that the guess found before
+    /// gets a row, since the newest objects are looked up most.
     #[inline(always)]
     pub fn note(&mut self, slots: &Slab<Slot>, serial: u64, at: usize)
         requires named { IsNamed (λ k. serial_in (get slots.now k)) (row_of (rows_of slots.now)) }
@@ -182,7 +181,7 @@ impl SlotIndex {
         }
     }
 
-    /// Names the slot of a serial in a row, for which there is room.
+    /// Notes the slot of a serial in a row, for which there is room.
     #[inline(never)]
     fn add_row(&mut self, serial: u64, at: usize)
         requires { 0 < spare self.old.rows }
@@ -199,7 +198,7 @@ impl SlotIndex {
         }
     }
 
-    /// A serial lies in its slot no more.
+    /// Removes a serial from its slot.
     #[inline(always)]
     pub fn remove(&mut self, slots: &Slab<Slot>, serial: u64, at: usize)
         requires index { IsIndexOf slots.now self.old }
@@ -213,7 +212,7 @@ impl SlotIndex {
         }
     }
 
-    /// Takes out the row of a serial, if it has one.
+    /// Removes the row of a serial, if it has one.
     #[inline(never)]
     fn drop_row(&mut self, serial: u64)
         ensures rows { (s : ℕ) → row_of self.new.rows.entries s ≡
@@ -226,7 +225,7 @@ impl SlotIndex {
     }
 }
 
-/// The index of all nodes by new guesses, none of them set yet, with room for `room` more rows.
+/// The index of all nodes with new, empty guesses and room for `room` more rows.
 fn index_by(
     alloc: Global,
     slots: &Slab<Slot>,
@@ -242,7 +241,7 @@ fn index_by(
         rows: IndexMap::with_hasher(alloc, serial_hashing()),
         most: 0,
     };
-    // No slot lies behind the capacity.
+    // All slots are below the capacity.
     'slots: for at in 0..slots.capacity() {
         if let Some(slot) = slots.get(at) {
             index.rows.reserve(1)?;

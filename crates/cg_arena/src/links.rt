@@ -32,7 +32,7 @@ pub fn serial_at(slots: &Slab<Slot>, at: Option<usize>) -> Option<u64>
     }
 }
 
-/// Gives a node another count.
+/// Sets the count of a node.
 #[inline(always)]
 pub fn set_count(slots: &mut Slab<Slot>, at: usize, count: u32)
     ensures { slots.new ≡ rewritten (with_count count) at slots.old }
@@ -51,7 +51,7 @@ pub fn mark_finalized(slots: &mut Slab<Slot>, at: usize)
     }
 }
 
-/// Gives a node another collector's number.
+/// Sets the collector's number of a node.
 #[inline(always)]
 pub fn set_number(slots: &mut Slab<Slot>, at: usize, number: u32)
     ensures { slots.new ≡ rewritten (with_number number) at slots.old }
@@ -71,7 +71,7 @@ pub fn lower_candidate(slots: &mut Slab<Slot>, at: usize)
     }
 }
 
-/// Gives a node another place, where nothing comes after it.
+/// Sets the place of a node, and clears its successor.
 #[inline(always)]
 pub fn place_last(slots: &mut Slab<Slot>, at: usize, place: Place)
     ensures { slots.new ≡ rewritten (with_after None) at (rewritten (with_place place) at slots.old) }
@@ -82,7 +82,7 @@ pub fn place_last(slots: &mut Slab<Slot>, at: usize, place: Place)
     }
 }
 
-/// Names what comes after a slot, if there is one.
+/// Sets the successor of a slot, if there is a slot.
 fn set_after(slots: &mut Slab<Slot>, at: Option<usize>, after: Option<usize>)
     ensures { slots.new ≡ after_set at after slots.old }
 {
@@ -93,7 +93,7 @@ fn set_after(slots: &mut Slab<Slot>, at: Option<usize>, after: Option<usize>)
     }
 }
 
-/// Names what comes before a slot, if there is one.
+/// Sets the predecessor of a slot, if there is a slot.
 fn set_before(slots: &mut Slab<Slot>, at: Option<usize>, before: Option<usize>)
     ensures { slots.new ≡ before_set at before slots.old }
 {
@@ -104,7 +104,7 @@ fn set_before(slots: &mut Slab<Slot>, at: Option<usize>, before: Option<usize>)
     }
 }
 
-/// Makes two slots neighbours. Either may be missing: then the other is an end.
+/// Makes two slots neighbours. If one is missing, the other becomes an end.
 fn tie(slots: &mut Slab<Slot>, before: Option<usize>, after: Option<usize>)
     ensures { slots.new ≡ tied before after slots.old }
 {
@@ -136,7 +136,7 @@ pub fn join(slots: &mut Slab<Slot>, front: &mut Ends, back: Ends)
     front.gain(back);
 }
 
-/// Gives a node another place, and answers the slot after it.
+/// Sets the place of a node, and returns the next slot.
 fn place_one(slots: &mut Slab<Slot>, at: Option<usize>, place: Place) -> Option<usize>
     ensures slots { slots.new ≡ place_set at place slots.old }
     ensures after { result ≡ option_and_then (λ k. after_in (get slots.old k)) at }
@@ -146,7 +146,7 @@ fn place_one(slots: &mut Slab<Slot>, at: Option<usize>, place: Place) -> Option<
     slot.after()
 }
 
-/// Gives each node of a list another place.
+/// Sets the place of each node of a list.
 pub fn place_all(slots: &mut Slab<Slot>, first: Option<usize>, size: u64, place: Place)
     ensures { slots.new ≡ all_placed (chain_from slots.old size first) place slots.old }
 {

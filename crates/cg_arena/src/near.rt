@@ -1,13 +1,13 @@
-//! Where a node may lie.
+//! A hint of a node's slot.
 
-/// The slot in which a node may lie. Any is right: a call that does not find the node there looks it up. It only saves time.
+/// A hint of a node's slot. A wrong hint is harmless: the call then looks the node up. It only saves time.
 #[derive(Clone, Copy, Debug, Default)]
 pub struct Near {
     pub slot: usize,
 }
 
 impl Near {
-    /// This slot, if there is one.
+    /// The hint of an optional slot.
     #[inline(always)]
     pub fn at(slot: Option<usize>) -> Near {
         match slot {

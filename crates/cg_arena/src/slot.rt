@@ -1,22 +1,22 @@
 //! A node in its slot, between its neighbours in the list of its place.
 //!
-//! The finalized mark, the collector's number and the slot before are read and written by calls alone.
+//! The finalized mark, the collector's number and the previous slot are accessed only through calls.
 ghost use Rattle.std.specs.Prelude.{◌≡◌, false, None};
 ghost use Rattle.cg_arena.specs.Nodes.{new_node};
 
 use crate::word::Word;
 use cg_value::{KindCode, Place};
 
-/// A node, its serial, and the slots before and after it in the list of its place.
+/// A node, its serial, and its neighbours in the list of its place.
 ///
-/// It takes 56 bytes, and 64 in its slot. So whether a slot comes after it stands beside the other small fields: an `Option` of
-/// the slot would take eight bytes more.
+/// It takes 56 bytes, and 64 in its slot. The flag for a next slot is among the small fields; an `Option` of the slot
+/// would take eight more bytes.
 #[derive(Clone, Copy)]
 pub struct Slot {
     pub serial: u64,
     pub body: usize,
     word: Word,
-    /// The slot after it, 0 where there is none.
+    /// The next slot, 0 if there is none.
     next: usize,
     pub class: Option<u32>,
     pub count: u32,
@@ -28,7 +28,7 @@ pub struct Slot {
 impl Slot {
     ghost use Rattle.cg_arena.specs.Slots.{node_of, with_mark, with_number, with_lowered, with_before, with_after, after_of};
 
-    /// A new node in no list: count 0, not finalized, the collector's number 0.
+    /// A new node in no list: count 0, not finalized, collector's number 0.
     pub fn new(serial: u64, code: KindCode, class: Option<u32>, body: usize, place: Place) -> Slot
         ensures node { node_of result ≡ new_node code class body place }
         ensures serial { result.serial ≡ serial }
@@ -71,7 +71,7 @@ impl Slot {
         self.word.number()
     }
 
-    /// Gives the node another collector's number.
+    /// Sets the collector's number.
     #[inline(always)]
     pub fn set_number(&mut self, number: u32)
         ensures { self.new ≡ with_number number self.old }
@@ -89,14 +89,14 @@ impl Slot {
         }
     }
 
-    /// The slot before it in its list.
+    /// The previous slot in its list.
     pub fn before(&self) -> Option<usize>
         ensures { result ≡ self.now.word.before }
     {
         self.word.before()
     }
 
-    /// The slot after it in its list.
+    /// The next slot in its list.
     #[inline(always)]
     pub fn after(&self) -> Option<usize>
         ensures { result ≡ after_of self.now }
@@ -108,7 +108,7 @@ impl Slot {
         }
     }
 
-    /// Names another slot as the one after it.
+    /// Sets the next slot.
     #[inline(always)]
     pub fn set_after(&mut self, after: Option<usize>)
         ensures { self.new ≡ with_after after self.old }
@@ -117,7 +117,7 @@ impl Slot {
         self.next = after.unwrap_or(0);
     }
 
-    /// Names another slot as the one before it.
+    /// Sets the previous slot.
     pub fn set_before(&mut self, before: Option<usize>)
         ensures { self.new ≡ with_before before self.old }
     {
@@ -125,7 +125,7 @@ impl Slot {
     }
 }
 
-/// What kind of object it is, where it stands, the collector's number, and where its entries are.
+/// The object's kind, its place, the collector's number, and where its entries are.
 #[derive(Clone, Copy, Debug)]
 pub struct Head {
     pub code: KindCode,
@@ -136,7 +136,7 @@ pub struct Head {
 }
 
 impl Head {
-    /// Those of a slot.
+    /// The head of the node in a slot.
     #[inline(always)]
     pub fn of(slot: Slot) -> Head
         ensures code { result.code ≡ slot.code }

@@ -1,14 +1,13 @@
-//! What of a node shares one word.
+//! The parts of a node that share one word.
 ghost use Rattle.std.specs.Prelude.{◌≡◌, ◌-◌};
 
 use std::marker::Model;
 
-/// The finalized mark, the collector's number and the slot before, in one word of 128 bits, of which this has the two
-/// halves.
+/// The finalized mark, the collector's number and the previous slot in one 128-bit word, stored as two halves.
 ///
-/// Bit 0 is the mark, bit 1 says whether there is a slot before, and bits 2 to 33 are the number. Bits 64 to 127, the
-/// second half, are the slot before, or 0 where there is none. (Ours. CPython keeps its flags and numbers in the low bits
-/// of the links.)
+/// Bit 0 is the mark, bit 1 says whether there is a previous slot, and bits 2 to 33 are the number. Bits 64 to 127,
+/// the second half, are the previous slot, or 0 if there is none. (Ours. CPython keeps its flags and numbers in the
+/// low bits of the links.)
 #[derive(Clone, Copy)]
 pub struct Word {
     low: u64,
@@ -34,7 +33,7 @@ impl Model for Word {
 impl Word {
     ghost use Rattle.cg_arena.specs.Word.{blank, word_marked, word_numbered, word_linked};
 
-    /// No mark, the number 0, and no slot before.
+    /// No mark, number 0, no previous slot.
     pub fn new() -> Word
         ensures { result ≡ blank }
     {
@@ -64,7 +63,7 @@ impl Word {
         (self.low / 4) as u32
     }
 
-    /// Gives it another collector's number.
+    /// Sets the collector's number.
     #[inline(always)]
     pub fn set_number(&mut self, number: u32)
         ensures { self.new ≡ word_numbered number self.old }
@@ -82,7 +81,7 @@ impl Word {
         }
     }
 
-    /// The slot before.
+    /// The previous slot.
     pub fn before(&self) -> Option<usize>
         ensures { result ≡ self.now.before }
     {
@@ -93,7 +92,7 @@ impl Word {
         }
     }
 
-    /// Names another slot before.
+    /// Sets the previous slot.
     pub fn set_before(&mut self, before: Option<usize>)
         ensures { self.new ≡ word_linked before self.old }
     {

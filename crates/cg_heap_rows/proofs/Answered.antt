@@ -1,4 +1,4 @@
--- Each worked heap is answered: its rows compute, and so does the text.
+-- Each worked heap has its answer: its rows compute, and so does the text.
 use Rattle.std.proofs.Common.{refl, [], ◌∷◌, ◌++◌, true, arith}
 use Rattle.std.specs.Prelude.{codes}
 use Rattle.std.specs.Fmt.{digits}

@@ -1,4 +1,4 @@
--- A plain search for what dies by count, once a further step finds no more.
+-- A plain search for what dies by count, ended when one more step finds nothing.
 use Rattle.std.proofs.Common.{◌≡◌, sym, ◌∙◌, ap, subst, ℕ, zero, suc, ◌<◌, nat_lt, Bool, true, ◌&&◌, ◌||◌, List, [], length, arith}
 use Rattle.std.specs.Prelude.{◌==◌}
 use Rattle.std.proofs.lemmas.Bool.{cases_lt, eqb-true, eq-eqb, ltb-true, lt-ltb}
@@ -29,7 +29,7 @@ module _ (ms : List Member) (given : List Bool) where
   abbrev pub step : List Bool → List Bool
   step dead = marks_to (length ms) (is_dying dead)
 
-  -- what has died after so many steps
+  -- what has died after this many steps
   abbrev pub dead_in : ℕ → List Bool
   dead_in zero = []
   dead_in (suc k) = step (dead_in k)
@@ -59,7 +59,7 @@ module _ (ms : List Member) (given : List Bool) where
         member : (i : ℕ) → 0 < degree_at ms i → i < length ms
         member i some = either (cases_lt i (length ms)) (λ l. l) (λ g. absurd (omega (arith, some, no_degree ms i g)))
 
-    -- what has died, where one more step finds no more
+    -- everything that dies, if one more step finds nothing
     pub dead_just : (k : ℕ) → step (dead_in k) ≡ dead_in k → MarkJust (length ms) (Dies ms (Marks given)) (dead_in k)
     dead_just k settled =
         let c = is_closed (dead_in k) settled in

@@ -1,4 +1,4 @@
--- A plain search that computes: what paths by rows lead to, once a further step finds no more.
+-- A plain search that computes what paths by rows lead to, ended when one more step finds nothing.
 use Rattle.std.proofs.Common.{◌≡◌, sym, ◌∙◌, ap, subst, ℕ, zero, suc, Bool, true, ◌&&◌, ◌||◌, List, [], length}
 use Rattle.std.specs.Prelude.{◌↔◌}
 use Rattle.std.proofs.lemmas.Option.{slice_get_within}
@@ -10,14 +10,14 @@ use Rattle.cg_search.proofs.Edges.{marks_of_is, is_of_marks}
 use Rattle.cg_heap_rows.proofs.Tables.{both, marks_to, passes, marks_of, length-marks_to, target_out, target_in}
 
 module _ (starts allowed : List Bool) (rows : List (List ℕ)) where
-  -- allowed, and a start or a target of what is found
+  -- allowed, and a start or a target of a found one
   abbrev pub is_next : List Bool → ℕ → Bool
   is_next found i = is_marked allowed i && (is_marked starts i || includes (targets_from found rows) i)
 
   abbrev pub step : List Bool → List Bool
   step found = marks_to (length allowed) (is_next found)
 
-  -- what so many steps find
+  -- what this many steps find
   abbrev pub found_in : ℕ → List Bool
   found_in zero = []
   found_in (suc k) = step (found_in k)
@@ -44,6 +44,6 @@ module _ (starts allowed : List Bool) (rows : List (List ℕ)) where
     pub found_long : length found ≡ length allowed
     found_long = ap (λ (bs : List Bool). length bs) (sym settled) ∙ length-marks_to (length allowed) (is_next found)
 
-  -- what so many steps find, where one more finds no more
+  -- everything found, if one more step finds nothing
   pub led : (k : ℕ) → step (found_in k) ≡ found_in k → (i : ℕ) → Marks (found_in k) i ↔ Leads starts allowed rows i
   led k settled i = (leads_found k i, found_leads (found_in k) settled i)

@@ -1,4 +1,4 @@
--- The sets of members that the questions speak of, as marks that compute.
+-- The sets of members in the questions, as marks that compute.
 use Rattle.std.proofs.Common.{◌≡◌, refl, sym, ◌∙◌, subst, ℕ, ◌+◌, nat_lt, Bool, true, false, not, ◌&&◌, List, [], length, replicate, arith, get_or}
 use Rattle.std.proofs.lemmas.Bool.{cases_lt, ltb-true, lt-ltb}
 use Rattle.cg_graph.specs.Member.{Includes, includes}
@@ -25,7 +25,7 @@ use Rattle.cg_heap_rows.proofs.Tables.{marks_to, all_to, all_pass, just_to}
 use Rattle.cg_heap_rows.proofs.Found.{step, found_in, led, found_long}
 use Rattle.cg_heap_rows.proofs.Dying.{step as dying_step, dead_in, dead_just}
 
--- whether the names of a member's references and words are right, and its in-degree
+-- whether a member's references and words name members, and its in-degree is consistent
 abbrev is_right : List Member → ℕ → Bool
 is_right ms i = are_below (length ms) (get_or (rows_of ms) i []) && (are_below (length ms) (get_or (words_of ms) i []) && nat_lt (occurrences i (references_of ms) + occurrences i (all_words_of ms)) (degree_at ms i + 1))
 
@@ -40,7 +40,7 @@ are_right ms all i below =
       covered_with = λ e. omega (arith, less);
     }
 
--- what is held from outside, and the others than these
+-- the members held from outside, and those other than the given ones
 abbrev pub held : List Member → List Bool
 held ms = marks_to (length ms) (λ i. nat_lt (occurrences i (references_of ms)) (degree_at ms i))
 
@@ -82,14 +82,14 @@ all ms = replicate (length ms) true
 pub all_just : (ms : List Member) → MarkJust (length ms) (IsMember ms) (all ms)
 all_just ms = just_all (length ms) (all ms) refl
 
--- what is reached, and what is lost
+-- the reached members, and the lost ones
 abbrev pub reached : List Member → List Bool
 reached ms = found_in (held ms) (all ms) (rows_of ms) (length ms)
 
 abbrev pub lost : List Member → List Bool
 lost ms = zipped only (all ms) (reached ms)
 
--- what is reached by others than these
+-- the members reached without passing the given ones
 abbrev pub reached_without : List Member → List ℕ → List Bool
 reached_without ms without = found_in (held ms) (others ms without) (rows_of ms) (length ms)
 
@@ -156,7 +156,7 @@ stuck_is ms right c =
     let l = all_lost_just ms c.reaches in
     stuck_just ms (lost ms) (cleared ms) (dead_by_collection ms) (stuck ms) l k d (just_only (lost ms) (dead_by_collection ms) (stuck ms) (l.len ∙ sym d.len) refl)
 
--- what would go
+-- what would die
 abbrev pub these : List Member → List ℕ → List Bool
 these ms places = marks_to (length ms) (λ i. includes places i)
 
@@ -188,7 +188,7 @@ gone_is ms places right members d =
     let l = just_only (reached ms) (reached_without ms places) (let_go ms places) (b.len ∙ sym a.len) refl in
     gone_just ms places (dead ms places) (reached ms) (reached_without ms places) (let_go ms places) (gone ms places) k b a l (just_any (dead ms places) (let_go ms places) (gone ms places) (k.len ∙ sym (l.len ∙ b.len)) refl)
 
--- what untold words keep
+-- the members kept by untold words
 abbrev pub reached_with_words : List Member → List Bool
 reached_with_words ms = found_in (held (all_told ms)) (all ms) (rows_of (all_told ms)) (length ms)
 

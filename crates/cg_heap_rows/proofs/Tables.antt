@@ -1,4 +1,4 @@
--- Marks and rows by a test of each place, which compute, and what they say.
+-- Marks and rows computed by a test of each place, and their meaning.
 use Rattle.std.proofs.Common.{◌≡◌, refl, sym, ◌∙◌, ap, subst, ℕ, zero, suc, ◌<◌, Bool, true, false, cond, ◌&&◌, inl, List, [], ◌∷◌, ◌++◌, length, Some, arith, append-nil}
 use Rattle.std.specs.Prelude.{◌↔◌, slice_get}
 use Rattle.std.proofs.lemmas.Bool.{cases_eq}
@@ -51,18 +51,17 @@ all_pass zero test i e below = absurd (omega (arith, below))
 all_pass (suc n) test zero e below = (true_and (test 0) (all_to n (λ j. test (suc j))) e).0
 all_pass (suc n) test (suc i) e below = all_pass n (λ j. test (suc j)) i (true_and (test 0) (all_to n (λ j. test (suc j))) e).1 (omega (arith, below))
 
--- a test that decides a fact of the places below the number
+-- a test that decides a property of the places below the number
 pub just_to : (n : ℕ) (test : ℕ → Bool) (P : ℕ → Type 0) → ((i : ℕ) → i < n → (test i ≡ true) ↔ P i) → ((i : ℕ) → P i → i < n) → MarkJust n P (marks_to n test)
 just_to n test P decides below = record {
   len = length-marks_to n test;
   just = λ i. (λ m. (decides i (within n test i m)).0 (passes n test i m), λ p. marks_of n test i (below i p) ((decides i (below i p)).1 p));
 }
 
--- two tests that pass
 pub both : (a b : Bool) → a ≡ true → b ≡ true → (a && b) ≡ true
 both a b p q = ap (λ c. c && b) p ∙ q
 
--- what the rows tell
+-- the meaning of a row
 pub record IsRow (n : ℕ) (test : ℕ → Bool) (tell : ℕ → List ℕ) (m : ℕ) (ns : List ℕ) : Type 0 where
   pub below : m < n
   pub passes : test m ≡ true
@@ -110,7 +109,7 @@ module _ (test : ℕ → Bool) (numbers : ℕ → List ℕ) where
           none : rows_to n test numbers ++ [] ≡ rows_to n test numbers
           none = append-nil (rows_to n test numbers)
 
--- a target of a marked node stands in its row
+-- a target of a marked node is in its row
 pub target_out : (marks : List Bool) (rows : List (List ℕ)) (x : ℕ) → Includes (targets_from marks rows) x → (p : ℕ) × (row : List ℕ) × Marks marks p × (slice_get rows p ≡ Some row) × Includes row x
 target_out [] rows x h = absurd h
 target_out (mark ∷ marks) [] x h = absurd h

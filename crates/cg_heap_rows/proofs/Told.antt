@@ -1,4 +1,4 @@
--- The rows of each answer, which compute, tell what is to be told.
+-- The computed rows of each answer are the ones to print.
 use Rattle.std.proofs.Common.{ℕ, zero, suc, ◌-◌, ◌<◌, nat_lt, Bool, true, List, [], ◌∷◌, length, arith, get_or}
 use Rattle.std.proofs.lemmas.Bool.{cases_lt, ltb-true, lt-ltb}
 use Rattle.std.proofs.lemmas.List.{length-map}
@@ -35,7 +35,7 @@ tells_referrers ms o =
     (λ m ns r. record { some = ltb-true 0 (times_at ms m o) r.passes; numbers = r.numbers })
     (λ m ns t. record { below = omega (arith, row_within (rows_of ms) m o t.some, length-map ms (λ (k : Member). k.refs)); passes = lt-ltb 0 (times_at ms m o) t.some; numbers = t.numbers })
 
--- how many outside holds, and how many of them are left without untold words
+-- the number of outside holds, and how many untold words leave unexplained
 abbrev pub hidden_numbers : List Member → ℕ → List ℕ
 hidden_numbers ms m = outside_at ms m ∷ (outside_at ms m - occurrences m (all_words_of ms)) ∷ []
 
@@ -49,7 +49,7 @@ tells_hidden ms =
     (λ m ns r. record { some = ltb-true 0 (outside_at ms m) r.passes; numbers = r.numbers })
     (λ m ns t. record { below = either (cases_lt m (length ms)) (λ l. l) (λ g. absurd (let s = t.some in omega (arith, s, no_degree ms m g))); passes = lt-ltb 0 (outside_at ms m) t.some; numbers = t.numbers })
 
--- members of a set, with whether they are of another
+-- members of a set, each with whether it is in another
 module _ (count : ℕ) (P Q : ℕ → Type 0) (marks others : List Bool) (a : MarkJust count P marks) (b : MarkJust count Q others) where
   tells_flags : (R : ℕ → List ℕ → Type 0) → ((m : ℕ) (ns : List ℕ) → P m → IsFlag (Q m) ns → R m ns) → ((m : ℕ) (ns : List ℕ) → R m ns → P m × IsFlag (Q m) ns) → Tells R (rows_to count (is_marked marks) (flags_of others))
   tells_flags R there back =

@@ -1,5 +1,5 @@
--- Worked heaps, each with a question and its answer: what the questions mean by example. An arrow is a reference, `out` is
--- what is no member, and `..>` is an untold word. (Ours, written from docs/HEAPS.md.)
+-- Worked heaps, each with a question and its answer: what the questions mean, by example. An arrow is a reference,
+-- `out` is anything outside the members, and `..>` is an untold word. (Ours, written from docs/HEAPS.md.)
 use Rattle.std.specs.Prelude.{ℕ, true, false, List, [], ◌∷◌, codes}
 use Rattle.cg_snapshot.specs.declared.heap.Member.{Member}
 use Rattle.cg_snapshot.specs.declared.question.Question.{Question}
@@ -13,7 +13,7 @@ pub record WorkedHeap : Type 0 where
   pub question : Question
   pub text : List ℕ
 
--- Nothing is wrong with the heap, and the text answers the question.
+-- The heap is consistent, and the text answers the question.
 pub record IsAnswered (worked : WorkedHeap) : Type 0 where
   pub right : AreRight worked.members true
   pub answers : Answers worked.members worked.question worked.text
@@ -22,8 +22,8 @@ abbrev pub EachIsAnswered : List WorkedHeap → Type 0
 EachIsAnswered [] = Unit {0}
 EachIsAnswered (worked ∷ others) = IsAnswered worked × EachIsAnswered others
 
--- A member by its in-degree, its bytes and its references. It is tracked, its class has no legacy finalizer, and all its
--- references are told.
+-- A member by its in-degree, its bytes and its references. It is tracked, its class has no legacy finalizer, and all
+-- its references are told.
 abbrev pub member : ℕ → ℕ → List ℕ → Member
 member degree size refs = record { degree = degree; size = size; tracked = true; legacy = false; refs = refs; untold = [] }
 
@@ -59,7 +59,7 @@ why_by_one = record {
   text = codes "why 0 but 1\nheld 0 1\ndone\n";
 }
 
--- All paths go by 0.
+-- All paths pass through 0.
 abbrev pub why_by_none_without : WorkedHeap
 why_by_none_without = record {
   members = a_chain_with_a_shortcut;
@@ -71,7 +71,7 @@ why_by_none_without = record {
 abbrev pub a_ring_that_was_dropped : List Member
 a_ring_that_was_dropped = member 1 64 ([]) ∷ member 1 80 (2 ∷ []) ∷ member 1 48 (1 ∷ []) ∷ []
 
--- Nothing but the ring leads to it.
+-- Only the ring leads to it.
 abbrev pub why_a_lost_one : WorkedHeap
 why_a_lost_one = record {
   members = a_ring_that_was_dropped;
@@ -79,7 +79,7 @@ why_a_lost_one = record {
   text = codes "why 1\nnone\ndone\n";
 }
 
--- The next full collection takes the ring.
+-- The next full collection frees the ring.
 abbrev pub lost_and_taken : WorkedHeap
 lost_and_taken = record {
   members = a_ring_that_was_dropped;
@@ -91,7 +91,7 @@ lost_and_taken = record {
 abbrev pub held_twice_by_one : List Member
 held_twice_by_one = member 1 64 (1 ∷ 1 ∷ []) ∷ member 4 72 ([]) ∷ member 1 56 (1 ∷ []) ∷ []
 
--- A member that refers to it twice is one row.
+-- A member that refers to it twice is listed once.
 abbrev pub referrers_with_a_double_reference : WorkedHeap
 referrers_with_a_double_reference = record {
   members = held_twice_by_one;
@@ -99,7 +99,7 @@ referrers_with_a_double_reference = record {
   text = codes "referrers 1\nreferrer 0 2\nreferrer 2 1\noutside 1\ndone\n";
 }
 
--- Nothing refers to 0 but what is outside.
+-- Only outside references lead to 0.
 abbrev pub referrers_of_what_is_held_from_outside : WorkedHeap
 referrers_of_what_is_held_from_outside = record {
   members = held_twice_by_one;
@@ -123,7 +123,7 @@ hidden_by_untold_words = record {
 abbrev pub a_ring_by_an_untracked_member : List Member
 a_ring_by_an_untracked_member = member 1 64 (1 ∷ []) ∷ untracked 1 72 (0 ∷ []) ∷ []
 
--- The collection takes the reference of 1 for one from outside.
+-- The collection counts the reference from 1 as one from outside.
 abbrev pub lost_and_kept_by_an_untracked_member : WorkedHeap
 lost_and_kept_by_an_untracked_member = record {
   members = a_ring_by_an_untracked_member;
@@ -135,7 +135,7 @@ lost_and_kept_by_an_untracked_member = record {
 abbrev pub a_ring_with_a_legacy_finalizer : List Member
 a_ring_with_a_legacy_finalizer = with_legacy 2 64 (0 ∷ 1 ∷ []) ∷ member 1 72 ([]) ∷ member 1 56 (2 ∷ 0 ∷ []) ∷ []
 
--- 0 is set aside with 1, to which it leads; 2, which leads to it, is cleared.
+-- 0 is set aside, with 1, to which it leads; 2, which leads to it, is cleared.
 abbrev pub lost_and_set_aside : WorkedHeap
 lost_and_set_aside = record {
   members = a_ring_with_a_legacy_finalizer;
@@ -147,7 +147,7 @@ lost_and_set_aside = record {
 abbrev pub a_ring_that_one_holds : List Member
 a_ring_that_one_holds = member 1 64 (1 ∷ 3 ∷ 4 ∷ []) ∷ member 2 72 (2 ∷ []) ∷ member 1 56 (1 ∷ []) ∷ member 1 48 ([]) ∷ member 2 40 ([]) ∷ []
 
--- 3 dies by count with 0, the ring only by a collection, and 4 stays.
+-- 3 dies by count with 0, the ring only by a collection; 4 survives.
 abbrev pub dropped_with_a_ring : WorkedHeap
 dropped_with_a_ring = record {
   members = a_ring_that_one_holds;
@@ -155,7 +155,7 @@ dropped_with_a_ring = record {
   text = codes "drop 0\ngone 0 1\ngone 1 0\ngone 2 0\ngone 3 1\ntotal 4 240 2 112\ndone\n";
 }
 
--- Where all references to 1 are given up, 2 loses its only one.
+-- Dropping all references to 1 takes the only reference to 2.
 abbrev pub dropped_out_of_a_ring : WorkedHeap
 dropped_out_of_a_ring = record {
   members = a_ring_that_one_holds;
@@ -175,7 +175,7 @@ dropped_alone = record {
   text = codes "drop 0\ngone 0 1\ntotal 1 64 1 64\ndone\n";
 }
 
--- The question stands as it was asked; the members rise.
+-- The question is printed as asked; the members are in ascending order.
 abbrev pub dropped_together : WorkedHeap
 dropped_together = record {
   members = two_that_share;
@@ -187,7 +187,7 @@ dropped_together = record {
 abbrev pub a_ring_by_an_untold_word : List Member
 a_ring_by_an_untold_word = member 1 64 (1 ∷ []) ∷ with_untold 1 72 ([]) (0 ∷ []) ∷ member 1 56 ([]) ∷ []
 
--- Were the word a reference, the ring would be lost.
+-- If the word were a reference, the ring would be lost.
 abbrev pub kept_by_an_untold_word : WorkedHeap
 kept_by_an_untold_word = record {
   members = a_ring_by_an_untold_word;
@@ -195,6 +195,5 @@ kept_by_an_untold_word = record {
   text = codes "untold\nkept 0\nkept 1\ndone\n";
 }
 
--- all of them
 abbrev pub worked_heaps : List WorkedHeap
 worked_heaps = why_by_two ∷ why_by_one ∷ why_by_none_without ∷ why_a_lost_one ∷ referrers_with_a_double_reference ∷ referrers_of_what_is_held_from_outside ∷ hidden_by_untold_words ∷ lost_and_taken ∷ lost_and_kept_by_an_untracked_member ∷ lost_and_set_aside ∷ dropped_with_a_ring ∷ dropped_out_of_a_ring ∷ dropped_alone ∷ dropped_together ∷ kept_by_an_untold_word ∷ []

@@ -9,7 +9,7 @@ use Rattle.cg_records.specs.declared.line.Line.TheVariants as lines
 use Rattle.cg_records.specs.Lines.{word_text, word_of, numbers_text, line_text, mark_of, IsLine}
 use Rattle.cg_records.proofs.Numbers.{one_number}
 
--- the word at the front of bytes, from its first two bytes, or else its seventh
+-- the word at the front of some bytes, by its first two bytes, or its seventh
 word_at : List ℕ → Word
 word_at bytes =
     cond (get_or bytes 0 0 == 114) (cond (get_or bytes 1 0 == 32) words.Reference words.Record)
@@ -31,7 +31,7 @@ word_at-word_text words.Cut rest = refl
 word_at-word_text words.Stop rest = refl
 word_at-word_text words.End rest = refl
 
--- no word's text begins another's
+-- no word's text is a prefix of another's
 pub one_word : (v w : Word) (x y : List ℕ) → word_text v ++ x ≡ word_text w ++ y → (v ≡ w) × (x ≡ y)
 one_word v w x y e =
     let same : v ≡ w = sym (word_at-word_text v x) ∙ ap word_at e ∙ word_at-word_text w y in
@@ -49,7 +49,7 @@ numbers_of lines.Cut = []
 numbers_of lines.Stop = []
 numbers_of lines.End = []
 
--- numbers with spaces between them, up to the end of the line
+-- numbers separated by spaces, up to the end of the line
 abbrev ended : List ℕ → List ℕ
 ended [] = []
 ended (n ∷ []) = decimal n ++ 10 ∷ []
@@ -94,7 +94,7 @@ line_of-parts lines.Cut = refl
 line_of-parts lines.Stop = refl
 line_of-parts lines.End = refl
 
--- how many numbers stand behind a word
+-- the number of numbers after a word
 arity : Word → ℕ
 arity words.Record = 1
 arity words.First = 0
@@ -141,7 +141,7 @@ are_small lines.Cut h = tt
 are_small lines.Stop h = tt
 are_small lines.End h = tt
 
--- no numbers share a text with as many others
+-- lists of numbers of the same length have different texts
 one_ended : (ms ns : List ℕ) (x y : List ℕ) → AreSmall ms → AreSmall ns → length ms ≡ length ns → ended ms ++ x ≡ ended ns ++ y → (ms ≡ ns) × (x ≡ y)
 one_ended [] [] x y p q l e = (refl, e)
 one_ended [] (n ∷ ns) x y p q l e = absurd (omega arith)
@@ -155,7 +155,7 @@ one_ended (m ∷ j ∷ ms) (n ∷ k ∷ ns) x y p q l e =
     let more = one_ended (j ∷ ms) (k ∷ ns) x y p.1 q.1 (omega arith) one.2 in
     (ap (λ i. i ∷ j ∷ ms) one.0 ∙ ap (λ is. n ∷ is) more.0, more.1)
 
--- no line's text begins another's
+-- no line's text is a prefix of another's
 pub one_line : (a b : Line) (x y : List ℕ) → IsLine a → IsLine b → line_text a ++ x ≡ line_text b ++ y → (a ≡ b) × (x ≡ y)
 one_line a b x y p q e =
     let word = one_word (word_of a) (word_of b) (numbers_text a ++ x) (numbers_text b ++ y) (sym (append_assoc (word_text (word_of a)) (numbers_text a) x) ∙ e ∙ append_assoc (word_text (word_of b)) (numbers_text b) y) in
@@ -201,7 +201,7 @@ mark_read zero h = refl
 mark_read (suc zero) h = refl
 mark_read (suc (suc m)) h = absurd (omega arith)
 
--- what begins as a member's line, and has no second or third number
+-- bytes that start like a member's line but lack a second or third number
 module _ (bytes rest : List ℕ) (s : ℕ) (fits : s < 2 ^ 64) (is : bytes ≡ decimal s ++ 32 ∷ rest) where
   pub no_degree : ((n : ℕ) (x : List ℕ) → n < 2 ^ 64 → rest ≢ decimal n ++ 32 ∷ x)
       → (serial degree mark : ℕ) (x : List ℕ) → serial < 2 ^ 64 → degree < 2 ^ 64 → mark ≤ 1 → bytes ≢ decimal serial ++ 32 ∷ decimal degree ++ 32 ∷ decimal mark ++ 10 ∷ x

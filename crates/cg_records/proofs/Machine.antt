@@ -1,4 +1,4 @@
--- Reading the lines of records, one after the other, ends with these records.
+-- Reading the lines of records one by one gives these records.
 use Rattle.std.proofs.Common.{◌≡◌, ℕ, Bool, List, [], ◌∷◌, ◌++◌, map, Option, Some, None, refl, sym, ap, ◌∙◌, append_assoc, append-nil}
 use Rattle.std.specs.Prelude.{flat_map, option_map, IfSome}
 use Rattle.cg_records.specs.declared.graph.Member.{Member}
@@ -16,7 +16,7 @@ abbrev pub then : Option Draft → (Draft → Option Draft) → Option Draft
 then None f = None
 then (Some d) f = f d
 
--- the draft behind lines, where each may stand in its place
+-- the draft after some lines, if each is allowed where it is
 abbrev pub run : Draft → List Line → Option Draft
 run d [] = Some d
 run d (l ∷ ls) = then (step d l) (λ e. run e ls)
@@ -32,7 +32,7 @@ run-append : (d : Draft) (xs ys : List Line) → run d (xs ++ ys) ≡ then (run 
 run-append d [] ys = refl
 run-append d (x ∷ xs) ys = then_then (step d x) (λ e. run e (xs ++ ys)) (λ e. run e xs) (λ e. run e ys) (λ e. run-append e xs ys)
 
--- a run goes on where another ended
+-- runs compose
 pub chain : (d e : Draft) (xs ys : List Line) (o : Option Draft) → run d xs ≡ Some e → run e ys ≡ o → run d (xs ++ ys) ≡ o
 chain d e xs ys o p q = run-append d xs ys ∙ ap (λ r. then r (λ f. run f ys)) p ∙ q
 
@@ -48,7 +48,7 @@ with_reference-last [] s d legacy refs n = refl
 with_reference-last (m ∷ []) s d legacy refs n = refl
 with_reference-last (m ∷ k ∷ ms) s d legacy refs n = ap (option_map (λ rest. m ∷ rest)) (with_reference-last (k ∷ ms) s d legacy refs n)
 
--- in a graph of a record
+-- inside a graph of a record
 module _ (rs : List Rec) (g : ℕ) (f : Option Graph) where
   abbrev here : Graph → Draft
   here a = draft rs (Within g f a)
@@ -105,6 +105,6 @@ run_records rs (q ∷ qs) h =
     ∙ chain (draft rs Between) (draft (rs ++ q ∷ []) Between) (record_lines q) (all_lines qs) (Some (draft (rs ++ q ∷ qs) Ended)) (run_record rs q h.0)
     (run_records (rs ++ q ∷ []) qs h.1 ∙ ap (λ l. Some (draft l Ended)) (append_assoc rs (q ∷ []) qs))
 
--- the lines of records lead to these records
+-- the lines of records give these records
 pub run-all_lines : (qs : List Rec) → ArePlain qs → run start (all_lines qs) ≡ Some (draft qs Ended)
 run-all_lines qs h = run_records [] qs h

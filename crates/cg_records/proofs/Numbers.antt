@@ -1,4 +1,4 @@
--- Decimal numbers: what their digits are, where they end, and that no two share a text.
+-- Decimal numbers: their digits, where they end, and that no two share a text.
 use Rattle.std.proofs.Common.{◌≡◌, ◌≢◌, ℕ, ◌+◌, ◌-◌, ◌*◌, ◌^◌, ◌<◌, ◌≤◌, List, [], ◌∷◌, ◌++◌, length, get_or, take, drop, Bool, true, false, not, ◌==◌, ◌&&◌, ◌||◌, refl, sym, ap, subst, ◌∙◌, arith, inl, inr, length-append, length-drop}
 use Rattle.std.specs.Prelude.{decimal}
 use Rattle.std.specs.Int.{IsInRange}
@@ -15,7 +15,7 @@ use Rattle.cg_records.specs.Number.{is_plain}
 abbrev pub AreDigits : List ℕ → Type 0
 AreDigits ds = (i : ℕ) → i < length ds → IsInRange 48 57 (get_or ds i 0)
 
--- the number that digits write behind those of n
+-- the number that digits give when appended to those of n
 abbrev pub digits_after : ℕ → List ℕ → ℕ
 digits_after n [] = n
 digits_after n (d ∷ ds) = digits_after (n * 10 + (d - 48)) ds
@@ -53,7 +53,7 @@ plain_decimal n h = elim (cases_lt 0 n) [ inl some ↦ plain (decimal n) (decima
     zero_plain : (n : ℕ) → n ≡ 0 → is_plain (decimal n) ≡ true
     zero_plain n e = ap (λ k. is_plain (decimal k)) e ∙ ap is_plain (decimal_digit 0 (omega arith))
 
--- digits without leading zeros are the text of the number that they write
+-- digits without leading zeros are the text of the number they denote
 pub word_is : (word : List ℕ) (n : ℕ) → is_plain word ≡ true → AreDigits word → n ≡ digits_after 0 word → n < 2 ^ 64 → word ≡ decimal n
 word_is word n plain digits e small =
     let parts = plain_parts word plain in
@@ -86,7 +86,7 @@ no_shorter m n s x y low small e =
 tail_is : (s t : ℕ) (x y : List ℕ) → s ∷ x ≡ t ∷ y → (s ≡ t) × (x ≡ y)
 tail_is s t x y e = (cc, cc)
 
--- no two numbers share a text up to a byte that is no digit
+-- no two numbers share a text up to a byte that is not a digit
 pub one_number : (m n s t : ℕ) (x y : List ℕ) → m < 2 ^ 64 → n < 2 ^ 64 → s < 48 → t < 48 → decimal m ++ s ∷ x ≡ decimal n ++ t ∷ y → (m ≡ n) × (s ≡ t) × (x ≡ y)
 one_number m n s t x y fits small low under e =
     let a = no_shorter m n s x (t ∷ y) low small e in
@@ -119,7 +119,7 @@ ends_at bytes stop end n rest low small before found is =
 all_taken : (m : ℕ) (xs : List ℕ) → take (length xs - m) (drop m xs) ≡ drop m xs
 all_taken m xs = ap (λ k. take k (drop m xs)) (sym (length-drop m xs)) ∙ take-length (drop m xs)
 
--- bytes are a word up to a place, the byte there, and the rest
+-- bytes split at a place: the word before it, the byte there, and the rest
 pub parts_at : (bytes : List ℕ) (stop end : ℕ) (word : List ℕ) → end < length bytes → get_or bytes end 0 ≡ stop → take end bytes ≡ word
     → bytes ≡ word ++ stop ∷ take (length bytes - (end + 1)) (drop (end + 1) bytes)
 parts_at bytes stop end word within at is =

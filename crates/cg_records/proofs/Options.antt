@@ -1,4 +1,4 @@
--- What is said of an option where there is nothing.
+-- Facts about missing options.
 use Rattle.std.proofs.Common.{Option, Some, None}
 use Rattle.std.specs.Prelude.{IfNone}
 

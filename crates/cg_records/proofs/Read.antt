@@ -1,4 +1,4 @@
--- Reading line by line: what was read is spelled, and where a line cannot follow no records are.
+-- Reading line by line: the part read is a text of lines, and no records have a line that cannot follow.
 use Rattle.std.proofs.Common.{◌≡◌, ◌≢◌, ℕ, ◌<◌, List, [], ◌∷◌, ◌++◌, length, Option, Some, None, Result, Ok, Err, refl, sym, ap, subst, ◌∙◌, arith, append-nil}
 use Rattle.std.specs.Prelude.{IfOk, IfSome, IfNone}
 use Rattle.std.specs.List.{All}
@@ -17,7 +17,7 @@ use Rattle.cg_records.proofs.Small.{lines_fit, lines_back, are_plain}
 use Rattle.cg_records.proofs.Sound.{Holds, holds_start, holds_more, ended_says}
 use Rattle.cg_records.proofs.Spelled.{lines_text, spelled, AreLines, are_more, text_more, line_takes, follows}
 
--- the bytes up to a rest are lines, which lead to the draft
+-- the bytes up to a rest are lines that give the draft
 pub record HasRead (bytes rest : List ℕ) (d : Draft) : Type 0 where
   pub done : List Line
   pub says : bytes ≡ lines_text done ++ rest
@@ -35,7 +35,7 @@ no_lines : (ls : List Line) → lines_text ls ≡ [] → ls ≡ []
 no_lines [] e = refl
 no_lines (l ∷ ls) e = absurd (let some = line_takes l (lines_text (l ∷ ls)) (lines_text ls) refl in omega (arith, ap length e))
 
--- where lines were read, the lines of records with this text go on behind them
+-- after some lines were read, the lines of records with this text continue after them
 module _ (bytes rest : List ℕ) (d : Draft) (h : HasRead bytes rest d) (rs : List Rec) (small : All IsSmall rs) (is : Spells bytes rs) where
   rest_of : (more : List Line) × (all_lines rs ≡ h.done ++ more) × (lines_text more ≡ rest) × AreLines more
   rest_of = follows h.done (all_lines rs) rest h.fits (lines_fit rs is.writable small) (sym (spelled rs) ∙ sym is.text ∙ h.says)
@@ -69,14 +69,14 @@ module _ (bytes rest : List ℕ) (d : Draft) (h : HasRead bytes rest d) (rs : Li
       let one : draft rs Ended ≡ d = cc in
       open_still (sym (ap (λ (e : Draft). e.stage) one))
 
--- behind the end the records are read
+-- after the end line the records are complete
 read_end : (bytes rest : List ℕ) (d : Draft) (rs : List Rec) → HasRead bytes rest d → length rest ≡ 0 → d ≡ draft rs Ended → Spells bytes rs × All IsSmall rs
 read_end bytes rest d rs h empty ended =
     let ends = ended_says h.done rs d h.holds ended in
     let back = lines_back rs (subst AreLines (sym ends.0) h.fits) ends.1 in
     (record { writable = back.0; text = h.says ∙ ap (λ t. lines_text h.done ++ t) (nil_from_length rest empty) ∙ append-nil (lines_text h.done) ∙ ap lines_text (sym ends.0) ∙ sym (spelled rs) }, back.1)
 
--- what is said of the draft at the end is said of the bytes
+-- what holds of the draft at the end holds of the bytes
 module _ (bytes rest : List ℕ) (d : Draft) (h : HasRead bytes rest d) (empty : length rest ≡ 0) where
   pub found_end : (o : Option (List Rec)) → IfSome o (λ rs. d ≡ draft rs Ended) → IfSome o (λ rs. Spells bytes rs × All IsSmall rs)
   found_end None found = tt
@@ -97,7 +97,7 @@ same_records a b p q u v e =
     let same : Some (draft a Ended) ≡ Some (draft b Ended) = sym (run-all_lines a (are_plain a p)) ∙ ap (run start) (sym all) ∙ run-all_lines b (are_plain b u) in
     ap (λ (d : Draft). d.records) (some_is (draft a Ended) (draft b Ended) same)
 
--- bytes that some records spell are read as these
+-- bytes that spell some records are read as them
 pub only_these : {E : Type 0} (bytes : List ℕ) (r : Result (Option (List Rec)) E) → IfOk r (λ read. IfSome read (λ records. Spells bytes records × All IsSmall records))
     → IfOk r (λ read. IfNone read ((records : List Rec) → All IsSmall records → Spells bytes records → ⊥))
     → (rs : List Rec) → Spells bytes rs → All IsSmall rs → IfOk r (λ read. read ≡ Some rs)

@@ -1,4 +1,4 @@
--- The lines of records have their numbers in the ranges of lines exactly where these records can be written and have small numbers.
+-- The numbers in the lines of records are in range exactly if the records can be written and have small numbers.
 use Rattle.std.proofs.Common.{◌≡◌, ℕ, ◌^◌, ◌<◌, List, [], ◌∷◌, ◌++◌, map, Option, Some, None, sym, subst, arith}
 use Rattle.std.specs.Prelude.{flat_map, IfSome}
 use Rattle.std.specs.List.{All, AllByRecursion}

@@ -1,4 +1,4 @@
--- What was read is what the lines say: a line that may stand in its place is one line more of the draft.
+-- What was read is what the lines say: an allowed line extends the draft by one line.
 use Rattle.std.proofs.Common.{◌≡◌, ℕ, Bool, List, [], ◌∷◌, ◌++◌, map, Option, Some, None, refl, sym, ap, subst, ◌∙◌, append_assoc, append-nil}
 use Rattle.std.specs.Prelude.{flat_map, option_map, IfSome}
 use Rattle.std.proofs.lemmas.List.{map_push}
@@ -42,7 +42,7 @@ plain_more : (rs : List Rec) (r : Rec) → ArePlain rs → IfSome r.second (λ b
 plain_more [] r h k = (k, tt)
 plain_more (q ∷ rs) r h k = (h.0, plain_more rs r h.1 k)
 
--- what a line makes of a draft
+-- the effect of a line on a draft
 record Grows (d : Draft) (l : Line) (e : Draft) : Type 0 where
   pub says : lines_in e ≡ lines_in d ++ l ∷ []
   pub plain : ArePlain d.records → IsPlain d.stage → ArePlain e.records × IsPlain e.stage
@@ -65,7 +65,7 @@ reference_lines (m ∷ []) ns n e =
     ∙ ap (λ t. lines.Member m.serial m.degree m.legacy ∷ t) (append-nil (map lines.Reference m.refs ++ lines.Reference n ∷ []) ∙ ap (λ t. t ++ lines.Reference n ∷ []) (sym (append-nil (map lines.Reference m.refs))))
 reference_lines (m ∷ k ∷ ms) ns n e = reference_more m (k ∷ ms) n (with_reference (k ∷ ms) n) ns (λ rest p. reference_lines (k ∷ ms) rest n p) e
 
--- a graph has a line more, and has no legacy set before and after
+-- a graph gets one more line, and has no legacy set before or after
 record HasMore (a : Graph) (l : Line) (b : Graph) : Type 0 where
   pub says : graph_lines b ≡ graph_lines a ++ l ∷ []
   pub before : a.legacy ≡ []
@@ -107,7 +107,7 @@ more_of_lost ms lost [] n b e =
     })
 more_of_lost ms lost (x ∷ xs) n b e = absurd (cc)
 
--- the lines before, a record's first two, and what is behind
+-- the lines before, a record's first two, and the lines after
 pushed : (r : List Line) (x y l : Line) (xs : List Line) → r ++ x ∷ y ∷ (xs ++ l ∷ []) ≡ (r ++ x ∷ y ∷ xs) ++ l ∷ []
 pushed r x y l xs = sym (append_assoc r (x ∷ y ∷ xs) (l ∷ []))
 
@@ -242,7 +242,7 @@ grows_at rs Ended l e h = absurd (cc)
 grows : (d : Draft) (l : Line) (e : Draft) → step d l ≡ Some e → Grows d l e
 grows d l e h = grows_at d.records d.stage l e h
 
--- lines that were read, and the draft behind them
+-- lines that were read, and the draft after them
 pub record Holds (done : List Line) (d : Draft) : Type 0 where
   pub reached : run start done ≡ Some d
   pub says : lines_in d ≡ done

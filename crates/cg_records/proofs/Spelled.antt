@@ -83,7 +83,7 @@ records_spelled (r ∷ rs) =
 pub spelled : (rs : List Rec) → text rs ≡ lines_text (all_lines rs)
 spelled rs = ap (λ t. t ++ codes "end\n") (records_spelled rs) ∙ sym (lines_text-append (flat_map record_lines rs) (lines.End ∷ []))
 
--- each line has its numbers in their ranges
+-- the numbers of each line are in range
 abbrev pub AreLines : List Line → Type 0
 AreLines [] = Unit {0}
 AreLines (l ∷ ls) = IsLine l × AreLines ls
@@ -113,7 +113,7 @@ line_takes l bytes after e =
     let some = some_text (word_of l) in
     omega (arith, ap length e, length-append (line_text l) after, length-append (word_text (word_of l)) (numbers_text l))
 
--- lines whose text begins as others do, go on behind these
+-- if the text of lines starts with that of others, they continue after those
 pub follows : (front ls : List Line) (rest : List ℕ) → AreLines front → AreLines ls → lines_text ls ≡ lines_text front ++ rest → (more : List Line) × (ls ≡ front ++ more) × (lines_text more ≡ rest) × AreLines more
 follows [] ls rest p q e = (ls, refl, e, q)
 follows (a ∷ front) [] rest p q e =

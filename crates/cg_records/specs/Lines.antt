@@ -1,11 +1,11 @@
--- The lines of records, one by one: a word, and the numbers behind it. (Ours.)
+-- The lines of records, one by one: a word and the numbers after it. (Ours.)
 use Rattle.std.specs.Prelude.{ℕ, ◌^◌, ◌<◌, ◌≤◌, Bool, true, false, List, [], ◌∷◌, ◌++◌, codes, decimal}
 use Rattle.cg_records.specs.declared.line.Word.{Word}
 use Rattle.cg_records.specs.declared.line.Word.TheVariants as words
 use Rattle.cg_records.specs.declared.line.Line.{Line}
 use Rattle.cg_records.specs.declared.line.Line.TheVariants as lines
 
--- how a line begins
+-- the first word of a line
 abbrev pub word_text : Word → List ℕ
 word_text words.Record = codes "record "
 word_text words.First = codes "graph 1\n"
@@ -18,7 +18,7 @@ word_text words.Cut = codes "cut\n"
 word_text words.Stop = codes "stop\n"
 word_text words.End = codes "end\n"
 
--- 1 for true, and else 0
+-- 1 for true, 0 for false
 abbrev pub mark_of : Bool → ℕ
 mark_of true = 1
 mark_of false = 0
@@ -40,7 +40,7 @@ word_of lines.End = words.End
 abbrev pub last : ℕ → List ℕ
 last n = decimal n ++ 10 ∷ []
 
--- what stands behind the word
+-- the text after the word
 abbrev pub numbers_text : Line → List ℕ
 numbers_text (lines.Record g) = last g
 numbers_text lines.First = []
@@ -56,7 +56,7 @@ numbers_text lines.End = []
 abbrev pub line_text : Line → List ℕ
 line_text line = word_text (word_of line) ++ numbers_text line
 
--- the numbers are in their ranges
+-- the numbers are in range
 abbrev pub IsLine : Line → Type 0
 IsLine (lines.Record g) = g ≤ 2
 IsLine lines.First = Unit {0}

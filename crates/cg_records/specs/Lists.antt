@@ -1,4 +1,4 @@
--- Lists without an item. (Ours.)
+-- Lists with an item removed. (Ours.)
 use Rattle.std.specs.Prelude.{Bool, true, false, List, [], ◌∷◌}
 
 abbrev pub none_in : {A : Type 0} → List A → Bool

@@ -1,11 +1,11 @@
--- A member, and the last of some with a reference more. (Ours.)
+-- A member, and members with one more reference at the last one. (Ours.)
 use Rattle.std.specs.Prelude.{ℕ, Bool, List, [], ◌∷◌, ◌++◌, Option, Some, None, option_map}
 use Rattle.cg_records.specs.declared.graph.Member.{Member}
 
 abbrev pub member : ℕ → ℕ → Bool → List ℕ → Member
 member serial degree legacy refs = record { serial = serial; degree = degree; legacy = legacy; refs = refs }
 
--- the members with a reference more of the last one, where there is one
+-- the members with one more reference at the last one, if there is one
 abbrev pub with_reference : List Member → ℕ → Option (List Member)
 with_reference [] n = None
 with_reference (m ∷ []) n = Some (member m.serial m.degree m.legacy (m.refs ++ n ∷ []) ∷ [])

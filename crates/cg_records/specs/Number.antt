@@ -1,6 +1,6 @@
 -- How decimal numbers are written. (Ours.)
 use Rattle.std.specs.Prelude.{ℕ, List, Bool, not, length, slice_index, ◌==◌, ◌&&◌, ◌||◌}
 
--- there are bytes, and no zero stands before others
+-- a nonempty word without leading zeros
 abbrev pub is_plain : List ℕ → Bool
 is_plain word = not (length word == 0) && ((length word == 1) || not (slice_index word 0 == 48))

@@ -1,4 +1,4 @@
--- What a line adds to the records that were read so far, where it may stand there. (Ours.)
+-- What a line adds to the records read so far, if it is allowed there. (Ours.)
 use Rattle.std.specs.Prelude.{ℕ, cond, ◌&&◌, List, [], ◌∷◌, ◌++◌, Option, Some, None, option_map}
 use Rattle.cg_records.specs.Lists.{none_in}
 use Rattle.cg_records.specs.Members.{member, with_reference}
@@ -20,7 +20,7 @@ recorded generation first second = record { generation = generation; first = fir
 abbrev pub draft : List Rec → Stage → Draft
 draft records stage = record { records = records; stage = stage }
 
--- a line in a graph: members first, then what was lost, then what is legacy
+-- a line in a graph: members first, then the unreachable ones, then the legacy ones
 abbrev pub in_graph : Graph → Line → Option Graph
 in_graph g (lines.Member serial degree legacy) = cond (none_in g.lost && none_in g.legacy) (Some (graph (g.members ++ member serial degree legacy [] ∷ []) g.lost g.legacy)) None
 in_graph g (lines.Reference n) = cond (none_in g.lost && none_in g.legacy) (option_map (λ members. graph members g.lost g.legacy) (with_reference g.members n)) None
@@ -28,7 +28,7 @@ in_graph g (lines.Lost n) = cond (none_in g.legacy) (Some (graph g.members (g.lo
 in_graph g (lines.Legacy n) = Some (graph g.members g.lost (g.legacy ++ n ∷ []))
 in_graph g line = None
 
--- behind the first graph
+-- after the first graph
 abbrev pub at_second : List Rec → ℕ → Option Graph → Graph → Option Draft
 at_second records generation None g = Some (draft records (Within generation (Some g) (graph [] [] [])))
 at_second records generation (Some first) g = None
@@ -37,7 +37,7 @@ abbrev pub at_cut : List Rec → ℕ → Option Graph → Graph → Option Draft
 at_cut records generation None g = Some (draft (records ++ recorded generation g None ∷ []) Between)
 at_cut records generation (Some first) g = None
 
--- behind the second graph
+-- after the second graph
 abbrev pub at_stop : List Rec → ℕ → Option Graph → Graph → Option Draft
 at_stop records generation None g = None
 at_stop records generation (Some first) g = Some (draft (records ++ recorded generation first (Some g) ∷ []) Between)
@@ -67,7 +67,7 @@ abbrev pub opened : List Rec → ℕ → Line → Option Draft
 opened records generation lines.First = Some (draft records (Within generation None (graph [] [] [])))
 opened records generation line = None
 
--- the draft behind the line, where the line may stand there
+-- the draft after the line, if the line is allowed there
 abbrev pub step_at : List Rec → Stage → Line → Option Draft
 step_at records Between line = between records line
 step_at records (Opened generation) line = opened records generation line

@@ -5,7 +5,7 @@ use Rattle.cg_records.specs.declared.graph.Member.{Member}
 use Rattle.cg_records.specs.declared.graph.Graph.{Graph}
 use Rattle.cg_records.specs.declared.graph.Rec.{Rec}
 
--- a line of a word and a number
+-- a line with a word and a number
 abbrev pub numbered : List ℕ → ℕ → List ℕ
 numbered word n = word ++ 32 ∷ decimal n ++ 10 ∷ []
 
@@ -18,11 +18,11 @@ flag false = codes "0"
 abbrev pub member_text : Member → List ℕ
 member_text m = codes "m " ++ decimal m.serial ++ 32 ∷ decimal m.degree ++ 32 ∷ flag m.legacy ++ 10 ∷ flat_map (numbered (codes "r")) m.refs
 
--- the members of a graph, and what was found unreachable
+-- the members of a graph, and those found unreachable
 abbrev pub graph_text : Graph → List ℕ
 graph_text g = flat_map member_text g.members ++ flat_map (numbered (codes "lost")) g.lost
 
--- the second graph of a record, or that the run ended before it
+-- the second graph of a record, or a mark that the run ended before it
 abbrev pub rest_text : Option Graph → List ℕ
 rest_text None = codes "cut\n"
 rest_text (Some g) = codes "graph 2\n" ++ graph_text g ++ codes "stop\n"
@@ -35,7 +35,7 @@ record_text r = numbered (codes "record") r.generation ++ codes "graph 1\n" ++ g
 abbrev pub text : List Rec → List ℕ
 text records = flat_map record_text records ++ codes "end\n"
 
--- A record can be written: its generation is 0, 1 or 2, and its second graph has no legacy set.
+-- A record can be written if its generation is 0, 1 or 2 and its second graph has no legacy set.
 pub record IsWritable (r : Rec) : Type 0 where
   pub generation : r.generation ≤ 2
   pub second : IfSome r.second (λ g. g.legacy ≡ [])

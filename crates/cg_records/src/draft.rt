@@ -1,4 +1,4 @@
-//! Records in the making: what was read so far, and which lines may follow.
+//! Records under construction: what was read so far, and which lines may follow.
 ghost use Rattle.std.specs.Prelude.{◌≡◌, ◌&&◌, [], IfOk};
 ghost use Rattle.cg_records.specs.Lists.{none_in};
 ghost use Rattle.cg_records.specs.Reading.{in_graph, between, opened, at_graph, within, step, graph as graph_of};
@@ -8,20 +8,20 @@ use crate::line::Line;
 use crate::serials::Serials;
 use std::alloc::{AllocError, Global};
 
-/// Where in the text the next line stands.
+/// The position of the next line in the text.
 #[derive(Drop)]
 pub(crate) enum Stage {
-    /// Before a record, or the end.
+    /// Before a record, or before the end line.
     Between,
-    /// Behind the line that opens the record of a generation.
+    /// After the line that opens the record of a generation.
     Opened(u8),
-    /// In a graph: the generation, the first graph where this is the second, and this one so far.
+    /// In a graph: the generation, the first graph if this is the second, and this graph so far.
     Within(u8, Option<Graph>, Graph),
-    /// Behind the end.
+    /// After the end line.
     Ended,
 }
 
-/// The records that were read so far, and where the next line stands.
+/// The records read so far, and the position of the next line.
 #[derive(Drop)]
 pub(crate) struct Draft {
     pub records: Records,
@@ -45,7 +45,7 @@ fn takes_members(graph: &Graph) -> bool
     graph.lost.is_empty() && graph.legacy.is_empty()
 }
 
-/// The graph with what a line says, where the line may stand there.
+/// The graph after a line, if the line is allowed there.
 fn step_in_graph(alloc: Global, mut graph: Graph, line: Line) -> Result<Option<Graph>, AllocError>
     ensures { IfOk result (λ grown. grown ≡ in_graph graph line) }
 {
@@ -120,7 +120,7 @@ fn step_opened(alloc: Global, records: Records, generation: u8, line: Line) -> O
     }
 }
 
-/// A line in one of the graphs of a record, or behind one.
+/// A line in a graph of a record, or after one.
 fn step_within(
     alloc: Global,
     mut records: Records,
@@ -175,7 +175,7 @@ fn step_within(
     }
 }
 
-/// A line that adds to one of the graphs.
+/// A line that adds to a graph.
 fn step_graph(
     alloc: Global,
     records: Records,
@@ -195,7 +195,7 @@ fn step_graph(
     }
 }
 
-/// The draft behind a line, where the line may stand there.
+/// The draft after a line, if the line is allowed there.
 pub(crate) fn take_line(
     alloc: Global,
     draft: Draft,

@@ -5,20 +5,20 @@ use crate::serials::Serials;
 use std::alloc::AllocError;
 use std::marker::Model;
 
-/// An object that a collection looked at.
+/// An object that a collection examined.
 #[derive(Drop)]
 pub struct Member {
-    /// Its serial, or any other number that names it.
+    /// Its serial, or any other number that identifies it.
     pub serial: u64,
-    /// How many references to it there were, from members and from elsewhere.
+    /// The number of references to it, from members and from elsewhere.
     pub degree: u64,
     /// Whether its class has a legacy finalizer (a type's `tp_del`).
     pub legacy: bool,
-    /// Its references to members, one item for each, in order.
+    /// Its references to members, one item per reference, in order.
     pub refs: Serials,
 }
 
-/// Members in order, which contracts see as a list.
+/// Members in order; contracts see a list.
 #[derive(Drop)]
 pub struct Members {
     members: Vec<Member>,
@@ -36,7 +36,7 @@ impl Model for Members {
 impl Members {
     ghost use Rattle.cg_records.specs.Members.{with_reference};
 
-    /// These members in order. It takes no memory.
+    /// These members in order. It does not allocate.
     pub fn new(members: Vec<Member>) -> Members
         ensures { result ≡ members.items }
     {
@@ -57,7 +57,7 @@ impl Members {
         Ok(())
     }
 
-    /// Adds a reference to the last member, and tells whether there is one.
+    /// Adds a reference to the last member, and returns whether there is one.
     pub(crate) fn refer(&mut self, serial: u64) -> Result<bool, AllocError>
         ensures { IfOk result (λ there. with_reference self.old serial ≡ cond there (Some self.new) None) }
     {
@@ -72,13 +72,13 @@ impl Members {
     }
 }
 
-/// The objects that a collection looked at, and the sets that it found.
+/// The objects that a collection examined, and the sets that it found.
 #[derive(Drop)]
 pub struct Graph {
     pub members: Members,
-    /// What was found unreachable.
+    /// The members found unreachable.
     pub lost: Serials,
-    /// What of it was set aside for a legacy finalizer; nothing in a second graph.
+    /// The unreachable members set aside for a legacy finalizer; empty in a second graph.
     pub legacy: Serials,
 }
 
@@ -89,11 +89,11 @@ pub struct Rec {
     pub generation: u8,
     /// What the collection found at its start.
     pub first: Graph,
-    /// What it found after the finalizers, where it came so far.
+    /// What it found after the finalizers, if it got that far.
     pub second: Option<Graph>,
 }
 
-/// Records in order, which contracts see as a list.
+/// Records in order; contracts see a list.
 #[derive(Drop)]
 pub struct Records {
     members: Vec<Rec>,
@@ -109,7 +109,7 @@ impl Model for Records {
 }
 
 impl Records {
-    /// These records in order. It takes no memory.
+    /// These records in order. It does not allocate.
     pub fn new(members: Vec<Rec>) -> Records
         ensures { result ≡ members.items }
     {

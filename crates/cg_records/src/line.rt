@@ -4,7 +4,7 @@ ghost use Rattle.cg_records.specs.Lines.{word_text, line_text, IsLine};
 
 use crate::number::read_number;
 
-/// How a line begins, up to its first number, or the whole line where it has none.
+/// The start of a line up to its first number, or the whole line if it has none.
 #[derive(Clone, Copy)]
 pub(crate) enum Word {
     Record,
@@ -33,7 +33,7 @@ pub(crate) enum Line {
         degree: u64,
         legacy: bool,
     },
-    /// The member before refers to this member.
+    /// The previous member refers to this member.
     Reference(u64),
     Lost(u64),
     Legacy(u64),
@@ -45,14 +45,14 @@ pub(crate) enum Line {
     End,
 }
 
-/// What follows some bytes that others begin with.
+/// The bytes after a prefix.
 fn after<'a>(prefix: &[u8], bytes: &'a [u8]) -> Option<&'a [u8]>
     ensures { MatchOption result ((rest : List ℕ) → bytes.now ≢ prefix.now ++ rest) (λ rest. bytes.now ≡ prefix.now ++ rest.now) }
 {
     bytes.strip_prefix(prefix)
 }
 
-/// The word at the front, and what follows it.
+/// The word at the front, and the bytes after it.
 fn read_word(bytes: &[u8]) -> Option<(Word, &[u8])>
     ensures found { IfSome result (λ read. bytes.now ≡ word_text read.0 ++ read.1.now) }
     ensures none { IfNone result ((word : Word) (rest : List ℕ) → bytes.now ≢ word_text word ++ rest) }
@@ -90,7 +90,7 @@ fn read_word(bytes: &[u8]) -> Option<(Word, &[u8])>
     None
 }
 
-/// The number that ends a line, of at most so much, and what follows the line.
+/// The number that ends a line, at most `most`, and the bytes after the line.
 fn read_last(bytes: &[u8], most: u64) -> Option<(u64, &[u8])>
     ensures found { IfSome result (λ read. bytes.now ≡ decimal read.0 ++ 10 ∷ read.1.now) }
     ensures few { IfSome result (λ read. read.0 ≤ most) }
@@ -103,7 +103,7 @@ fn read_last(bytes: &[u8], most: u64) -> Option<(u64, &[u8])>
     Some((number, rest))
 }
 
-/// A member's serial, degree and mark, and what follows the line.
+/// A member's serial, degree and mark, and the bytes after the line.
 fn read_member(bytes: &[u8]) -> Option<(u64, u64, u64, &[u8])>
     ensures found { IfSome result (λ read. bytes.now ≡ decimal read.0 ++ 32 ∷ decimal read.1 ++ 32 ∷ decimal read.2 ++ 10 ∷ read.3.now) }
     ensures few { IfSome result (λ read. (read.0 < 2 ^ 64) × (read.1 < 2 ^ 64) × (read.2 ≤ 1)) }
@@ -116,7 +116,7 @@ fn read_member(bytes: &[u8]) -> Option<(u64, u64, u64, &[u8])>
     Some((serial, degree, mark, rest))
 }
 
-/// The line at the front, and what follows it.
+/// The line at the front, and the bytes after it.
 pub(crate) fn read_line(bytes: &[u8]) -> Option<(Line, &[u8])>
     ensures found { IfSome result (λ read. bytes.now ≡ line_text read.0 ++ read.1.now) }
     ensures fits { IfSome result (λ read. IsLine read.0) }

@@ -3,7 +3,7 @@ ghost use Rattle.std.specs.Prelude.{◌≡◌, ◌≢◌, ◌<◌, ◌≤◌, �
 ghost use Rattle.std.specs.Int.{IsInRange};
 ghost use Rattle.cg_records.specs.Number.{is_plain};
 
-/// The first place of a byte, or the number of bytes where there is none.
+/// The first position of a byte, or the number of bytes if there is none.
 pub fn place_of(bytes: &[u8], byte: u8) -> usize
     ensures within { result ≤ length bytes.now }
     ensures before { (k : ℕ) → k < result → slice_index bytes.now k ≢ byte }
@@ -17,14 +17,14 @@ pub fn place_of(bytes: &[u8], byte: u8) -> usize
     bytes.len()
 }
 
-/// Whether there are bytes, and no zero stands before others.
+/// Whether a word is nonempty and has no leading zero.
 fn is_plain_word(word: &[u8]) -> bool
     ensures { result ≡ is_plain word.now }
 {
     !word.is_empty() && (word.len() == 1 || word[0] != b'0')
 }
 
-/// The number with a digit behind it, where the byte is one and the number is not too large.
+/// The number with one more digit, if the byte is a digit and the result fits.
 fn with_digit(number: u64, byte: u8) -> Option<u64>
     ensures found { IfSome result (λ more. IsInRange 48 57 byte × (more ≡ number * 10 + (byte - 48))) }
     ensures fits { IfSome result (λ more. more < 2 ^ 64) }
@@ -36,7 +36,8 @@ fn with_digit(number: u64, byte: u8) -> Option<u64>
     number.checked_mul(10)?.checked_add(u64::from(byte - b'0'))
 }
 
-/// The number that a word writes in decimal without leading zeros; none where it is no such word, or the number has more than 64 bits.
+/// The number that a word denotes in decimal without leading zeros; `None` if it is not one, or needs more than 64
+/// bits.
 pub fn number_of_word(word: &[u8]) -> Option<u64>
     ensures found { IfSome result (λ number. word.now ≡ decimal number) }
     ensures fits { IfSome result (λ number. number < 2 ^ 64) }
@@ -52,7 +53,7 @@ pub fn number_of_word(word: &[u8]) -> Option<u64>
     Some(number)
 }
 
-/// The number at the front, up to a byte that is no digit, and what follows that byte.
+/// The number at the front, up to a byte that is not a digit, and the bytes after that byte.
 pub(crate) fn read_number(bytes: &[u8], stop: u8) -> Option<(u64, &[u8])>
     requires { stop < 48 }
     ensures found { IfSome result (λ read. bytes.now ≡ decimal read.0 ++ stop ∷ read.1.now) }

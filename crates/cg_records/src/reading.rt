@@ -1,4 +1,4 @@
-//! Reading records from their text.
+//! Reads records from their text.
 ghost use Rattle.std.specs.Prelude.{◌≡◌, Ok, Some, List, IfOk, IfSome, IfNone};
 ghost use Rattle.std.specs.List.{All};
 ghost use Rattle.cg_records.specs.Reading.{draft as draft_of};
@@ -11,7 +11,7 @@ use crate::graph::Records;
 use crate::line::read_line;
 use std::alloc::{AllocError, Global};
 
-/// The records of a draft behind the end.
+/// The records of a draft after the end line.
 fn records_of(draft: Draft) -> Option<Records>
     ensures found { IfSome result (λ records. draft ≡ draft_of records Ended) }
     ensures none { IfNone result (draft.stage ≡ Ended → ⊥) }
@@ -23,7 +23,7 @@ fn records_of(draft: Draft) -> Option<Records>
     }
 }
 
-/// The records that the bytes are the text of, line by line.
+/// The records whose text the bytes are, line by line.
 fn read_lines(alloc: Global, bytes: &[u8]) -> Result<Option<Records>, AllocError>
     ensures found { IfOk result (λ read. IfSome read (λ records. Spells bytes.now records × All IsSmall records)) }
     ensures none { IfOk result (λ read. IfNone read ((records : List Rec) → All IsSmall records → Spells bytes.now records → ⊥)) }
@@ -46,15 +46,15 @@ fn read_lines(alloc: Global, bytes: &[u8]) -> Result<Option<Records>, AllocError
     Ok(records_of(draft))
 }
 
-/// The records that the bytes are the text of, or `None` where they are the text of none.
+/// The records whose text the bytes are, or `None` if there are none.
 ///
-/// It takes time linear in the bytes, and memory of a constant factor of them. `AllocError` comes only where memory runs out.
+/// Takes time and memory linear in the bytes. Returns `AllocError` only if memory runs out.
 pub fn read_records(alloc: Global, bytes: &[u8]) -> Result<Option<Records>, AllocError>
-    // What is read is spelled so.
+    // The bytes are the text of the records read.
     ensures found { IfOk result (λ read. IfSome read (λ records. Spells bytes.now records × All IsSmall records)) }
-    // What is spelled so is read, and nothing else.
+    // If the bytes are the text of some records, those are read.
     ensures only { (records : List Rec) → Spells bytes.now records → All IsSmall records → IfOk result (λ read. read ≡ Some records) }
-    // Nothing is read only where no records are spelled so.
+    // `None` is returned only if the bytes are the text of no records.
     ensures none { IfOk result (λ read. IfNone read ((records : List Rec) → All IsSmall records → Spells bytes.now records → ⊥)) }
 {
     read_lines(alloc, bytes)

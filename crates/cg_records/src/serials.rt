@@ -1,4 +1,4 @@
-//! Serials in order, which contracts see as a list.
+//! Serials in order; contracts see a list.
 ghost use Rattle.std.specs.Prelude.{◌≡◌, ◌++◌, ◌∷◌, [], OnOk};
 ghost use Rattle.cg_records.specs.Lists.{none_in};
 
@@ -20,7 +20,7 @@ impl Model for Serials {
 }
 
 impl Serials {
-    /// These serials in order. It takes no memory.
+    /// These serials in order. It does not allocate.
     pub fn new(members: Vec<u64>) -> Serials
         ensures { result ≡ members.items }
     {

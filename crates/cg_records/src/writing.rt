@@ -1,4 +1,4 @@
-//! Writing records as text.
+//! Writes records as text.
 ghost use Rattle.std.specs.Prelude.{◌≡◌, ◌++◌, flat_map, decimal, IfOk, OnOk};
 ghost use Rattle.std.specs.List.{All};
 ghost use Rattle.cg_records.specs.Text.{numbered, member_text, graph_text, rest_text, record_text, text, IsWritable};
@@ -14,7 +14,7 @@ fn put_number(out: &mut Vec<u8>, number: u64) -> Result<(), AllocError>
     out.extend_from_slice(Buffer::new().format(number).as_bytes())
 }
 
-/// A line of a word and a number.
+/// Writes a line with a word and a number.
 fn put_numbered(out: &mut Vec<u8>, word: &[u8], number: u64) -> Result<(), AllocError>
     ensures { OnOk result (out.new.items ≡ out.old.items ++ numbered word.now number) }
 {
@@ -25,7 +25,7 @@ fn put_numbered(out: &mut Vec<u8>, word: &[u8], number: u64) -> Result<(), Alloc
     Ok(())
 }
 
-/// A line for each of the numbers.
+/// Writes a line for each number.
 fn put_each(out: &mut Vec<u8>, word: &[u8], numbers: &Serials) -> Result<(), AllocError>
     ensures { OnOk result (out.new.items ≡ out.old.items ++ flat_map (numbered word.now) numbers.now) }
 {
@@ -57,7 +57,7 @@ fn put_graph(out: &mut Vec<u8>, graph: &Graph) -> Result<(), AllocError>
     put_each(out, b"lost", &graph.lost)
 }
 
-/// The second graph of a record, or that the run ended before it.
+/// Writes the second graph of a record, or that the run ended before it.
 fn put_rest(out: &mut Vec<u8>, second: &Option<Graph>) -> Result<(), AllocError>
     ensures { OnOk result (out.new.items ≡ out.old.items ++ rest_text second.now) }
 {
@@ -81,7 +81,7 @@ fn put_record(out: &mut Vec<u8>, rec: &Rec) -> Result<(), AllocError>
     put_rest(out, &rec.second)
 }
 
-/// The text of records, which `read_records` reads as the same records again.
+/// The text of records; `read_records` reads it back unchanged.
 pub fn write_records(alloc: Global, records: &Records) -> Result<Vec<u8>, AllocError>
     requires { All IsWritable records.now }
     ensures { IfOk result (λ bytes. bytes.items ≡ text records.now) }

@@ -1,4 +1,5 @@
--- A world between the start of a release and its end, while no frame begins: what has begun to die since, and what is left.
+-- A world between the start and the end of a release, while no frame begins: what has begun to die since, and what is
+-- left.
 use Rattle.std.proofs.Common.{◌≡◌, ◌≢◌, refl, sym, ◌∙◌, ap, subst, ℕ, ◌+◌, ◌<◌, zero, suc, Bool, true, not, ◌||◌, inl, inr, ◌⊎◌, List, [], ◌∷◌, ◌++◌, Option, arith}
 use Rattle.std.specs.Prelude.{◌==◌, flat_map}
 use Rattle.std.specs.List.{list_any}
@@ -19,7 +20,7 @@ use Rattle.cg_machine.proofs.Releasing.{absent, no_times, none_holds, HeldByNone
 use Rattle.cg_release.specs.Release.{DiesByCount, references_from}
 use Rattle.cg_release.proofs.Counts.{IsApart, Lets, dead, degree_parts, from_holder, holdings_split, lets_die, lets_free}
 
--- a death holds nothing, and waits for no frame
+-- a death that holds nothing and waits for no frame
 abbrev pub IsBarePhase : DyingPhase → Type 0
 IsBarePhase Finalizer = Unit {0}
 IsBarePhase AfterFinalizer = ⊥
@@ -33,7 +34,7 @@ IsBarePhase AfterLegacy = ⊥
 IsBarePhase Detaching = Unit {0}
 IsBarePhase Emptying = Unit {0}
 
--- what is above: releases, and such deaths of what has begun to die
+-- the activities above: releases, and such deaths of objects that have begun to die
 abbrev pub IsBare : (ℕ → Bool) → Activity → Type 0
 IsBare gone (TopLevel commands) = ⊥
 IsBare gone (Framed f) = ⊥
@@ -54,11 +55,11 @@ is_positive : (n : ℕ) → n ≢ 0 → 0 < n
 is_positive zero h = absurd (h refl)
 is_positive (suc n) h = omega arith
 
--- an in-degree that a set and what is given up make out alone
+-- an in-degree made up only by a set and the released references
 of_set : (degree roots entries inside outside stack given under : ℕ) → degree ≡ roots + entries + stack → entries ≡ inside + outside → stack ≡ given + under → roots ≡ 0 → outside ≡ 0 → under ≡ 0 → given + inside ≡ degree
 of_set degree roots entries inside outside stack given under a b c d e f = omega (arith, a, b, c, d, e, f)
 
--- The world w is that in which the release starts.
+-- The release starts in world w.
 module _ (w : World) (given : List ℕ) (below : List Activity) where
   pub record Between (gone : ℕ → Bool) (tops : List Activity) (done : List Event) (bindings : List (Option Val)) (objects : List Object) (whole : List Activity) : Type 0 where
     pub names : bindings ≡ w.names
@@ -72,7 +73,7 @@ module _ (w : World) (given : List ℕ) (below : List Activity) where
     pub ends : (o : ℕ) → gone o ≡ true → (list_any (is_death_of o) tops ≡ true) ⊎ Includes done (Free o) × ¬ Includes (serials objects) o
     pub freed : (o : ℕ) → Includes done (Free o) → gone o ≡ true
 
-  -- a step begins no death and ends none
+  -- a step that begins and ends no death
   pub goes : (gone : ℕ → Bool) (tops next : List Activity) (done lines : List Event) (names : List (Option Val)) (objects after : List Object) (stack : List Activity) → Lets gone objects after
       → ((a : Activity) → Includes next a → IsBare gone a) → ((o : ℕ) → Includes (flat_map holds next) o → Includes (flat_map holds tops) o ⊎ Includes (entry_holdings (graph_of objects)) o)
       → ((o : ℕ) → list_any (is_death_of o) tops ≡ true → list_any (is_death_of o) next ≡ true) → ((o : ℕ) → ¬ Includes lines (Free o))
@@ -137,7 +138,7 @@ module _ (w : World) (given : List ℕ) (below : List Activity) where
     no_root = no_times o (name_holdings w.names ++ (1 ∷ [])) (λ m. either (Includes-append_cases (name_holdings w.names) (1 ∷ []) o m)
         (λ k. free.names (subst (λ ns. Includes (name_holdings ns) o) (sym b.names) k)) (λ k. either k (λ e. free.root (sym e)) (λ no. no)))
 
-    -- nor what is below
+    -- nor do the activities below
     none_under : occurrences o (flat_map holds below) ≡ 0
     none_under = no_times o (flat_map holds below) (λ m. free.stack (Includes-append_right refs (flat_map holds (tops ++ below)) o (further tops m)))
       where
@@ -145,7 +146,7 @@ module _ (w : World) (given : List ℕ) (below : List Activity) where
         further [] m = m
         further (t ∷ ts) m = Includes-append_right (holds t) (flat_map holds (ts ++ below)) o (further ts m)
 
-    -- nor an object that is in no set with what has begun to die
+    -- nor an object outside the set and the dying objects
     none_outside : (set : ℕ → Bool) → ((n : ℕ) → gone n ≡ true → set n ≡ true) → occurrences o (references_from (λ n. not (set n)) w.objects) ≡ 0
     none_outside set has = no_times o (references_from (λ n. not (set n)) w.objects) (λ m.
         let x = from_holder (λ n. not (set n)) v.objects o (subst (λ rs. Includes rs o) (sym (b.others (λ n. not (set n)) (λ n g. ap not (has n g)))) m) in

@@ -1,4 +1,4 @@
--- A death that waits for a callback, or whose run has ended: without a frame it never ends.
+-- A death that waits for a callback, or whose run has ended: it never ends without a frame.
 use Rattle.std.proofs.Common.{◌≡◌, ◌≢◌, refl, sym, ◌∙◌, ap, subst, ℕ, ◌+◌, inl, inr, ◌⊎◌, List, [], ◌∷◌, ◌++◌, length, Some, arith}
 use Rattle.std.specs.Prelude.{cond, count_by, if◌then◌else◌, is_some, unwrap_or}
 use Rattle.std.proofs.lemmas.List.{length-append}
@@ -35,7 +35,7 @@ Waits (Dying d) = WaitsIn d.phase
 Waits (Collecting c) = ⊥
 Waits (ShuttingDown started) = ⊥
 
--- something is above, and it waits, or the run has ended
+-- the top activity waits, or the run has ended
 pub record IsCaught (below : List Activity) (stack : List Activity) (outcome : Outcome) : Type 0 where
   pub top : Activity
   pub tops : List Activity
@@ -98,7 +98,7 @@ module _ (script : Script) (below : List Activity) where
   caught_step u (Collecting c) tops h events after step = absurd h
   caught_step u (ShuttingDown started) tops h events after step = absurd h
 
-  -- it never is as below
+  -- the stack never returns to the one below
   pub caught_stays : (u : World) (steps : List StepTaken) → Run script u steps → count_by is_enter (events_of steps) ≡ 0 → IsCaught below u.stack u.outcome → (last_world u steps).stack ≢ below
   caught_stays u [] run quiet c e = longer c.top c.tops below (sym c.is ∙ e)
   caught_stays u (step ∷ steps) run quiet c e =

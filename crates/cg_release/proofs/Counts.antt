@@ -1,4 +1,5 @@
--- The references of the objects in a set: who has them, how often they hold an object, and which changes leave them.
+-- The references of the objects in a set: which objects have them, how often they hold an object, and which changes
+-- keep them.
 use Rattle.std.proofs.Common.{◌≡◌, refl, sym, ◌∙◌, ap, subst, ℕ, ◌+◌, Bool, true, false, cond, not, inl, inr, ◌⊎◌, List, [], ◌∷◌, ◌++◌, Option, Some, None, arith}
 use Rattle.std.specs.Prelude.{◌==◌, if◌then◌else◌, flat_map, option_map, unwrap_or}
 use Rattle.std.proofs.lemmas.Bool.{eqb-true}
@@ -33,7 +34,7 @@ from_holder set (x ∷ objects) o m = either (Includes-append_cases (part set x)
     of_part true e k = (e, k)
     of_part false e k = absurd k
 
--- what entries hold is held from a set and from its complement
+-- entries are in a set or in its complement
 of_both : (whole here rest p r q s left right : ℕ) → whole ≡ here + rest → left ≡ p + r → right ≡ q + s → here ≡ p + q → rest ≡ r + s → whole ≡ left + right
 of_both whole here rest p r q s left right a b c d e = omega (arith, a, b, c, d, e)
 
@@ -62,7 +63,7 @@ degree_parts w stack o e =
     ∙ ap (λ (n : ℕ). n + occurrences o (flat_map holds w.stack)) (occurrences-append o (name_holdings w.names ++ (1 ∷ [])) (entry_holdings (graph_of w.objects)))
     ∙ ap (λ (st : List Activity). occurrences o (name_holdings w.names ++ (1 ∷ [])) + occurrences o (entry_holdings (graph_of w.objects)) + occurrences o (flat_map holds st)) e
 
--- one object changes, or goes
+-- one object changes or goes
 pub change_from : (set : ℕ → Bool) (f : Object → Object) (o : ℕ) → ((x : Object) → x.serial ≡ o → part set (f x) ≡ part set x) → (objects : List Object) → references_from set (change f o objects) ≡ references_from set objects
 change_from set f o h [] = refl
 change_from set f o h (x ∷ objects) =
@@ -80,11 +81,11 @@ without_from set o none (x ∷ objects) = go (x.serial == o) refl (without_from 
     go true e rest = rest ∙ sym (ap (λ (b : Bool). (if b then references x.entries else []) ++ references_from set objects) (ap set (eqb-true x.serial o e) ∙ none))
     go false e rest = ap (λ (ys : List ℕ). part set x ++ ys) rest
 
--- a set has none of another
+-- the sets are disjoint
 abbrev pub IsApart : (ℕ → Bool) → (ℕ → Bool) → Type 0
 IsApart gone set = (n : ℕ) → gone n ≡ true → set n ≡ false
 
--- What a step may do to the objects: those of a set lose entries and go, and nothing is held that was not.
+-- What a step may do to the objects: those of a set lose entries and go, and no new holds appear.
 pub record Lets (gone : ℕ → Bool) (before after : List Object) : Type 0 where
   pub others : (set : ℕ → Bool) → IsApart gone set → references_from set after ≡ references_from set before
   pub lives : (n : ℕ) → Includes (serials before) n → (gone n ≡ true) ⊎ Includes (serials after) n
@@ -124,7 +125,7 @@ lets_die gone o objects = lets_change gone dead o objects (change_alters dead de
 pub lets_lose : (gone : ℕ → Bool) (weak : ℕ) (objects : List Object) → Lets gone objects (loses_referent weak objects)
 lets_lose gone weak objects = lets_change gone (with_referent None) weak objects (lost_alters weak objects) (λ set a x e. refl) (λ p x m e k. entry_held objects x p m k)
 
--- the entries by a serial are held
+-- an object's entries are held
 pub entries_held : (objects : List Object) (o p : ℕ) → Includes (references (entries_of objects o)) p → Includes (entry_holdings (graph_of objects)) p
 entries_held objects o p m = go (object_at objects o) refl m
   where
@@ -145,7 +146,6 @@ lets_shorten gone o objects g = lets_change gone (with_entries less) o objects (
     less : List Entry
     less = without_last (entries_of objects o)
 
--- it goes
 pub lets_free : (gone : ℕ → Bool) (o : ℕ) (objects : List Object) → gone o ≡ true → Lets gone objects (without o objects)
 lets_free gone o objects g = record {
   others = λ set a. without_from set o (a o g) objects;

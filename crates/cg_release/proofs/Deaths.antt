@@ -1,4 +1,4 @@
--- Each step of a release: it goes on, or it is caught.
+-- Each step of a release: it makes progress, or is caught.
 use Rattle.std.proofs.Common.{◌≡◌, ◌≢◌, refl, sym, ◌∙◌, ap, subst, ℕ, Bool, true, false, not, ◌&&◌, ◌||◌, inl, inr, ◌⊎◌, List, [], ◌∷◌, ◌++◌, Option, Some, None}
 use Rattle.std.specs.Prelude.{◌==◌, count_by, flat_map, if◌then◌else◌, is_some, option_and_then}
 use Rattle.std.proofs.lemmas.Bool.{and_parts, eqb-true}
@@ -27,7 +27,7 @@ use Rattle.cg_release.proofs.Counts.{Lets, last_held, lets_lose, lets_same, lets
 use Rattle.cg_release.proofs.Between.{Between, IsBare, IsBarePhase, begins, frees, goes}
 use Rattle.cg_release.proofs.Caught.{IsCaught, caught_stays, longer, starts_caught}
 
--- no line, and the line that a weak reference is cleared, frees nothing
+-- no line, and the line for a cleared weak reference, frees nothing
 none_freed : (o : ℕ) → ¬ Includes [] (Free o)
 none_freed o m = absurd m
 
@@ -159,7 +159,7 @@ module _ (script : Script) (w : World) (given : List ℕ) (below : List Activity
     step_goes (Collecting c) b events after step = absurd (b.bare (Collecting c) (inl refl))
     step_goes (ShuttingDown started) b events after step = absurd (b.bare (ShuttingDown started) (inl refl))
 
-  -- the first world whose stack is as below
+  -- the first world whose stack is the one below
   pub ends_between : (gone : ℕ → Bool) (tops : List Activity) (done : List Event) (u : World) (steps : List StepTaken) → Between w given below gone tops done u.names u.objects u.stack
       → Run script u steps → count_by is_enter (events_of steps) ≡ 0
       → ((front back : List StepTaken) (step : StepTaken) → steps ≡ front ++ step ∷ back → (last_world u front).stack ≢ below) → (last_world u steps).stack ≡ below

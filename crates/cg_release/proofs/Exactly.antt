@@ -28,7 +28,7 @@ use Rattle.cg_release.proofs.Counts.{degree_parts, from_holder, holdings_split}
 use Rattle.cg_release.proofs.Between.{Between, IsBare}
 use Rattle.cg_release.proofs.Deaths.{ends_between}
 
--- a death is unheld, or holds its object itself
+-- a dying object is unheld, or its death holds it
 unheld_or_own : (o : ℕ) (phase : DyingPhase) (held : List ℕ) → IsHeldInItsFramesAlone o phase held → (occurrences o held ≡ 0) ⊎ Includes (dying_holds o phase) o
 unheld_or_own o Finalizer held h = inl h
 unheld_or_own o AfterFinalizer held h = inr (inl refl)
@@ -40,7 +40,7 @@ unheld_or_own o AfterLegacy held h = inr (inl refl)
 unheld_or_own o Detaching held h = inl h
 unheld_or_own o Emptying held h = inl h
 
--- what is given and a set make out an in-degree: nothing else holds
+-- if the released references and a set make up an in-degree, nothing else holds
 none_else : (degree roots entries inside outside stack given under count : ℕ) → degree ≡ roots + entries + stack → entries ≡ inside + outside → stack ≡ given + under → count ≡ given + inside → count ≡ degree → (roots ≡ 0) × (outside ≡ 0) × (under ≡ 0)
 none_else degree roots entries inside outside stack given under count a b c d e = (omega (arith, a, b, c, d, e), omega (arith, a, b, c, d, e), omega (arith, a, b, c, d, e))
 
@@ -53,11 +53,11 @@ not_both b e f = let no : true ≡ false = sym e ∙ f in cc
 module _ (w : World) (given : List ℕ) (below : List Activity) (top : w.stack ≡ Releasing given ∷ below)
     (deaths : (d : Death) → Includes w.stack (Dying d) → IsHeldInItsFramesAlone d.object d.phase (holdings w)) (k : ℕ) (u : World) (minded : IsMinded k u)
     (gone : ℕ → Bool) (done : List Event) (b : Between w given below gone [] done u.names u.objects u.stack) where
-  -- what has begun to die is there no more
+  -- an object that has begun to die is gone at the end
   over : (o : ℕ) → gone o ≡ true → ¬ Includes (serials u.objects) o
   over o g m = either (b.ends o g) (λ no. not_both true refl (sym no)) (λ e. e.1 m)
 
-  -- what is dying below was unheld at the start, or is held below
+  -- an object dying below was unheld at the start, or is held below
   dies_under : (o : ℕ) → list_any (is_death_of o) below ≡ true → (in_degree w o ≡ 0) ⊎ Includes (flat_map holds below) o
   dies_under o dying =
       let death = death_found o below dying in
@@ -66,8 +66,8 @@ module _ (w : World) (given : List ℕ) (below : List Activity) (top : w.stack �
       (λ unheld. inl (subst (λ (n : ℕ). in_degree w n ≡ 0) death.2 unheld))
       (λ own. inr (subst (λ (n : ℕ). Includes (flat_map holds below) n) death.2 (held_by_member below (Dying death.0) death.0.object death.1 own)))
 
-  -- An object whose in-degree is what is given up and what the dead hold has begun to die: else nothing would hold it at the end,
-  -- and it would be dying below, where it was at the start.
+  -- If an object's in-degree is made up by the released references and the dead, it has begun to die. Otherwise
+  -- nothing would hold it at the end, and it would be dying below, where it was at the start.
   left : (o : ℕ) → gone o ≡ false → Includes (serials w.objects) o → 0 < in_degree w o → occurrences o (given ++ references_from gone w.objects) ≡ in_degree w o → ⊥
   left o stays lives some count =
       let parts = none_else _ _ _ _ _ _ _ _ _ (degree_parts w (Releasing given ∷ below) o top) (holdings_split o gone w.objects) (occurrences-append o given (flat_map holds below)) (occurrences-append o given (references_from gone w.objects)) count in

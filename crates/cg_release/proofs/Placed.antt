@@ -1,4 +1,4 @@
--- Objects by their places among all: what dies by count by serials, and what by places.
+-- Objects by their places among all objects: what dies by count, by serials and by places.
 use Rattle.std.proofs.Common.{◌≡◌, refl, sym, ◌∙◌, ap, subst, ℕ, zero, suc, ◌+◌, ◌<◌, Bool, true, false, cond, inl, inr, List, [], ◌∷◌, ◌++◌, length, map, Some, arith}
 use Rattle.std.specs.Prelude.{◌↔◌, ◌==◌, if◌then◌else◌, slice_get, slice_index}
 use Rattle.std.proofs.lemmas.Bool.{eqb-true, eqb-false, eq-eqb, ne_eqb}
@@ -27,7 +27,7 @@ use Rattle.cg_release.specs.Places.{ReleasesFreeWhatDropTells, IsTheRelease, mem
 use Rattle.cg_release.proofs.Counts.{part}
 use Rattle.cg_release.proofs.Exactly.{frees_exactly, not_both}
 
--- what stands at the place of an object
+-- the element at the place of an object
 pub at_place : {X : Type 0} (g : ℕ → X) (objects : List Object) (o : ℕ) (more : List X) → Includes (serials objects) o → slice_get (map (λ (x : Object). g x.serial) objects ++ more) (place_of objects o) ≡ Some (g o)
 at_place g [] o more m = absurd m
 at_place {X} g (x ∷ objects) o more m = go (x.serial == o) refl m (at_place g objects o more)
@@ -38,7 +38,7 @@ at_place {X} g (x ∷ objects) o more m = go (x.serial == o) refl m (at_place g 
     go false e (inl i) rest = absurd (not_both (x.serial == o) (eq-eqb x.serial o i) e)
     go false e (inr m) rest = rest m
 
--- and the place of what stands there
+-- and the place of that element
 pub place_at : (low high : ℕ) (objects : List Object) → Rises low high objects → (i : ℕ) (x : Object) → slice_get objects i ≡ Some x → place_of objects x.serial ≡ i
 place_at low high [] r i x e = absurd (cc)
 place_at low high (y ∷ objects) r zero x e = let same : y ≡ x = cc in ap (λ (b : Bool). if b then 0 else suc (place_of objects x.serial)) (eq-eqb y.serial x.serial (ap (λ (z : Object). z.serial) same))
@@ -95,7 +95,7 @@ pub degrees_placed : (p d : ℕ → ℕ) (given : List ℕ) (objects : List Obje
 degrees_placed p d given [] = refl
 degrees_placed p d given (x ∷ objects) = ap (λ (ds : List ℕ). d x.serial ∷ ds) (degrees_placed p d given objects)
 
--- the release alone has no in-degree
+-- only the release has in-degree 0
 pub found_degree : (d : ℕ → ℕ) (objects : List Object) (i : ℕ) → 0 < slice_index (map (λ (x : Object). d x.serial) objects ++ 0 ∷ []) i → (x : Object) × (slice_get objects i ≡ Some x)
 found_degree d [] zero h = absurd (omega (arith, h))
 found_degree d [] (suc i) h = absurd (omega (arith, h))
@@ -138,7 +138,7 @@ module _ (w : World) (given : List ℕ) (low high : ℕ) (rises : Rises low high
       let all : occurrences (p o) (targets_from (marks_of set w.objects) rows) ≡ occurrences (p o) (map p inside ++ map p given) = ap (occurrences (p o)) (targets_placed set p (in_degree w) given w.objects) in
       omega (arith, all, occurrences-append (p o) (map p inside) (map p given), occurrences-placed w.objects o lives inside, occurrences-placed w.objects o lives given, occurrences-append o given inside)
 
-  -- a set of serials that is closed, by places
+  -- a closed set of serials, by places
   closed_by_places : (set : ℕ → Bool) → IsClosed w given set → IsClosedByPlaces (members_of w given) (IsTheRelease w) (marks_of set w.objects)
   closed_by_places set closed = record {
     len = length-append (map (λ (x : Object). set x.serial) w.objects) (true ∷ []) ∙ ap (λ (n : ℕ). n + 1) (length-map w.objects (λ (x : Object). set x.serial)) ∙ sym count_of_members;
@@ -155,7 +155,7 @@ module _ (w : World) (given : List ℕ) (low high : ℕ) (rises : Rises low high
         subst (Marks (marks_of set w.objects)) at (at_place set w.objects x.0.serial (true ∷ []) lives ∙ ap (λ (b : Bool). Some b) (closed x.0 member positive all));
   }
 
-  -- marks that are closed, by serials
+  -- closed marks, by serials
   closed_by_serials : (marks : List Bool) → IsClosedByPlaces (members_of w given) (IsTheRelease w) marks → IsClosed w given (λ o. is_marked marks (place_of w.objects o))
   closed_by_serials marks closed x member some count =
       let set : ℕ → Bool = λ o. is_marked marks (place_of w.objects o) in

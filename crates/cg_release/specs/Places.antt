@@ -1,5 +1,5 @@
--- The same by places, in the words in which `cg_ask` says what its question `drop` asks of a heap: the objects of a world as members,
--- and one member more, the release. (Ours.)
+-- The same by places, in terms of `cg_ask`'s question `drop`: the objects of a world are members, and the release is
+-- one more member. (Ours.)
 use Rattle.std.specs.Prelude.{◌≡◌, ◌↔◌, ℕ, suc, ◌==◌, true, false, List, [], ◌∷◌, ◌++◌, if◌then◌else◌, length, map}
 use Rattle.cg_script.specs.declared.Script.{Script}
 use Rattle.cg_script.specs.Texts.{TextsAreKnown}
@@ -24,15 +24,15 @@ place_of (x ∷ objects) o = if x.serial == o then 0 else suc (place_of objects 
 abbrev pub member_with : ℕ → List ℕ → Member
 member_with degree refs = member degree 0 true false refs []
 
--- the objects in order, and behind them the release, which nothing refers to and which has the references that are given up
+-- the objects in order, then the release, which nothing refers to and whose references are the released ones
 abbrev pub members_of : World → List ℕ → List Member
 members_of w given = map (λ x. member_with (in_degree w x.serial) (map (place_of w.objects) (references x.entries))) w.objects ++ member_with 0 (map (place_of w.objects) given) ∷ []
 
--- its place
 abbrev pub IsTheRelease : World → ℕ → Type 0
 IsTheRelease w place = place ≡ length w.objects
 
--- A release in which no frame begins frees exactly the objects that die by count where the release is given, for each script of a class.
+-- A release in which no frame begins frees exactly the objects that die by count when the release is dropped, for each
+-- script of a class.
 abbrev pub ReleasesFreeWhatDropTellsIn : (Script → Type 0) → Type 0
 ReleasesFreeWhatDropTellsIn Fit = (script : Script) (budget : ℕ) (before during : List StepTaken) (given : List ℕ) (below : List Activity)
     → Fit script → IsRelease script budget before during given below

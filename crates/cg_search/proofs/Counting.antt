@@ -17,7 +17,7 @@ few_occurrences o xs = count_by-le-length (λ r. r == o) xs
 pub adds_none : (counts : List ℕ) → Adds counts [] counts
 adds_none counts = record { len = refl; adds = λ i within. omega arith }
 
--- some targets, and then others
+-- some targets, then others
 pub adds_more : (old mid new first others : List ℕ) → Adds old first mid → Adds mid others new → Adds old (first ++ others) new
 adds_more old mid new first others h k = record {
   len = k.len ∙ h.len;
@@ -43,7 +43,7 @@ adds_next old counts row k number inside within read h =
     subst (λ (ts : List ℕ). Adds old ts (set counts (get_or row k 0) (number + 1))) (sym (take_more row k 0 inside))
     (adds_more old counts (set counts (get_or row k 0) (number + 1)) (take k row) (get_or row k 0 ∷ []) h (adds_one counts (get_or row k 0) number within read))
 
--- it is none
+-- the next target is not a place
 pub adds_skip : (old counts row : List ℕ) (k : ℕ) → k < length row → length counts ≤ get_or row k 0 → Adds old (take k row) counts → Adds old (take (k + 1) row) counts
 adds_skip old counts row k inside past h =
     subst (λ (ts : List ℕ). Adds old ts counts) (sym (take_more row k 0 inside))
@@ -139,6 +139,6 @@ pub counts_all : (marks : List Bool) (rows : List (List ℕ)) (at : ℕ) (counts
 counts_all marks rows at counts end long so i within =
     so.each i within ∙ ap (λ (bs : List Bool). occurrences i (targets_from bs (take at rows))) (take_all at marks (omega (arith, long, end))) ∙ ap (λ (rs : List (List ℕ)). occurrences i (targets_from marks rs)) (take_all at rows end)
 
--- the row of a node that is read
+-- the row of a node
 pub row_of_node : {N : Type 0} (f : N → List ℕ) (nodes : List N) (at : ℕ) (n : N) (row : List ℕ) → at < length nodes → n ≡ get_or nodes at n → row ≡ f n → row ≡ get_or (map f nodes) at row
 row_of_node f nodes at n row within read is = is ∙ ap f read ∙ sym (get_or-map f nodes at n row within)

@@ -1,4 +1,4 @@
--- The edges of rows, and paths by them.
+-- The edges of rows, and paths along them.
 use Rattle.std.proofs.Common.{◌≡◌, refl, sym, ◌∙◌, ap, subst, ℕ, zero, suc, ◌+◌, Bool, true, false, List, [], ◌∷◌, map, Some, arith}
 use Rattle.std.specs.Prelude.{slice_get, filter}
 use Rattle.std.specs.List.{AllByRecursion}
@@ -42,7 +42,7 @@ edge_out rows o t h =
     let same : found.0 ≡ o = omega (arith, found.2) in
     (found.1, subst (λ i. slice_get rows i ≡ Some found.1) same found.3, found.4)
 
--- a mark that is read
+-- the mark at a place
 pub marks_of_is : (marks : List Bool) (i : ℕ) → is_marked marks i ≡ true → Marks marks i
 marks_of_is [] i h = absurd (cc)
 marks_of_is (m ∷ marks) zero h = ap Some h
@@ -51,7 +51,7 @@ marks_of_is (m ∷ marks) (suc i) h = marks_of_is marks i h
 pub is_of_marks : (marks : List Bool) (i : ℕ) → Marks marks i → is_marked marks i ≡ true
 is_of_marks marks i h = get_or_from_slice_get marks i true false h
 
--- an edge to a place that is allowed
+-- an edge to an allowed place
 module _ (allowed : List Bool) (rows : List (List ℕ)) where
   pub step_in : (o : ℕ) (row : List ℕ) (t : ℕ) → slice_get rows o ≡ Some row → Includes (filter (is_marked allowed) row) t → Includes (steps_of allowed rows) (edge o t)
   step_in o row t at h =
@@ -94,7 +94,7 @@ module _ (allowed : List Bool) (rows : List (List ℕ)) where
     pub none_of_path : (object : ℕ) → HasNoPath (StartsAt starts allowed) (steps_of allowed rows) object → HasNoWay starts allowed rows object
     none_of_path object h path way = h path (path_of_way path object way)
 
--- what paths by rows lead to is what paths by edges reach
+-- paths by rows lead exactly where paths by edges do
 module _ (starts allowed : List Bool) (rows : List (List ℕ)) (Held Inside : ℕ → Type 0) where
   pub reach_of_leads : ((i : ℕ) → Marks starts i → Held i) → ((i : ℕ) → Marks allowed i → Inside i) → (i : ℕ) → Leads starts allowed rows i → Reach Held Inside (edges_of rows) i
   reach_of_leads held inside _ (begins i s a) = first (held i s) (inside i a)

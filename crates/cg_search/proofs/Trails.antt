@@ -1,4 +1,4 @@
--- The search by breadth: each turn keeps what is true of it, and at its end the trails are the shortest paths.
+-- The breadth-first search: each step keeps its invariant, and at the end the trails are the shortest paths.
 use Rattle.std.proofs.Common.{◌≡◌, refl, sym, ◌∙◌, ap, subst, ℕ, zero, suc, ◌+◌, ◌<◌, ◌≤◌, ◌⊎◌, inl, inr, Bool, true, false, cond, List, [], ◌∷◌, ◌++◌, length, map, reverse, take, Option, Some, None, arith, length-append, append_assoc}
 use Rattle.std.specs.Prelude.{◌==◌, slice_get}
 use Rattle.std.proofs.lemmas.Bool.{eq-eqb, ne_eqb, cases_eq}
@@ -14,7 +14,7 @@ use Rattle.cg_graph.proofs.Objects.{occurrences-append}
 use Rattle.cg_search.proofs.Places.{occurs, occurrences-cons, absent_from}
 use Rattle.cg_search.specs.Walks.{Findings, objects_in, AreOnce, Finds, IsStart, IsTrail, TrailBy, HaveTrails, LeadsOn, IsTrailOf, Lengthen, HasSpread, IsOver}
 
--- Places in lists.
+-- Positions in lists.
 pub get_left : {X : Type 0} (xs ys : List X) (i : ℕ) (x : X) → slice_get xs i ≡ Some x → slice_get (xs ++ ys) i ≡ Some x
 get_left [] ys i x h = absurd (cc)
 get_left (y ∷ xs) ys zero x h = h
@@ -65,7 +65,7 @@ pub taken_all : {X : Type 0} (xs : List X) → take (length xs) xs ≡ xs
 taken_all [] = refl
 taken_all (x ∷ xs) = ap (λ ys. x ∷ ys) (taken_all xs)
 
--- where each stands once, a member has one place
+-- without duplicates, an element has one position
 pub one_place : (xs : List ℕ) (i k o : ℕ) → occurrences o xs ≤ 1 → slice_get xs i ≡ Some o → slice_get xs k ≡ Some o → i ≡ k
 one_place [] i k o once h l = absurd (cc)
 one_place (x ∷ xs) zero zero o once h l = refl
@@ -90,7 +90,7 @@ pub length-objects_in : (found : Findings) → length (objects_in found) ≡ len
 length-objects_in [] = refl
 length-objects_in (e ∷ found) = ap suc (length-objects_in found)
 
--- Trails that lengthen.
+-- Trails in order of length.
 pub lengthen_append : (ts us : List (List ℕ)) → Lengthen ts → Lengthen us → ((t u : List ℕ) → Includes ts t → Includes us u → length t ≤ length u) → Lengthen (ts ++ us)
 lengthen_append [] us a b h = b
 lengthen_append (t ∷ ts) us a b h =
@@ -107,7 +107,7 @@ lengthen_get (v ∷ ts) a zero (suc k) t u h l less = let e = ap length (same_so
 lengthen_get (v ∷ ts) a (suc i) zero t u h l less = absurd (omega (arith, less))
 lengthen_get (v ∷ ts) a (suc i) (suc k) t u h l less = lengthen_get ts a.1 i k t u h l (omega (arith, less))
 
--- An object that was found has a trail.
+-- A found object has a trail.
 pub trail_of : (found : Findings) (trails : List (List ℕ)) → HaveTrails found trails → (o : ℕ) → Includes (objects_in found) o → (t : List ℕ) × Includes trails t × IsTrailOf o t
 trail_of found trails have o m =
     let named = Includes-map_cases (λ (e : ℕ × Option ℕ). e.0) found o m in
@@ -119,7 +119,7 @@ trail_of found trails have o m =
     ends None t p i by e = subst (IsTrailOf o) (sym by) e
     ends (Some j) t p i by e = subst (IsTrailOf o) (sym by.1.2) e
 
--- the trail of the one at a place
+-- the trail of the object at a position
 pub trail_at : (found : Findings) (trails : List (List ℕ)) → HaveTrails found trails → (i o : ℕ) (h : Option ℕ) → slice_get found i ≡ Some (o, h) → (rest : List ℕ) × (slice_get trails i ≡ Some (o ∷ rest))
 trail_at found trails have i o h at = let r = have.each i (o, h) at in go h r.0 r.1 r.2
   where
@@ -127,7 +127,7 @@ trail_at found trails have i o h at = let r = have.each i (o, h) at in go h r.0 
     go None t is by = ([], is ∙ ap Some by)
     go (Some j) t is by = (by.1.0, is ∙ ap Some by.1.2)
 
--- a trail at a place is that of an object that was found
+-- each trail belongs to a found object
 pub found_of : (found : Findings) (trails : List (List ℕ)) → HaveTrails found trails → (i o : ℕ) (t : List ℕ) → slice_get trails i ≡ Some t → IsTrailOf o t → slice_get (objects_in found) i ≡ Some o
 found_of found trails have i o t at ends =
     let low = slice_get_within trails i t at in
@@ -140,7 +140,7 @@ abbrev trailed : List ℕ → ℕ × Option ℕ → List ℕ
 trailed t e = e.0 ∷ t
 
 module _ (Held : ℕ → Type 0) (arrows : List Edge) where
-  -- At first each trail is an object alone.
+  -- At first each trail is a single object.
   pub spread_first : (found : Findings) → IsStart Held found → HasSpread Held arrows found 0
   spread_first found start = record {
     trails = map alone found;
@@ -170,7 +170,7 @@ module _ (Held : ℕ → Type 0) (arrows : List Edge) where
       by i o None e = refl
       by i o (Some j) e = absurd (cc)
 
-  -- One turn: what the object at the place refers to is found.
+  -- One step: finds what the object at the position refers to.
   module _ (found new : Findings) (place o : ℕ) (holder : Option ℕ) (refs : List ℕ) (h : HasSpread Held arrows found place) (at : slice_get found place ≡ Some (o, holder))
       (into : (r : ℕ) → Includes refs r → Includes arrows (record { from = o; to = r })) (out : (r : ℕ) → Includes arrows (record { from = o; to = r }) → Includes refs r)
       (finds : Finds found refs (Some place) new) where
@@ -264,7 +264,7 @@ module _ (Held : ℕ → Type 0) (arrows : List Edge) where
             let n = ap length e in
             (r.0, r.1, r.2, omega (arith, n, at_most r.0 r.1))
 
-  -- At the end no path is shorter than the trail of an object.
+  -- At the end no path is shorter than an object's trail.
   module _ (found : Findings) (h : IsOver Held arrows found) where
     closed_all : (t : List ℕ) → Includes h.trails t → (o : ℕ) → LeadsOn arrows t o → (u : List ℕ) × Includes h.trails u × IsTrailOf o u × (length u ≤ suc (length t))
     closed_all t m = h.closed t (subst (λ (ts : List (List ℕ)). Includes ts t) (sym (taken_all h.trails) ∙ ap (λ n. take n h.trails) h.have.many) m)
@@ -286,7 +286,7 @@ module _ (Held : ℕ → Type 0) (arrows : List Edge) where
         let r = along object path first (first ∷ []) (h.starts first is.0) refl is.1 in
         (r.0, r.1, r.2, omega (arith, r.3))
 
-    -- nothing was found: there is no path
+    -- an object that was not found has no path
     pub no_path : (object : ℕ) → ¬ Includes (objects_in found) object → HasNoPath Held arrows object
     no_path object none path is =
         let r = nearest object path is in
@@ -309,7 +309,7 @@ module _ (Held : ℕ → Type 0) (arrows : List Edge) where
         (subst (λ (l : List ℕ). IsPath Held arrows l p) (sym (reverse_onto (q ∷ t) p []))
         (path_last (reverse (q ∷ t)) q p (trail_leads (q ∷ t) q along_it.1 refl) along_it.0))
 
-    -- the trail of an object that was found is a shortest path
+    -- the trail of a found object is a shortest path
     pub shortest_path : (object place : ℕ) (path : List ℕ) → slice_get (objects_in found) place ≡ Some object
         → ((trails : List (List ℕ)) → HaveTrails found trails → (t : List ℕ) → slice_get trails place ≡ Some t → path ≡ reverse t) → IsShortestPath Held arrows path object
     shortest_path object place path at back =
@@ -337,7 +337,7 @@ module _ (Held : ℕ → Type 0) (arrows : List Edge) where
             let head : e.0.0 ≡ object = same_some e.0.0 object (sym (get_map (λ (x : ℕ × Option ℕ). x.0) found place e.0 e.1) ∙ at) in
             subst (IsTrailOf object) same head
 
--- Going back along a trail: what is left of it is the trail of the holder at the cursor.
+-- Following a trail back: the rest of it is the trail of the holder at the cursor.
 abbrev pub IsLeft : List (List ℕ) → Option ℕ → List ℕ → Type 0
 IsLeft all None rest = rest ≡ []
 IsLeft all (Some place) rest = slice_get all place ≡ Some rest
@@ -359,7 +359,7 @@ back_first found last path cursor none is low =
     subst (λ (p : List ℕ). HasGoneBack found last p cursor) (sym none)
     (subst (λ (c : Option ℕ). HasGoneBack found last [] c) (sym is) (record { within = low; left = λ trails have trail at. (trail, at, refl) }))
 
--- the holder of one that was found stands before it
+-- the holder of a found object comes before it
 pub back_lower : (found : Findings) (trails : List (List ℕ)) → HaveTrails found trails → (place o : ℕ) (holder : Option ℕ) → slice_get found place ≡ Some (o, holder) → (ahead_of holder < ahead_of (Some place)) × IsWithin found holder
 back_lower found trails have place o holder at = let r = have.each place (o, holder) at in go holder r.0 r.2
   where
@@ -392,7 +392,7 @@ back_end found last path cursor gone none trails have trail at =
     let r = (subst (λ (c : Option ℕ). HasGoneBack found last path c) none gone).left trails have trail at in
     sym (append-nil path) ∙ ap (λ (l : List ℕ). path ++ l) (sym r.1) ∙ r.2
 
--- What is found, one after the other.
+-- Finds objects one by one.
 pub finds_none : (found : Findings) (holder : Option ℕ) → Finds found [] holder found
 finds_none found holder = record { more = []; is = sym (append-nil found); only = λ e m. absurd m; all = λ o m. absurd m; once = λ h. h }
 
@@ -449,7 +449,7 @@ finds_more old mid new refs object holder a b = record {
   once = λ h. b.once (a.once h);
 }
 
--- What is found at first, one after the other.
+-- Finds the starts one by one.
 pub start_none : (Held : ℕ → Type 0) → ((o : ℕ) → ¬ Held o) → IsStart Held []
 start_none Held none = record { only = λ e m. absurd m; all = λ o h. absurd (none o h); once = λ o. omega arith }
 

@@ -1,4 +1,4 @@
--- The search: what was looked at, what waits, and that it marks just what paths lead to.
+-- The search: what was visited, what waits, and that it marks exactly what paths lead to.
 use Rattle.std.proofs.Common.{◌≡◌, refl, sym, ◌∙◌, ap, subst, ℕ, zero, suc, ◌+◌, ◌<◌, ◌≤◌, Bool, true, false, cond, not, ◌⊎◌, inl, inr, List, [], ◌∷◌, ◌++◌, length, take, Option, Some, arith, get_or, set, replicate, map}
 use Rattle.std.specs.Prelude.{◌↔◌, slice_get, count_by, option_to_list, option_map}
 use Rattle.std.specs.List.{concat}
@@ -13,7 +13,7 @@ use Rattle.cg_search.specs.Visits.{Visits}
 use Rattle.cg_search.proofs.Places.{slice_get-set_same, slice_get-set_other, includes_more, includes_first, includes_last, unmarked}
 
 module _ (allowed : List Bool) where
-  -- a target that is not allowed, or was marked
+  -- a target that is not allowed, or was marked before
   pub visits_none : (target : ℕ) (old : List Bool) (waits : List ℕ) → (Marks allowed target → Marks old target) → Visits (λ i. i ≡ target) allowed old waits old waits
   visits_none target old waits done = record {
     len = refl;
@@ -25,7 +25,7 @@ module _ (allowed : List Bool) where
     left = refl;
   }
 
-  -- one that is allowed and was not marked
+  -- a new target that is allowed
   pub visits_new : (target : ℕ) (old : List Bool) (waits : List ℕ) → Marks allowed target → slice_get old target ≡ Some false → Visits (λ i. i ≡ target) allowed old waits (set old target true) (waits ++ target ∷ [])
   visits_new target old waits free mark = record {
     len = length-set old target true;
@@ -62,7 +62,7 @@ module _ (allowed : List Bool) where
     left = refl;
   }
 
-  -- some targets, and then others
+  -- some targets, then others
   pub visits_more : (First Then All : ℕ → Type 0) (a b c : List Bool) (u v w : List ℕ) → Visits First allowed a u b v → Visits Then allowed b v c w → ((i : ℕ) → All i → First i ⊎ Then i) → ((i : ℕ) → First i → All i) → ((i : ℕ) → Then i → All i)
       → Visits All allowed a u c w
   visits_more First Then All a b c u v w h k parts f g = record {
@@ -75,7 +75,7 @@ module _ (allowed : List Bool) where
     left = k.left ∙ h.left;
   }
 
-  -- the next of a row
+  -- the next target of a row
   pub visits_next : (row : List ℕ) (at d : ℕ) (a b c : List Bool) (u v w : List ℕ) → at < length row → Visits (Includes (take at row)) allowed a u b v → Visits (λ i. i ≡ get_or row at d) allowed b v c w → Visits (Includes (take (at + 1) row)) allowed a u c w
   visits_next row at d a b c u v w within h k =
       visits_more (Includes (take at row)) (λ i. i ≡ get_or row at d) (Includes (take (at + 1) row)) a b c u v w h k
@@ -104,7 +104,7 @@ module _ (allowed : List Bool) where
       visits_more (λ i. (i < at) × Marks starts i) (λ i. ⊥) (Marks starts) a b b u v v h (visits_nothing (λ i. ⊥) b v (λ i f. f))
       (λ i m. inl (omega (arith, slice_get_within starts i true m, end), m)) (λ i m. m.1) (λ i f. absurd f)
 
--- How far the search has come: what is marked is led to, and what is not followed yet waits.
+-- The search so far: each marked place is led to, and the places not followed yet wait.
 pub record Searches (starts allowed : List Bool) (rows : List (List ℕ)) (marks : List Bool) (waits : List ℕ) : Type 0 where
   pub len : length marks ≡ length allowed
   pub led : (i : ℕ) → Marks marks i → Leads starts allowed rows i
@@ -113,7 +113,7 @@ pub record Searches (starts allowed : List Bool) (rows : List (List ℕ)) (marks
   pub waiting : (i : ℕ) → Includes waits i → Marks marks i
 
 module _ (starts allowed : List Bool) (rows : List (List ℕ)) where
-  -- the starts were looked at
+  -- the starts were visited
   pub searches_first : (old marks : List Bool) (none waits : List ℕ) → old ≡ replicate (length allowed) false → none ≡ [] → Visits (Marks starts) allowed old none marks waits → Searches starts allowed rows marks waits
   searches_first old marks none waits is nil h = record {
     len = h.len ∙ ap length is ∙ length-replicate (length allowed) false;
@@ -123,7 +123,7 @@ module _ (starts allowed : List Bool) (rows : List (List ℕ)) where
     waiting = λ i x. either (h.only_wait i x) (λ y. absurd (subst (λ (ns : List ℕ). Includes ns i) nil y)) (λ y. y);
   }
 
-  -- the row of one that waited was looked at
+  -- the row of a waiting place was visited
   pub searches_more : (marks now : List Bool) (waits rest wait : List ℕ) (at : ℕ) (row : List ℕ) → Searches starts allowed rows marks waits → waits ≡ rest ++ at ∷ [] → slice_get rows at ≡ Some row → Visits (Includes row) allowed marks rest now wait
       → Searches starts allowed rows now wait
   searches_more marks now waits rest wait at row so popped here h = record {
@@ -141,7 +141,7 @@ module _ (starts allowed : List Bool) (rows : List (List ℕ)) where
       waited : Marks marks at
       waited = so.waiting at (subst (λ (ns : List ℕ). Includes ns at) (sym popped) (Includes-append_right rest (at ∷ []) at (inl refl)))
 
-  -- what is taken out is a position
+  -- a place taken from the work list is a position
   pub popped_within : (marks : List Bool) (waits rest : List ℕ) (popped : Option ℕ) (at : ℕ) → Searches starts allowed rows marks waits → waits ≡ rest ++ option_to_list popped → popped ≡ Some at → at < length allowed
   popped_within marks waits rest popped at so parts is =
       let mark = so.waiting at (subst (λ (ns : List ℕ). Includes ns at) (sym (parts ∙ ap (λ o. rest ++ option_to_list o) is)) (Includes-append_right rest (at ∷ []) at (inl refl))) in
@@ -155,17 +155,17 @@ module _ (starts allowed : List Bool) (rows : List (List ℕ)) where
       all _ (begins j s a) = so.started j s a
       all _ (follows k j row l at m a) = either (so.followed k j row (all k l) at m a) (λ x. x) (λ x. absurd (subst (λ (ns : List ℕ). Includes ns k) nil x))
 
--- what stands in a row stands in one of the rows
+-- an element of a row is an element of the concatenation
 pub includes_concat : (rows : List (List ℕ)) (i : ℕ) (row : List ℕ) (x : ℕ) → slice_get rows i ≡ Some row → Includes row x → Includes (concat rows) x
 includes_concat [] i row x at h = absurd (cc)
 includes_concat (r ∷ rows) zero row x at h = Includes-append_left r (concat rows) x (subst (λ (ns : List ℕ). Includes ns x) (sym (same_Some r row at)) h)
 includes_concat (r ∷ rows) (suc i) row x at h = Includes-append_right r (concat rows) x (includes_concat rows i row x at h)
 
--- the row of a node that is read
+-- the row of a node
 pub row_here : {N : Type 0} (row : N → List ℕ) (nodes : List N) (at : ℕ) (n : N) → at < length nodes → n ≡ get_or nodes at n → slice_get (map row nodes) at ≡ Some (row n)
 row_here row nodes at n within read = slice_get-map row nodes at ∙ ap (option_map row) (slice_get_read nodes (length nodes) at n refl within read)
 
--- a target is looked at, where its marks are read
+-- visiting a target whose marks are read
 pub reads_new : (allowed old : List Bool) (waits wait : List ℕ) (target : ℕ) (mark : Bool) → target < length allowed → length old ≡ length allowed → get_or allowed target false ≡ true → mark ≡ get_or old target mark → mark ≡ false → wait ≡ waits ++ target ∷ []
     → Visits (λ i. i ≡ target) allowed old waits (set old target true) wait
 reads_new allowed old waits wait target mark within long free read off pushed =
@@ -182,7 +182,6 @@ reads_shut allowed old waits target within shut = visits_none allowed target old
     differs : ◌≡◌ {A = Option Bool} (Some false) (Some true) → ⊥
     differs e = absurd (cc)
 
--- an empty list
 pub empty_of : (xs : List ℕ) → length xs ≡ 0 → xs ≡ []
 empty_of [] e = refl
 empty_of (x ∷ xs) e = absurd (omega (arith, e))

@@ -1,4 +1,4 @@
--- The search by breadth: what each call adds to what was found.
+-- The breadth-first search: what each call adds to the findings.
 use Rattle.std.proofs.Common.{◌≡◌, refl, sym, ◌∙◌, ap, subst, ℕ, zero, suc, ◌+◌, ◌<◌, ◌≤◌, Bool, true, false, cond, not, ◌⊎◌, inl, inr, List, [], ◌∷◌, ◌++◌, length, take, Option, Some, None, arith, get_or, set, replicate, append_assoc, append-nil, length-append}
 use Rattle.std.specs.Prelude.{slice_get, count_by, filter, position, ◌==◌}
 use Rattle.std.specs.List.{position_from}
@@ -19,7 +19,7 @@ use Rattle.cg_search.proofs.Edges.{step_in, step_out, marks_of_is, is_of_marks}
 differs : ◌≡◌ {A = Option Bool} (Some false) (Some true) → ⊥
 differs e = absurd (cc)
 
--- nothing is marked and found
+-- nothing is marked or found
 pub agree_first : (allowed marks : List Bool) (found : Findings) → marks ≡ replicate (length allowed) false → found ≡ [] → Agree allowed marks found
 agree_first allowed marks found is none =
     subst (λ (ms : List Bool). Agree allowed ms found) (sym is) (subst (λ (es : Findings). Agree allowed (replicate (length allowed) false) es) (sym none) (record {
@@ -40,12 +40,12 @@ filter_one_yes p t e = ap (λ b. cond b (t ∷ []) []) e
 filter_one_no : (p : ℕ → Bool) (t : ℕ) → p t ≡ false → filter p (t ∷ []) ≡ []
 filter_one_no p t e = ap (λ b. cond b (t ∷ []) []) e
 
--- What a call of find did.
+-- The effect of a call of find.
 pub record Found (allowed : List Bool) (old : Findings) (targets : List ℕ) (holder : Option ℕ) (marks : List Bool) (new : Findings) : Type 0 where
   pub agree : Agree allowed marks new
   pub finds : Finds old (filter (is_marked allowed) targets) holder new
 
--- a place that is new
+-- a new place
 pub found_new : (allowed marks : List Bool) (old new : Findings) (t : ℕ) (holder : Option ℕ) (mark : Bool) → Agree allowed marks old → t < length allowed → get_or allowed t false ≡ true → mark ≡ get_or marks t mark → mark ≡ false → new ≡ old ++ (t, holder) ∷ []
     → Found allowed old (t ∷ []) holder (set marks t true) new
 found_new allowed marks old new t holder mark so within free read off is = record {
@@ -81,7 +81,7 @@ found_new allowed marks old new t holder mark so within free read off is = recor
         ap (λ b. count_by not (set marks t true) + cond {A = ℕ} (not b) 1 0) (sym (get_or_from_slice_get marks t false true here))
         ∙ sum_by-set (λ b. cond {A = ℕ} (not b) 1 0) marks t true true (omega (arith, within, so.len))
 
--- one that was found before
+-- a place found before
 pub found_before : (allowed marks : List Bool) (old : Findings) (t : ℕ) (holder : Option ℕ) (mark : Bool) → Agree allowed marks old → t < length allowed → get_or allowed t false ≡ true → mark ≡ get_or marks t mark → mark ≡ true → Found allowed old (t ∷ []) holder marks old
 found_before allowed marks old t holder mark so within free read on = record {
   agree = so;
@@ -89,14 +89,14 @@ found_before allowed marks old t holder mark so within free read on = record {
       (finds_present old old t holder refl (so.marked t (slice_get_read marks (length marks) t mark refl (omega (arith, within, so.len)) read ∙ ap Some on)));
 }
 
--- one that is not allowed
+-- a place that is not allowed
 pub found_shut : (allowed marks : List Bool) (old : Findings) (t : ℕ) (holder : Option ℕ) → Agree allowed marks old → get_or allowed t false ≡ false → Found allowed old (t ∷ []) holder marks old
 found_shut allowed marks old t holder so shut = record {
   agree = so;
   finds = subst (λ (ts : List ℕ). Finds old ts holder old) (sym (filter_one_no (is_marked allowed) t shut)) (finds_none old holder);
 }
 
--- some places, and then others
+-- some places, then others
 finds_then : (old mid new : Findings) (first then : List ℕ) (holder : Option ℕ) → Finds old first holder mid → Finds mid then holder new → Finds old (first ++ then) holder new
 finds_then old mid new first then holder a b = record {
   more = a.more ++ b.more;
@@ -119,7 +119,7 @@ finds_next allowed old mid new row k holder within a b =
     (sym (ap (filter (is_marked allowed)) (take_more row k 0 within) ∙ filter-append (is_marked allowed) (take k row) (get_or row k 0 ∷ [])))
     (finds_then old mid new (filter (is_marked allowed) (take k row)) (filter (is_marked allowed) (get_or row k 0 ∷ [])) holder a b)
 
--- The starts below a place were found.
+-- The starts below a place are found.
 abbrev pub StartsBelow : List Bool → List Bool → ℕ → ℕ → Type 0
 StartsBelow starts allowed at i = (i < at) × StartsAt starts allowed i
 
@@ -159,12 +159,12 @@ starts_skip starts allowed at found off h =
 pub starts_all : (starts allowed : List Bool) (at : ℕ) (found : Findings) → length starts ≤ at → IsStart (StartsBelow starts allowed at) found → IsStart (StartsAt starts allowed) found
 starts_all starts allowed at found end h = start_same (StartsBelow starts allowed at) (StartsAt starts allowed) found h (λ i m. m.1) (λ i m. (omega (arith, slice_get_within starts i true m.0, end), m))
 
--- How far the search has come.
+-- The progress of the search.
 pub record Walks (starts allowed : List Bool) (rows : List (List ℕ)) (marks : List Bool) (found : Findings) (at : ℕ) : Type 0 where
   pub agree : Agree allowed marks found
   pub spread : HasSpread (StartsAt starts allowed) (steps_of allowed rows) found at
 
--- the one at a position is a place
+-- the place at a position is in range
 pub place_within : (allowed marks : List Bool) (found : Findings) (at : ℕ) (e : ℕ × Option ℕ) → Agree allowed marks found → slice_get found at ≡ Some e → e.0 < length allowed
 place_within allowed marks found at e so is = slice_get_within allowed e.0 true (so.found_allowed e.0 (Includes-map (λ (f : ℕ × Option ℕ). f.0) found e (get_in found at e is)))
 
@@ -175,7 +175,7 @@ walks_more starts allowed rows marks now found new at o holder row so is here ag
   spread = spread_more (StartsAt starts allowed) (steps_of allowed rows) found new at o holder (filter (is_marked allowed) row) so.spread is (λ r m. step_in allowed rows o row r here m) (λ r m. step_out allowed rows o row r here m) finds;
 }
 
--- where a place stands among those that were found
+-- the position of a place among the findings
 abbrev is_at : ℕ → ℕ × Option ℕ → Bool
 is_at target e = e.0 == target
 
@@ -206,7 +206,7 @@ found_place target es j h =
 pub no_place : (target : ℕ) (es : Findings) → position (λ e. e.0 == target) es ≡ None → Includes (objects_in es) target → ⊥
 no_place target es h = none_from target 0 es (sym (position_from-zero (is_at target) es) ∙ h)
 
--- no place is left to look at
+-- no place remains to be followed
 pub walks_over : (starts allowed : List Bool) (rows : List (List ℕ)) (marks : List Bool) (found : Findings) (at : ℕ) → Walks starts allowed rows marks found at → length found ≤ at → IsOver (StartsAt starts allowed) (steps_of allowed rows) found
 walks_over starts allowed rows marks found at so end =
     let same : at ≡ length found = omega (arith, so.spread.within, end) in

@@ -1,9 +1,9 @@
--- What a step of a search does to its marks and its work list. (Ours.)
+-- The effect of a search step on its marks and its work list. (Ours.)
 use Rattle.std.specs.Prelude.{◌≡◌, ℕ, ◌+◌, Bool, not, List, length, count_by, ◌⊎◌}
 use Rattle.cg_graph.specs.Member.{Includes}
 use Rattle.cg_search.specs.Places.{Marks}
 
--- Some targets were looked at: those that are allowed are marked now, and those that were not marked before wait.
+-- Some targets were visited: the allowed ones are now marked, and the newly marked ones wait.
 pub record Visits (Target : ℕ → Type 0) (allowed old : List Bool) (waits : List ℕ) (new : List Bool) (wait : List ℕ) : Type 0 where
   pub len : length new ≡ length old
   pub marked : (i : ℕ) → Target i → Marks allowed i → Marks new i

@@ -1,11 +1,11 @@
--- How far a breadth-first search has come: what was found, in which order, and by which trails. (Ours.)
+-- The state of a breadth-first search: what was found, in which order, and by which trails. (Ours.)
 use Rattle.std.specs.Prelude.{◌≡◌, ℕ, ◌+◌, ◌<◌, ◌≤◌, suc, Bool, not, count_by, List, [], ◌∷◌, ◌++◌, Option, Some, None, map, length, take, slice_get, reverse}
 use Rattle.cg_graph.specs.declared.Edge.{Edge}
 use Rattle.cg_graph.specs.Member.{Includes}
 use Rattle.cg_graph.specs.Holdings.{occurrences}
 use Rattle.cg_search.specs.Places.{Marks}
 
--- the objects that were found, in order, each with the place of its holder among them
+-- the objects found, in order, each with the position of its holder among them
 abbrev pub Findings : Type 0
 Findings = List (ℕ × Option ℕ)
 
@@ -17,7 +17,7 @@ objects_in found = map (λ e. e.0) found
 abbrev pub AreOnce : Findings → Type 0
 AreOnce found = (o : ℕ) → occurrences o (objects_in found) ≤ 1
 
--- Those of the objects that were not found before are added, by this holder.
+-- Adds the objects not found before, with this holder.
 pub record Finds (old : Findings) (objects : List ℕ) (holder : Option ℕ) (new : Findings) : Type 0 where
   pub more : Findings
   pub is : new ≡ old ++ more
@@ -25,29 +25,29 @@ pub record Finds (old : Findings) (objects : List ℕ) (holder : Option ℕ) (ne
   pub all : (o : ℕ) → Includes objects o → Includes (objects_in new) o
   pub once : AreOnce old → AreOnce new
 
--- what is found before any edge is followed: the starts
+-- the findings before any edge is followed: the starts
 pub record IsStart (Held : ℕ → Type 0) (found : Findings) : Type 0 where
   pub only : (e : ℕ × Option ℕ) → Includes found e → Held e.0 × (e.1 ≡ None)
   pub all : (o : ℕ) → Held o → Includes (objects_in found) o
   pub once : AreOnce found
 
--- A trail leads back from an object: each next one refers to the one before, and the last is a start.
+-- A trail leads back from an object: each next object refers to the one before, and the last is a start.
 abbrev pub IsTrail : (ℕ → Type 0) → List Edge → List ℕ → Type 0
 IsTrail Held arrows [] = ⊥
 IsTrail Held arrows (last ∷ []) = Held last
 IsTrail Held arrows (o ∷ holder ∷ trail) = Includes arrows (record { from = holder; to = o }) × IsTrail Held arrows (holder ∷ trail)
 
--- the trail of an object whose holder has this place: the object alone, or the object before the trail of its holder
+-- the trail of an object with this holder: the object alone, or the object before its holder's trail
 abbrev pub TrailBy : List (List ℕ) → ℕ → ℕ → Option ℕ → List ℕ → Type 0
 TrailBy trails place o None trail = trail ≡ o ∷ []
 TrailBy trails place o (Some holder) trail = (holder < place) × ((rest : List ℕ) × (slice_get trails holder ≡ Some rest) × (trail ≡ o ∷ rest))
 
--- each that was found has its trail
+-- each found object has its trail
 pub record HaveTrails (found : Findings) (trails : List (List ℕ)) : Type 0 where
   pub many : length trails ≡ length found
   pub each : (i : ℕ) (e : ℕ × Option ℕ) → slice_get found i ≡ Some e → (trail : List ℕ) × (slice_get trails i ≡ Some trail) × TrailBy trails i e.0 e.1 trail
 
--- what the last of a trail refers to
+-- the last of a trail refers to the object
 abbrev pub LeadsOn : List Edge → List ℕ → ℕ → Type 0
 LeadsOn arrows [] o = ⊥
 LeadsOn arrows (last ∷ trail) o = Includes arrows (record { from = last; to = o })
@@ -57,12 +57,12 @@ abbrev pub IsTrailOf : ℕ → List ℕ → Type 0
 IsTrailOf o [] = ⊥
 IsTrailOf o (last ∷ trail) = last ≡ o
 
--- the shorter trails stand first
+-- shorter trails come first
 abbrev pub Lengthen : List (List ℕ) → Type 0
 Lengthen [] = Unit {0}
 Lengthen (trail ∷ trails) = ((other : List ℕ) → Includes trails other → length trail ≤ length other) × Lengthen trails
 
--- The search has come to a place: what the objects before it refer to was found, by shortest trails.
+-- The search has reached a position: what the objects before it refer to was found, by shortest trails.
 pub record HasSpread (Held : ℕ → Type 0) (arrows : List Edge) (found : Findings) (place : ℕ) : Type 0 where
   pub trails : List (List ℕ)
   pub have : HaveTrails found trails
@@ -79,12 +79,12 @@ pub record HasSpread (Held : ℕ → Type 0) (arrows : List Edge) (found : Findi
 abbrev pub IsOver : (ℕ → Type 0) → List Edge → Findings → Type 0
 IsOver Held arrows found = HasSpread Held arrows found (length found)
 
--- the path by which the one at a place was found
+-- the path by which the object at a position was found
 abbrev pub IsPathBack : Findings → ℕ → List ℕ → Type 0
 IsPathBack found place path =
     (trails : List (List ℕ)) → HaveTrails found trails → (trail : List ℕ) → slice_get trails place ≡ Some trail → path ≡ reverse trail
 
--- Just what was found is marked, and all of it is allowed.
+-- Exactly the found places are marked, and all of them are allowed.
 pub record Agree (allowed marks : List Bool) (found : Findings) : Type 0 where
   pub len : length marks ≡ length allowed
   pub marked : (i : ℕ) → Marks marks i → Includes (objects_in found) i

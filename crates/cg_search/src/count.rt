@@ -7,7 +7,7 @@ ghost use Rattle.cg_search.specs.Counts.{Adds, targets_from};
 use crate::node::Node;
 use std::alloc::{AllocError, Global};
 
-/// Adds one to the number of a place for each time that it stands in a row.
+/// Adds one to a place's number for each of its occurrences in a row.
 pub fn add_row(counts: &mut Vec<u64>, row: &[usize])
     requires { (i : ℕ) → slice_index counts.old.items i + length row.now < 2 ^ 64 }
     ensures { Adds counts.old.items row.now counts.new.items }
@@ -19,7 +19,7 @@ pub fn add_row(counts: &mut Vec<u64>, row: &[usize])
     }
 }
 
-/// How often each place is a target of the marked nodes. A target that is no place is ignored.
+/// How often each place is a target of the marked nodes. A target out of range is ignored.
 pub fn count_targets<N: Node>(
     alloc: Global,
     marks: &[bool],

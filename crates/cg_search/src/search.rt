@@ -1,4 +1,4 @@
-//! What paths by rows of places lead to.
+//! Finds the places that paths by rows lead to.
 ghost use Rattle.std.specs.Prelude.{◌≡◌, ◌<◌, ℕ, length, map, OnOk, IfOk, ◌↔◌};
 ghost use Rattle.std.specs.List.{concat};
 ghost use Rattle.cg_graph.specs.Member.{Includes};
@@ -8,7 +8,7 @@ ghost use Rattle.cg_search.specs.Visits.{Visits};
 use crate::node::Node;
 use std::alloc::{AllocError, Global};
 
-/// Marks a place where it is allowed, and lets it wait where it was not marked.
+/// Marks an allowed place, and queues it if it was not marked before.
 fn visit(
     allowed: &[bool],
     target: usize,
@@ -26,7 +26,7 @@ fn visit(
     Ok(())
 }
 
-/// Looks at each place of a row.
+/// Visits each place of a row.
 fn visit_row(
     allowed: &[bool],
     row: &[usize],
@@ -43,7 +43,7 @@ fn visit_row(
     Ok(())
 }
 
-/// Looks at each start.
+/// Visits each start.
 fn visit_starts(
     starts: &[bool],
     allowed: &[bool],
@@ -62,7 +62,7 @@ fn visit_starts(
     Ok(())
 }
 
-/// Marks the places that paths by targets lead to, from a start, by places that are allowed.
+/// Marks the places that paths from a start lead to through allowed places.
 pub fn reached<N: Node>(
     alloc: Global,
     starts: &[bool],

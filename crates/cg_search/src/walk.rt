@@ -1,4 +1,4 @@
-//! A breadth-first search: the starts come first, then what they lead to, the nearest first.
+//! A breadth-first search: the starts come first, then what they lead to, nearest first.
 ghost use Rattle.std.specs.Prelude.{◌≡◌, ◌<◌, ◌∷◌, [], ℕ, Some, None, length, map, filter, IfOk, OnOk, slice_get, slice_index_or, true, false};
 ghost use Rattle.std.specs.List.{concat};
 ghost use Rattle.cg_graph.specs.Member.{Includes};
@@ -8,10 +8,10 @@ ghost use Rattle.cg_search.specs.Walks.{Finds, IsStart, IsOver, Agree};
 use crate::node::Node;
 use std::alloc::{AllocError, Global};
 
-/// The places that were found, in order, each with the position of its holder among them; a start has none.
+/// The places found, in order, each with the position of its holder among them; a start has none.
 pub(crate) type Found = Vec<(usize, Option<usize>)>;
 
-/// Adds a place, where it is allowed and was not found before.
+/// Adds a place if it is allowed and was not found before.
 fn find(
     allowed: &[bool],
     target: usize,
@@ -71,7 +71,7 @@ fn find_starts(
     Ok(())
 }
 
-/// Finds the starts, and all that they lead to by places that are allowed.
+/// Finds the starts and all that they lead to through allowed places.
 pub(crate) fn walk<N: Node>(
     alloc: Global,
     starts: &[bool],

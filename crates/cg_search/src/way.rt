@@ -9,14 +9,14 @@ use crate::node::Node;
 use crate::walk::{Found, walk};
 use std::alloc::{AllocError, Global};
 
-/// Where a place stands among those that were found.
+/// The position of a place among those found.
 fn position_in(found: &Found, target: usize) -> Option<usize>
     ensures { result ≡ position (λ e. e.0 == target) found.now.items }
 {
     found.iter().position(|(place, _)| *place == target)
 }
 
-/// The path by which the one at a position was found.
+/// The path by which the place at a position was found.
 fn path_back(alloc: Global, found: &Found, last: usize) -> Result<Vec<usize>, AllocError>
     requires trails { (trails : List (List ℕ)) × HaveTrails found.now.items trails }
     requires within { last < length found.now.items }
@@ -33,9 +33,9 @@ fn path_back(alloc: Global, found: &Found, last: usize) -> Result<Vec<usize>, Al
     Ok(path)
 }
 
-/// A shortest path from a start to a place, by places that are allowed; `None` exactly where there is no path.
+/// A shortest path from a start to a place through allowed places; `None` exactly if there is none.
 ///
-/// It takes time linear in the nodes and their targets. `AllocError` is an allocation failure.
+/// Takes time linear in the nodes and their targets. `AllocError` means memory ran out.
 pub fn shortest_way<N: Node>(
     alloc: Global,
     starts: &[bool],

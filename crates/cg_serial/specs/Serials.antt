@@ -7,7 +7,7 @@ use Rattle.cg_serial.specs.declared.hasher.SerialHasher.{SerialHasher}
 abbrev pub initial : SerialHasher
 initial = record { hash = 0 }
 
--- the position of the serial in its group of eight, plus the group's number times a factor, with its top 29 bits
+-- bits 29 to 31: the position within the group of eight; below: the top 29 bits of the group number times a factor
 abbrev pub spread : ℕ → ℕ
 spread serial = serial % 8 * 2 ^ 29 + (serial / 8 * 0xfb1f_f91a_c50e_2b99) % 2 ^ 64 / 2 ^ 35
 

@@ -1,11 +1,11 @@
--- Bytes cut at the first place of one.
+-- Bytes cut at the first position of a byte.
 use Rattle.std.proofs.Common.{◌≡◌, ◌≢◌, refl, sym, ◌∙◌, ap, ℕ, zero, suc, ◌+◌, ◌-◌, ◌<◌, Bool, true, false, not, ◌==◌, ◌&&◌, List, [], ◌∷◌, ◌++◌, length, get_or, take, drop, arith, length-drop}
 use Rattle.std.proofs.Math.Seq.{take-length}
 use Rattle.std.specs.List.{list_all}
 use Rattle.std.proofs.lemmas.Bool.{eq-eqb}
 use Rattle.cg_snapshot.specs.Rows.{Lacks, IsTail}
 
--- nothing, or this byte and what is behind it
+-- nothing, or this byte and the bytes after it
 abbrev pub IsAt : ℕ → List ℕ → Type 0
 IsAt s [] = Unit {0}
 IsAt s (b ∷ bytes) = b ≡ s
@@ -21,7 +21,7 @@ at_is_tail (b ∷ x) h = h
 heads : (a b : ℕ) (x y : List ℕ) → a ∷ x ≡ b ∷ y → (a ≡ b) × (x ≡ y)
 heads a b x y e = (cc, cc)
 
--- there is one way to cut at the first place of a byte
+-- cutting at the first position of a byte is unique
 pub cut_once : (s : ℕ) (w v x y : List ℕ) → Lacks s w → Lacks s v → IsAt s x → IsAt s y → w ++ x ≡ v ++ y → (w ≡ v) × (x ≡ y)
 cut_once s [] [] x y p q a b e = (refl, e)
 cut_once s [] (c ∷ v) [] y p q a b e = absurd (cc)
@@ -48,12 +48,12 @@ lacks_of s (b ∷ bytes) h =
     let parts = both (not (b == s)) (list_all (λ c. not (c == s)) bytes) h in
     (λ e. absurd (let yes = eq-eqb b s e in let no : not (b == s) ≡ true = parts.0 in let clash : not true ≡ true = ap not (sym yes) ∙ no in cc), lacks_of s bytes parts.1)
 
--- a byte that stands between others
+-- a byte between others
 pub lacks_not : (s : ℕ) (xs ys : List ℕ) → Lacks s (xs ++ s ∷ ys) → ⊥
 lacks_not s [] ys h = h.0 refl
 lacks_not s (x ∷ xs) ys h = lacks_not s xs ys h.1
 
--- what stands before the first place of a byte
+-- the bytes before the first position of a byte
 pub lacks_before : (s : ℕ) (bytes : List ℕ) (end : ℕ) → ((k : ℕ) → k < end → get_or bytes k 0 ≢ s) → Lacks s (take end bytes)
 lacks_before s bytes zero h = tt
 lacks_before s [] (suc end) h = tt

@@ -1,4 +1,4 @@
--- Reading the lines of a snapshot, one after the other, ends with this snapshot.
+-- Reading the lines of a snapshot one by one gives this snapshot.
 use Rattle.std.proofs.Common.{◌≡◌, refl, sym, ◌∙◌, ap, ℕ, ◌<◌, Bool, true, false, cond, not, nat_lt, ◌&&◌, List, [], ◌∷◌, ◌++◌, length, map, Option, Some, None, append_assoc, append-nil}
 use Rattle.std.specs.Prelude.{flat_map, option_map}
 use Rattle.std.specs.List.{AllByRecursion}
@@ -23,7 +23,7 @@ abbrev pub then : Option Draft → (Draft → Option Draft) → Option Draft
 then None f = None
 then (Some d) f = f d
 
--- the draft behind lines, where each may stand in its place
+-- the draft after some lines, if each is allowed where it is
 abbrev pub run : Draft → List Line → Option Draft
 run d [] = Some d
 run d (l ∷ ls) = then (step d l) (λ e. run e ls)
@@ -39,7 +39,7 @@ run-append : (d : Draft) (xs ys : List Line) → run d (xs ++ ys) ≡ then (run 
 run-append d [] ys = refl
 run-append d (x ∷ xs) ys = then_then (step d x) (λ e. run e (xs ++ ys)) (λ e. run e xs) (λ e. run e ys) (λ e. run-append e xs ys)
 
--- a run goes on where another ended
+-- runs compose
 pub chain : (d e : Draft) (xs ys : List Line) (o : Option Draft) → run d xs ≡ Some e → run e ys ≡ o → run d (xs ++ ys) ≡ o
 chain d e xs ys o p q = run-append d xs ys ∙ ap (λ r. then r (λ f. run f ys)) p ∙ q
 
@@ -54,7 +54,7 @@ untold-last [] d s t l refs words = refl
 untold-last (m ∷ []) d s t l refs words = refl
 untold-last (m ∷ k ∷ ms) d s t l refs words = ap (option_map (λ rest. m ∷ rest)) (untold-last (k ∷ ms) d s t l refs words)
 
--- the last one had some
+-- the last member had untold words
 pub untold_had : (ms : List Member) (m : Member) (words : List ℕ) → none_in m.untold ≡ false → with_untold (ms ++ m ∷ []) words ≡ None
 untold_had [] m words some = ap (option_map (λ k. k ∷ [])) (by m.untold some)
   where
@@ -64,7 +64,7 @@ untold_had [] m words some = ap (option_map (λ k. k ∷ [])) (by m.untold some)
 untold_had (k ∷ []) m words some = ap (option_map (λ rest. k ∷ rest)) (untold_had [] m words some)
 untold_had (k ∷ l ∷ ms) m words some = ap (option_map (λ rest. k ∷ rest)) (untold_had (l ∷ ms) m words some)
 
--- it had none
+-- the last member had none
 pub untold_given : (ms : List Member) (m : Member) (words : List ℕ) → none_in m.untold ≡ true → with_untold (ms ++ m ∷ []) words ≡ Some (ms ++ member m.degree m.size m.tracked m.legacy m.refs words ∷ [])
 untold_given [] m words none = ap (option_map (λ k. k ∷ [])) (by m.untold none)
   where
@@ -93,7 +93,7 @@ both : (a b : Bool) → (a && b) ≡ true → (a ≡ true) × (b ≡ true)
 both true b h = (refl, h)
 both false b h = absurd (cc)
 
--- the numbers are those of members just where the test says so
+-- the test decides whether the numbers are those of members
 pub below_of : (count : ℕ) (ns : List ℕ) → AreMembers count ns → are_below count ns ≡ true
 below_of count [] h = refl
 below_of count (n ∷ ns) h = are_true (nat_lt n count) (are_below count ns) (lt-ltb n count h.0) (below_of count ns h.1)
@@ -119,7 +119,7 @@ asked_of count Lost h = refl
 asked_of count (Dropped ns) h = below_of count ns h.1
 asked_of count Untold h = refl
 
--- where there are places to be dropped
+-- a question with members to drop
 abbrev pub HasNumbers : Question → Type 0
 HasNumbers (Why n but) = Unit {0}
 HasNumbers (Referrers n) = Unit {0}
@@ -145,7 +145,7 @@ run_questions ms done (q ∷ qs) h =
     ap (λ b. then (cond b (Some (draft ms (done ++ q ∷ []) Behind)) None) (λ e. run e (map lines.Asks qs))) (asked_of (length ms) q h.0)
     ∙ run_questions ms (done ++ q ∷ []) qs h.1 ∙ ap (λ l. Some (draft ms l Behind)) (append_assoc done (q ∷ []) qs)
 
--- the lines of a snapshot lead to it
+-- the lines of a snapshot give it
 pub run-lines_of : (s : Snapshot) → AllByRecursion (IsAsked (length s.members)) s.questions → run start (lines_of s) ≡ Some (draft s.members s.questions Behind)
 run-lines_of s h =
     chain (draft [] [] Inside) (draft s.members [] Inside) (flat_map member_lines s.members) (lines.Closes ∷ map lines.Asks s.questions) (Some (draft s.members s.questions Behind))

@@ -1,4 +1,4 @@
--- What words say is what a line says, and the other way round.
+-- What words say is what a line says, and conversely.
 use Rattle.std.proofs.Common.{◌≡◌, ◌≢◌, refl, sym, ◌∙◌, ap, subst, ℕ, zero, suc, ◌<◌, ◌≤◌, ◌^◌, Bool, true, false, cond, nat_lt, List, [], ◌∷◌, length, get_or, drop, Option, Some, None, arith}
 use Rattle.std.specs.Prelude.{option_map, option_and_then, IfSome, IfNone}
 use Rattle.std.proofs.lemmas.Bool.{ltb-true, lt-ltb}
@@ -42,7 +42,7 @@ question_back Lost h = refl
 question_back (Dropped ns) h = some_numbers (λ ms. lines.Asks (Dropped ms)) ns h.0
 question_back Untold h = refl
 
--- a line is what its words say
+-- reading the words of a line gives the line
 pub meant_back : (l : Line) → IsLine l → meant (row_of l) ≡ Some l
 meant_back lines.Opens h = refl
 meant_back (lines.Tells d s t l refs) h = told_back d s t l refs h.1
@@ -70,7 +70,7 @@ line_row (lines.Adds ns) h = record { numbers = h.1; but = tt }
 line_row lines.Closes h = record { numbers = tt; but = tt }
 line_row (lines.Asks q) h = question_row q h
 
--- What was read is a line with these words.
+-- The line read has these words.
 pub record Reads (k : Kind) (ns but : List ℕ) (l : Line) : Type 0 where
   pub row : row_of l ≡ row k ns but
   pub fits : IsLine l

@@ -1,4 +1,4 @@
--- Numbers behind spaces: no two lists of them share a text, up to what is no number.
+-- Numbers after spaces: no two lists of them share a text, up to the first non-number.
 use Rattle.std.proofs.Common.{◌≡◌, ◌≢◌, refl, sym, ◌∙◌, ap, ℕ, suc, ◌+◌, ◌<◌, ◌^◌, true, List, [], ◌∷◌, ◌++◌, length, get_or, take, arith, append_assoc, append-nil}
 use Rattle.std.specs.Prelude.{decimal, codes}
 use Rattle.std.proofs.lemmas.List.{take_more}
@@ -23,13 +23,13 @@ decimal_lacks s n low small = digits_lack s (decimal n) low (digits_decimal mode
 tails : (a b : ℕ) (x y : List ℕ) → a ∷ x ≡ b ∷ y → x ≡ y
 tails a b x y e = cc
 
--- one number behind a space
+-- one number after a space
 pub one_spaced : (n m : ℕ) (x y : List ℕ) → n < 2 ^ 64 → m < 2 ^ 64 → IsTail x → IsTail y → spaced n ++ x ≡ spaced m ++ y → (n ≡ m) × (x ≡ y)
 one_spaced n m x y p q a b e =
     let parts = cut_once 32 (decimal n) (decimal m) x y (decimal_lacks 32 n (omega arith) p) (decimal_lacks 32 m (omega arith) q) (tail_is_at x a) (tail_is_at y b) (tails 32 32 (decimal n ++ x) (decimal m ++ y) e) in
     (decimal_injective n m p q parts.0, parts.1)
 
--- no number behind a space stands at the front
+-- the bytes do not start with a space and a number
 abbrev pub Stops : List ℕ → Type 0
 Stops x = (number : ℕ) (rest : List ℕ) → number < 2 ^ 64 → IsTail rest → x ≢ spaced number ++ rest
 
@@ -49,7 +49,7 @@ one_numbers (n ∷ ns) (m ∷ ms) x y p q a b s t e =
     let rest = one_numbers ns ms x y p.1 q.1 a b s t one.1 in
     (ap (λ k. k ∷ ns) one.0 ∙ ap (λ ks. m ∷ ks) rest.0, rest.1)
 
--- the word `but` is no number
+-- the word `but` is not a number
 no_letter : (k : ℕ) (ds rest x : List ℕ) → 0 < length ds → AreDigits ds → 57 < k → k ∷ x ≡ ds ++ rest → ⊥
 no_letter k [] rest x some digits high e = omega (arith, some)
 no_letter k (d ∷ ds) rest x some digits high e = let same : k ≡ d = cc in let range = digits 0 (omega arith) in omega (arith, range, same, high)
@@ -92,13 +92,13 @@ but_lacks (n ∷ ns) p = (λ e. absurd (omega (arith, e)), (λ e. absurd (omega 
 pub spaced_next : (ns : List ℕ) (k : ℕ) → k < length ns → all_spaced (take (k + 1) ns) ≡ all_spaced (take k ns) ++ spaced (get_or ns k 0)
 spaced_next ns k within = ap all_spaced (take_more ns k 0 within) ∙ flat_map-append spaced (take k ns) (get_or ns k 0 ∷ []) ∙ ap (λ t. all_spaced (take k ns) ++ t) (append-nil (spaced (get_or ns k 0)))
 
--- a word that is no number
+-- a word that is not a number
 pub not_spaced : (bytes after word tail : List ℕ) (number : ℕ) (rest : List ℕ) → number < 2 ^ 64 → IsTail rest → bytes ≡ 32 ∷ after → after ≡ word ++ tail → Lacks 32 word → IsTail tail → ((n : ℕ) → n < 2 ^ 64 → word ≢ decimal n) → bytes ≢ spaced number ++ rest
 not_spaced bytes after word tail number rest small is_tail space cut lacks is none same =
     let parts = cut_once 32 word (decimal number) tail rest lacks (decimal_lacks 32 number (omega arith) small) (tail_is_at tail is) (tail_is_at rest is_tail) (sym cut ∙ tails 32 32 after (decimal number ++ rest) (sym space ∙ same)) in
     none number small parts.0
 
--- numbers behind a word `but`
+-- numbers after a word `but`
 pub but_word : (bytes rest word tail but : List ℕ) → ¬ (length bytes ≡ 0) → bytes ≡ codes " but" ++ rest → rest ≡ word ++ tail → Lacks 32 word → IsTail tail → bytes ≡ but_text but → (word ≡ []) × (tail ≡ all_spaced but) × (0 < length but)
 but_word bytes rest word tail [] some begins cut lacks is same = absurd (some (ap (λ (t : List ℕ). length t) same))
 but_word bytes rest word tail (n ∷ ns) some begins cut lacks is same =

@@ -1,4 +1,4 @@
--- Reading line by line: what was read is spelled, and where a line cannot follow, no text goes on.
+-- Reading line by line: the part read is a text of lines, and no text continues with a line that cannot follow.
 use Rattle.std.proofs.Common.{◌≡◌, ◌≢◌, refl, sym, ◌∙◌, ap, subst, ℕ, ◌+◌, ◌<◌, ◌≤◌, ◌^◌, List, [], ◌∷◌, ◌++◌, length, map, Some, None, arith, append_assoc, append-nil, length-append}
 use Rattle.std.proofs.lemmas.List.{nil_from_length, length-map}
 use Rattle.cg_snapshot.specs.declared.reading.Snapshot.{Snapshot}
@@ -14,7 +14,7 @@ use Rattle.cg_snapshot.proofs.Meaning.{one_line}
 use Rattle.cg_snapshot.proofs.Sound.{snapshot, Holds, holds_start, holds_more, completes, few_members}
 use Rattle.cg_snapshot.proofs.Spelled.{lines_text, lines_text-append, spelled, AreLines, lines_append, lines_fit, raws_lack, first_line, one_more, follows}
 
--- the bytes up to a rest are lines, which lead to the draft
+-- the bytes up to a rest are lines that give the draft
 pub record HasRead (bytes rest : List ℕ) (d : Draft) (number : ℕ) : Type 0 where
   pub done : List Line
   pub says : bytes ≡ lines_text done ++ rest
@@ -40,7 +40,7 @@ read_more bytes rest raw after d e number l h fits cut is s = record {
   room = omega (arith, h.room, length-append h.done (l ∷ []), ap (λ (t : List ℕ). length t) cut, length-append raw (10 ∷ after));
 }
 
--- a text begins with what was read
+-- a text begins with the part read
 module _ (bytes rest : List ℕ) (d : Draft) (number : ℕ) (h : HasRead bytes rest d number) (small : number < 2 ^ 64) where
   goes : Begins (lines_text h.done)
   goes =
@@ -54,7 +54,7 @@ module _ (bytes rest : List ℕ) (d : Draft) (number : ℕ) (h : HasRead bytes r
         },
       )
 
-  -- where lines were read, the lines of a snapshot with this text go on behind them
+  -- after some lines were read, the lines of a snapshot with this text continue after them
   rest_of : (s : Snapshot) (x : List ℕ) → Spells (lines_text h.done ++ x) s → (more : List Line) × (lines_of s ≡ h.done ++ more) × (lines_text more ≡ x) × AreLines more
   rest_of s x is = follows h.done (lines_of s) x h.fits (lines_fit s is.writable) (sym (spelled s) ∙ sym is.text)
 
@@ -108,7 +108,7 @@ module _ (bytes rest : List ℕ) (d : Draft) (number : ℕ) (h : HasRead bytes r
               let ended_at : run start (lines_of s) ≡ Some (draft s.members s.questions Behind) = run-lines_of s spells.writable.questions in
               absurd (cc)
 
-  -- what is left is not ended by a line feed
+  -- the rest has no line feed
   pub no_feed : 0 < length rest → HasNoFeed rest → IsBadLine bytes number
   no_feed some lacks = bad (at_end lacks (λ s spells. let found = rest_of s rest spells in by found.0 found.2))
     where
@@ -116,7 +116,7 @@ module _ (bytes rest : List ℕ) (d : Draft) (number : ℕ) (h : HasRead bytes r
       by [] e = omega (arith, ap (λ (t : List ℕ). length t) e, some)
       by (l ∷ ls) e = lacks_not 10 (raw_line l) (lines_text ls) (subst HasNoFeed (sym e ∙ one_more l ls) lacks)
 
-  -- nothing is left, and the text may not end here
+  -- nothing remains, and the text may not end here
   pub no_end : length rest ≡ 0 → (d.stage ≡ Behind → ⊥) → IsBadLine bytes number
   no_end empty open_still = bad (at_end (subst HasNoFeed (sym nil) tt) (λ s spells. let found = rest_of s rest spells in by s spells found.0 found.1 found.2))
     where
@@ -134,7 +134,7 @@ module _ (bytes rest : List ℕ) (d : Draft) (number : ℕ) (h : HasRead bytes r
           nothing [] ys f = absurd (cc)
           nothing (x ∷ xs) ys f = absurd (cc)
 
-  -- behind the end the snapshot is read
+  -- after the end the snapshot is complete
   pub read_end : length rest ≡ 0 → (s : Snapshot) → d ≡ draft s.members s.questions Behind → Spells bytes s
   read_end empty s is =
       let holds : Holds h.done (draft s.members s.questions Behind) = subst (λ (k : Draft). Holds h.done k) is h.holds in

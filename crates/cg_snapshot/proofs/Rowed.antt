@@ -9,7 +9,7 @@ use Rattle.cg_snapshot.specs.Lines.{row}
 use Rattle.cg_snapshot.proofs.Cuts.{IsAt, cut_once, tail_is_at, lacks_of, lacks_append}
 use Rattle.cg_snapshot.proofs.Numbers.{Stops, one_numbers, one_but, but_stops, but_tail, tail_all, numbers_lack, but_lacks}
 
--- the word that a text is
+-- the kind of word that a text is
 abbrev kind_in : List ℕ → Option Kind
 kind_in [] = None
 kind_in (b ∷ bs) =
@@ -63,14 +63,14 @@ kind_no_feed kinds.Lost = lacks_of 10 (kind_text kinds.Lost) refl
 kind_no_feed kinds.Dropped = lacks_of 10 (kind_text kinds.Dropped) refl
 kind_no_feed kinds.Untold = lacks_of 10 (kind_text kinds.Untold) refl
 
--- no line feed stands in a line
+-- a line contains no line feed
 pub row_lacks : (r : Row) → IsRow r → Lacks 10 (raw_of r)
 row_lacks r h = lacks_append 10 (kind_text r.kind) (all_spaced r.numbers ++ but_text r.but) (kind_no_feed r.kind) (lacks_append 10 (all_spaced r.numbers) (but_text r.but) (numbers_lack r.numbers h.numbers) (but_lacks r.but h.but))
 
 rest_tail : (r : Row) → IsAt 32 (all_spaced r.numbers ++ but_text r.but)
 rest_tail r = tail_is_at (all_spaced r.numbers ++ but_text r.but) (tail_all r.numbers (but_text r.but) (but_tail r.but))
 
--- the word and what is behind it, of a line that was cut at its first space
+-- a line cut at its first space: the word and the rest
 module _ (raw word tail : List ℕ) (whole : raw ≡ word ++ tail) (lacks : Lacks 32 word) (is_tail : IsTail tail) (r : Row) (is : raw ≡ raw_of r) where
   parts : (word ≡ kind_text r.kind) × (tail ≡ all_spaced r.numbers ++ but_text r.but)
   parts = cut_once 32 word (kind_text r.kind) tail (all_spaced r.numbers ++ but_text r.but) lacks (kind_lacks r.kind) (tail_is_at tail is_tail) (rest_tail r) (sym whole ∙ is)
@@ -90,14 +90,14 @@ one_row a b p q e =
     let ns = one_numbers a.numbers b.numbers (but_text a.but) (but_text b.but) p.numbers q.numbers (but_tail a.but) (but_tail b.but) (but_stops a.but) (but_stops b.but) cut.1 in
     same_row a.kind b.kind a.numbers b.numbers a.but b.but (one_kind a.kind b.kind cut.0) ns.0 (one_but a.but b.but p.but q.but ns.1)
 
--- what a line is put together of
+-- the parts of a line
 pub row_text : (raw word tail rest : List ℕ) (k : Kind) (ns but : List ℕ) → raw ≡ word ++ tail → word ≡ kind_text k → tail ≡ all_spaced ns ++ rest → rest ≡ but_text but → raw ≡ raw_of (row k ns but)
 row_text raw word tail rest k ns but whole is e f = whole ∙ ap (λ w. w ++ tail) is ∙ ap (λ t. kind_text k ++ t) (e ∙ ap (λ r. all_spaced ns ++ r) f)
 
 same_there : {A : Type 0} (a b : A) → Some a ≡ Some b → a ≡ b
 same_there a b f = cc
 
--- what is said of an option where something is there, or nothing
+-- facts about present and missing options
 pub if_some : {A : Type 0} (o : Option A) (x : A) (P : A → Type 0) → o ≡ Some x → IfSome o P → P x
 if_some None x P e h = absurd (cc)
 if_some (Some y) x P e h = subst P (same_there y x e) h

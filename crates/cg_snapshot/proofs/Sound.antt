@@ -1,4 +1,4 @@
--- What was read is what the lines say: a line that may stand in its place is one line more of the draft.
+-- What was read is what the lines say: an allowed line extends the draft by one line.
 use Rattle.std.proofs.Common.{◌≡◌, refl, sym, ◌∙◌, ap, subst, ℕ, ◌<◌, ◌≤◌, Bool, true, false, cond, List, [], ◌∷◌, ◌++◌, length, map, Option, Some, None, arith, append_assoc, append-nil, length-append}
 use Rattle.std.specs.Prelude.{flat_map, option_map}
 use Rattle.std.specs.List.{AllByRecursion}
@@ -20,7 +20,7 @@ use Rattle.cg_snapshot.specs.Rows.{AreSmall}
 use Rattle.cg_snapshot.specs.Text.{IsSmallMember, IsAsked}
 use Rattle.cg_snapshot.proofs.Machine.{run, start, goes_on, of_asked, HasNumbers}
 
--- a snapshot of these
+-- a snapshot of these members and questions
 abbrev pub snapshot : List Member → List Question → Snapshot
 snapshot members questions = record { members = members; questions = questions }
 
@@ -30,13 +30,13 @@ lines_in Before members questions = []
 lines_in Inside members questions = lines.Opens ∷ flat_map member_lines members
 lines_in Behind members questions = lines_of (snapshot members questions)
 
--- its members and questions are in their ranges
+-- its members and questions are in range
 abbrev pub IsFit : Stage → List Member → List Question → Type 0
 IsFit Before members questions = (members ≡ []) × (questions ≡ [])
 IsFit Inside members questions = AllByRecursion IsSmallMember members × (questions ≡ [])
 IsFit Behind members questions = AllByRecursion IsSmallMember members × AllByRecursion (IsAsked (length members)) questions
 
--- The lines so far lead to the draft.
+-- The lines so far give the draft.
 pub record Holds (done : List Line) (d : Draft) : Type 0 where
   pub reached : run start done ≡ Some d
   pub says : done ≡ lines_in d.stage d.members d.questions
@@ -49,7 +49,7 @@ all_push : {X : Type 0} (P : X → Type 0) (xs : List X) (x : X) → AllByRecurs
 all_push P [] x h p = (p, tt)
 all_push P (y ∷ xs) x h p = (h.0, all_push P xs x h.1 p)
 
--- What a line makes of a draft.
+-- The effect of a line on a draft.
 record Grows (done : List Line) (l : Line) (e : Draft) : Type 0 where
   pub says : done ++ l ∷ [] ≡ lines_in e.stage e.members e.questions
   pub fit : IsFit e.stage e.members e.questions
@@ -63,7 +63,7 @@ grown done l e f is h = subst (λ (d : Draft). Grows done l d) (same_some e f is
 one_member : (ms : List Member) (m : Member) → flat_map member_lines (ms ++ m ∷ []) ≡ flat_map member_lines ms ++ member_lines m
 one_member ms m = flat_map-append member_lines ms (m ∷ []) ∙ ap (λ t. flat_map member_lines ms ++ t) (append-nil (member_lines m))
 
--- the members with untold words more
+-- the members with untold words added
 record Adds (old : List Member) (words : List ℕ) (new : List Member) : Type 0 where
   pub says : flat_map member_lines new ≡ flat_map member_lines old ++ lines.Adds words ∷ []
   pub fit : AllByRecursion IsSmallMember old → AllByRecursion IsSmallMember new
@@ -158,14 +158,14 @@ holds_more done d e l h line is =
     let more = grows done d.members d.questions d.stage l e h.says h.fit line is in
     record { reached = goes_on start d e done l h.reached is; says = more.says; fit = more.fit }
 
--- a text goes on from every draft
+-- every draft can be completed to a text
 pub completes : (done : List Line) (ms : List Member) (qs : List Question) (s : Stage) → done ≡ lines_in s ms qs → IsFit s ms qs
     → (rs : List Question) × (more : List Line) × (lines_of (snapshot ms rs) ≡ done ++ more) × AllByRecursion IsSmallMember ms × AllByRecursion (IsAsked (length ms)) rs
 completes done ms qs Before says fit = ([], lines_of (snapshot ms []), ap (λ t. t ++ lines_of (snapshot ms [])) (sym says), subst (λ (ks : List Member). AllByRecursion IsSmallMember ks) (sym fit.0) tt, tt)
 completes done ms qs Inside says fit = ([], lines.Closes ∷ [], ap (λ t. t ++ lines.Closes ∷ []) (sym says), fit.0, tt)
 completes done ms qs Behind says fit = (qs, [], sym says ∙ sym (append-nil done), fit.0, fit.1)
 
--- members have as many lines at least
+-- there are at least as many lines as members
 members_lines : (ms : List Member) → length ms ≤ length (flat_map member_lines ms)
 members_lines [] = omega arith
 members_lines (m ∷ ms) = omega (arith, members_lines ms, length-append (member_lines m) (flat_map member_lines ms))

@@ -63,7 +63,7 @@ spelled s =
     ∙ ap (λ t. codes "heap\n" ++ (lines_text (flat_map member_lines s.members) ++ (codes "end\n" ++ t))) (questions_spelled s.questions)
     ∙ ap (λ t. codes "heap\n" ++ t) (sym (lines_text-append (flat_map member_lines s.members) (lines.Closes ∷ map lines.Asks s.questions)))
 
--- each line has its numbers in their ranges
+-- the numbers of each line are in range
 abbrev pub AreLines : List Line → Type 0
 AreLines ls = AllByRecursion IsLine ls
 
@@ -98,7 +98,7 @@ members_fit (m ∷ ms) h = lines_append (member_lines m) (flat_map member_lines 
 pub lines_fit : (s : Snapshot) → IsWritable s → AreLines (lines_of s)
 lines_fit s w = (tt, lines_append (flat_map member_lines s.members) (lines.Closes ∷ map lines.Asks s.questions) (members_fit s.members w.members) (tt, questions_fit (length s.members) s.questions w.few w.questions))
 
--- no line feed stands in a line
+-- a line contains no line feed
 pub line_lacks : (l : Line) → IsLine l → HasNoFeed (raw_line l)
 line_lacks l h = row_lacks (row_of l) (line_row l h)
 
@@ -118,7 +118,7 @@ first_line raw x y l lacks line e =
 pub one_more : (l : Line) (ls : List Line) → lines_text (l ∷ ls) ≡ raw_line l ++ 10 ∷ lines_text ls
 one_more l ls = append_assoc (raw_line l) (10 ∷ []) (lines_text ls)
 
--- lines whose text begins as others do, go on behind these
+-- if the text of lines starts with that of others, they continue after those
 pub follows : (front ls : List Line) (rest : List ℕ) → AreLines front → AreLines ls → lines_text ls ≡ lines_text front ++ rest → (more : List Line) × (ls ≡ front ++ more) × (lines_text more ≡ rest) × AreLines more
 follows [] ls rest p q e = (ls, refl, e, q)
 follows (a ∷ front) [] rest p q e = absurd (nothing (raw_line a) (lines_text front ++ rest) (e ∙ ap (λ t. t ++ rest) (one_more a front) ∙ append_assoc (raw_line a) (10 ∷ lines_text front) rest))

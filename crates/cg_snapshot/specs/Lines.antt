@@ -41,7 +41,7 @@ IsSmallQuestion Lost = Unit {0}
 IsSmallQuestion (Dropped ns) = (0 < length ns) × AreSmall ns
 IsSmallQuestion Untold = Unit {0}
 
--- the numbers of a line are in their ranges, and there are some where there have to be
+-- the numbers of a line are in range, and not empty where the line needs some
 abbrev pub IsLine : Line → Type 0
 IsLine lines.Opens = Unit {0}
 IsLine (lines.Tells degree size tracked legacy refs) = (degree < 2 ^ 64) × (size < 2 ^ 36) × AreSmall refs
@@ -53,7 +53,7 @@ IsLine (lines.Asks question) = IsSmallQuestion question
 abbrev pub raw_line : Line → List ℕ
 raw_line line = raw_of (row_of line)
 
--- the line of untold words, where there are any
+-- the line of untold words, if there are any
 abbrev pub untold_lines : List ℕ → List Line
 untold_lines [] = []
 untold_lines (n ∷ ns) = lines.Adds (n ∷ ns) ∷ []

@@ -8,19 +8,19 @@ use Rattle.cg_snapshot.specs.declared.row.Row.{Row}
 use Rattle.cg_snapshot.specs.declared.line.Line.{Line}
 use Rattle.cg_snapshot.specs.declared.line.Line.TheVariants as lines
 
--- the mark that a number stands for
+-- the mark that a number denotes
 abbrev pub mark_in : ℕ → Option Bool
 mark_in zero = Some false
 mark_in (suc zero) = Some true
 mark_in (suc (suc n)) = None
 
--- the only one of some numbers
+-- the single element of a list
 abbrev pub only : List ℕ → Option ℕ
 only [] = None
 only (n ∷ []) = Some n
 only (n ∷ m ∷ ns) = None
 
--- a line that has no numbers
+-- a line without numbers
 abbrev pub bare_line : Line → List ℕ → Option Line
 bare_line line ns = cond (none_in ns) (Some line) None
 
@@ -48,7 +48,7 @@ meant_plain kinds.Lost ns = bare_line (lines.Asks Lost) ns
 meant_plain kinds.Dropped ns = cond (none_in ns) None (Some (lines.Asks (Dropped ns)))
 meant_plain kinds.Untold ns = bare_line (lines.Asks Untold) ns
 
--- a word, numbers, and numbers behind a word `but`
+-- a word, numbers, and numbers after a word `but`
 abbrev pub meant_but : Kind → List ℕ → List ℕ → Option Line
 meant_but kinds.Heap ns but = None
 meant_but kinds.Member ns but = None

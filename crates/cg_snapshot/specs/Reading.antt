@@ -1,4 +1,4 @@
--- What a line adds to what was read so far, where it may stand there. (Ours.)
+-- What a line adds to what was read so far, if it is allowed there. (Ours.)
 use Rattle.std.specs.Prelude.{ℕ, Bool, true, List, [], ◌∷◌, ◌++◌, length, Option, Some, None, option_map, nat_lt, not, ◌&&◌, cond}
 use Rattle.std.specs.List.{list_all}
 use Rattle.cg_graph.specs.Member.{includes}
@@ -18,7 +18,7 @@ draft members questions stage = record { members = members; questions = question
 abbrev pub are_below : ℕ → List ℕ → Bool
 are_below count ns = list_all (λ n. nat_lt n count) ns
 
--- whether a question is about members, where there are so many
+-- whether a question is about members, given their number
 abbrev pub is_asked : ℕ → Question → Bool
 is_asked count (Why n but) = nat_lt n count && (are_below count but && not (includes but n))
 is_asked count (Referrers n) = nat_lt n count
@@ -27,7 +27,7 @@ is_asked count Lost = true
 is_asked count (Dropped ns) = are_below count ns
 is_asked count Untold = true
 
--- the draft behind the line, where the line may stand there
+-- the draft after the line, if the line is allowed there
 abbrev pub inside : List Member → List Question → Line → Option Draft
 inside members questions (lines.Tells degree size tracked legacy refs) = Some (draft (members ++ member degree size tracked legacy refs [] ∷ []) questions Inside)
 inside members questions (lines.Adds words) = option_map (λ ms. draft ms questions Inside) (with_untold members words)

@@ -1,15 +1,15 @@
--- The words of a line: the one it begins with, numbers behind spaces, and numbers behind a word `but`. (Ours.)
+-- The words of a line: the first word, numbers after spaces, and numbers after a word `but`. (Ours.)
 use Rattle.std.specs.Prelude.{◌≡◌, ◌≢◌, ℕ, ◌^◌, ◌<◌, List, [], ◌∷◌, ◌++◌, flat_map, codes, decimal}
 use Rattle.std.specs.List.{AllByRecursion}
 use Rattle.cg_snapshot.specs.declared.row.Kind.{Kind}
 use Rattle.cg_snapshot.specs.declared.row.Kind.TheVariants as kinds
 use Rattle.cg_snapshot.specs.declared.row.Row.{Row}
 
--- a number behind a space
+-- a number after a space
 abbrev pub spaced : ℕ → List ℕ
 spaced n = 32 ∷ decimal n
 
--- numbers, each behind a space
+-- numbers, each after a space
 abbrev pub all_spaced : List ℕ → List ℕ
 all_spaced ns = flat_map spaced ns
 
@@ -25,7 +25,7 @@ kind_text kinds.Lost = codes "lost"
 kind_text kinds.Dropped = codes "drop"
 kind_text kinds.Untold = codes "untold"
 
--- numbers behind a word `but`, if there are any
+-- numbers after a word `but`, if there are any
 abbrev pub but_text : List ℕ → List ℕ
 but_text [] = []
 but_text (n ∷ ns) = codes " but" ++ all_spaced (n ∷ ns)
@@ -42,11 +42,11 @@ pub record IsRow (r : Row) : Type 0 where
   pub numbers : AreSmall r.numbers
   pub but : AreSmall r.but
 
--- a byte does not stand among these
+-- the byte does not occur in these
 abbrev pub Lacks : ℕ → List ℕ → Type 0
 Lacks byte bytes = AllByRecursion (λ b. b ≢ byte) bytes
 
--- nothing, or a space and what is behind it
+-- nothing, or a space and the bytes after it
 abbrev pub IsTail : List ℕ → Type 0
 IsTail [] = Unit {0}
 IsTail (b ∷ bytes) = b ≡ 32

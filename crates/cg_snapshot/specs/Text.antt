@@ -10,7 +10,7 @@ use Rattle.cg_snapshot.specs.declared.reading.Reading.{Reading}
 use Rattle.cg_snapshot.specs.declared.reading.Reading.TheVariants as readings
 use Rattle.cg_snapshot.specs.Rows.{spaced, all_spaced, but_text, AreSmall}
 
--- 1 for true, and else 0
+-- 1 for true, 0 for false
 abbrev pub flag : Bool → ℕ
 flag true = 1
 flag false = 0
@@ -19,7 +19,7 @@ flag false = 0
 abbrev pub member_numbers : Member → List ℕ
 member_numbers m = m.degree ∷ m.size ∷ flag m.tracked ∷ flag m.legacy ∷ m.refs
 
--- the line of untold words, where there are any
+-- the line of untold words, if there are any
 abbrev pub untold_text : List ℕ → List ℕ
 untold_text [] = []
 untold_text (n ∷ ns) = codes "u" ++ all_spaced (n ∷ ns) ++ 10 ∷ []
@@ -27,7 +27,7 @@ untold_text (n ∷ ns) = codes "u" ++ all_spaced (n ∷ ns) ++ 10 ∷ []
 abbrev pub member_text : Member → List ℕ
 member_text m = codes "m" ++ all_spaced (member_numbers m) ++ 10 ∷ [] ++ untold_text m.untold
 
--- a question as it is asked, on a line
+-- a question as a line
 abbrev pub question_text : Question → List ℕ
 question_text (Why n but) = codes "why" ++ spaced n ++ but_text but ++ 10 ∷ []
 question_text (Referrers n) = codes "referrers" ++ spaced n ++ 10 ∷ []
@@ -36,22 +36,22 @@ question_text Lost = codes "lost\n"
 question_text (Dropped ns) = codes "drop" ++ all_spaced ns ++ 10 ∷ []
 question_text Untold = codes "untold\n"
 
--- the members of the heap, and what is asked
+-- the members of the heap, and the questions
 abbrev pub text : Snapshot → List ℕ
 text s = codes "heap\n" ++ flat_map member_text s.members ++ codes "end\n" ++ flat_map question_text s.questions
 
--- The numbers of a member are in their ranges.
+-- The numbers of a member are in range.
 pub record IsSmallMember (m : Member) : Type 0 where
   pub degree : m.degree < 2 ^ 64
   pub size : m.size < 2 ^ 36
   pub refs : AreSmall m.refs
   pub untold : AreSmall m.untold
 
--- numbers of members, where there are so many
+-- numbers of members, given how many there are
 abbrev pub AreMembers : ℕ → List ℕ → Type 0
 AreMembers count ns = AllByRecursion (λ n. n < count) ns
 
--- A question is about members, where there are so many; a path to a member does not go by others than it.
+-- A question is about members, given how many there are; a path to a member does not exclude that member.
 abbrev pub IsAsked : ℕ → Question → Type 0
 IsAsked count (Why n but) = (n < count) × AreMembers count but × ¬ Includes but n
 IsAsked count (Referrers n) = n < count
@@ -60,7 +60,7 @@ IsAsked count Lost = Unit {0}
 IsAsked count (Dropped ns) = (0 < length ns) × AreMembers count ns
 IsAsked count Untold = Unit {0}
 
--- What can be written: its numbers are in their ranges, and its questions are about its members.
+-- A snapshot can be written if its numbers are in range and its questions are about its members.
 pub record IsWritable (s : Snapshot) : Type 0 where
   pub members : AllByRecursion IsSmallMember s.members
   pub few : length s.members < 2 ^ 64
@@ -75,7 +75,7 @@ pub record Spells (bytes : List ℕ) (s : Snapshot) : Type 0 where
 abbrev pub Begins : List ℕ → Type 0
 Begins bytes = (s : Snapshot) × (more : List ℕ) × Spells (bytes ++ more) s
 
--- no line feed stands among these
+-- these contain no line feed
 abbrev pub HasNoFeed : List ℕ → Type 0
 HasNoFeed line = AllByRecursion (λ b. ¬ (b ≡ 10)) line
 
@@ -83,12 +83,13 @@ HasNoFeed line = AllByRecursion (λ b. ¬ (b ≡ 10)) line
 abbrev pub ended : List (List ℕ) → List ℕ
 ended lines = flat_map (λ l. l ++ 10 ∷ []) lines
 
--- With what comes next no text goes on: with the next line, or with the end of the bytes where no line feed follows.
+-- No text continues with what comes next: the next line, or the end of the bytes if no line feed follows.
 pub data Leaves (before rest : List ℕ) : Type 0 where
   by_line : (line after : List ℕ) → rest ≡ line ++ 10 ∷ after → HasNoFeed line → ¬ Begins (before ++ (line ++ 10 ∷ [])) → Leaves before rest
   at_end : HasNoFeed rest → ((s : Snapshot) → ¬ Spells (before ++ rest) s) → Leaves before rest
 
--- The first line at which the bytes leave the texts, by its number from 1: with the lines before it a text begins.
+-- The first line at which the bytes deviate from every text, by its number from 1: the lines before it begin some
+-- text.
 pub record IsBadLine (bytes : List ℕ) (number : ℕ) : Type 0 where
   pub before : List (List ℕ)
   pub rest : List ℕ
@@ -98,7 +99,7 @@ pub record IsBadLine (bytes : List ℕ) (number : ℕ) : Type 0 where
   pub begins : Begins (ended before)
   pub leaves : Leaves (ended before) rest
 
--- what the bytes are read as
+-- the result of reading the bytes
 abbrev pub Reads : List ℕ → Reading → Type 0
 Reads bytes (readings.Read s) = Spells bytes s
 Reads bytes (readings.BadLine number) = IsBadLine bytes number

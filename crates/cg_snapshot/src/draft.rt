@@ -1,4 +1,4 @@
-//! A snapshot in the making: what was read so far, and which lines may follow.
+//! A snapshot under construction: what was read so far, and which lines may follow.
 ghost use Rattle.std.specs.Prelude.{◌≡◌, nat_lt, IfOk};
 ghost use Rattle.cg_graph.specs.Member.{includes};
 ghost use Rattle.cg_snapshot.specs.Reading.{are_below, is_asked, before, inside, behind, step};
@@ -9,18 +9,18 @@ use crate::places::Places;
 use crate::question::{Question, Questions};
 use std::alloc::{AllocError, Global};
 
-/// Where in the text the next line stands.
+/// The position of the next line in the text.
 #[derive(Clone, Copy, Drop)]
 pub(crate) enum Stage {
     /// Before the heap.
     Before,
     /// Among its members.
     Inside,
-    /// Behind its end, among the questions.
+    /// After its end, among the questions.
     Behind,
 }
 
-/// What was read so far, and where the next line stands.
+/// What was read so far, and the position of the next line.
 #[derive(Drop)]
 pub(crate) struct Draft {
     pub members: Members,
@@ -28,14 +28,14 @@ pub(crate) struct Draft {
     pub stage: Stage,
 }
 
-/// Whether all these are places of members, of which there are so many.
+/// Whether all these are places of members, given how many there are.
 fn all_below(count: usize, places: &[usize]) -> bool
     ensures { result ≡ are_below count places.now }
 {
     places.iter().all(|place| *place < count)
 }
 
-/// Whether a question is about members, of which there are so many, and no path is asked to avoid its own end.
+/// Whether a question is about members, given how many there are, and no path question excludes its own end.
 fn is_asked_of(count: usize, question: &Question) -> bool
     ensures { result ≡ is_asked count question.now }
 {
@@ -63,7 +63,7 @@ fn step_before(members: Members, questions: Questions, line: Line) -> Option<Dra
     }
 }
 
-/// A line among the members, or the one behind them.
+/// A line among the members, or the one after them.
 fn step_inside(
     alloc: Global,
     mut members: Members,
@@ -133,7 +133,7 @@ fn step_behind(
     }
 }
 
-/// The draft behind a line, where the line may stand there.
+/// The draft after a line, if the line is allowed there.
 pub(crate) fn take_line(
     alloc: Global,
     draft: Draft,

@@ -1,4 +1,4 @@
-//! What was recorded of the objects of a heap.
+//! The recorded data of a heap's objects.
 ghost use Rattle.std.specs.Prelude.{◌≡◌, ◌++◌, ◌∷◌, [], length, cond, Some, None, OnOk, IfOk};
 
 use crate::places::Places;
@@ -6,25 +6,25 @@ use cg_search::Node;
 use std::alloc::{AllocError, Global};
 use std::marker::Model;
 
-/// A recorded object. Its number is its place among the members, from 0.
+/// A recorded object. Its number is its position among the members, from 0.
 #[derive(Drop)]
 pub struct Member {
-    /// How many references to it there were, from members and from elsewhere.
+    /// The number of references to it, from members and from elsewhere.
     pub degree: u64,
-    /// Its bytes, below 2^36.
+    /// Its size in bytes, below 2^36.
     pub size: u64,
     /// Whether the collector tracks it.
     pub tracked: bool,
     /// Whether its class has a legacy finalizer (a type's `tp_del`).
     pub legacy: bool,
-    /// Its references to members, one item for each, in order.
+    /// Its references to members, one item per reference, in order.
     pub refs: Places,
-    /// The words of it that are a member's address and were not told as references.
+    /// The words in it that are a member's address and were not told as references.
     pub untold: Places,
 }
 
 impl Member {
-    /// Its references, and behind them its untold words.
+    /// Its references, followed by its untold words.
     pub fn with_words(&self, alloc: Global) -> Result<Places, AllocError>
         ensures { IfOk result (λ all. all ≡ self.now.refs ++ self.now.untold) }
     {
@@ -42,7 +42,7 @@ impl Node for Member {
     }
 }
 
-/// Members in order, which contracts see as a list.
+/// Members in order; contracts see a list.
 #[derive(Drop)]
 pub struct Members {
     members: Vec<Member>,
@@ -60,7 +60,7 @@ impl Model for Members {
 impl Members {
     ghost use Rattle.cg_snapshot.specs.Members.{with_untold};
 
-    /// These members in order. It takes no memory.
+    /// These members in order. It does not allocate.
     pub fn new(members: Vec<Member>) -> Members
         ensures { result ≡ members.items }
     {
@@ -87,7 +87,7 @@ impl Members {
         Ok(())
     }
 
-    /// Gives the last member its untold words, and tells whether there is one without any.
+    /// Gives the last member its untold words; returns whether there is a last member without any.
     pub(crate) fn add_untold(&mut self, untold: Places) -> Result<bool, AllocError>
         ensures { IfOk result (λ there. with_untold self.old untold ≡ cond there (Some self.new) None) }
     {

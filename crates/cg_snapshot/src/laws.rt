@@ -1,4 +1,4 @@
-//! A law on the text of snapshots, the contract of a function without a body.
+//! A law on the text of snapshots, the contract of a function with an empty body.
 ghost use Rattle.std.specs.Prelude.{◌≡◌};
 ghost use Rattle.cg_snapshot.specs.Text.{text, IsWritable};
 ghost use Rattle.cg_snapshot.specs.declared.reading.Snapshot.{Snapshot};

@@ -9,7 +9,7 @@ use crate::question::Question;
 use crate::row::{Kind, Row, read_row};
 use std::alloc::{AllocError, Global};
 
-/// The least number of bytes that no member has.
+/// Every member has fewer bytes than this.
 const TOO_MANY_BYTES: u64 = 68_719_476_736;
 
 /// A line of a snapshot.
@@ -27,7 +27,7 @@ pub(crate) enum Line {
     Asks(Question),
 }
 
-/// The mark that a number stands for.
+/// The mark that a number denotes.
 fn mark_of(number: usize) -> Option<bool>
     ensures { result ≡ mark_in number }
 {
@@ -40,7 +40,7 @@ fn mark_of(number: usize) -> Option<bool>
     None
 }
 
-/// The only one of some numbers.
+/// The single element of a slice.
 fn only_of(numbers: &[usize]) -> Option<usize>
     ensures { result ≡ only numbers.now }
 {
@@ -51,7 +51,7 @@ fn only_of(numbers: &[usize]) -> Option<usize>
     }
 }
 
-/// A line that has no numbers.
+/// A line without numbers.
 fn bare(numbers: &Places, line: Line) -> Option<Line>
     ensures { result ≡ bare_line line numbers.now }
 {
@@ -114,7 +114,7 @@ fn plain_line(alloc: Global, kind: Kind, numbers: Places) -> Result<Option<Line>
     }
 }
 
-/// The line of a word, numbers, and numbers behind a word `but`.
+/// The line of a word, numbers, and numbers after a word `but`.
 fn but_line(kind: Kind, numbers: &[usize], but: Places) -> Option<Line>
     ensures { result ≡ meant_but kind numbers.now but }
 {

@@ -4,7 +4,7 @@ ghost use Rattle.cg_snapshot.specs.Rows.{spaced, IsTail, Lacks};
 
 use cg_records::{number_of_word, place_of};
 
-/// The word at the front, up to a space, and what follows it.
+/// The word at the front, up to a space, and the bytes after it.
 pub(crate) fn cut_word(bytes: &[u8]) -> (&[u8], &[u8])
     ensures whole { bytes.now ≡ result.0.now ++ result.1.now }
     ensures word { Lacks 32 result.0.now }
@@ -14,14 +14,14 @@ pub(crate) fn cut_word(bytes: &[u8]) -> (&[u8], &[u8])
     (&bytes[..end], &bytes[end..])
 }
 
-/// What follows some bytes that others begin with.
+/// The bytes after a prefix.
 pub(crate) fn after<'a>(prefix: &[u8], bytes: &'a [u8]) -> Option<&'a [u8]>
     ensures { MatchOption result ((rest : List ℕ) → bytes.now ≢ prefix.now ++ rest) (λ rest. bytes.now ≡ prefix.now ++ rest.now) }
 {
     bytes.strip_prefix(prefix)
 }
 
-/// The number behind a space at the front, and what follows it.
+/// The number after a space at the front, and the bytes after it.
 pub(crate) fn read_spaced(bytes: &[u8]) -> Option<(u64, &[u8])>
     ensures found { IfSome result (λ read. bytes.now ≡ spaced read.0 ++ read.1.now) }
     ensures tail { IfSome result (λ read. IsTail read.1.now) }

@@ -1,4 +1,4 @@
-//! Places of members in order, which contracts see as a list.
+//! Places of members in order; contracts see a list.
 ghost use Rattle.std.specs.Prelude.{◌≡◌, ◌++◌, ◌∷◌, [], OnOk, IfOk};
 ghost use Rattle.cg_records.specs.Lists.{none_in};
 
@@ -21,14 +21,14 @@ impl Model for Places {
 }
 
 impl Places {
-    /// These places in order. It takes no memory.
+    /// These places in order. It does not allocate.
     pub fn new(places: Vec<usize>) -> Places
         ensures { result ≡ places.items }
     {
         Places { places }
     }
 
-    /// A copy of these places, without room for more.
+    /// A copy of these places, without spare capacity.
     pub(crate) fn from_slice(alloc: Global, places: &[usize]) -> Result<Places, AllocError>
         ensures { IfOk result (λ copy. copy ≡ places.now) }
     {
@@ -44,7 +44,6 @@ impl Places {
         self.places.as_slice()
     }
 
-    /// Whether there are none.
     pub fn is_empty(&self) -> bool
         ensures { result ≡ none_in self.now }
     {

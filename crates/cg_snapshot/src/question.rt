@@ -8,7 +8,7 @@ use std::marker::Model;
 /// A question about a heap.
 #[derive(Drop)]
 pub enum Question {
-    /// Why the member is alive: by which path of members other than these.
+    /// Why the member is alive: a path of members that avoids these.
     Why(usize, Places),
     /// Which members refer to the member.
     Referrers(usize),
@@ -16,13 +16,13 @@ pub enum Question {
     Hidden,
     /// Which members no path from outside reaches.
     Lost,
-    /// What would go if all references to these members were given up.
+    /// What would die if all references to these members were dropped.
     Dropped(Places),
     /// Which members would be lost if untold words were references.
     Untold,
 }
 
-/// Questions in order, which contracts see as a list.
+/// Questions in order; contracts see a list.
 #[derive(Drop)]
 pub struct Questions {
     questions: Vec<Question>,
@@ -38,7 +38,7 @@ impl Model for Questions {
 }
 
 impl Questions {
-    /// These questions in order. It takes no memory.
+    /// These questions in order. It does not allocate.
     pub fn new(questions: Vec<Question>) -> Questions
         ensures { result ≡ questions.items }
     {

@@ -1,4 +1,4 @@
-//! Reading a snapshot from its text.
+//! Reads a snapshot from its text.
 ghost use Rattle.std.specs.Prelude.{◌≡◌, ◌+◌, ◌<◌, [], ◌++◌, length, Some, None, ℕ, List, IfOk, IfSome, IfNone};
 ghost use Rattle.cg_snapshot.specs.Text.{Reads};
 ghost use Rattle.cg_snapshot.specs.Reading.{draft as draft_of};
@@ -11,19 +11,19 @@ use crate::question::Questions;
 use cg_records::place_of;
 use std::alloc::{AllocError, Global};
 
-/// A recorded heap, and what is asked of it.
+/// A recorded heap, and the questions about it.
 #[derive(Drop)]
 pub struct Snapshot {
     pub members: Members,
     pub questions: Questions,
 }
 
-/// What bytes are read as.
+/// The result of reading bytes.
 #[derive(Drop)]
 pub enum Reading {
     /// They are the text of a snapshot.
     Read(Snapshot),
-    /// They are no such text; the number of the first bad line, from 1.
+    /// They are not such a text; the number of the first bad line, from 1.
     BadLine(u64),
 }
 
@@ -43,9 +43,9 @@ fn snapshot_of(draft: Draft) -> Option<Snapshot>
     }
 }
 
-/// Reads the snapshot whose text the bytes are, or tells the first line with which no such text goes on.
+/// Reads the snapshot whose text the bytes are, or reports the first line with which no text continues.
 ///
-/// It takes time linear in the bytes, and memory of a constant factor of them. `AllocError` is an allocation failure.
+/// Takes time and memory linear in the bytes. `AllocError` means memory ran out.
 pub fn read_snapshot(alloc: Global, bytes: &[u8]) -> Result<Reading, AllocError>
     ensures { IfOk result (λ reading. Reads bytes.now reading) }
 {

@@ -1,4 +1,4 @@
-//! The words of a line: what it begins with, and its numbers.
+//! The words of a line: the first word, and the numbers.
 ghost use Rattle.std.specs.Prelude.{◌≡◌, ◌≢◌, ◌<◌, ◌^◌, ◌++◌, ◌∷◌, [], ℕ, List, IfOk, IfSome, IfNone};
 ghost use Rattle.std.specs.List.{AllByRecursion};
 ghost use Rattle.cg_snapshot.specs.Rows.{kind_text, all_spaced, but_text, raw_of, IsRow, IsTail, AreSmall, spaced};
@@ -7,7 +7,7 @@ use crate::number::{after, cut_word, read_spaced};
 use crate::places::Places;
 use std::alloc::{AllocError, Global};
 
-/// The word that a line begins with.
+/// The first word of a line.
 #[derive(Clone, Copy, Debug, PartialEq, Eq, Drop)]
 pub(crate) enum Kind {
     Heap,
@@ -26,13 +26,13 @@ pub(crate) enum Kind {
 #[derive(Drop)]
 pub(crate) struct Row {
     pub kind: Kind,
-    /// The numbers behind the first word.
+    /// The numbers after the first word.
     pub numbers: Places,
-    /// The numbers behind a word `but`, where it stands there.
+    /// The numbers after a word `but`, if it is there.
     pub but: Places,
 }
 
-/// What a word says, where a line may begin with it.
+/// The kind of a word that may begin a line.
 fn read_kind(word: &[u8]) -> Option<Kind>
     ensures found { IfSome result (λ kind. word.now ≡ kind_text kind) }
     ensures none { IfNone result ((kind : Kind) → word.now ≢ kind_text kind) }
@@ -70,7 +70,7 @@ fn read_kind(word: &[u8]) -> Option<Kind>
     None
 }
 
-/// The numbers at the front, each behind a space, as many as there are, and what follows them.
+/// As many numbers at the front as there are, each after a space, and the bytes after them.
 fn read_numbers(alloc: Global, bytes: &[u8]) -> Result<(Places, &[u8]), AllocError>
     requires { IsTail bytes.now }
     ensures found { IfOk result (λ read. bytes.now ≡ all_spaced read.0 ++ read.1.now) }
@@ -87,7 +87,7 @@ fn read_numbers(alloc: Global, bytes: &[u8]) -> Result<(Places, &[u8]), AllocErr
     Ok((numbers, rest))
 }
 
-/// The numbers behind a word `but`, where that is all; none where there is nothing.
+/// The numbers after a word `but`, if that is all; no numbers for an empty input.
 fn read_but(alloc: Global, bytes: &[u8]) -> Result<Option<Places>, AllocError>
     ensures found { IfOk result (λ read. IfSome read (λ but. bytes.now ≡ but_text but)) }
     ensures small { IfOk result (λ read. IfSome read (λ but. AreSmall but)) }

@@ -7,7 +7,7 @@ use crate::question::Question;
 use itoa::Buffer;
 use std::alloc::AllocError;
 
-/// Appends a number behind a space.
+/// Appends a number after a space.
 pub fn put_spaced(out: &mut Vec<u8>, number: u64) -> Result<(), AllocError>
     ensures { OnOk result (out.new.items ≡ out.old.items ++ spaced number) }
 {
@@ -15,7 +15,7 @@ pub fn put_spaced(out: &mut Vec<u8>, number: u64) -> Result<(), AllocError>
     out.extend_from_slice(Buffer::new().format(number).as_bytes())
 }
 
-/// Appends numbers of members, each behind a space.
+/// Appends numbers of members, each after a space.
 fn put_places(out: &mut Vec<u8>, places: &[usize]) -> Result<(), AllocError>
     ensures { OnOk result (out.new.items ≡ out.old.items ++ all_spaced places.now) }
 {
@@ -25,7 +25,7 @@ fn put_places(out: &mut Vec<u8>, places: &[usize]) -> Result<(), AllocError>
     Ok(())
 }
 
-/// Appends the members that no path goes by.
+/// Appends the members that the path must avoid.
 fn put_without(out: &mut Vec<u8>, but: &[usize]) -> Result<(), AllocError>
     ensures { OnOk result (out.new.items ≡ out.old.items ++ but_text but.now) }
 {
@@ -36,7 +36,7 @@ fn put_without(out: &mut Vec<u8>, but: &[usize]) -> Result<(), AllocError>
     put_places(out, but)
 }
 
-/// Appends a question as it is asked, on a line.
+/// Appends a question as a line.
 pub fn put_question(out: &mut Vec<u8>, question: &Question) -> Result<(), AllocError>
     ensures { OnOk result (out.new.items ≡ out.old.items ++ question_text question.now) }
 {

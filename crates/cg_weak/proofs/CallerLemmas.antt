@@ -1,4 +1,4 @@
--- What callers may conclude from an answer of a table, and that a walk goes over the weak references of an object.
+-- What callers may conclude from a result of a table, and that a walk visits the weak references of an object.
 use Rattle.std.proofs.Common.{◌≡◌, ℕ, ◌<◌, ◌≤◌, Bool, true, false, not, cond, List, [], ◌∷◌, ◌++◌, map, Option, Some, None, refl, sym, ap, ◌∙◌, subst, arith}
 use Rattle.std.specs.Prelude.{◌==◌, nat_lt, filter, find, reverse, slice_get, option_and_then, if◌then◌else◌}
 use Rattle.std.specs.List.{All}
@@ -10,7 +10,7 @@ use Rattle.cg_weak.specs.Table.{row_at, below, IsLast}
 use Rattle.cg_weak.proofs.RowLists.{AllAbove, passes, referent_if, referent_found, each-without, each-waiting}
 use Rattle.cg_weak.proofs.Newest.{PassesBoth, last_found, find_first}
 
--- the answer passes
+-- the result satisfies the test
 last_passes : (P : ℕ → Type 0) (a : Option ℕ) (w : ℕ) → a ≡ Some w → IsLast below P a → P w
 last_passes P None w is last = absurd (cc)
 last_passes P (Some y) w is last = let same : y ≡ w = cc in subst P same last.0
@@ -34,7 +34,7 @@ module _ (rows : List Row) (rise : IsRising rows) where
           let parts = and_parts (r.referent == o) r.waits is in
           ap (λ b. if b then Some r.referent else None) parts.1 ∙ ap Some (eqb-true r.referent o parts.0)
 
-  -- the newest weak reference to an object has it as its referent
+  -- the newest weak reference to an object refers to it
   pub newest_refers : (o w : ℕ) → slice_get (weak_references_in rows o) 0 ≡ Some w → referent_in rows w ≡ Some o
   newest_refers o w is =
       refers o w (last_passes (PassesBoth (refers_to o) (λ v. true) rows) (find (λ v. true) (weak_references_in rows o)) w (find_first (weak_references_in rows o) ∙ is) (last_found (refers_to o) (λ v. true) rows rise)).0
@@ -44,14 +44,14 @@ module _ (rows : List Row) (rise : IsRising rows) where
   newest_waits o w is =
       waits o w (last_passes (PassesBoth (waits_with o) (λ v. true) rows) (find (λ v. true) (waiting_in rows o)) w (find_first (waiting_in rows o) ∙ is) (last_found (waits_with o) (λ v. true) rows rise)).0
 
-  -- the next older one has the same referent, and is older
+  -- the next older weak reference has the same referent and is older
   pub older_refers : (o w v : ℕ) → referent_in rows w ≡ Some o → next_older_in rows w ≡ Some v → (referent_in rows v ≡ Some o) × (v < w)
   older_refers o w v is older =
       let found = ap (option_and_then (λ p. find (λ u. nat_lt u w) (weak_references_in rows p))) (sym is) ∙ older in
       let passed = last_passes (PassesBoth (refers_to o) (λ u. nat_lt u w) rows) (find (λ u. nat_lt u w) (weak_references_in rows o)) v found (last_found (refers_to o) (λ u. nat_lt u w) rows rise) in
       (refers o v passed.0, ltb-true v w passed.1)
 
--- Weak references by falling number.
+-- Weak references in descending order.
 abbrev IsFalling : List ℕ → Type 0
 IsFalling [] = Unit {0}
 IsFalling (x ∷ xs) = All (λ y. y < x) xs × IsFalling xs
@@ -83,7 +83,7 @@ falling-newest_first test (r ∷ rows) rise = go (test r) refl (falling-newest_f
     go true is rest = subst IsFalling (sym (newest_first-cons test r rows true is)) (falling-push (newest_first test rows) r.weak rest (above_all test r.weak rows rise.0))
     go false is rest = subst IsFalling (sym (newest_first-cons test r rows false is)) rest
 
--- the first below one of a falling list is what comes after it
+-- in a descending list, the first one below an element is the next element
 find-below : (front : List ℕ) (w : ℕ) (back : List ℕ) → IsFalling (front ++ w ∷ back) → find (λ v. nat_lt v w) (front ++ w ∷ back) ≡ slice_get back 0
 find-below [] w back falls = ap (λ b. cond b (Some w) (find (λ v. nat_lt v w) back)) (le-ltb w w (omega arith)) ∙ go back falls.0
   where
@@ -98,7 +98,7 @@ find-below (x ∷ front) w back falls =
     at_w [] all = let lower : w < x = All-head (λ y. y < x) w back all in omega (arith, lower)
     at_w (y ∷ ys) all = at_w ys (All-tail (λ z. z < x) y (ys ++ w ∷ back) all)
 
--- one of a list is found in it
+-- an element of a list is found in it
 find-there : (front : List ℕ) (w : ℕ) (back : List ℕ) → find (λ v. v == w) (front ++ w ∷ back) ≡ Some w
 find-there [] w back = ap (λ b. cond b (Some w) (find (λ v. v == w) back)) (eq-eqb w w refl)
 find-there (x ∷ front) w back = go (x == w) refl (find-there front w back)
@@ -107,19 +107,19 @@ find-there (x ∷ front) w back = go (x == w) refl (find-there front w back)
     go true is rest = ap (λ b. cond b (Some x) (find (λ v. v == w) (front ++ w ∷ back))) is ∙ ap Some (eqb-true x w is)
     go false is rest = ap (λ b. cond b (Some x) (find (λ v. v == w) (front ++ w ∷ back))) is ∙ rest
 
--- each weak reference of the list has the object as its referent
+-- each weak reference of the list refers to the object
 pub each_refers : (rows : List Row) (o w : ℕ) (front back : List ℕ) → IsRising rows → weak_references_in rows o ≡ front ++ w ∷ back → referent_in rows w ≡ Some o
 each_refers rows o w front back rise is =
     refers rows rise o w (last_passes (PassesBoth (refers_to o) (λ v. v == w) rows) (find (λ v. v == w) (weak_references_in rows o)) w (ap (find (λ v. v == w)) is ∙ find-there front w back) (last_found (refers_to o) (λ v. v == w) rows rise)).0
 
--- a walk goes from each to the next of the list
+-- a walk steps from each element to the next
 pub walk_goes_on : (rows : List Row) (o w : ℕ) (front back : List ℕ) → IsRising rows → weak_references_in rows o ≡ front ++ w ∷ back → next_older_in rows w ≡ slice_get back 0
 walk_goes_on rows o w front back rise is =
     ap (option_and_then (λ p. find (λ v. nat_lt v w) (weak_references_in rows p))) (each_refers rows o w front back rise is)
     ∙ ap (find (λ v. nat_lt v w)) is
     ∙ find-below front w back (subst IsFalling is (falling-newest_first (refers_to o) rows rise))
 
--- what is true of each row is true of each after `clear`, where it does not tell whether the row waits
+-- a property of each row that does not depend on waiting survives `clear`
 pub each-cleared : (P : Row → Type 0) → ((r : Row) → P r → P (waiting_row r)) → (weak : ℕ) (wait : Bool) (rows : List Row) → All P rows → All P (if wait then with_row_waiting weak rows else without_row weak rows)
 each-cleared P kept weak true rows each = each-waiting P kept weak rows each
 each-cleared P kept weak false rows each = each-without P weak rows each

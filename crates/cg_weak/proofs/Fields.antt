@@ -1,4 +1,4 @@
--- The fields of a table once a row has left its chain, or has come to one.
+-- The fields of a table after a row leaves or joins a chain.
 use Rattle.std.proofs.Common.{◌≡◌, ◌≢◌, ◌⊎◌, ℕ, Bool, true, false, Option, Some, None, refl, sym, ap, ◌∙◌, subst, inl, inr}
 use Rattle.std.specs.Prelude.{nat_eq, option_map, if◌then◌else◌}
 use Rattle.std.proofs.lemmas.Bool.{cases_eq, eq-eqb, ne_eqb}
@@ -10,14 +10,13 @@ use Rattle.cg_weak.specs.Chains.{at_end, ends_without, ends_joined, ends_of, wit
 use Rattle.cg_weak.specs.Table.{below, above, IsLast, IsSound}
 use Rattle.cg_weak.proofs.Moves.{down, up, HasLeft, HasCome, left_linked, left_ended, come_linked, come_ended, same_value, some_or_none}
 
--- two chains are the same, or not
 pub same_chain : (j k : Chain) → (j ≡ k) ⊎ (j ≢ k)
 same_chain (o, true) (p, true) = elim (cases_eq o p) [ inl same ↦ inl (λ i. (same i, true)) | inr differs ↦ inr (λ e. differs (ap (λ (k : Chain). k.0) e)) ]
 same_chain (o, false) (p, false) = elim (cases_eq o p) [ inl same ↦ inl (λ i. (same i, false)) | inr differs ↦ inr (λ e. differs (ap (λ (k : Chain). k.0) e)) ]
 same_chain (o, true) (p, false) = inr (λ e. absurd (let t : true ≡ false = ap (λ (k : Chain). k.1) e in cc))
 same_chain (o, false) (p, true) = inr (λ e. absurd (let t : false ≡ true = ap (λ (k : Chain). k.1) e in cc))
 
--- who is named
+-- the named neighbour
 named_here : (at : Option ℕ) (v : ℕ) → at ≡ Some v → is_named at v ≡ true
 named_here None v is = absurd (cc)
 named_here (Some w) v is = eq-eqb w v (same_value w v is)
@@ -26,7 +25,7 @@ named_elsewhere : (at : Option ℕ) (v : ℕ) → at ≢ Some v → is_named at 
 named_elsewhere None v differs = refl
 named_elsewhere (Some w) v differs = ne_eqb w v (λ same. differs (ap Some same))
 
--- what a write of one neighbour leaves
+-- what writing one neighbour keeps
 module _ {X : Type 0} (part : Option Node → X) where
   pub part-older_set : ((x : Option ℕ) (n : Node) → part (Some (with_older x n)) ≡ part (Some n)) → (at x : Option ℕ) (v : ℕ) (o : Option Node) → part (older_set at x v o) ≡ part o
   part-older_set keeps at x v o = go (is_named at v) o
@@ -44,7 +43,7 @@ module _ {X : Type 0} (part : Option Node → X) where
       go true (Some n) = keeps x n
       go false o = refl
 
--- a node whose neighbours are both written
+-- a node with both neighbours written
 abbrev pub tied : Option ℕ → Option ℕ → Option ℕ → Option ℕ → ℕ → Option Node → Option Node
 tied newer now_older older now_newer v o = newer_set older now_newer v (older_set newer now_older v o)
 
@@ -82,7 +81,7 @@ module _ (newer now_older older now_newer : Option ℕ) (v : ℕ) (o : Option No
       ap (λ b. newer_in (if b then option_map (with_newer now_newer) (older_set newer now_older v o) else older_set newer now_older v o)) (named_elsewhere older v differs)
       ∙ part-older_set newer_in (λ x m. refl) newer now_older v o
 
--- who stands in a chain has a node
+-- a row in a chain has a node
 pub the_node : (o : Option Node) (k : Chain) → chain_in o ≡ Some k → (n : Node) × (o ≡ Some n)
 the_node None k is = absurd (cc)
 the_node (Some n) k is = (n, refl)
@@ -144,7 +143,7 @@ module _ (node new : ℕ → Option Node) (ends new_ends : Chain → Ends) (w : 
             sound.newer sound.oldest j (same_chain j (n.referent, n.waits));
       }
 
--- a row comes to a chain
+-- a row joins a chain
 module _ (node new : ℕ → Option Node) (ends new_ends : Chain → Ends) (w : ℕ) (n : Node) (nowhere : node w ≡ None) (sound : IsSound node ends)
     (newer_last : IsLast above (λ v. (chain_in (node v) ≡ Some (n.referent, n.waits)) × above v w) n.newer)
     (older_last : IsLast below (λ v. (chain_in (node v) ≡ Some (n.referent, n.waits)) × below v w) n.older)
@@ -202,7 +201,7 @@ module _ (node new : ℕ → Option Node) (ends new_ends : Chain → Ends) (w : 
             sound.oldest j (same_chain j (n.referent, n.waits));
       }
 
--- other ends for one chain of an object: no other chain is touched
+-- new ends for one chain of an object; no other chain changes
 module _ (chains : ℕ → Chains) (o : ℕ) (b : Bool) (e : Ends) (with : Chains) (with_is : with ≡ with_ends b e (chains o)) where
   abbrev pub now_chains : ℕ → Chains
   now_chains p = if nat_eq o p then with else chains p

@@ -1,12 +1,12 @@
--- A row that leaves its chain, or comes to one: what the others name as their neighbours, one way along the chain. The
--- two ways differ in the order alone.
+-- A row leaves or joins a chain: the effect on the neighbours, in one direction along the chain. The two directions
+-- differ only in the order.
 use Rattle.std.proofs.Common.{◌≡◌, ◌≢◌, ◌⊎◌, ℕ, Option, Some, None, sym, ap, ◌∙◌, subst, inl, inr, arith}
 use Rattle.std.proofs.lemmas.Bool.{cases_eq, cases_order}
 use Rattle.cg_weak.specs.Nodes.{Chain}
 use Rattle.cg_weak.specs.Chains.{at_end}
 use Rattle.cg_weak.specs.Table.{below, above, IsLast, IsLinked, IsEnded}
 
--- a way along a chain goes on and on, and never back
+-- a direction along a chain is a strict total order
 pub record IsWay (before : ℕ → ℕ → Type 0) : Type 0 where
   pub never : (v : ℕ) → before v v → ⊥
   pub along : (u v w : ℕ) → before u v → before v w → before u w
@@ -32,18 +32,18 @@ up = record {
   ];
 }
 
--- what is last among some is last among the same
+-- sets with the same members have the same last member
 pub last_same : (before : ℕ → ℕ → Type 0) (P Q : ℕ → Type 0) (a : Option ℕ) → ((z : ℕ) → P z → Q z) → ((z : ℕ) → Q z → P z) → IsLast before P a → IsLast before Q a
 last_same before P Q None to back none = λ z in_Q. none z (back z in_Q)
 last_same before P Q (Some y) to back (here, others) = (to y here, λ z in_Q. others z (back z in_Q))
 
--- the row of w is no more in chain k, and all others are where they were
+-- the row of w has left chain k, and all others are unchanged
 pub record HasLeft (chain new : ℕ → Option Chain) (w : ℕ) (k : Chain) : Type 0 where
   pub here : chain w ≡ Some k
   pub gone : new w ≡ None
   pub others : (v : ℕ) → v ≢ w → new v ≡ chain v
 
--- the row of w is now in chain k
+-- the row of w has joined chain k, and all others are unchanged
 pub record HasCome (chain new : ℕ → Option Chain) (w : ℕ) (k : Chain) : Type 0 where
   pub nowhere : chain w ≡ None
   pub here : new w ≡ Some k
@@ -64,7 +64,7 @@ module _ (before : ℕ → ℕ → Type 0) (way : IsWay before) (chain new : ℕ
   apart u v first same = way.never v (subst (λ x. before x v) same first)
 
   module _ (left : HasLeft chain new w k) where
-    -- who is in a chain now was there, and is not w
+    -- a row in a chain now was there before, and is not w
     was : (v : ℕ) (j : Chain) → new v ≡ Some j → (v ≢ w) × (chain v ≡ Some j)
     was v j is =
         let differs : v ≢ w = λ same. some_or_none j (sym left.gone ∙ ap new (sym same) ∙ is) in
@@ -73,7 +73,7 @@ module _ (before : ℕ → ℕ → Type 0) (way : IsWay before) (chain new : ℕ
     stays : (v : ℕ) (j : Chain) → chain v ≡ Some j → v ≢ w → new v ≡ Some j
     stays v j is differs = left.others v differs ∙ is
 
-    -- what is before v, where v follows w, is what is before w
+    -- if v follows w, its new predecessor is that of w
     mended : (v : ℕ) (at : Option ℕ) → Beyond (Some v) → IsLast before (λ u. (chain u ≡ Some k) × before u w) at → IsLast before (λ u. (new u ≡ Some k) × before u v) at
     mended v None after none = λ u in_new. absurd (none u (let old = was u k in_new.0 in (old.1, first u old.0 old.1 in_new.1)))
       where
@@ -93,7 +93,7 @@ module _ (before : ℕ → ℕ → Type 0) (way : IsWay before) (chain new : ℕ
           | inr higher ↦ absurd (way.never v (way.along v u v (after.1 u (is, higher) (apart u v lower)) lower))
         ]
 
-    -- w is not what is before v, where v does not follow it
+    -- if v does not follow w, its predecessor is not w
     not_w : (v : ℕ) (after : Option ℕ) → Beyond after → after ≢ Some v → chain v ≡ Some k → before w v → ((u : ℕ) → (chain u ≡ Some k) × before u v → u ≢ w → before u w) → ⊥
     not_w v None beyond differs is first rest = beyond v (is, first)
     not_w v (Some x) beyond differs is first rest =
@@ -134,7 +134,7 @@ module _ (before : ℕ → ℕ → Type 0) (way : IsWay before) (chain new : ℕ
             subst (IsLast before (λ u. (new u ≡ Some j) × before u v)) (sym (else_where v old.0 other))
             (kept v j (Some x) (next v) beyond other old.1 (linked v j old.1))
 
-    -- the end of the chain that w has left
+    -- the end of the chain that w left
     end_left : (after at end : Option ℕ) → Beyond after → IsLast before (λ u. (chain u ≡ Some k) × before u w) at → IsLast before (λ u. chain u ≡ Some k) end → IsLast before (λ u. new u ≡ Some k) (at_end after at end)
     end_left None None end beyond none last = λ u is. let old = was u k is in elim (way.either u w old.0) [
       | inl lower ↦ none u (old.1, lower)
@@ -169,7 +169,7 @@ module _ (before : ℕ → ℕ → Type 0) (way : IsWay before) (chain new : ℕ
         subst (IsLast before (λ v. new v ≡ Some j)) (sym (others_are j other)) (end_kept j (end j) other (ended j))
 
   module _ (come : HasCome chain new w k) where
-    -- who is in a chain now is w, or was there
+    -- a row in a chain now is w, or was there before
     since : (v : ℕ) (j : Chain) → new v ≡ Some j → ((v ≡ w) × (k ≡ j)) ⊎ ((v ≢ w) × (chain v ≡ Some j))
     since v j is = elim (cases_eq v w) [
       | inl same ↦ inl (same, same_value k j (sym come.here ∙ ap new (sym same) ∙ is))
@@ -179,7 +179,7 @@ module _ (before : ℕ → ℕ → Type 0) (way : IsWay before) (chain new : ℕ
     remains : (v : ℕ) (j : Chain) → chain v ≡ Some j → new v ≡ Some j
     remains v j is = come.others v (λ same. some_or_none j (sym come.nowhere ∙ ap chain (sym same) ∙ is)) ∙ is
 
-    -- what is before w
+    -- the predecessor of w
     arrived : (at : Option ℕ) → IsLast before (λ u. (chain u ≡ Some k) × before u w) at → IsLast before (λ u. (new u ≡ Some k) × before u w) at
     arrived None none = λ u in_new. elim (since u k in_new.0) [
       | inl same ↦ apart u w in_new.1 same.0
@@ -193,7 +193,7 @@ module _ (before : ℕ → ℕ → Type 0) (way : IsWay before) (chain new : ℕ
       ],
     )
 
-    -- w is what is before the one that follows it
+    -- w is the predecessor of the row that follows it
     follows : (v : ℕ) → Beyond (Some v) → IsLast before (λ u. (new u ≡ Some k) × before u v) (Some w)
     follows v beyond = (
       (come.here, beyond.0.1),
@@ -206,7 +206,7 @@ module _ (before : ℕ → ℕ → Type 0) (way : IsWay before) (chain new : ℕ
       ],
     )
 
-    -- one that follows w stands between w and v
+    -- no row is between w and its successor
     between : (v : ℕ) (after : Option ℕ) → Beyond after → after ≢ Some v → chain v ≡ Some k → before w v → (x : ℕ) × (chain x ≡ Some k) × before w x × before x v
     between v None beyond differs is first = absurd (beyond v (is, first))
     between v (Some x) beyond differs is first =
@@ -265,7 +265,7 @@ module _ (before : ℕ → ℕ → Type 0) (way : IsWay before) (chain new : ℕ
               (unmoved v j (Some x) (next v) beyond other old (linked v j old))
         ]
 
-    -- the end of the chain that w has come to
+    -- the end of the chain that w joined
     end_come : (after end : Option ℕ) → Beyond after → IsLast before (λ u. chain u ≡ Some k) end → IsLast before (λ u. new u ≡ Some k) (at_end after (Some w) end)
     end_come None end beyond last = (
       come.here,

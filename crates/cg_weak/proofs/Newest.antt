@@ -13,7 +13,7 @@ use Rattle.cg_weak.specs.Table.{row_at, row_of, rows_of, node_in, ends_at, chain
 use Rattle.cg_weak.proofs.Moves.{last_same}
 use Rattle.cg_weak.proofs.RowLists.{AllAbove, found_above, row_at-head, row_at-tail, passes, referent_if, referent_found, rising-rows_of, row_at-rows_of}
 
--- there is one last at most
+-- there is at most one last element
 pub one_last : (P : ℕ → Type 0) (a b : Option ℕ) → IsLast below P a → IsLast below P b → a ≡ b
 one_last P None None a_last b_last = refl
 one_last P None (Some z) a_last b_last = absurd (a_last z b_last.0)
@@ -30,7 +30,7 @@ passes_above test low rows weak lower is = go (row_at rows weak) refl is
     go None found passed = absurd (cc)
     go (Some r) found passed = found_above low rows weak r lower found
 
--- a weak reference whose row passes one test, and that passes another one itself
+-- a weak reference that passes one test and whose row passes another
 abbrev pub PassesBoth : (Row → Bool) → (ℕ → Bool) → List Row → ℕ → Type 0
 PassesBoth test p rows v = (passes test (row_at rows v) ≡ true) × (p v ≡ true)
 
@@ -46,7 +46,7 @@ module _ (test : Row → Bool) (p : ℕ → Bool) (x : Row) (rows : List Row) (l
     | inr differs ↦ inr (sym (ap (passes test) (row_at-tail x rows v differs)) ∙ passed, too)
   ]
 
-  -- the head does not pass both
+  -- the head fails a test
   skips : (a : Option ℕ) → (test x ≡ true → p x.weak ≡ true → ⊥) → IsLast below (PassesBoth test p rows) a → IsLast below (PassesBoth test p (x ∷ rows)) a
   skips None fails none = λ v in_all. elim (split v in_all) [
     | inl here ↦ fails here.1 here.2
@@ -60,7 +60,7 @@ module _ (test : Row → Bool) (p : ℕ → Bool) (x : Row) (rows : List Row) (l
     ],
   )
 
-  -- the head passes both
+  -- the head passes both tests
   counts : (a : Option ℕ) → test x ≡ true → p x.weak ≡ true → IsLast below (PassesBoth test p rows) a → IsLast below (PassesBoth test p (x ∷ rows)) (option_or a (Some x.weak))
   counts None passed too none = (
     (ap (passes test) (row_at-head x rows) ∙ passed, too),
@@ -82,7 +82,7 @@ or_none : (a : Option ℕ) → option_or a None ≡ a
 or_none None = refl
 or_none (Some y) = refl
 
--- the first that passes, of the weak references whose rows do, is the greatest
+-- among the weak references whose rows pass, the first that passes is the greatest
 pub last_found : (test : Row → Bool) (p : ℕ → Bool) (rows : List Row) → IsRising rows → IsLast below (PassesBoth test p rows) (find p (newest_first test rows))
 last_found test p [] rise = λ v in_none. absurd (let e : false ≡ true = in_none.0 in cc)
 last_found test p (x ∷ rows) rise = go (test x) refl (p x.weak) refl (last_found test p rows rise.1)
@@ -113,7 +113,7 @@ find_first (x ∷ xs) = refl
 abbrev pub among : Chain → Row → Bool
 among k r = if k.1 then waits_with k.0 r else refers_to k.0 r
 
--- they are those of the nodes of the chain
+-- they are those of the chain's nodes
 chain_passes : (k : Chain) (v : ℕ) (o : Option Node) → chain_in o ≡ Some k → passes (among k) (option_map (row_of v) o) ≡ true
 chain_passes k v None is = absurd (cc)
 chain_passes k v (Some n) is =
@@ -179,7 +179,7 @@ module _ (nodes : List (ℕ × Node)) (rows : List Row) (rows_are : rows_of node
   referent_some v n is stays =
       sym (referent_where v ∙ ap (λ o. referent_if (λ r. not r.waits) (option_map (row_of v) o)) is ∙ ap (λ b. if not b then Some n.referent else None) stays)
 
-  -- a weak reference with a referent, or with any row, has a node
+  -- a weak reference with a referent or a row has a node
   pub node_there : (v : ℕ) → IsSome (row_at rows v) → IsSome (node_in nodes v)
   node_there v has = go (node_in nodes v) refl
     where
@@ -187,7 +187,7 @@ module _ (nodes : List (ℕ × Node)) (rows : List Row) (rows_are : rows_of node
       go None is = absurd (let gone : row_at rows v ≡ None = row_of_node v ∙ ap (option_map (row_of v)) is in let e = subst IsSome gone has in cc)
       go (Some n) is = refl
 
-  -- and one with a referent does not wait
+  -- one with a referent is not waiting
   pub not_waiting : (v : ℕ) (n : Node) → node_in nodes v ≡ Some n → IsSome (referent_in rows v) → n.waits ≡ false
   not_waiting v n is has = go n.waits refl
     where
@@ -200,7 +200,7 @@ module _ (nodes : List (ℕ × Node)) (rows : List Row) (rows_are : rows_of node
     pub newest_at : (k : Chain) → (ends_at chains k).newest ≡ slice_get (newest_first (among k) rows) 0
     newest_at k = newest_is k (ends_at chains k).newest (sound.newest k)
 
-    -- the neighbour of a row that does not wait
+    -- the neighbour of a row that is not waiting
     pub older_than : (v : ℕ) (n : Node) → node_in nodes v ≡ Some n → IsSome (referent_in rows v) → n.older ≡ next_older_in rows v
     older_than v n is has =
         let stays = not_waiting v n is has in

@@ -1,4 +1,4 @@
--- Rows by rising weak reference: what a list of them has at each weak reference, and that this tells the whole list.
+-- Rows in ascending order of weak reference. The look-ups determine the list.
 use Rattle.std.proofs.Common.{◌≡◌, ◌≢◌, ◌⊎◌, ℕ, ◌<◌, ◌≤◌, Bool, true, false, not, cond, List, [], ◌∷◌, ◌++◌, length, Option, Some, None, refl, sym, ap, ◌∙◌, subst, inl, inr, arith}
 use Rattle.std.specs.Prelude.{◌==◌, ◌&&◌, nat_lt, nat_eq, find, option_map, IsSome, if◌then◌else◌}
 use Rattle.std.specs.List.{All}
@@ -16,7 +16,7 @@ AllAbove weak rows = All (λ x. weak < x.weak) rows
 abbrev pub AllBelow : ℕ → List Row → Type 0
 AllBelow weak rows = All (λ x. x.weak < weak) rows
 
--- a weak reference below all rows has none
+-- a weak reference below all rows has no row
 pub row_at-below : (weak : ℕ) (rows : List Row) → AllAbove weak rows → row_at rows weak ≡ None
 row_at-below weak [] lower = refl
 row_at-below weak (r ∷ rows) lower =
@@ -24,7 +24,7 @@ row_at-below weak (r ∷ rows) lower =
     ap (λ b. cond b (Some r) (row_at rows weak)) (ne_eqb r.weak weak (λ same. absurd (omega (arith, same, here))))
     ∙ row_at-below weak rows (All-tail (λ x. weak < x.weak) r rows lower)
 
--- what is found has the weak reference that was looked for
+-- the row found has the weak reference searched for
 pub row_at-weak : (rows : List Row) (weak : ℕ) (r : Row) → row_at rows weak ≡ Some r → r.weak ≡ weak
 row_at-weak [] weak r found = absurd (cc)
 row_at-weak (x ∷ rows) weak r found = elim (cases_eq x.weak weak) [
@@ -35,7 +35,7 @@ row_at-weak (x ∷ rows) weak r found = elim (cases_eq x.weak weak) [
   | inr differs ↦ row_at-weak rows weak r (sym (ap (λ b. cond b (Some x) (row_at rows weak)) (ne_eqb x.weak weak differs)) ∙ found)
 ]
 
--- and so it is above what all rows are above
+-- so it is above every lower bound of the rows
 pub found_above : (low : ℕ) (rows : List Row) (weak : ℕ) (r : Row) → AllAbove low rows → row_at rows weak ≡ Some r → low < weak
 found_above low [] weak r lower found = absurd (cc)
 found_above low (x ∷ rows) weak r lower found = elim (cases_eq x.weak weak) [
@@ -49,7 +49,7 @@ row_at-head r rows = ap (λ b. cond b (Some r) (row_at rows r.weak)) (eq-eqb r.w
 pub row_at-tail : (r : Row) (rows : List Row) (weak : ℕ) → r.weak ≢ weak → row_at (r ∷ rows) weak ≡ row_at rows weak
 row_at-tail r rows weak differs = ap (λ b. cond b (Some r) (row_at rows weak)) (ne_eqb r.weak weak differs)
 
--- two rising lists with the same rows are one
+-- two ascending lists with the same rows are equal
 pub same_rows : (xs ys : List Row) → IsRising xs → IsRising ys → ((weak : ℕ) → row_at xs weak ≡ row_at ys weak) → xs ≡ ys
 same_rows [] [] xs_rise ys_rise same = refl
 same_rows [] (y ∷ ys) xs_rise ys_rise same =
@@ -78,7 +78,7 @@ same_rows (x ∷ xs) (y ∷ ys) xs_rise ys_rise same = go (cases_eq x.weak y.wea
         let y_there : row_at xs y.weak ≡ Some y = sym (row_at-tail x xs y.weak differs) ∙ same y.weak ∙ row_at-head y ys in
         absurd (omega (arith, found_above y.weak ys x.weak x ys_rise.0 x_there, found_above x.weak xs y.weak y xs_rise.0 y_there))
 
--- a row that is put among others: all stay above what they were above
+-- inserting a row keeps a lower bound of the rows
 pub above-put_row : (low : ℕ) (r : Row) (rows : List Row) → low < r.weak → AllAbove low rows → AllAbove low (put_row r rows)
 above-put_row low r [] lower rest = All-cons (λ x. low < x.weak) r [] lower rest
 above-put_row low r (x ∷ rows) lower rest =
@@ -120,7 +120,7 @@ unfolding rows_of
 rising-rows_of [] = tt
 rising-rows_of (e ∷ nodes) = rising-put_row (row_of e.0 e.1) (rows_of nodes) (rising-rows_of nodes)
 
--- the rows of the nodes have the row of each node
+-- the rows of the nodes contain the row of each node
 pub row_at-rows_of : (nodes : List (ℕ × Node)) (weak : ℕ) → row_at (rows_of nodes) weak ≡ option_map (row_of weak) (node_in nodes weak)
 unfolding rows_of
 row_at-rows_of [] weak = refl
@@ -137,7 +137,7 @@ row_at-rows_of (e ∷ nodes) weak =
           ∙ sym (ap (λ b. option_map (row_of weak) (cond b (Some e.1) (node_in nodes weak))) (ne_eqb weak e.0 (λ e. differs (sym e))))
     ]
 
--- a row below all others that leaves, or one above all others that comes
+-- removing a row below all others, or appending one above all others
 pub row_at-append : (rows : List Row) (r : Row) (weak : ℕ) → AllBelow r.weak rows → row_at (rows ++ r ∷ []) weak ≡ cond (r.weak == weak) (Some r) (row_at rows weak)
 row_at-append [] r weak lower = refl
 row_at-append (x ∷ rows) r weak lower =
@@ -157,7 +157,7 @@ rising-append [] r rise lower = (All-nil (λ x. r.weak < x.weak), tt)
 rising-append (x ∷ rows) r rise lower =
     (All-push (λ y. x.weak < y.weak) rows r rise.0 (All-head (λ y. y.weak < r.weak) x rows lower), rising-append rows r rise.1 (All-tail (λ y. y.weak < r.weak) x rows lower))
 
--- the rows without one
+-- the rows without that of one weak reference
 pub each-without : (P : Row → Type 0) (weak : ℕ) (rows : List Row) → All P rows → All P (without_row weak rows)
 each-without P weak [] each = each
 each-without P weak (x ∷ rows) each = go (x.weak == weak) (each-without P weak rows (All-tail P x rows each))
@@ -178,7 +178,7 @@ pub row_at-without : (weak : ℕ) (rows : List Row) (v : ℕ) → row_at (withou
 row_at-without weak [] v = grind (arith, nat_tests)
 row_at-without weak (x ∷ rows) v = grind (arith, nat_tests, row_at-without weak rows v)
 
--- the rows with one that waits
+-- the rows after one starts to wait
 eqb_turned : (a b : ℕ) → (a == b) ≡ (b == a)
 eqb_turned a b = elim (cases_eq a b) [
   | inl same ↦ eq-eqb a b same ∙ sym (eq-eqb b a (sym same))
@@ -231,7 +231,7 @@ abbrev pub passes : (Row → Bool) → Option Row → Bool
 passes test None = false
 passes test (Some r) = test r
 
--- the referent of a row that passes a test, found by weak reference and test together
+-- the referent of a row found by weak reference and test together
 abbrev pub referent_if : (Row → Bool) → Option Row → Option ℕ
 referent_if test None = None
 referent_if test (Some r) = if test r then Some r.referent else None
@@ -260,7 +260,7 @@ referent_found test (x ∷ rows) weak rise = go (cases_eq x.weak weak) (referent
         ∙ rest
         ∙ sym (ap (referent_if test) (row_at-tail x rows weak differs))
 
--- a row that is found by weak reference and test together is there
+-- a row found by weak reference and test together exists
 pub found_there : (test : Row → Bool) (rows : List Row) (weak : ℕ) → IsSome (option_map (λ r. r.referent) (find (λ r. (r.weak == weak) && test r) rows)) → IsSome (row_at rows weak)
 found_there test [] weak has = has
 found_there test (x ∷ rows) weak has = go (x.weak == weak) has (found_there test rows weak)
@@ -271,7 +271,7 @@ found_there test (x ∷ rows) weak has = go (x.weak == weak) has (found_there te
     go true has rest = refl
     go false has rest = rest has
 
--- a row put among others is one of them
+-- an inserted row is present
 put_some : (r : Row) (rows : List Row) → put_row r rows ≡ [] → ⊥
 put_some r [] none = absurd (cc)
 put_some r (x ∷ xs) none = go (nat_lt x.weak r.weak) (r.weak == x.weak) none
@@ -281,7 +281,7 @@ put_some r (x ∷ xs) none = go (nat_lt x.weak r.weak) (r.weak == x.weak) none
     go false true h = absurd (cc)
     go false false h = absurd (cc)
 
--- there is no row where there is no node, and only there
+-- there is a row exactly if there is a node
 pub none-rows_of : (nodes : List (ℕ × Node)) → length nodes ≡ 0 → rows_of nodes ≡ []
 unfolding rows_of
 none-rows_of [] none = refl

@@ -1,4 +1,4 @@
--- What a call does to the rows and to the fields: a row leaves, comes last, or goes from one chain to the other.
+-- The effect of a call on the rows and the fields: a row leaves, is appended, or changes chains.
 use Rattle.std.proofs.Common.{◌≡◌, ◌≢◌, ◌⊎◌, ℕ, ◌<◌, Bool, true, false, cond, List, [], ◌∷◌, ◌++◌, Option, Some, None, refl, sym, ap, ◌∙◌, subst, inl, inr, arith}
 use Rattle.std.specs.Prelude.{◌==◌, nat_eq, option_map, IsSome, if◌then◌else◌}
 use Rattle.std.specs.Map.{lookup}
@@ -16,7 +16,7 @@ use Rattle.cg_weak.proofs.Newest.{rows_rise, row_of_node}
 use Rattle.cg_weak.proofs.Moves.{HasLeft, last_same}
 use Rattle.cg_weak.proofs.Fields.{tied, part-older_set, part-newer_set, has_left, left_sound, come_sound, ends_here, ends_elsewhere, the_node}
 
--- neighbours do not tell on the row
+-- changing neighbours does not change the row
 row-tied : (newer now_older older now_newer : Option ℕ) (v : ℕ) (o : Option Node) → option_map (row_of v) (tied newer now_older older now_newer v o) ≡ option_map (row_of v) o
 row-tied newer now_older older now_newer v o =
     part-newer_set (option_map (row_of v)) (λ x n. refl) older now_newer v (older_set newer now_older v o)
@@ -39,7 +39,7 @@ chains_there node chains sound w n is = go (lookup (nat_eq n.referent) chains) r
         absurd (subst (IsLast below (λ v. chain_in (node v) ≡ Some (n.referent, n.waits))) end_is (sound.newest (n.referent, n.waits)) w (ap chain_in is))
     go (Some c) found = refl
 
--- the rows are those of a list that has the row of each node
+-- the rows equal a list that has the row of each node
 same_as : (new : List (ℕ × Node)) (rows : List Row) → IsRising rows → ((v : ℕ) → option_map (row_of v) (node_in new v) ≡ row_at rows v) → rows_of new ≡ rows
 same_as new rows rise each = same_rows (rows_of new) rows (rising-rows_of new) rise (λ v. row_at-rows_of new v ∙ each v)
 
@@ -82,7 +82,7 @@ some_below w (r ∷ rows) lower v has = elim (cases_eq r.weak v) [
   | inr differs ↦ some_below w rows (All-tail (λ x. x.weak < w) r rows lower) v (subst IsSome (row_at-tail r rows v differs) has)
 ]
 
--- A row comes that is above all others.
+-- A row above all others is added.
 module _ (nodes : List (ℕ × Node)) (rows : List Row) (rows_are : rows_of nodes ≡ rows) (w : ℕ) (lower : AllBelow w rows) where
   pub no_node : node_in nodes w ≡ None
   no_node = go (node_in nodes w) refl
@@ -123,7 +123,7 @@ module _ (nodes : List (ℕ × Node)) (rows : List Row) (rows_are : rows_of node
             ∙ sym (row_of_node nodes rows rows_are v)
             ∙ sym (ap (λ b. cond b (Some (new_row w n.referent)) (row_at rows v)) (ne_eqb w v differs))
 
--- The fields once a row has come.
+-- The fields after a row is added.
 pub come_fields : (nodes new : List (ℕ × Node)) (w : ℕ) (n : Node) (chains now : List (ℕ × Chains)) (with : Chains) → node_in nodes w ≡ None → IsSound (node_in nodes) (ends_at chains)
     → IsLast above (λ v. (chain_at nodes v ≡ Some (n.referent, n.waits)) × above v w) n.newer
     → IsLast below (λ v. (chain_at nodes v ≡ Some (n.referent, n.waits)) × below v w) n.older
@@ -136,7 +136,7 @@ come_fields nodes new w n chains now with nowhere sound newer_last older_last no
     (ap (λ x. ends_of x n.waits) (chains_are n.referent) ∙ ends_here (chains_of chains) n.referent n.waits (ends_joined n.newer w n.older (ends_at chains (n.referent, n.waits))) with with_is)
     (λ j differs. ap (λ x. ends_of x j.1) (chains_are j.0) ∙ ends_elsewhere (chains_of chains) n.referent n.waits (ends_joined n.newer w n.older (ends_at chains (n.referent, n.waits))) with with_is j differs)
 
--- A row goes from the chain of those that do not wait to that of those that do.
+-- A row moves from the chain of those not waiting to the waiting chain.
 module _ (nodes new : List (ℕ × Node)) (w o : ℕ) (was_newer was_older newer older : Option ℕ) where
   abbrev old_node : Node
   old_node = record { referent = o; waits = false; newer = was_newer; older = was_older }
@@ -195,7 +195,7 @@ module _ (nodes new : List (ℕ × Node)) (w o : ℕ) (was_newer was_older newer
           (ends_here (chains_of chains) o false (ends_without was_newer was_older (chains_of chains o).current) mid_chains refl)
           (ends_elsewhere (chains_of chains) o false (ends_without was_newer was_older (chains_of chains o).current) mid_chains refl)
 
-      -- the neighbours to be are the same once the row has left
+      -- the future neighbours are the same after the row leaves
       mid_last : (before : ℕ → ℕ → Type 0) → ((v : ℕ) → before v w → v ≢ w) → (a : Option ℕ) → IsLast before (λ v. (chain_at nodes v ≡ Some (o, true)) × before v w) a → IsLast before (λ v. (chain_in (mid v) ≡ Some (o, true)) × before v w) a
       mid_last before apart a last =
           last_same before (λ v. (chain_at nodes v ≡ Some (o, true)) × before v w) (λ v. (chain_in (mid v) ≡ Some (o, true)) × before v w) a

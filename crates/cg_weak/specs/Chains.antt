@@ -3,16 +3,16 @@ use Rattle.std.specs.Prelude.{ℕ, Bool, true, false, Option, Some, None}
 use Rattle.cg_weak.specs.declared.chains.Ends.{Ends}
 use Rattle.cg_weak.specs.declared.chains.Chains.{Chains}
 
--- the second where the neighbour is missing, else the third
+-- the second if the neighbour is missing, else the third
 abbrev pub at_end : Option ℕ → Option ℕ → Option ℕ → Option ℕ
 at_end None here end = here
 at_end (Some w) here end = end
 
--- the ends once a row between two neighbours has left
+-- the ends after a row between two neighbours leaves
 abbrev pub ends_without : Option ℕ → Option ℕ → Ends → Ends
 ends_without newer older e = record { newest = at_end newer older e.newest; oldest = at_end older newer e.oldest }
 
--- the ends once a row has come between two neighbours
+-- the ends after a row joins between two neighbours
 abbrev pub ends_joined : Option ℕ → ℕ → Option ℕ → Ends → Ends
 ends_joined newer weak older e = record {
   newest = at_end newer (Some weak) e.newest;
@@ -27,7 +27,7 @@ no_ends = record { newest = None; oldest = None }
 abbrev pub no_chains : Chains
 no_chains = record { current = no_ends; waiting = no_ends }
 
--- the ends of the chain of those that wait, or of those that do not
+-- the ends of the waiting chain, or of the other one
 abbrev pub ends_of : Chains → Bool → Ends
 ends_of c true = c.waiting
 ends_of c false = c.current
@@ -37,7 +37,7 @@ abbrev pub with_ends : Bool → Ends → Chains → Chains
 with_ends true ends c = record c { waiting = ends }
 with_ends false ends c = record c { current = ends }
 
--- the chains of an object for which some may be kept
+-- an optional object's chains, empty if missing
 abbrev pub chains_in : Option Chains → Chains
 chains_in None = no_chains
 chains_in (Some c) = c

@@ -1,8 +1,8 @@
--- What a node holds: a row, its weak reference aside, and its neighbours.
+-- The contents of a node: a row without its weak reference, and its neighbours.
 use Rattle.std.specs.Prelude.{ℕ, ◌==◌, Bool, false, Option, Some, None, option_map, if◌then◌else◌}
 use Rattle.cg_weak.specs.declared.nodes.Node.{Node}
 
--- whether a weak reference is the one that is named
+-- whether an optional weak reference is this one
 abbrev pub is_named : Option ℕ → ℕ → Bool
 is_named None v = false
 is_named (Some w) v = w == v
@@ -15,15 +15,15 @@ with_older older n = record n { older = older }
 abbrev pub with_newer : Option ℕ → Node → Node
 with_newer newer n = record n { newer = newer }
 
--- what a write of the older neighbour of the named weak reference leaves at v
+-- the effect at v of writing the older neighbour of a weak reference
 abbrev pub older_set : Option ℕ → Option ℕ → ℕ → Option Node → Option Node
 older_set at older v o = if is_named at v then option_map (with_older older) o else o
 
--- what a write of its newer neighbour leaves there
+-- the effect at v of writing its newer neighbour
 abbrev pub newer_set : Option ℕ → Option ℕ → ℕ → Option Node → Option Node
 newer_set at newer v o = if is_named at v then option_map (with_newer newer) o else o
 
--- a chain by its referent, and whether its rows wait
+-- a chain: its referent, and whether its rows wait
 abbrev pub Chain : Type 0
 Chain = ℕ × Bool
 

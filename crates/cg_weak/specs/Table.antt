@@ -1,4 +1,4 @@
--- What the fields of a table stand for, and what is true of them.
+-- What the fields of a table represent, and their invariant.
 use Rattle.std.specs.Prelude.{◌≡◌, ◌≢◌, ℕ, ◌<◌, ◌==◌, nat_lt, nat_eq, List, [], ◌∷◌, find, Option, Some, None, if◌then◌else◌}
 use Rattle.std.specs.Map.{lookup}
 use Rattle.cg_graph.specs.Rows.{Row}
@@ -16,13 +16,13 @@ row_of weak n = record { weak = weak; referent = n.referent; waits = n.waits }
 abbrev pub row_at : List Row → ℕ → Option Row
 row_at rows weak = find (λ r. r.weak == weak) rows
 
--- rows by rising weak reference with one put among them, in the place of that with the same weak reference
+-- inserts a row into ascending rows, replacing one with the same weak reference
 abbrev pub put_row : Row → List Row → List Row
 put_row r [] = r ∷ []
 put_row r (x ∷ xs) =
     if nat_lt x.weak r.weak then x ∷ put_row r xs else (if r.weak == x.weak then r ∷ xs else r ∷ x ∷ xs)
 
--- the rows of the nodes, by rising weak reference
+-- the rows of the nodes, in ascending order of weak reference
 unfoldable pub rows_of : List (ℕ × Node) → List Row
 rows_of [] = []
 rows_of (e ∷ es) = put_row (row_of e.0 e.1) (rows_of es)
@@ -35,25 +35,25 @@ node_in nodes weak = lookup (nat_eq weak) nodes
 abbrev pub chains_of : List (ℕ × Chains) → ℕ → Chains
 chains_of chains o = chains_in (lookup (nat_eq o) chains)
 
--- one way along a chain, from the oldest to the newest
+-- one direction along a chain, from the oldest to the newest
 abbrev pub below : ℕ → ℕ → Type 0
 below v w = v < w
 
--- the other way
+-- the other direction
 abbrev pub above : ℕ → ℕ → Type 0
 above v w = w < v
 
--- of some numbers, the one that all others come before; none where there are none
+-- the last of some numbers in an order, none if there are none
 abbrev pub IsLast : (ℕ → ℕ → Type 0) → (ℕ → Type 0) → Option ℕ → Type 0
 IsLast before P None = (z : ℕ) → P z → ⊥
 IsLast before P (Some y) = P y × ((z : ℕ) → P z → z ≢ y → before z y)
 
--- in one of the two ways, each row names its neighbour in its chain
+-- each row names its neighbour in its chain, in one direction
 abbrev pub IsLinked : (ℕ → ℕ → Type 0) → (ℕ → Option Chain) → (ℕ → Option ℕ) → Type 0
 IsLinked before chain next =
     (w : ℕ) (k : Chain) → chain w ≡ Some k → IsLast before (λ v. (chain v ≡ Some k) × before v w) (next w)
 
--- in one of the two ways, each chain names its end
+-- each chain names its end, in one direction
 abbrev pub IsEnded : (ℕ → ℕ → Type 0) → (ℕ → Option Chain) → (Chain → Option ℕ) → Type 0
 IsEnded before chain end = (k : Chain) → IsLast before (λ v. chain v ≡ Some k) (end k)
 
@@ -73,7 +73,7 @@ newer_at nodes weak = newer_in (node_in nodes weak)
 abbrev pub ends_at : List (ℕ × Chains) → Chain → Ends
 ends_at chains k = ends_of (chains_of chains k.0) k.1
 
--- what is true of the fields of a table
+-- the invariant of a table's fields
 pub record IsSound (node : ℕ → Option Node) (ends : Chain → Ends) : Type 0 where
   pub older : IsLinked below (λ v. chain_in (node v)) (λ v. older_in (node v))
   pub newer : IsLinked above (λ v. chain_in (node v)) (λ v. newer_in (node v))

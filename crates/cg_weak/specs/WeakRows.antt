@@ -2,7 +2,7 @@
 use Rattle.std.specs.Prelude.{ℕ, List}
 use Rattle.cg_graph.specs.Rows.{Row}
 
--- the rows by rising weak reference, and how many more can be attached without memory
+-- the rows in ascending order of weak reference, and how many more fit without allocating
 pub record WeakRows : Type 0 where
   pub rows : List Row
   pub room : ℕ

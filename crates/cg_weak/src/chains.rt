@@ -1,4 +1,4 @@
-//! The two chains of an object: of its weak references, and of those that wait with it.
+//! The two chains of an object: its weak references, and those that wait with it.
 ghost use Rattle.std.specs.Prelude.{◌≡◌, ℕ, ◌+◌, ◌<◌, ◌≤◌, nat_eq, if◌then◌else◌, IsSome, IsTrue, ◌↔◌, Some, None};
 ghost use Rattle.std.specs.Map.{lookup};
 ghost use Rattle.indexmap.specs.IndexMap.{spare};
@@ -7,14 +7,14 @@ ghost use Rattle.cg_weak.specs.Chains.{ends_without, ends_joined, ends_of, with_
 use cg_serial::SerialHashing;
 use indexmap::IndexMap;
 
-/// The two ends of a chain, both missing where it is empty.
+/// The two ends of a chain, both missing if it is empty.
 #[derive(Clone, Copy, Debug)]
 pub struct Ends {
     pub newest: Option<u64>,
     pub oldest: Option<u64>,
 }
 
-/// The chain of the weak references to an object, and of those that wait with it.
+/// The chain of the weak references to an object, and the chain of those that wait with it.
 #[derive(Clone, Copy, Debug)]
 pub struct Chains {
     pub current: Ends,
@@ -22,7 +22,7 @@ pub struct Chains {
 }
 
 impl Ends {
-    /// The ends once a row between these neighbours has left.
+    /// The ends after a row between these neighbours leaves.
     pub fn without(self, newer: Option<u64>, older: Option<u64>) -> Ends
         ensures { result ≡ ends_without newer older self }
     {
@@ -32,7 +32,7 @@ impl Ends {
         }
     }
 
-    /// The ends once a row has come between these neighbours.
+    /// The ends after a row joins between these neighbours.
     pub fn joined(self, newer: Option<u64>, weak: u64, older: Option<u64>) -> Ends
         ensures { result ≡ ends_joined newer weak older self }
     {
@@ -66,7 +66,7 @@ impl Chains {
         }
     }
 
-    /// Whether neither chain has a row.
+    /// Whether both chains are empty.
     fn is_empty(&self) -> bool
         ensures { IsTrue result ↔ (self.now ≡ no_chains) }
     {
@@ -76,14 +76,14 @@ impl Chains {
             && self.waiting.oldest.is_none()
     }
 
-    /// The ends of the chain of those that wait, or of those that do not.
+    /// The ends of the waiting chain, or of the other one.
     pub fn of(&self, waits: bool) -> Ends
         ensures { result ≡ ends_of self.now waits }
     {
         if waits { self.waiting } else { self.current }
     }
 
-    /// The chains with other ends for one of them.
+    /// The chains with new ends for one of them.
     pub fn with(self, waits: bool, ends: Ends) -> Chains
         ensures { result ≡ with_ends waits ends self }
     {
@@ -111,7 +111,7 @@ pub fn chains_at(chains: &IndexMap<u64, Chains, SerialHashing>, referent: u64) -
     }
 }
 
-/// Writes the chains of an object, where there is room for them.
+/// Writes the chains of an object; there is room for them.
 pub fn add_chains(chains: &mut IndexMap<u64, Chains, SerialHashing>, referent: u64, with: Chains)
     requires { 0 < spare chains.old }
     ensures chains { (o : ℕ) → chains_in (lookup (nat_eq o) chains.new.entries) ≡ (if nat_eq referent o then with else chains_in (lookup (nat_eq o) chains.old.entries)) }
@@ -123,7 +123,7 @@ pub fn add_chains(chains: &mut IndexMap<u64, Chains, SerialHashing>, referent: u
     }
 }
 
-/// Writes the chains of an object that has some. They are not kept once both are empty.
+/// Writes the chains of an object that has some, and removes them if both are empty.
 pub fn write_chains(chains: &mut IndexMap<u64, Chains, SerialHashing>, referent: u64, with: Chains)
     requires { IsSome (lookup (nat_eq referent) chains.old.entries) }
     ensures chains { (o : ℕ) → chains_in (lookup (nat_eq o) chains.new.entries) ≡ (if nat_eq referent o then with else chains_in (lookup (nat_eq o) chains.old.entries)) }

@@ -1,6 +1,6 @@
-//! The rows as they are kept: each beside its neighbours, under its weak reference.
+//! The stored rows: each with its neighbours, under its weak reference.
 //!
-//! A chain has the rows with the same referent that wait, or those that do not, by falling weak reference.
+//! A chain has the rows of one referent that wait, or those that do not, in descending order of weak reference.
 ghost use Rattle.std.specs.Prelude.{◌≡◌, ℕ, ◌+◌, ◌<◌, ◌≤◌, nat_eq, if◌then◌else◌, IsSome, Some, None};
 ghost use Rattle.std.specs.Map.{lookup};
 ghost use Rattle.indexmap.specs.IndexMap.{spare};
@@ -29,7 +29,7 @@ pub fn node_at(nodes: &IndexMap<u64, Node, SerialHashing>, weak: u64) -> Node
     }
 }
 
-/// Adds a row, where there is room for it.
+/// Adds a row; there is room for it.
 pub fn add_node(nodes: &mut IndexMap<u64, Node, SerialHashing>, weak: u64, node: Node)
     requires { 0 < spare nodes.old }
     ensures nodes { (v : ℕ) → lookup (nat_eq v) nodes.new.entries ≡ (if nat_eq weak v then Some node else lookup (nat_eq v) nodes.old.entries) }
@@ -52,7 +52,7 @@ pub fn write_node(nodes: &mut IndexMap<u64, Node, SerialHashing>, weak: u64, nod
     }
 }
 
-/// Takes out the row of a weak reference.
+/// Removes the row of a weak reference.
 pub fn remove_node(nodes: &mut IndexMap<u64, Node, SerialHashing>, weak: u64)
     ensures nodes { (v : ℕ) → lookup (nat_eq v) nodes.new.entries ≡ (if nat_eq weak v then None else lookup (nat_eq v) nodes.old.entries) }
     ensures room { spare nodes.old ≤ spare nodes.new }
@@ -60,7 +60,7 @@ pub fn remove_node(nodes: &mut IndexMap<u64, Node, SerialHashing>, weak: u64)
     nodes.swap_remove(&weak);
 }
 
-/// Names the next older row of one, if there is that one.
+/// Sets the next older row of a weak reference, if there is one.
 fn set_older(nodes: &mut IndexMap<u64, Node, SerialHashing>, at: Option<u64>, older: Option<u64>)
     ensures nodes { (v : ℕ) → lookup (nat_eq v) nodes.new.entries ≡ older_set at older v (lookup (nat_eq v) nodes.old.entries) }
     ensures room { spare nodes.new ≡ spare nodes.old }
@@ -72,7 +72,7 @@ fn set_older(nodes: &mut IndexMap<u64, Node, SerialHashing>, at: Option<u64>, ol
     }
 }
 
-/// Names the next newer row of one, if there is that one.
+/// Sets the next newer row of a weak reference, if there is one.
 fn set_newer(nodes: &mut IndexMap<u64, Node, SerialHashing>, at: Option<u64>, newer: Option<u64>)
     ensures nodes { (v : ℕ) → lookup (nat_eq v) nodes.new.entries ≡ newer_set at newer v (lookup (nat_eq v) nodes.old.entries) }
     ensures room { spare nodes.new ≡ spare nodes.old }
@@ -84,7 +84,7 @@ fn set_newer(nodes: &mut IndexMap<u64, Node, SerialHashing>, at: Option<u64>, ne
     }
 }
 
-/// Makes two rows neighbours, as what stands between them leaves. Either may be missing.
+/// Makes two rows neighbours when the row between them leaves. Either may be missing.
 pub fn tie(nodes: &mut IndexMap<u64, Node, SerialHashing>, newer: Option<u64>, older: Option<u64>)
     ensures nodes { (v : ℕ) → lookup (nat_eq v) nodes.new.entries ≡ newer_set older newer v (older_set newer older v (lookup (nat_eq v) nodes.old.entries)) }
     ensures room { spare nodes.new ≡ spare nodes.old }
@@ -93,7 +93,7 @@ pub fn tie(nodes: &mut IndexMap<u64, Node, SerialHashing>, newer: Option<u64>, o
     set_newer(nodes, older, newer);
 }
 
-/// Makes a row the neighbour of two others, as it comes between them. Either may be missing.
+/// Inserts a row between two others. Either may be missing.
 pub fn join(
     nodes: &mut IndexMap<u64, Node, SerialHashing>,
     newer: Option<u64>,

@@ -1,4 +1,4 @@
-//! Where a row stands in a chain that it has not come to yet.
+//! Finds the position of a row in a chain that it is about to join.
 ghost use Rattle.std.specs.Prelude.{◌≡◌, ◌≢◌, true, Some};
 ghost use Rattle.cg_weak.specs.Table.{below, above, IsLast, IsLinked, chain_at, older_at, newer_at};
 
@@ -7,8 +7,9 @@ use crate::nodes::{Node, node_at};
 use cg_serial::SerialHashing;
 use indexmap::IndexMap;
 
-// The oldest of the rows that wait with an object and are newer than a weak reference. Where weak references are set
-// waiting from the newest on, as in a death, the oldest tells; where they are from the oldest on, the newest does.
+// The oldest of the rows that wait with an object and are newer than a weak reference. If weak references start to
+// wait from the newest on, as in a death, the oldest row gives the result at once; if from the oldest on, the newest
+// does.
 fn oldest_above(
     nodes: &IndexMap<u64, Node, SerialHashing>,
     referent: u64,
@@ -33,7 +34,7 @@ fn oldest_above(
     None
 }
 
-/// The neighbours that a row will have among those that wait with its object: the newer one, and the older one.
+/// The future neighbours of a row among those that wait with its object: the newer one, and the older one.
 pub fn neighbours(
     nodes: &IndexMap<u64, Node, SerialHashing>,
     referent: u64,

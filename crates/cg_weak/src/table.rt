@@ -11,13 +11,13 @@ use indexmap::IndexMap;
 use std::alloc::{AllocError, Global};
 use std::marker::Model;
 
-/// Which weak reference has which referent, and which wait for their callback with the one that they had.
+/// Which weak reference has which referent, and which wait for their callback with their former referent.
 ///
-/// A weak reference is newer than another one where its number is greater. (`weakref` manual: the callbacks of an object
-/// are called from the most recently registered on. That its weak references lose it in this order too is ours.)
+/// A weak reference with a greater number is newer. (`weakref` manual: the callbacks of an object are called from the
+/// most recently registered on. Clearing its weak references in this order too is ours.)
 ///
-/// Only `reserve` and `attach` take memory. No call takes longer where there are more rows, but for `clear` with `wait`
-/// of a weak reference that is neither older nor newer than all that wait with its referent: it goes over the older ones.
+/// Only `reserve` and `attach` allocate. Every call takes constant time, except `clear` with `wait` of a weak
+/// reference that is neither older nor newer than all that wait with its referent: it walks over the older ones.
 #[derive(Drop)]
 pub struct WeakTable {
     nodes: IndexMap<u64, Node, SerialHashing>,
@@ -39,7 +39,7 @@ impl Model for WeakTable {
 }
 
 impl WeakTable {
-    /// No row. It takes no memory yet.
+    /// An empty table. It allocates nothing yet.
     pub fn new(alloc: Global) -> WeakTable
         ensures { result.rows ≡ [] }
     {
@@ -49,7 +49,7 @@ impl WeakTable {
         }
     }
 
-    /// Whether no weak reference has a row: none has a referent, and none waits. (Ours.)
+    /// Whether the table is empty: no weak reference has a referent or waits. (Ours.)
     #[inline(always)]
     pub fn is_empty(&self) -> bool
         ensures { IsTrue result ↔ (self.now.rows ≡ []) }
@@ -59,7 +59,7 @@ impl WeakTable {
 
     /// Makes room for one more row, so that `attach_reserved` may be called. (Ours.)
     ///
-    /// It answers `AllocError` only where memory runs out. The rows stay as they are either way.
+    /// Returns `AllocError` only if memory runs out. The rows are unchanged either way.
     pub fn reserve(&mut self) -> Result<(), AllocError>
         ensures ok { OnOk result (0 < self.new.room) }
         ensures rows { self.new.rows ≡ self.old.rows }
@@ -70,9 +70,9 @@ impl WeakTable {
         self.chains.reserve(1)
     }
 
-    /// Gives a weak reference that is above every other one its referent. Its row goes last, and does not wait. (Ours.)
+    /// Gives a referent to a weak reference that is above every other one. Its row goes last, not waiting. (Ours.)
     ///
-    /// It answers `AllocError` only where memory runs out, and then the rows are as they were.
+    /// Returns `AllocError` only if memory runs out; then the rows are unchanged.
     pub fn attach(&mut self, weak: u64, referent: u64) -> Result<(), AllocError>
         requires { All (λ r. r.weak < weak) self.old.rows }
         ensures ok { OnOk result (self.new.rows ≡ self.old.rows ++ new_row weak referent ∷ []) }
@@ -85,7 +85,7 @@ impl WeakTable {
         Ok(())
     }
 
-    /// `attach`, where there is room for the row, as after `reserve`. It cannot fail.
+    /// `attach`, given room for the row, as after `reserve`. It cannot fail.
     pub fn attach_reserved(&mut self, weak: u64, referent: u64)
         requires newest { All (λ r. r.weak < weak) self.old.rows }
         requires room { 0 < self.old.room }
@@ -106,8 +106,8 @@ impl WeakTable {
         add_chains(&mut self.chains, referent, chains.with(false, ends));
     }
 
-    /// The referent of a weak reference, or `None` where it has no row or waits. (`weakref` manual: a reference object
-    /// that is called gives its referent, or None once that is no longer alive.)
+    /// The referent of a weak reference, or `None` if it has no row or waits. (`weakref` manual: calling a reference
+    /// object gives its referent, or None if that is no longer alive.)
     pub fn referent_of(&self, weak: u64) -> Option<u64>
         ensures referent { result ≡ referent_in self.now.rows weak }
         ensures rising { IsRising self.now.rows }
@@ -120,22 +120,22 @@ impl WeakTable {
         }
     }
 
-    /// The newest weak reference to an object, or `None` where it has none that does not wait. (`weakref` manual: the
-    /// most recently registered callback is called first.)
+    /// The newest weak reference to an object that is not waiting, or `None`. (`weakref` manual: the most recently
+    /// registered callback is called first.)
     pub fn newest_of(&self, referent: u64) -> Option<u64>
         ensures { result ≡ slice_get (weak_references_in self.now.rows referent) 0 }
     {
         chains_at(&self.chains, referent).current.newest
     }
 
-    /// The newest weak reference that waits with an object, or `None` where none does. (Ours.)
+    /// The newest weak reference that waits with an object, or `None`. (Ours.)
     pub fn newest_waiting(&self, referent: u64) -> Option<u64>
         ensures { result ≡ slice_get (waiting_in self.now.rows referent) 0 }
     {
         chains_at(&self.chains, referent).waiting.newest
     }
 
-    /// The next older weak reference to the same object, or `None` where there is none that does not wait. (Ours.)
+    /// The next older weak reference to the same object that is not waiting, or `None`. (Ours.)
     pub fn older_of(&self, weak: u64) -> Option<u64>
         requires { IsSome (referent_in self.now.rows weak) }
         ensures { result ≡ next_older_in self.now.rows weak }
@@ -143,8 +143,9 @@ impl WeakTable {
         node_at(&self.nodes, weak).older
     }
 
-    /// A weak reference loses its referent: its row waits with it from now on, or is gone. (`weakref` manual: what is
-    /// about to be finalized is no longer there for its weak references when their callbacks run. The waiting is ours.)
+    /// Clears a weak reference's referent: its row now waits with the referent, or is removed. (`weakref` manual: an
+    /// object about to be finalized is no longer available to its weak references when their callbacks run. The
+    /// waiting is ours.)
     pub fn clear(&mut self, weak: u64, wait: bool)
         requires { IsSome (referent_in self.old.rows weak) }
         ensures rows { self.new.rows ≡ (if wait then with_row_waiting weak self.old.rows else without_row weak self.old.rows) }
@@ -157,7 +158,7 @@ impl WeakTable {
         }
     }
 
-    /// A weak reference that waits does so no longer: its row is gone. (Ours.)
+    /// Removes the row of a weak reference that waits. (Ours.)
     pub fn forget(&mut self, weak: u64)
         requires { IsSome (waited_in self.old.rows weak) }
         ensures rows { self.new.rows ≡ without_row weak self.old.rows }
@@ -167,11 +168,11 @@ impl WeakTable {
     }
 }
 
-// The two moves of a row.
+// The two ways a row leaves its chain.
 impl WeakTable {
     ghost use Rattle.cg_weak.specs.Table.{row_at};
 
-    // The row leaves its chain, and the table.
+    // The row leaves its chain and the table.
     fn remove(&mut self, weak: u64)
         requires { IsSome (row_at self.old.rows weak) }
         ensures rows { self.new.rows ≡ without_row weak self.old.rows }
@@ -189,7 +190,7 @@ impl WeakTable {
         );
     }
 
-    // The row goes from one chain of its object to the other.
+    // The row moves from one chain of its object to the other.
     fn set_waiting(&mut self, weak: u64)
         requires { IsSome (referent_in self.old.rows weak) }
         ensures rows { self.new.rows ≡ with_row_waiting weak self.old.rows }

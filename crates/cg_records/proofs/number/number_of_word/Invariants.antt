@@ -3,7 +3,7 @@ use Rattle.std.specs.Int.{IsInRange}
 use Rattle.cg_records.proofs.Numbers.{digits_after}
 use Rattle.cg_records.proofs.number.number_of_word.Given as goal
 
--- the digits so far, and what they and the others write
+-- the digits so far, and the value of all digits
 abbrev pub invariant-digits : goal.invariant-digits
 invariant-digits l = record {
   each : (k : ℕ) → k < l.digit-index → IsInRange 48 57 (get_or l.word k 0);

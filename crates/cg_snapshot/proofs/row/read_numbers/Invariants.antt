@@ -2,7 +2,7 @@ use Rattle.std.proofs.Common.{◌≡◌, ◌++◌, length}
 use Rattle.cg_snapshot.specs.Rows.{all_spaced, AreSmall, IsTail}
 use Rattle.cg_snapshot.proofs.row.read_numbers.Given as goal
 
--- the numbers so far, and what is left
+-- the numbers so far, and the rest
 abbrev pub invariant-numbers : goal.invariant-numbers
 invariant-numbers l = record {
   found : l.bytes ≡ all_spaced l.numbers ++ l.rest;
