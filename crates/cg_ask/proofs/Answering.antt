@@ -16,7 +16,7 @@ use Rattle.cg_ask.specs.Totals.{AppendsGone}
 use Rattle.cg_ask.specs.declared.sets.Totals.{Totals}
 use Rattle.cg_ask.proofs.Rows.{tells_same, flag_of, of_flag}
 
--- rows, and nothing behind them
+-- rows, with nothing after them
 told_rows : (P : ℕ → List ℕ → Type 0) (word old new : List ℕ) → AppendsRows P word old new → (text : List ℕ) × IsTold P word nothing_more text × (new ≡ old ++ text)
 told_rows P word old new h = (rows_text word h.rows, (h.rows, h.tells, sym (append-nil (rows_text word h.rows))), h.text)
 
@@ -46,7 +46,7 @@ whole_answer ms q old asked lined new asks h ends = record {
   appended = ends ∙ ap (λ t. t ++ codes "done\n") (h.appended ∙ ap (λ t. t ++ h.text) asks ∙ append_assoc old (question_text q) h.text) ∙ append_assoc old (question_text q ++ h.text) (codes "done\n");
 }
 
--- the rows of referrers, and the outside holds
+-- the rows of referrers, then the outside holds
 pub referrers_told : (ms : List Member) (object holds : ℕ) (old mid new : List ℕ) → AppendsRows (TellsReferrer ms object) (codes "referrer") old mid → holds ≡ outside_at ms object → new ≡ mid ++ line (codes "outside") (holds ∷ [])
     → AppendsTold (TellsReferrer ms object) (codes "referrer") (λ rows. line (codes "outside") (outside_at ms object ∷ [])) old new
 referrers_told ms object holds old mid new h is put = record {
@@ -55,7 +55,7 @@ referrers_told ms object holds old mid new h is put = record {
   appended = put ∙ ap (λ n. mid ++ line (codes "outside") (n ∷ [])) is ∙ ap (λ t. t ++ line (codes "outside") (outside_at ms object ∷ [])) h.text ∙ append_assoc old (rows_text (codes "referrer") h.rows) (line (codes "outside") (outside_at ms object ∷ []));
 }
 
--- the rows of what would go, and the totals
+-- the rows of what would die, then the totals
 pub gone_told : (ms : List Member) (places : List ℕ) (gone dead : List Bool) (old mid new : List ℕ) (t : Totals) → MarkJust (length ms) (IsGone ms places) gone → MarkJust (length ms) (Dies ms (Includes places)) dead → AppendsGone ms gone dead old mid t
     → new ≡ mid ++ line (codes "total") (t.members ∷ t.bytes ∷ t.dead ∷ t.dead_bytes ∷ []) → AppendsTold (TellsGone ms places) (codes "gone") (λ rows. line (codes "total") (totals_of ms rows)) old new
 gone_told ms places gone dead old mid new t g d h put = record {

@@ -1,4 +1,4 @@
--- Facts of the top call, where the source tells its bytes.
+-- Facts of the top call, for a source that reveals its bytes.
 use Rattle.std.proofs.Common.{◌≡◌, ◌⊎◌, inl, inr, refl, sym, ◌∙◌, ap, subst, ◌<◌, ◌≤◌, ◌+◌, ℕ, zero, suc, List, [], ◌∷◌, ◌++◌, length, take, drop, get_or, Option, None, Some, IfSome, arith, length-append, append-nil, append_assoc, take-append-drop, take_all}
 use Rattle.std.specs.Prelude.{codes}
 use Rattle.std.specs.List.{AllByRecursion}
@@ -20,7 +20,7 @@ use Rattle.cg_ask.specs.declared.run.TheConstants.{LIMIT}
 use Rattle.cg_ask.specs.declared.status.AskStatus.{AskStatus}
 use Rattle.cg_ask.specs.declared.status.AskStatus.TheVariants as status
 
--- one ended more
+-- one more answer
 pub answers_push : (ms : List Member) (qs : List Question) (q : Question) (text more : List ℕ) → AnswersAll ms qs text → Answers ms q more → AnswersAll ms (qs ++ q ∷ []) (text ++ more)
 answers_push ms [] q text more h a = (more, [], a, refl, ap (λ t. t ++ more) h ∙ sym (append-nil more))
 answers_push ms (p ∷ qs) q text more h a = (h.0, h.1 ++ more, h.2, answers_push ms qs q h.1 more h.3 a, ap (λ t. t ++ more) h.4 ∙ append_assoc h.0 h.1 more)
@@ -34,7 +34,7 @@ pub record WroteAnswers (ms : List Member) (qs : List Question) (before now : Op
 pub wrote_none : (ms : List Member) (before : Option (List ℕ)) → WroteAnswers ms [] before before
 wrote_none ms before = record { text = []; answers_are = refl; wrote = Appends-nil before }
 
--- The answers so far were written, and the count of faults did not fall.
+-- The answers so far were written, and the fault count did not fall.
 pub record HasWritten (ms : List Member) (qs : List Question) (before now : Option (List ℕ)) (faults later : ℕ) : Type 0 where
   pub answers : WroteAnswers ms qs before now
   pub not_less : faults ≤ later
@@ -42,7 +42,7 @@ pub record HasWritten (ms : List Member) (qs : List Question) (before now : Opti
 pub written_first : (ms : List Member) (qs : List Question) (before : Option (List ℕ)) (faults : ℕ) → HasWritten ms (take 0 qs) before before faults faults
 written_first ms qs before faults = record { answers = wrote_none ms before; not_less = omega arith }
 
--- a count that rose later rose
+-- a count that rose later has risen
 pub rose_later : (a b c : ℕ) → a ≤ b → Rose b c → Rose a c
 rose_later a b c le rose = grind (arith, le, rose)
 
@@ -56,11 +56,11 @@ wrote_next ms qs k q before mid now text within is so a more = record {
 pub wrote_all : (ms : List Member) (qs : List Question) (k : ℕ) (before now : Option (List ℕ)) → length qs ≤ k → WroteAnswers ms (take k qs) before now → WroteAnswers ms qs before now
 wrote_all ms qs k before now end so = subst (λ (rs : List Question). WroteAnswers ms rs before now) (take_all k qs end) so
 
--- an ended that was appended to nothing
+-- an answer appended to nothing
 pub whole_text : (ms : List Member) (q : Question) (old new : List ℕ) → old ≡ [] → AppendsWhole ms q old new → Answers ms q new
 whole_text ms q old new none h = subst (λ (t : List ℕ). Answers ms q t) (sym (h.appended ∙ ap (λ (o : List ℕ). o ++ h.text) none)) h.answers
 
--- a front of what was written before and of more
+-- a prefix of the text written before and of more
 front_after : (a b c : Option (List ℕ)) (xs ys : List ℕ) → Appends a b xs → AppendsFront b c ys → AppendsFront a c (xs ++ ys)
 front_after a b c xs ys wrote part = record {
   front = xs ++ part.front;
@@ -76,7 +76,7 @@ statuses_differ : {P : Type 0} (s t : AskStatus) → s ≡ t → (s ≡ t → �
 statuses_differ s t e f = absurd (f e)
 
 module _ (ms : List Member) (qs : List Question) (before : Option (List ℕ)) (faults : ℕ) where
-  -- memory was refused
+  -- memory ran out
   pub so_memory : (k : ℕ) (now : Option (List ℕ)) (later : ℕ) → WroteAnswers ms (take k qs) before now → AnswersSo ms qs status.OutOfMemory before now faults later
   so_memory k now later so = record {
     answered = λ e. absurd (cc);
@@ -114,7 +114,7 @@ next_asked count [] k q h within is = absurd (omega (arith, within))
 next_asked count (p ∷ qs) zero q h within is = subst (IsAsked count) (sym is) h.0
 next_asked count (p ∷ qs) (suc k) q h within is = next_asked count qs k q h.1 (omega (arith, within)) is
 
--- What is told of a snapshot.
+-- The outcome of a snapshot.
 module _ (s : Snapshot) (before now : Option (List ℕ)) (faults later : ℕ) where
   pub snapshot_told : (ended : AskStatus) → AreRight s.members (asks_untold s.questions) → AnswersSo s.members s.questions ended before now faults later → (ended ≡ status.Answered) ⊎ (ended ≡ status.Faulty) → WritesSnapshot s ended before now
   snapshot_told ended right so (inl e) = let a = so.answered e in subst (λ (t : AskStatus). WritesSnapshot s t before now) (sym e) (record { text = a.0; outcome = answers right a.0 a.1; wrote = a.2 })
@@ -137,7 +137,7 @@ appends_none (Some xs) (Some ys) h = h ∙ sym (append-nil xs)
 pub kept : (s : Snapshot) (before now : Option (List ℕ)) → Keeps before now → WritesFrontOf s before now
 kept s before now keeps = record { text = []; begun = nothing; wrote = all_front before now [] (appends_none before now keeps) }
 
--- a fault that is told
+-- a reported fault
 module _ (s : Snapshot) (before now : Option (List ℕ)) (told_status : AskStatus) (code at : ℕ) where
   pub fault_told : IsFirstFault s.members (asks_untold s.questions) code at → (told_status ≡ status.Faulty → Appends before now (line (codes "fault") (code ∷ at ∷ []))) → (told_status ≡ status.Faulty) ⊎ (told_status ≡ status.WriteFault) ⊎ (told_status ≡ status.OutOfMemory)
       → (told_status ≡ status.Answered) ⊎ (told_status ≡ status.Faulty) → WritesSnapshot s told_status before now
@@ -166,7 +166,7 @@ kept_bytes bytes before now keeps = record { text = []; begun = nothing_yet; wro
 pub kept_bytes_here : (bytes : List ℕ) (before : Option (List ℕ)) → WritesFront bytes before before
 kept_bytes_here bytes before = kept_bytes bytes before before (keeps_same before)
 
--- What is told of a snapshot is told of its bytes.
+-- The outcome of a snapshot is that of its bytes.
 module _ (bytes : List ℕ) (s : Snapshot) (few : length bytes < LIMIT) (spells : Spells bytes s) (before now : Option (List ℕ)) where
   pub bytes_told : (ended : AskStatus) → WritesSnapshot s ended before now → WritesOutcome bytes ended before now
   bytes_told ended w = record { text = w.text; outcome = of_snapshot s few spells ended w.text w.outcome; wrote = w.wrote }
@@ -174,7 +174,7 @@ module _ (bytes : List ℕ) (s : Snapshot) (few : length bytes < LIMIT) (spells 
   pub bytes_cut : WritesFrontOf s before now → WritesFront bytes before now
   bytes_cut w = record { text = w.text; begun = begun_snapshot s few spells w.text w.begun; wrote = w.wrote }
 
--- a bad line that is told, and too many bytes
+-- a reported bad line, and too many bytes
 module _ (bytes : List ℕ) (before now : Option (List ℕ)) (told_status : AskStatus) where
   pub line_told : (number : ℕ) → length bytes < LIMIT → IsBadLine bytes number → (told_status ≡ status.Faulty → Appends before now (line (codes "bad line") (number ∷ []))) → (told_status ≡ status.Faulty) ⊎ (told_status ≡ status.WriteFault) ⊎ (told_status ≡ status.OutOfMemory)
       → (told_status ≡ status.Answered) ⊎ (told_status ≡ status.Faulty) ⊎ (told_status ≡ status.TooLarge) → WritesOutcome bytes told_status before now
@@ -210,7 +210,7 @@ module _ (bytes : List ℕ) (before now : Option (List ℕ)) (told_status : AskS
       write_fault (inr f) (inr g) = f
       write_fault (inl f) (inr g) = absurd (cc)
 
-  -- a snapshot's statuses are not those of too many bytes
+  -- a snapshot's statuses differ from that of too many bytes
   pub not_large : (told_status ≡ status.Answered) ⊎ (told_status ≡ status.Faulty) ⊎ (told_status ≡ status.WriteFault) ⊎ (told_status ≡ status.OutOfMemory) → (told_status ≡ status.Answered) ⊎ (told_status ≡ status.Faulty) ⊎ (told_status ≡ status.TooLarge) → (told_status ≡ status.Answered) ⊎ (told_status ≡ status.Faulty)
   not_large only (inl f) = inl f
   not_large only (inr (inl f)) = inr f
@@ -219,7 +219,7 @@ module _ (bytes : List ℕ) (before now : Option (List ℕ)) (told_status : AskS
   not_large (inr (inr (inl f))) (inr (inr g)) = absurd (cc)
   not_large (inr (inr (inr f))) (inr (inr g)) = absurd (cc)
 
--- What holds of the bytes that were read holds of those that the source told: either these are all, or they are too many.
+-- What holds of the bytes read holds of the source's bytes: either these are all of them, or there are too many.
 module _ (left after : Option (List ℕ)) (bytes : List ℕ) (took : Consumes left after bytes) (ends : length bytes < LIMIT → IsAtEnd after) where
   told : (P : List ℕ → Type 0) → P bytes → ((more : List ℕ) → LIMIT ≤ length bytes → P bytes → P (bytes ++ more)) → IfSome left P
   told P here longer = by left after took ends
@@ -251,7 +251,7 @@ module _ (left after : Option (List ℕ)) (bytes : List ℕ) (took : Consumes le
   pub told_answer : (ended : AskStatus) (before now : Option (List ℕ)) → WritesOutcome bytes ended before now → IfSome left (λ bs. HasOutcome bs ended)
   told_answer ended before now w = told (λ bs. HasOutcome bs ended) (record { text = w.text; outcome = w.outcome }) (λ more many k. record { text = k.text; outcome = longer_outcome more k.text ended many k.outcome })
 
--- which ended comes
+-- which status comes
 module _ (left after : Option (List ℕ)) (bytes : List ℕ) (took : Consumes left after bytes) (ends : length bytes < LIMIT → IsAtEnd after) (before now : Option (List ℕ)) (told_status : AskStatus) where
   pub answer_comes : ((told_status ≡ status.Answered) ⊎ (told_status ≡ status.Faulty) ⊎ (told_status ≡ status.TooLarge) → WritesOutcome bytes told_status before now)
       → (told_status ≡ status.Answered) ⊎ (told_status ≡ status.Faulty) ⊎ (told_status ≡ status.TooLarge) ⊎ (told_status ≡ status.WriteFault) ⊎ (told_status ≡ status.OutOfMemory) → IsCutShort told_status ⊎ IfSome left (λ bs. HasOutcome bs told_status)
@@ -261,12 +261,12 @@ module _ (left after : Option (List ℕ)) (bytes : List ℕ) (took : Consumes le
   answer_comes wrote (inr (inr (inr (inl e)))) = inl (inr (inl e))
   answer_comes wrote (inr (inr (inr (inr e)))) = inl (inr (inr e))
 
--- nothing was taken, or something, where memory ran out while reading
+-- something or nothing was read when memory ran out while reading
 pub front_anyway : (left before : Option (List ℕ)) → IfSome left (λ bs. WritesFront bs before before)
 front_anyway None before = tt
 front_anyway (Some bytes) before = kept_bytes_here bytes before
 
--- where neither source nor sink failed, only memory cuts the answers short
+-- if neither source nor sink failed, only lack of memory cuts the answers short
 pub complete : (ended : AskStatus) (SourceRose SinkRose Told : Type 0) → (ended ≡ status.ReadFault → SourceRose) → (ended ≡ status.WriteFault → SinkRose) → IsCutShort ended ⊎ Told
     → ¬ SourceRose → ¬ SinkRose → (ended ≡ status.OutOfMemory) ⊎ Told
 complete ended SourceRose SinkRose Told read write (inr told_is) no_source no_sink = inr told_is

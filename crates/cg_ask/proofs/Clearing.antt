@@ -25,7 +25,7 @@ legacy_long ms marks is = ap (λ (bs : List Bool). length bs) is ∙ length-map 
 same_marks : (marks others : List Bool) → marks ≡ others → (i : ℕ) → Marks marks i ↔ Marks others i
 same_marks marks others is i = (λ m. subst (λ (bs : List Bool). Marks bs i) is m, λ m. subst (λ (bs : List Bool). Marks bs i) (sym is) m)
 
--- what the collection does not find reachable among its candidates
+-- the candidates that the collection does not find reachable
 pub unreachable_just : (ms : List Member) (candidates held found lost : List Bool) → candidates ≡ tracked_of ms → MarkJust (length ms) (IsHeldElsewhere ms) held → length found ≡ length candidates → ((i : ℕ) → Marks found i ↔ Leads held candidates (rows_of ms) i)
     → MarkJust (length candidates) (λ i. Marks candidates i × ¬ Marks found i) lost → MarkJust (length ms) (IsUnreachable ms) lost
 unreachable_just ms candidates held found lost is h len led l =
@@ -38,7 +38,7 @@ unreachable_just ms candidates held found lost is h len led l =
       );
     }
 
--- what of it is not set aside
+-- those not set aside
 pub cleared_just : (ms : List Member) (lost marks aside cleared : List Bool) → MarkJust (length ms) (IsUnreachable ms) lost → marks ≡ legacy_of ms → length aside ≡ length lost → ((i : ℕ) → Marks aside i ↔ Leads marks lost (rows_of ms) i)
     → MarkJust (length lost) (λ i. Marks lost i × ¬ Marks aside i) cleared → MarkJust (length ms) (IsCleared ms) cleared
 cleared_just ms lost marks aside cleared l is len led k =
@@ -51,7 +51,7 @@ cleared_just ms lost marks aside cleared l is len led k =
       );
     }
 
--- what is lost and does not die of that
+-- those lost that do not die of that
 pub stuck_just : (ms : List Member) (lost cleared dead stuck : List Bool) → MarkJust (length ms) (IsLost ms) lost → MarkJust (length ms) (IsCleared ms) cleared → MarkJust (length ms) (Dies ms (Marks cleared)) dead → MarkJust (length lost) (λ i. Marks lost i × ¬ Marks dead i) stuck
     → MarkJust (length ms) (IsStuck ms) stuck
 stuck_just ms lost cleared dead stuck l c d s =
@@ -64,7 +64,7 @@ stuck_just ms lost cleared dead stuck l c d s =
       );
     }
 
--- what has more references than those of candidates
+-- those with more references than candidates have to them
 pub elsewhere_just : (ms : List Member) (counts degrees : List ℕ) (held : List Bool) → length counts ≡ length ms → ((i : ℕ) → i < length ms → get_or counts i 0 ≡ occurrences i (targets_from (tracked_of ms) (rows_of ms))) → degrees ≡ degrees_of ms
     → MarkJust (length counts) (λ i. get_or counts i 0 < get_or degrees i 0) held → MarkJust (length ms) (IsHeldElsewhere ms) held
 elsewhere_just ms counts degrees held long each is h = record {

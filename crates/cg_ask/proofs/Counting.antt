@@ -1,4 +1,4 @@
--- Numbers of members, and how often they stand in lists.
+-- Numbers of members, and how often they occur in lists.
 use Rattle.std.proofs.Common.{◌≡◌, refl, sym, ◌∙◌, ap, ℕ, zero, suc, ◌+◌, ◌-◌, ◌<◌, ◌≤◌, ◌^◌, Bool, true, false, ◌⊎◌, inl, inr, List, [], ◌∷◌, ◌++◌, length, take, drop, map, Some, arith, get_or, set, replicate, take_all, append-nil, length-append}
 use Rattle.std.specs.Prelude.{if◌then◌else◌, slice_get}
 use Rattle.std.specs.List.{concat}
@@ -17,7 +17,7 @@ use Rattle.cg_ask.specs.Asked.{rows_of, words_of, references_of, all_words_of, d
 use Rattle.cg_ask.specs.Counted.{CountEach, IsCounts, AreOutside}
 use Rattle.cg_ask.specs.declared.counts.Counts.{Counts}
 
--- the targets of some nodes are fewer than those of all
+-- a subset of the nodes has at most as many targets
 pub targets_few : (x : ℕ) (marks : List Bool) (rows : List (List ℕ)) → occurrences x (targets_from marks rows) ≤ occurrences x (concat rows)
 targets_few x [] rows = omega arith
 targets_few x (m ∷ marks) [] = omega arith
@@ -30,7 +30,7 @@ bits true false h x r s t le = let clash : false ≡ true = h refl in absurd (cc
 bits false true h x r s t le = omega (arith, occurrences-append x r t, le)
 bits false false h x r s t le = le
 
--- those of more are more
+-- more nodes have more targets
 pub targets_mono : (x : ℕ) (marks others : List Bool) (rows : List (List ℕ)) → length others ≡ length rows → ((i : ℕ) → Marks marks i → Marks others i) → occurrences x (targets_from marks rows) ≤ occurrences x (targets_from others rows)
 targets_mono x [] others rows long h = omega arith
 targets_mono x (a ∷ marks) others [] long h = omega arith
@@ -57,12 +57,12 @@ targets_set x (m ∷ marks) (r ∷ rows) zero within long off =
 targets_set x (m ∷ marks) (r ∷ rows) (suc at) within long off =
     omega (arith, targets_set x marks rows at (omega (arith, within)) (omega (arith, long)) off, occurrences-append x (if m then r else []) (targets_from (set marks at true) rows), occurrences-append x (if m then r else []) (targets_from marks rows))
 
--- a target of a node is one of all
+-- a target of a node is a target of all
 pub concat_row : (rows : List (List ℕ)) (x : ℕ) → Includes (concat rows) x → (k : ℕ) × (row : List ℕ) × (slice_get rows k ≡ Some row) × Includes row x
 concat_row [] x m = absurd m
 concat_row (r ∷ rows) x m = either (Includes-append_cases r (concat rows) x m) (λ h. (0, r, refl, h)) (λ h. let found = concat_row rows x h in (suc found.0, found.1, found.2, found.3))
 
--- what a row has, all have
+-- all rows have what one row has
 pub row_few : (x : ℕ) (rows : List (List ℕ)) (k : ℕ) (row : List ℕ) → slice_get rows k ≡ Some row → occurrences x row ≤ occurrences x (concat rows)
 row_few x [] k row e = absurd (cc)
 row_few x (r ∷ rows) zero row e = let same : r ≡ row = cc in omega (arith, ap (occurrences x) same, occurrences-append x r (concat rows))
@@ -115,7 +115,7 @@ so_more count rows at counts now row within is so h = record {
 pub so_all : (count : ℕ) (rows : List (List ℕ)) (at : ℕ) (counts : List ℕ) → length rows ≤ at → CountsSo count rows at counts → CountEach count (concat rows) counts
 so_all count rows at counts end so = record { len = so.len; each = λ i within. so.each i within ∙ ap (λ (rs : List (List ℕ)). occurrences i (concat rs)) (take_all at rows end) }
 
--- the in-degree of a member that is read
+-- the in-degree of a member
 pub degree_read : (ms : List Member) (at : ℕ) (m : Member) → at < length ms → m ≡ get_or ms at m → degree_at ms at ≡ m.degree
 degree_read ms at m within is = get_or-map (λ (k : Member). k.degree) ms at m 0 within ∙ ap (λ (k : Member). k.degree) (sym is)
 
@@ -128,7 +128,7 @@ row_read ms at m within is = get_or-map (λ (k : Member). k.refs) ms at m [] wit
 pub words_read : (ms : List Member) (at : ℕ) (m : Member) → at < length ms → m ≡ get_or ms at m → get_or (words_of ms) at [] ≡ m.untold
 words_read ms at m within is = get_or-map (λ (k : Member). k.untold) ms at m [] within ∙ ap (λ (k : Member). k.untold) (sym is)
 
--- with untold words as references
+-- the rows with untold words as references
 pub rows-all_told : (ms : List Member) → rows_of (all_told ms) ≡ map (λ m. m.refs ++ m.untold) ms
 rows-all_told [] = refl
 rows-all_told (m ∷ ms) = ap (λ t. (m.refs ++ m.untold) ∷ t) (rows-all_told ms)
@@ -152,7 +152,7 @@ told_each ms all counts is long each = record {
 pub count_read : (count : ℕ) (targets counts : List ℕ) (at read : ℕ) → CountEach count targets counts → at < count → read ≡ get_or counts at read → read ≡ occurrences at targets
 count_read count targets counts at read h within is = get_or_read_under counts at (length counts) read 0 is (omega (arith, within, h.len)) refl ∙ h.each at within
 
--- outside holds, one after the other
+-- outside holds, one by one
 pub record OutsideSo (ms : List Member) (at : ℕ) (outside : List ℕ) : Type 0 where
   pub len : length outside ≡ at
   pub each : (i : ℕ) → i < at → get_or outside i 0 ≡ outside_at ms i

@@ -1,4 +1,4 @@
--- What dies by count: the members that are found are the least closed set.
+-- What dies by count: the members found are the least closed set.
 use Rattle.std.proofs.Common.{◌≡◌, refl, sym, ◌∙◌, ap, subst, ℕ, zero, suc, ◌+◌, ◌<◌, ◌≤◌, Bool, true, false, cond, ◌⊎◌, inl, inr, List, [], ◌∷◌, ◌++◌, length, arith, get_or, set, replicate}
 use Rattle.std.proofs.lemmas.List.{length-set, length-map, length-replicate}
 use Rattle.std.proofs.lemmas.Option.{slice_get_within, slice_get-get_or}
@@ -18,7 +18,7 @@ use Rattle.cg_ask.proofs.Counting.{targets_few, targets_mono, targets_none, targ
 use Rattle.cg_ask.proofs.Faulty.{covered_all, refs_within}
 use Rattle.cg_ask.proofs.Released.{mark_on, mark_off, on_mark, mark_few, mark_set}
 
--- How far dying has come: which members' references were given up, what is left of the in-degrees, and who waits.
+-- How far dying has come: which members' references were released, the rest of the in-degrees, and which members wait.
 pub record HasDied (ms : List Member) (given : List Bool) (left : List ℕ) (dead : List Bool) (waits : List ℕ) : Type 0 where
   pub done : List Bool
   pub long_done : length done ≡ length ms
@@ -49,7 +49,7 @@ module _ (ms : List Member) (given : List Bool) (right : AreRight ms false) (sam
         least = λ closed c i m. c.given i m;
       }))
 
-  -- the one that is taken out is dead, and its references were not given up
+  -- the one taken from the work list is dead, and its references were not released before
   module _ (left : List ℕ) (dead : List Bool) (waits rest : List ℕ) (at : ℕ) (h : HasDied ms given left dead waits) (popped : waits ≡ rest ++ at ∷ []) where
     occurs_at : (i : ℕ) → occurrences i waits ≡ occurrences i rest + occurrences i (at ∷ [])
     occurs_at i = ap (occurrences i) popped ∙ occurrences-append i rest (at ∷ [])
@@ -79,7 +79,7 @@ module _ (ms : List Member) (given : List Bool) (right : AreRight ms false) (sam
     row_at_within i m =
         refs_within ms false right i (occurs_in (references_of ms) i (omega (arith, occurs (get_or (rows_of ms) at []) i m, row_few i (rows_of ms) at (get_or (rows_of ms) at []) (slice_get-get_or (rows_of ms) at [] (omega (arith, at_within, rows_long))))))
 
-    -- there is enough left of each in-degree
+    -- each in-degree has enough left
     pub row_some : (i : ℕ) → occurrences i (get_or (rows_of ms) at []) ≤ get_or left i 0
     row_some i = omega (arith, h.leaves i, done_more i, targets_few i now_done (rows_of ms), covered_all ms false right i)
 
@@ -134,7 +134,7 @@ module _ (ms : List Member) (given : List Bool) (right : AreRight ms false) (sam
             h.fallen i some (omega (arith, le, all, h.leaves i));
       }
 
--- what is given is the same
+-- the same initial set
 pub dies_same : (ms : List Member) (Given Other : ℕ → Type 0) → ((i : ℕ) → Other i → Given i) → (o : ℕ) → Dies ms Other o → Dies ms Given o
 dies_same ms Given Other f o d closed c = d closed (record { len = c.len; given = λ i g. c.given i (f i g); dies = c.dies })
 

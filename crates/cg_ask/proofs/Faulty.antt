@@ -1,4 +1,4 @@
--- What is wrong with a heap, and what follows where nothing is.
+-- The faults of a heap, and what follows if there are none.
 use Rattle.std.proofs.Common.{◌≡◌, sym, subst, ℕ, ◌+◌, ◌-◌, ◌<◌, ◌≤◌, Bool, true, false, List, [], length, Option, Some, None, arith, get_or}
 use Rattle.std.specs.Prelude.{IfSome, IfNone}
 use Rattle.std.proofs.lemmas.Bool.{cases_eq, cases_lt}
@@ -17,7 +17,7 @@ use Rattle.cg_ask.specs.Faults.{IsWellNamed, IsCovered, IsRight, HasFault, misna
 use Rattle.cg_ask.proofs.Counting.{concat_row, degree_read, row_read, words_read}
 use Rattle.cg_ask.proofs.Marking.{member_of}
 
--- a heap of which nothing is wrong
+-- a heap without faults
 module _ (ms : List Member) (with_words : Bool) (right : AreRight ms with_words) where
   pub refs_within : (i : ℕ) → Includes (references_of ms) i → i < length ms
   refs_within i m =
@@ -36,11 +36,11 @@ module _ (ms : List Member) (with_words : Bool) (right : AreRight ms with_words)
   covered_all i = either (cases_lt i (length ms)) (λ l. (right i l).covered)
       (λ g. omega (arith, absent_from (references_of ms) i (λ m. absurd (let l = refs_within i m in omega (arith, l, g)))))
 
-  -- what is right with untold words is right without
+  -- a heap that is right with untold words is right without
   pub right_without : AreRight ms false
   right_without i within = let r = right i within in record { names = r.names; covered = r.covered; covered_with = λ e. absurd (cc) }
 
--- what is read of a member
+-- facts read from a member
 module _ (ms : List Member) (with_words : Bool) (at : ℕ) (m : Member) (within : at < length ms) (is : m ≡ get_or ms at m) where
   refs_are : get_or (rows_of ms) at [] ≡ m.refs
   refs_are = row_read ms at m within is
@@ -76,11 +76,11 @@ module _ (ms : List Member) (with_words : Bool) (at : ℕ) (m : Member) (within 
     pub low_words : (words : ℕ) → words ≡ occurrences at (all_words_of ms) → told ≤ m.degree → with_words ≡ true → m.degree - told < words → HasFault ms with_words at 4
     low_words words words_is le asked low = low_with_words named (covers le) asked (λ all. omega (arith, le, low, all, told_is, words_is, degree))
 
-    -- where untold words are asked for
+    -- if untold words are counted
     pub is_right : (words : ℕ) → words ≡ occurrences at (all_words_of ms) → told ≤ m.degree → words ≤ m.degree - told → IsRight ms with_words at
     is_right words words_is le more = record { names = named; covered = covers le; covered_with = λ asked. omega (arith, more, le, told_is, words_is, degree) }
 
-    -- where they are not
+    -- if they are not
     pub is_right_alone : told ≤ m.degree → with_words ≡ false → IsRight ms with_words at
     is_right_alone le off = record { names = named; covered = covers le; covered_with = λ asked. absurd (clash asked off) }
 

@@ -1,4 +1,4 @@
--- What would go: its members, their totals, and that what dies by count and was reached is let go.
+-- What would die: its members, their totals, and that what dies by count and was reached is let go.
 use Rattle.std.proofs.Common.{◌≡◌, refl, sym, ◌∙◌, ap, subst, ℕ, zero, suc, ◌+◌, ◌*◌, ◌<◌, ◌≤◌, ◌^◌, Bool, true, false, cond, ◌⊎◌, inl, inr, List, [], ◌∷◌, ◌++◌, length, map, Option, Some, arith, get_or, set, replicate, append-nil, length-append}
 use Rattle.std.specs.Prelude.{◌==◌, slice_get, codes}
 use Rattle.std.specs.List.{concat, AllByRecursion}
@@ -29,7 +29,7 @@ use Rattle.cg_ask.proofs.Counting.{targets_few, targets_set, no_degree}
 use Rattle.cg_ask.proofs.Faulty.{covered_all}
 use Rattle.cg_ask.proofs.Marking.{is_or_not}
 
--- The members that a path from outside does not go by, which are closed where the path goes by none that are given.
+-- The members that no path from outside passes through; they are closed if the path avoids the given ones.
 record Stays (ms : List Member) (dropped : List ℕ) (o : ℕ) : Type 0 where
   pub closed : List Bool
   pub len : length closed ≡ length ms
@@ -83,7 +83,7 @@ module _ (ms : List Member) (dropped : List ℕ) where
   stays o (first h m) = stays_first o h m
   stays o (next {o = x} r e m) = let found = edge_out (rows_of ms) x o e in stays_next x o found.0 (stays x r) found.1 found.2 m
 
--- a node that is not marked adds to the targets of all
+-- an unmarked node adds to the targets of all
 targets_miss : (x : ℕ) (marks : List Bool) (rows : List (List ℕ)) (p : ℕ) (row : List ℕ) → slice_get rows p ≡ Some row → ¬ Marks marks p → length marks ≡ length rows → occurrences x (targets_from marks rows) + occurrences x row ≤ occurrences x (concat rows)
 targets_miss x marks rows p row at not_in long =
     let within = slice_get_within rows p row at in
@@ -96,7 +96,7 @@ targets_miss x marks rows p row at not_in long =
     by true e = absurd (not_in (marks_of_is marks p e))
     by false e = e
 
--- What dies by count is not reached by paths of others than these.
+-- What dies by count is not reached by paths that avoid the dropped members.
 pub dead_not_reached : (ms : List Member) (dropped : List ℕ) (o : ℕ) → AreRight ms false → ((x : ℕ) → Includes dropped x → IsMember ms x) → Dies ms (Includes dropped) o → Reach (IsHeld ms) (IsOther ms dropped) (edges ms) o → ⊥
 dead_not_reached ms dropped o right members dies r =
     let s = stays ms dropped o r in
@@ -114,7 +114,7 @@ dead_not_reached ms dropped o right members dies r =
         within : (y : ℕ) → 0 < degree_at ms y → y < length ms
         within y h = either (cases_lt y (length ms)) (λ l. l) (λ g. absurd (omega (arith, h, no_degree ms y g)))
 
--- the members that would go, by marks
+-- the members that would die, by marks
 pub gone_just : (ms : List Member) (places : List ℕ) (dead before after let_go gone : List Bool) → MarkJust (length ms) (Dies ms (Includes places)) dead → MarkJust (length ms) (IsReached ms) before → MarkJust (length ms) (Reach (IsHeld ms) (IsOther ms places) (edges ms)) after
     → MarkJust (length before) (λ i. Marks before i × ¬ Marks after i) let_go → MarkJust (length dead) (λ i. Marks dead i ⊎ Marks let_go i) gone → MarkJust (length ms) (IsGone ms places) gone
 gone_just ms places dead before after let_go gone d b a l g = record {
@@ -143,7 +143,7 @@ small_size (k ∷ ms) (suc at) m h within is = small_size ms at m h.1 (omega (ar
 pub size_read : (ms : List Member) (at : ℕ) (m : Member) → at < length ms → m ≡ get_or ms at m → get_or (map (λ (k : Member). k.size) ms) at 0 ≡ m.size
 size_read ms at m within is = get_or-map (λ (k : Member). k.size) ms at m 0 within ∙ ap (λ (k : Member). k.size) (sym is)
 
--- The rows so far, and what was counted.
+-- The rows so far, and their counts.
 abbrev pub GoneRows : List Bool → List Bool → ℕ → List ℕ → Type 0
 GoneRows gone dead m ns = Marks gone m × (ns ≡ flags_of dead m)
 

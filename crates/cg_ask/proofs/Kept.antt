@@ -1,4 +1,4 @@
--- What untold words keep.
+-- The members kept by untold words.
 use Rattle.std.proofs.Common.{◌≡◌, refl, sym, ◌∙◌, ap, subst, ℕ, zero, suc, ◌+◌, ◌<◌, ◌≤◌, Bool, true, false, ◌⊎◌, inl, inr, List, [], ◌∷◌, ◌++◌, length, map, take, arith, get_or, take_all}
 use Rattle.std.specs.Prelude.{◌↔◌}
 use Rattle.std.specs.List.{concat}
@@ -87,7 +87,6 @@ kept_just ms rows held all found before kept is h a len led b k =
     from_members : (i : ℕ) → Reach (IsHeld (all_told ms)) (IsMember ms) (edges (all_told ms)) i → Reach (IsHeld (all_told ms)) (IsMember (all_told ms)) (edges (all_told ms)) i
     from_members i r = subst (λ n. Reach (IsHeld (all_told ms)) (λ o. o < n) (edges (all_told ms)) i) (sym (length-all_told ms)) r
 
--- rows as they are
 pub same_rows : (rows : List (List ℕ)) → map (λ (p : List ℕ). p) rows ≡ rows
 same_rows [] = refl
 same_rows (r ∷ rows) = ap (λ t. r ∷ t) (same_rows rows)

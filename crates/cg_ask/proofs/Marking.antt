@@ -1,4 +1,4 @@
--- Marks that stand for sets of members.
+-- Marks that represent sets of members.
 use Rattle.std.proofs.Common.{◌≡◌, refl, sym, ◌∙◌, ap, subst, ℕ, zero, suc, ◌+◌, ◌<◌, ◌≤◌, Bool, true, false, not, nat_lt, ◌&&◌, ◌||◌, ◌⊎◌, inl, inr, List, [], ◌∷◌, ◌++◌, length, take, Some, arith, get_or, set, replicate, take_all, length-append}
 use Rattle.std.specs.Prelude.{◌↔◌}
 use Rattle.std.proofs.lemmas.Bool.{cases_eq, cases_lt, ltb-true, lt-ltb}
@@ -22,7 +22,7 @@ is_or_not marks i = by (is_marked marks i) refl
         clash : {c : Bool} → c ≡ true → c ≡ false → ⊥
         clash p q = absurd (cc)
 
--- two lists of marks, place by place
+-- two lists of marks, combined place by place
 abbrev pub zipped : (Bool → Bool → Bool) → List Bool → List Bool → List Bool
 zipped f [] others = []
 zipped f (a ∷ marks) [] = []
@@ -97,7 +97,7 @@ just_only marks others left long is = subst (λ (ms : List Bool). MarkJust (leng
 pub just_any : (marks others left : List Bool) → length marks ≡ length others → left ≡ zipped any marks others → MarkJust (length marks) (λ i. Marks marks i ⊎ Marks others i) left
 just_any marks others left long is = subst (λ (ms : List Bool). MarkJust (length marks) (λ i. Marks marks i ⊎ Marks others i) ms) (sym is) (record { len = length-zipped any marks others long; just = λ i. any_at marks others i long })
 
--- marks that stand for the same set
+-- marks that represent the same set
 pub just_same : (count : ℕ) (P Q : ℕ → Type 0) (marks : List Bool) → MarkJust count P marks → ((i : ℕ) → i < count → P i → Q i) → ((i : ℕ) → Q i → P i) → MarkJust count Q marks
 just_same count P Q marks h there back = record {
   len = h.len;
@@ -138,7 +138,7 @@ just_next count places marks k within inside h = just_one_more count places mark
 pub just_places : (count : ℕ) (places : List ℕ) (marks : List Bool) (k : ℕ) → length places ≤ k → MarkJust count (Includes (take k places)) marks → MarkJust count (Includes places) marks
 just_places count places marks k end h = subst (λ (ps : List ℕ). MarkJust count (Includes ps) marks) (take_all k places end) h
 
--- each of them is a place of a member
+-- each is a place of a member
 pub member_of : (count : ℕ) (ns : List ℕ) (x : ℕ) → AreMembers count ns → Includes ns x → x < count
 member_of count [] x h m = absurd m
 member_of count (n ∷ ns) x h (inl e) = subst (λ y. y < count) e h.0
@@ -153,11 +153,11 @@ pub members_of : (count : ℕ) (ns : List ℕ) → ((x : ℕ) → Includes ns x 
 members_of count [] h = tt
 members_of count (n ∷ ns) h = (h n (inl refl), members_of count ns (λ x m. h x (inr m)))
 
--- a mark that is read
+-- the mark at a place
 pub mark_read : (marks : List Bool) (at : ℕ) (mark : Bool) → at < length marks → mark ≡ get_or marks at mark → get_or marks at false ≡ mark
 mark_read marks at mark within is = sym (get_or_read_under marks at (length marks) mark false is within refl)
 
--- Marks that are computed one after the other.
+-- Marks computed one by one.
 pub record MarksSo (at : ℕ) (f : ℕ → Bool) (marks : List Bool) : Type 0 where
   pub len : length marks ≡ at
   pub each : (i : ℕ) → i < at → get_or marks i false ≡ f i

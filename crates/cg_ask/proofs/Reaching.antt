@@ -28,7 +28,7 @@ above (n ∷ numbers) zero = (λ m. ltb-true 0 n (is m), λ h. ap Some (lt-ltb 0
     is e = cc
 above (n ∷ numbers) (suc i) = above numbers i
 
--- what has outside holds is held
+-- a member with outside holds is held
 pub held_just : (ms : List Member) (outside : List ℕ) (held : List Bool) → AreOutside ms outside → held ≡ map (λ n. nat_lt 0 n) outside → MarkJust (length ms) (IsHeld ms) held
 held_just ms outside held are is = subst (λ (bs : List Bool). MarkJust (length ms) (IsHeld ms) bs) (sym is) (record {
   len = length-map outside (λ n. nat_lt 0 n) ∙ are.len;
@@ -46,7 +46,7 @@ held_just ms outside held are is = subst (λ (bs : List Bool). MarkJust (length 
     member : (i : ℕ) → IsHeld ms i → i < length ms
     member i h = either (cases_lt i (length ms)) (λ l. l) (λ g. absurd (omega (arith, h, no_degree ms i g)))
 
--- what a search found is what paths reach
+-- the search finds exactly what paths reach
 pub found_just : (ms : List Member) (rows : List (List ℕ)) (starts allowed found : List Bool) (Held Inside : ℕ → Type 0) → ((i : ℕ) → Marks starts i ↔ Held i) → ((i : ℕ) → Marks allowed i ↔ Inside i) → length found ≡ length ms → ((i : ℕ) → Marks found i ↔ Leads starts allowed rows i)
     → (arrows : List Edge) → arrows ≡ edges_of rows → MarkJust (length ms) (Reach Held Inside arrows) found
 found_just ms rows starts allowed found Held Inside starting allowing len led arrows is = subst (λ (es : List Edge). MarkJust (length ms) (Reach Held Inside es) found) (sym is) (record {
@@ -103,11 +103,11 @@ module _ (ms : List Member) (without : List ℕ) (held others : List Bool) (h : 
   pub none_of : (object : ℕ) → HasNoWay held others (rows_of ms) object → HasNone ms without object
   none_of object n path w = n path (of_way path object w)
 
--- each of a path is a member
+-- each element of a path is a member
 pub path_members : (ms : List Member) (without path : List ℕ) (object : ℕ) → IsShortest ms without path object → (x : ℕ) → Includes path x → x < length ms
 path_members ms without path object s x m = (s.is_way.others x m).0
 
--- what a search for a path found
+-- the result of a search for a path
 module _ (ms : List Member) (without : List ℕ) (held others : List Bool) (h : MarkJust (length ms) (IsHeld ms) held) (o : MarkJust (length ms) (IsOther ms without) others) (object : ℕ) where
   pub found_way : (way : Option (Vec ℕ)) → IfSome way (λ path. IsShortestWay held others (rows_of ms) path.items object) → IfSome way (λ path. IsShortest ms without path.items object)
   found_way None s = tt

@@ -1,4 +1,4 @@
--- References that are given up, one after the other.
+-- References that are released one by one.
 use Rattle.std.proofs.Common.{◌≡◌, refl, sym, ◌∙◌, ap, subst, ℕ, zero, suc, ◌+◌, ◌-◌, ◌<◌, ◌≤◌, Bool, true, false, cond, not, ◌⊎◌, inl, inr, List, [], ◌∷◌, ◌++◌, length, take, drop, Some, arith, get_or, set, take_all, length-append}
 use Rattle.std.specs.Prelude.{slice_get, count_by}
 use Rattle.std.proofs.lemmas.Bool.{cases_eq, cases_lt}
@@ -49,7 +49,7 @@ mark_set marks at i within off = either (cases_eq at i)
     same : (j : ℕ) → at ≡ j → mark_at (set marks at true) j ≡ mark_at marks j + 1
     same j e = subst (λ k. mark_at (set marks at true) k ≡ mark_at marks k + 1) e (omega (arith, mark_set_same marks at within, off))
 
--- no reference is given up
+-- no reference is released
 pub releases_none : (left : List ℕ) (dead : List Bool) (waits : List ℕ) → Releases [] left dead waits left dead waits
 releases_none left dead waits = record {
   len = refl;
@@ -62,7 +62,7 @@ releases_none left dead waits = record {
   measure = refl;
 }
 
--- some, and then others
+-- some, then others
 pub releases_more : (first others left mid now : List ℕ) (dead then last : List Bool) (waits wait queue : List ℕ) → Releases first left dead waits mid then wait → Releases others mid then wait now last queue → Releases (first ++ others) left dead waits now last queue
 releases_more first others left mid now dead then last waits wait queue a b = record {
   len = b.len ∙ a.len;
@@ -88,7 +88,7 @@ releases_more first others left mid now dead then last waits wait queue a b = re
         by zero e = inr e
         by (suc n) e = inl (occurs_in xs i (omega (arith, e)))
 
--- one less of a number
+-- one less at a number
 lowered : (left : List ℕ) (at number i : ℕ) → at < length left → get_or left at 0 ≡ number + 1 → get_or (set left at number) i 0 + occurrences i (at ∷ []) ≡ get_or left i 0
 lowered left at number i within is = either (cases_eq at i) (λ e. same i e) (λ n. omega (arith, get_or-set_other left at i number 0 (λ e. n (sym e)), occurrences-other i at [] n))
   where
@@ -102,7 +102,7 @@ module _ (left : List ℕ) (dead : List Bool) (waits : List ℕ) (at number : �
   at_is : (i : ℕ) → Includes (at ∷ []) i → at ≡ i
   at_is i m = either m (λ e. e) (λ f. absurd f)
 
-  -- others refer to it still
+  -- others still refer to it
   pub release_keeps : 0 < number → Releases (at ∷ []) left dead waits (set left at number) dead waits
   release_keeps some = record {
     len = length-set left at number;
@@ -115,7 +115,7 @@ module _ (left : List ℕ) (dead : List Bool) (waits : List ℕ) (at number : �
     measure = refl;
   }
 
-  -- it was dead
+  -- it was dead before
   pub release_dead : Marks dead at → Releases (at ∷ []) left dead waits (set left at number) dead waits
   release_dead was = record {
     len = length-set left at number;
@@ -128,7 +128,7 @@ module _ (left : List ℕ) (dead : List Bool) (waits : List ℕ) (at number : �
     measure = refl;
   }
 
-  -- that was the last one
+  -- that was the last reference
   pub release_falls : number ≡ 0 → slice_get dead at ≡ Some false → Releases (at ∷ []) left dead waits (set left at number) (set dead at true) (waits ++ at ∷ [])
   release_falls none was = record {
     len = length-set left at number;
@@ -203,7 +203,7 @@ wait_first marks waits is i = (λ low. absurd (omega (arith, low)), λ past. ap 
 pub wait_pushed : (marks : List Bool) (at : ℕ) (waits now : List ℕ) → get_or marks at false ≡ true → now ≡ waits ++ at ∷ [] → WaitBelow marks at waits → WaitBelow marks (at + 1) now
 wait_pushed marks at waits now on is h = subst (λ (ns : List ℕ). WaitBelow marks (at + 1) ns) (sym is) (wait_push marks at waits on h)
 
--- A number that is read, one less, and a mark that is read.
+-- One number lowered, and one mark.
 module _ (left : List ℕ) (dead : List Bool) (waits : List ℕ) (at read : ℕ) (within : at < length left) (long : length dead ≡ length left) (some : 0 < get_or left at 0) (is : read ≡ get_or left at read) where
   read_is : get_or left at 0 ≡ (read - 1) + 1
   read_is = omega (arith, some, get_or_read_under left at (length left) read 0 is within refl)

@@ -1,4 +1,4 @@
--- Rows that tell just what is to be told, one after the other.
+-- Rows that list exactly what is to be printed, one by one.
 use Rattle.std.proofs.Common.{◌≡◌, refl, sym, ◌∙◌, ap, subst, ℕ, ◌+◌, ◌<◌, ◌≤◌, Bool, true, false, cond, ◌⊎◌, inl, inr, List, [], ◌∷◌, ◌++◌, length, take, arith, get_or, append_assoc, append-nil, take_all}
 use Rattle.std.specs.Prelude.{◌↔◌, flat_map, codes}
 use Rattle.std.proofs.lemmas.Bool.{cases_eq}
@@ -30,7 +30,7 @@ module _ (P : ℕ → List ℕ → Type 0) (word : List ℕ) where
   unfoldable pub rows_first : (old : List ℕ) → RowsBelow P word 0 old old
   rows_first old = record { rows = []; rise = tt; below = λ r m. absurd m; told = λ r m. absurd m; all = λ m ns low p. absurd (omega (arith, low)); text = sym (append-nil old) }
 
-  -- a member of which there is something to be told
+  -- a member with something to print
   unfoldable pub rows_push : (at : ℕ) (old mid new ns : List ℕ) → P at ns → ((ms : List ℕ) → P at ms → ms ≡ ns) → new ≡ mid ++ line word (at ∷ ns) → RowsBelow P word at old mid → RowsBelow P word (at + 1) old new
   rows_push at old mid new ns is one put h = record {
     rows = h.rows ++ (at, ns) ∷ [];
@@ -50,7 +50,7 @@ module _ (P : ℕ → List ℕ → Type 0) (word : List ℕ) where
       same : (m : ℕ) (ms : List ℕ) → m ≡ at → ms ≡ ns → ◌≡◌ {A = Row} (at, ns) (m, ms)
       same m ms e f = ap (λ k. (k, ns)) (sym e) ∙ ap (λ (ks : List ℕ). (m, ks)) (sym f)
 
-  -- a member of which there is nothing
+  -- a member with nothing to print
   unfoldable pub rows_skip : (at : ℕ) (old new : List ℕ) → ((ns : List ℕ) → ¬ P at ns) → RowsBelow P word at old new → RowsBelow P word (at + 1) old new
   rows_skip at old new none h = record {
     rows = h.rows;
@@ -69,7 +69,7 @@ module _ (P : ℕ → List ℕ → Type 0) (word : List ℕ) where
     text = h.text;
   }
 
--- rows that tell the same
+-- equal properties give the same rows
 pub tells_same : (P Q : ℕ → List ℕ → Type 0) (rows : List Row) → Tells P rows → ((m : ℕ) (ns : List ℕ) → P m ns → Q m ns) → ((m : ℕ) (ns : List ℕ) → Q m ns → P m ns) → Tells Q rows
 tells_same P Q rows h there back = record { rise = h.rise; just = λ m ns. (λ k. there m ns ((h.just m ns).0 k), λ q. (h.just m ns).1 (back m ns q)) }
 
@@ -95,7 +95,7 @@ of_flag P marks i _ just (no n) = by (is_marked marks i) refl
     by true e = absurd (n (just.0 (marks_of_is marks i e)))
     by false e = sym (ap (λ b. (cond {A = ℕ} b 1 0) ∷ []) e)
 
--- marked members, with the marks of others: lost and stuck, gone and dead
+-- marked members, with another mark: lost and stuck, gone and dead
 pub flagged_same : (count : ℕ) (P Q : ℕ → Type 0) (marks others : List Bool) (word old new : List ℕ) (R : ℕ → List ℕ → Type 0) → MarkJust count P marks → MarkJust count Q others → ((m : ℕ) (ns : List ℕ) → P m → IsFlag (Q m) ns → R m ns) → ((m : ℕ) (ns : List ℕ) → R m ns → P m × IsFlag (Q m) ns)
     → AppendsRows (λ m ns. Marks marks m × (ns ≡ flags_of others m)) word old new → AppendsRows R word old new
 flagged_same count P Q marks others word old new R a b there back h =
@@ -103,7 +103,7 @@ flagged_same count P Q marks others word old new R a b there back h =
     (λ m ns p. there m ns ((a.just m).0 p.0) (flag_of (Q m) others m ns (b.just m) p.1))
     (λ m ns r. let q = back m ns r in ((a.just m).1 q.0, of_flag (Q m) others m ns (b.just m) q.1))
 
--- The numbers of a line, one after the other.
+-- The numbers of a line, one by one.
 pub line_first : (old new word ns : List ℕ) → new ≡ old ++ word → new ≡ old ++ (word ++ all_spaced (take 0 ns))
 line_first old new word ns is = is ∙ ap (λ t. old ++ t) (sym (append-nil word))
 
@@ -132,7 +132,7 @@ marked_skip marks word at old new off h = rows_skip (λ m ns. Marks marks m × (
 pub marked_all : (marks : List Bool) (word : List ℕ) (at : ℕ) (old new : List ℕ) → length marks ≤ at → RowsBelow (λ m ns. Marks marks m × (ns ≡ [])) word at old new → AppendsRows (λ m ns. Marks marks m × (ns ≡ [])) word old new
 marked_all marks word at old new end h = rows_all (λ m ns. Marks marks m × (ns ≡ [])) word at old new (λ m ns p. omega (arith, slice_get_within marks m true p.0, end)) h
 
--- and with its flag
+-- the same with its flag
 pub flagged_row_push : (marks others : List Bool) (word : List ℕ) (at number : ℕ) (old mid new : List ℕ) → get_or marks at false ≡ true → number ≡ cond (get_or others at false) 1 0 → new ≡ mid ++ line word (at ∷ number ∷ []) → RowsBelow (λ m ns. Marks marks m × (ns ≡ flags_of others m)) word at old mid
     → RowsBelow (λ m ns. Marks marks m × (ns ≡ flags_of others m)) word (at + 1) old new
 flagged_row_push marks others word at number old mid new on is put h =
@@ -144,7 +144,7 @@ flagged_row_skip marks others word at old new off h = rows_skip (λ m ns. Marks 
 pub flagged_row_all : (marks others : List Bool) (word : List ℕ) (at : ℕ) (old new : List ℕ) → length marks ≤ at → RowsBelow (λ m ns. Marks marks m × (ns ≡ flags_of others m)) word at old new → AppendsRows (λ m ns. Marks marks m × (ns ≡ flags_of others m)) word old new
 flagged_row_all marks others word at old new end h = rows_all (λ m ns. Marks marks m × (ns ≡ flags_of others m)) word at old new (λ m ns p. omega (arith, slice_get_within marks m true p.0, end)) h
 
--- The lines of a path, one after the other.
+-- The lines of a path, one by one.
 abbrev via : ℕ → List ℕ
 via o = line (codes "via") (o ∷ [])
 

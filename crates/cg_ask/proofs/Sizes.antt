@@ -1,4 +1,4 @@
--- A text is longer than what it tells.
+-- A text is longer than what it encodes.
 use Rattle.std.proofs.Common.{ap, ℕ, ◌+◌, ◌*◌, ◌<◌, ◌≤◌, List, [], ◌∷◌, ◌++◌, length, arith, length-append}
 use Rattle.std.specs.Prelude.{codes, flat_map}
 use Rattle.cg_snapshot.specs.declared.heap.Member.{Member}
@@ -28,7 +28,7 @@ text_long : (s : Snapshot) → length (references_of s.members) + length (all_wo
 text_long s =
     omega (arith, members_long s.members, length-append ((codes "heap\n" ++ flat_map member_text s.members) ++ codes "end\n") (flat_map question_text s.questions), length-append (codes "heap\n" ++ flat_map member_text s.members) (codes "end\n"), length-append (codes "heap\n") (flat_map member_text s.members))
 
--- what is read of bytes that are not too many
+-- the result of reading bytes that are not too many
 module _ (bytes : List ℕ) (s : Snapshot) (short : length bytes < LIMIT) (spells : Spells bytes s) where
   all_long : length (references_of s.members) + length (all_words_of s.members) + 2 * length s.members ≤ length bytes
   all_long = omega (arith, text_long s, ap (λ (bs : List ℕ). length bs) spells.text)

@@ -9,7 +9,7 @@ use Rattle.cg_graph.proofs.Members.{either, Includes-append_cases}
 use Rattle.cg_snapshot.specs.declared.heap.Member.{Member}
 use Rattle.cg_ask.specs.Asked.{edges, IsHeld, IsMember, IsOther, IsLost, IsWay, HasNone}
 
--- a path that goes one step further
+-- a path extended by one step
 leads_more : (arrows : List Edge) (from : ℕ) (path : List ℕ) (o p : ℕ) → LeadsTo arrows from path o → Includes arrows (record { from = o; to = p }) → LeadsTo arrows from (path ++ p ∷ []) p
 leads_more arrows from [] o p e step = (subst (λ x. Includes arrows (record { from = x; to = p })) (sym e) step, refl)
 leads_more arrows from (x ∷ path) o p l step = (l.0, leads_more arrows x path o p l.1 step)
@@ -18,7 +18,7 @@ path_more : (Held : ℕ → Type 0) (arrows : List Edge) (path : List ℕ) (o p 
 path_more Held arrows [] o p l step = absurd l
 path_more Held arrows (x ∷ path) o p l step = (l.0, leads_more arrows x path o p l.1 step)
 
--- along a path from what is reached
+-- along a path from a reached member
 along : (Held Inside : ℕ → Type 0) (arrows : List Edge) (from : ℕ) (path : List ℕ) (o : ℕ) → Reach Held Inside arrows from → LeadsTo arrows from path o → ((x : ℕ) → Includes path x → Inside x) → Reach Held Inside arrows o
 along Held Inside arrows from [] o r e inside = subst (λ x. Reach Held Inside arrows x) e r
 along Held Inside arrows from (x ∷ path) o r l inside = along Held Inside arrows x path o (next r l.0 (inside x (inl refl))) l.1 (λ y m. inside y (inr m))
@@ -42,7 +42,7 @@ module _ (ms : List Member) (without : List ℕ) where
   pub ways_are_reach : (o : ℕ) → Reach (IsHeld ms) (IsOther ms without) (edges ms) o ↔ ((path : List ℕ) × IsWay ms without path o)
   ways_are_reach o = (λ r. way_to o r, λ w. reached_by w.0 o w.1.leads w.1.others)
 
--- to be no other than none says nothing
+-- excluding no members excludes nothing
 other_of : (ms : List Member) (o : ℕ) → Reach (IsHeld ms) (IsMember ms) (edges ms) o → Reach (IsHeld ms) (IsOther ms []) (edges ms) o
 other_of ms o (first h i) = first h (i, λ m. m)
 other_of ms o (next {o = x} r e i) = next (other_of ms x r) e (i, λ m. m)

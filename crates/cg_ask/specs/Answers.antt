@@ -14,7 +14,7 @@ use Rattle.cg_ask.specs.Asked.{outside_at, times_at, all_words_of, IsShortest, H
 abbrev pub line : List ℕ → List ℕ → List ℕ
 line word ns = word ++ all_spaced ns ++ 10 ∷ []
 
--- a row of an answer: a member, and the numbers that are told of it
+-- a row of an answer: a member, and the numbers printed for it
 abbrev pub Row : Type 0
 Row = ℕ × List ℕ
 
@@ -24,27 +24,28 @@ row_line word r = line word (r.0 ∷ r.1)
 abbrev pub rows_text : List ℕ → List Row → List ℕ
 rows_text word rows = flat_map (row_line word) rows
 
--- the members rise
+-- the members are in ascending order
 abbrev pub Rise : List Row → Type 0
 Rise [] = Unit {0}
 Rise (r ∷ rows) = ((s : Row) → Includes rows s → r.0 < s.0) × Rise rows
 
--- Rows tell just what is to be told: of which members, and which numbers; the members rise, so each stands once.
+-- Rows list exactly what is to be printed: the right members and numbers, with the members in ascending order, each
+-- once.
 pub record Tells (P : ℕ → List ℕ → Type 0) (rows : List Row) : Type 0 where
   pub rise : Rise rows
   pub just : (m : ℕ) (ns : List ℕ) → Includes rows (m, ns) ↔ P m ns
 
--- the number 1 where a fact holds, and 0 where it does not
+-- 1 if a fact holds, else 0
 pub data IsFlag (P : Type 0) : List ℕ → Type 0 where
   yes : P → IsFlag P (1 ∷ [])
   no : ¬ P → IsFlag P (0 ∷ [])
 
--- a member that refers to the other, and how often
+-- a member that refers to the object, and how often
 pub record TellsReferrer (ms : List Member) (object m : ℕ) (ns : List ℕ) : Type 0 where
   pub some : 0 < times_at ms m object
   pub numbers : ns ≡ times_at ms m object ∷ []
 
--- a member with outside holds, how many, and how many of them are left once its occurrences among untold words are taken off
+-- a member with outside holds, their number, and how many remain after subtracting its occurrences among untold words
 pub record TellsHidden (ms : List Member) (m : ℕ) (ns : List ℕ) : Type 0 where
   pub some : 0 < outside_at ms m
   pub numbers : ns ≡ outside_at ms m ∷ (outside_at ms m - occurrences m (all_words_of ms)) ∷ []
@@ -54,12 +55,12 @@ pub record TellsLost (ms : List Member) (m : ℕ) (ns : List ℕ) : Type 0 where
   pub lost : IsLost ms m
   pub stuck : IsFlag (IsStuck ms m) ns
 
--- a member that would go, and whether it dies by count
+-- a member that would die, and whether it dies by count
 pub record TellsGone (ms : List Member) (dropped : List ℕ) (m : ℕ) (ns : List ℕ) : Type 0 where
   pub gone : IsGone ms dropped m
   pub by_count : IsFlag (Dies ms (Includes dropped) m) ns
 
--- a member that untold words keep
+-- a member kept by untold words
 pub record TellsKept (ms : List Member) (m : ℕ) (ns : List ℕ) : Type 0 where
   pub kept : IsKeptByWords ms m
   pub numbers : ns ≡ []
@@ -68,15 +69,15 @@ pub record TellsKept (ms : List Member) (m : ℕ) (ns : List ℕ) : Type 0 where
 abbrev pub flagged : List Row → List Row
 flagged rows = filter (λ r. slice_index r.1 0 == 1) rows
 
--- the bytes of the members that rows tell of
+-- the total size of the members of rows
 abbrev pub bytes_of : List Member → List Row → ℕ
 bytes_of ms rows = sum_by (λ r. slice_index (map (λ m. m.size) ms) r.0) rows
 
--- how many rows and their bytes, and how many with the number 1 and theirs
+-- the number of rows and their bytes, and the same of those with the number 1
 abbrev pub totals_of : List Member → List Row → List ℕ
 totals_of ms rows = length rows ∷ bytes_of ms rows ∷ length (flagged rows) ∷ bytes_of ms (flagged rows) ∷ []
 
--- a path: the first with its outside holds, and then each next one
+-- a path: the first with its outside holds, then each next one
 abbrev pub way_text : List Member → List ℕ → List ℕ
 way_text ms [] = []
 way_text ms (first ∷ path) = line (codes "held") (first ∷ outside_at ms first ∷ []) ++ flat_map (λ o. line (codes "via") (o ∷ [])) path
@@ -86,14 +87,14 @@ pub data IsReason (ms : List Member) (without : List ℕ) (object : ℕ) (text :
   by_path : (path : List ℕ) → IsShortest ms without path object → text ≡ way_text ms path → IsReason ms without object text
   by_none : HasNone ms without object → text ≡ line (codes "none") [] → IsReason ms without object text
 
--- rows that tell just what is to be told, and what follows them
+-- rows that list exactly what is to be printed, and what follows them
 abbrev pub IsTold : (ℕ → List ℕ → Type 0) → List ℕ → (List Row → List ℕ) → List ℕ → Type 0
 IsTold P word rest text = (rows : List Row) × Tells P rows × (text ≡ rows_text word rows ++ rest rows)
 
 abbrev pub nothing_more : List Row → List ℕ
 nothing_more rows = []
 
--- the lines of an answer between the question and the end
+-- the lines of an answer between the question and `done`
 abbrev pub IsAnswer : List Member → Question → List ℕ → Type 0
 IsAnswer ms (Why n without) text = IsReason ms without n text
 IsAnswer ms (Referrers n) text = IsTold (TellsReferrer ms n) (codes "referrer") (λ rows. line (codes "outside") (outside_at ms n ∷ [])) text
@@ -102,7 +103,7 @@ IsAnswer ms Lost text = IsTold (TellsLost ms) (codes "lost") nothing_more text
 IsAnswer ms (Dropped ns) text = IsTold (TellsGone ms ns) (codes "gone") (λ rows. line (codes "total") (totals_of ms rows)) text
 IsAnswer ms Untold text = IsTold (TellsKept ms) (codes "kept") nothing_more text
 
--- the answer with its question as it was asked, and its end
+-- an answer with its question as asked, and its end
 pub record Answers (ms : List Member) (question : Question) (text : List ℕ) : Type 0 where
   pub lines : List ℕ
   pub is_answer : IsAnswer ms question lines

@@ -1,5 +1,5 @@
--- What is asked of a recorded heap, over its members by place. (Developer guide, "identifying reference cycles"; the questions
--- are ours.)
+-- The questions about a recorded heap, over its members by place. (Developer guide, "identifying reference cycles";
+-- the questions are ours.)
 use Rattle.std.specs.Prelude.{ℕ, ◌-◌, ◌<◌, ◌≤◌, Bool, List, [], ◌++◌, map, length, slice_index, slice_index_or, ◌⊎◌}
 use Rattle.std.specs.List.{concat}
 use Rattle.cg_graph.specs.declared.Edge.{Edge}
@@ -35,7 +35,8 @@ degrees_of ms = map (λ m. m.degree) ms
 abbrev pub degree_at : List Member → ℕ → ℕ
 degree_at ms o = slice_index (degrees_of ms) o
 
--- how often the member at a place is held from outside: its in-degree less its occurrences among the references of members
+-- how often the member at a place is held from outside: its in-degree minus its occurrences among the members'
+-- references
 abbrev pub outside_at : List Member → ℕ → ℕ
 outside_at ms o = degree_at ms o - occurrences o (references_of ms)
 
@@ -47,7 +48,7 @@ times_at ms m o = occurrences o (slice_index_or (rows_of ms) m [])
 abbrev pub IsMember : List Member → ℕ → Type 0
 IsMember ms o = o < length ms
 
--- it is held from outside: its in-degree exceeds its occurrences among the references of members
+-- it is held from outside: its in-degree exceeds its occurrences among the members' references
 abbrev pub IsHeld : List Member → ℕ → Type 0
 IsHeld ms o = occurrences o (references_of ms) < degree_at ms o
 
@@ -55,7 +56,7 @@ IsHeld ms o = occurrences o (references_of ms) < degree_at ms o
 abbrev pub edges : List Member → List Edge
 edges ms = edges_of (rows_of ms)
 
--- a path of members leads to it from one that is held from outside
+-- a path of members leads to it from one held from outside
 abbrev pub IsReached : List Member → ℕ → Type 0
 IsReached ms o = Reach (IsHeld ms) (IsMember ms) (edges ms) o
 
@@ -63,11 +64,11 @@ IsReached ms o = Reach (IsHeld ms) (IsMember ms) (edges ms) o
 abbrev pub IsLost : List Member → ℕ → Type 0
 IsLost ms o = Unreachable (IsHeld ms) (IsMember ms) (edges ms) o
 
--- a member that is none of these
+-- a member outside this list
 abbrev pub IsOther : List Member → List ℕ → ℕ → Type 0
 IsOther ms without o = IsMember ms o × ¬ Includes without o
 
--- a path of members, none of them among these: the first is held from outside, each next is a reference of the one before
+-- a path of members, none in this list: the first is held from outside, each next is a reference of the one before
 pub record IsWay (ms : List Member) (without path : List ℕ) (object : ℕ) : Type 0 where
   pub leads : IsPath (IsHeld ms) (edges ms) path object
   pub others : (o : ℕ) → Includes path o → IsOther ms without o
@@ -77,16 +78,17 @@ pub record IsShortest (ms : List Member) (without path : List ℕ) (object : ℕ
   pub is_way : IsWay ms without path object
   pub shortest : (other : List ℕ) → IsWay ms without other object → length path ≤ length other
 
--- there is none
+-- there is no such path
 abbrev pub HasNone : List Member → List ℕ → ℕ → Type 0
 HasNone ms without object = (path : List ℕ) → ¬ IsWay ms without path object
 
--- It is reached, and not by paths of members other than these: no path is left once all references to these are given up.
+-- It is reached, but not by paths that avoid the dropped members: no path remains if all references to them are
+-- dropped.
 pub record IsLetGo (ms : List Member) (dropped : List ℕ) (o : ℕ) : Type 0 where
   pub reached : IsReached ms o
   pub by_these : ¬ Reach (IsHeld ms) (IsOther ms dropped) (edges ms) o
 
--- The next full collection has the tracked members as its candidates.
+-- The candidates of the next full collection are the tracked members.
 abbrev pub tracked_of : List Member → List Bool
 tracked_of ms = map (λ m. m.tracked) ms
 
@@ -100,11 +102,12 @@ IsCandidate ms o = Marks (tracked_of ms) o
 abbrev pub IsHeldElsewhere : List Member → ℕ → Type 0
 IsHeldElsewhere ms o = occurrences o (targets_from (tracked_of ms) (rows_of ms)) < degree_at ms o
 
--- what the collection finds unreachable
+-- the candidates that the collection finds unreachable
 abbrev pub IsUnreachable : List Member → ℕ → Type 0
 IsUnreachable ms o = Unreachable (IsHeldElsewhere ms) (IsCandidate ms) (edges ms) o
 
--- what it sets aside: unreachable with a legacy finalizer, or reached from such a one by unreachable members (`gc.garbage`)
+-- what it sets aside: unreachable with a legacy finalizer, or reached from such a member through unreachable ones
+-- (`gc.garbage`)
 abbrev pub IsSetAside : List Member → ℕ → Type 0
 IsSetAside ms o = Reach (Marks (legacy_of ms)) (IsUnreachable ms) (edges ms) o
 
@@ -113,7 +116,7 @@ pub record IsCleared (ms : List Member) (o : ℕ) : Type 0 where
   pub unreachable : IsUnreachable ms o
   pub not_aside : ¬ IsSetAside ms o
 
--- It is lost, and does not die by count once the next full collection clears what it does.
+-- It is lost, and does not die by count when the next full collection clears what it does.
 pub record IsStuck (ms : List Member) (o : ℕ) : Type 0 where
   pub lost : IsLost ms o
   pub stays : ¬ Dies ms (IsCleared ms) o
@@ -130,6 +133,6 @@ pub record IsKeptByWords (ms : List Member) (o : ℕ) : Type 0 where
   pub lost_with : IsLost (all_told ms) o
   pub reached : ¬ IsLost ms o
 
--- what would go if all references to these were given up
+-- what would die if all references to these were dropped
 abbrev pub IsGone : List Member → List ℕ → ℕ → Type 0
 IsGone ms dropped o = Dies ms (Includes dropped) o ⊎ IsLetGo ms dropped o

@@ -1,11 +1,11 @@
--- How often each member stands in lists of members. (Ours.)
+-- How often each member occurs in lists of members. (Ours.)
 use Rattle.std.specs.Prelude.{◌≡◌, ℕ, ◌<◌, List, length, slice_index}
 use Rattle.cg_graph.specs.Holdings.{occurrences}
 use Rattle.cg_snapshot.specs.declared.heap.Member.{Member}
 use Rattle.cg_ask.specs.Asked.{references_of, all_words_of, outside_at}
 use Rattle.cg_ask.specs.declared.counts.Counts.{Counts}
 
--- of so many places, how often each stands in a list
+-- for each place below a number, how often it occurs in a list
 pub record CountEach (count : ℕ) (targets counts : List ℕ) : Type 0 where
   pub len : length counts ≡ count
   pub each : (i : ℕ) → i < count → slice_index counts i ≡ occurrences i targets

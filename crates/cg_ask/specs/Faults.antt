@@ -1,4 +1,4 @@
--- What is wrong with a recorded heap. (Ours.)
+-- The faults of a recorded heap. (Ours.)
 use Rattle.std.specs.Prelude.{◌≡◌, ℕ, ◌+◌, ◌<◌, ◌≤◌, Bool, true, List, [], length, slice_index_or}
 use Rattle.cg_graph.specs.Holdings.{occurrences}
 use Rattle.cg_snapshot.specs.declared.heap.Member.{Member}
@@ -13,17 +13,17 @@ IsWellNamed ms at = AreMembers (length ms) (slice_index_or (rows_of ms) at []) �
 abbrev pub IsCovered : List Member → ℕ → Type 0
 IsCovered ms at = occurrences at (references_of ms) ≤ degree_at ms at
 
--- nor below those among references and untold words together
+-- nor below its occurrences among references and untold words together
 abbrev pub IsCoveredWithWords : List Member → ℕ → Type 0
 IsCoveredWithWords ms at = occurrences at (references_of ms) + occurrences at (all_words_of ms) ≤ degree_at ms at
 
--- Nothing is wrong with the member at a place. Untold words are counted where they are asked for.
+-- The member at a place has no fault. Untold words count only if they are asked about.
 pub record IsRight (ms : List Member) (with_words : Bool) (at : ℕ) : Type 0 where
   pub names : IsWellNamed ms at
   pub covered : IsCovered ms at
   pub covered_with : with_words ≡ true → IsCoveredWithWords ms at
 
--- the least code of what is wrong with it
+-- its least fault code
 pub data HasFault (ms : List Member) (with_words : Bool) (at : ℕ) : ℕ → Type 0 where
   misnamed : ¬ IsWellNamed ms at → HasFault ms with_words at 2
   too_low : IsWellNamed ms at → ¬ IsCovered ms at → HasFault ms with_words at 3
@@ -35,6 +35,6 @@ pub record IsFirstFault (ms : List Member) (with_words : Bool) (code at : ℕ) :
   pub before : (i : ℕ) → i < at → IsRight ms with_words i
   pub fault : HasFault ms with_words at code
 
--- nothing is wrong
+-- no member has a fault
 abbrev pub AreRight : List Member → Bool → Type 0
 AreRight ms with_words = (i : ℕ) → i < length ms → IsRight ms with_words i

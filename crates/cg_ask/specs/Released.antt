@@ -1,19 +1,19 @@
--- What a step of dying by count does. (Ours.)
+-- The effect of a step of dying by count. (Ours.)
 use Rattle.std.specs.Prelude.{◌≡◌, ℕ, ◌+◌, Bool, cond, List, length, slice_index, count_by, not, ◌⊎◌}
 use Rattle.cg_graph.specs.Member.{Includes}
 use Rattle.cg_graph.specs.Holdings.{occurrences}
 use Rattle.cg_search.specs.Places.{Marks, is_marked}
 
--- 1 for a place that is marked
+-- 1 for a marked place, else 0
 abbrev pub mark_at : List Bool → ℕ → ℕ
 mark_at marks i = cond (is_marked marks i) 1 0
 
--- just what is marked waits, each once
+-- exactly the marked places wait, each once
 abbrev pub WaitOnce : List Bool → List ℕ → Type 0
 WaitOnce marks waits = (i : ℕ) → occurrences i waits ≡ mark_at marks i
 
--- References to these targets were given up: each number is less by how often its place is one of them, and what has come
--- to 0 by that is dead now and waits, where it was not dead before.
+-- References to these targets were released: each number falls by the occurrences of its place, and a place that this
+-- brings to 0 is now dead, and waits unless it was dead before.
 pub record Releases (targets left : List ℕ) (dead : List Bool) (waits now : List ℕ) (then : List Bool) (wait : List ℕ) : Type 0 where
   pub len : length now ≡ length left
   pub long : length then ≡ length dead

@@ -10,7 +10,7 @@ pub record AppendsReason (ms : List Member) (without : List ℕ) (object : ℕ) 
   pub reason : IsReason ms without object text
   pub appended : new ≡ old ++ text
 
--- rows and what follows them were appended
+-- rows, and what follows them, were appended
 pub record AppendsTold (P : ℕ → List ℕ → Type 0) (word : List ℕ) (rest : List Row → List ℕ) (old new : List ℕ) : Type 0 where
   pub text : List ℕ
   pub told : IsTold P word rest text
@@ -22,7 +22,7 @@ pub record AppendsAnswer (ms : List Member) (question : Question) (old new : Lis
   pub answer : IsAnswer ms question text
   pub appended : new ≡ old ++ text
 
--- the whole answer, with its question and its end
+-- the whole answer, with its question and `done`
 pub record AppendsWhole (ms : List Member) (question : Question) (old new : List ℕ) : Type 0 where
   pub text : List ℕ
   pub answers : Answers ms question text

@@ -14,7 +14,7 @@ use crate::why::put_why;
 use cg_snapshot::{Member, Question, put_question};
 use std::alloc::{AllocError, Global};
 
-/// Appends the lines of the answer to a question about members of which nothing is wrong.
+/// Appends the lines of the answer to a question about members without faults.
 fn put_lines(
     alloc: Global,
     members: &[Member],
@@ -60,8 +60,7 @@ fn put_lines(
     }
 }
 
-/// Appends the answer to a question about members of which nothing is wrong, with the question as it was asked before it
-/// and the line `done` behind it.
+/// Appends the answer to a question about members without faults: the question as asked, the lines, and `done`.
 pub(crate) fn put_answer(
     alloc: Global,
     members: &[Member],

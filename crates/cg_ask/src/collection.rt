@@ -1,4 +1,4 @@
-//! What the next full collection clears, and what it will never take.
+//! What the next full collection clears, and what it will never free.
 ghost use Rattle.std.specs.Prelude.{false, ◌≡◌, ◌<◌, ◌^◌, ℕ, length, map, IfOk};
 ghost use Rattle.cg_search.specs.Places.{Marks};
 ghost use Rattle.cg_ask.specs.Asked.{references_of, tracked_of, legacy_of, IsHeldElsewhere, IsUnreachable, IsSetAside, IsCleared, IsStuck, IsLost};
@@ -25,7 +25,7 @@ fn legacy(alloc: Global, members: &[Member]) -> Result<Vec<bool>, AllocError>
     members.iter().map(|member| member.legacy).collect(alloc)
 }
 
-/// Which members are held otherwise than by candidates.
+/// Which members are held by others than candidates.
 fn held_elsewhere(
     alloc: Global,
     members: &[Member],

@@ -1,4 +1,4 @@
-//! How often members stand among references and untold words.
+//! How often members occur among references and untold words.
 ghost use Rattle.std.specs.Prelude.{◌≡◌, ◌+◌, ◌<◌, ◌^◌, ℕ, length, map, slice_index, slice_get, IfOk};
 ghost use Rattle.cg_graph.specs.Holdings.{occurrences};
 ghost use Rattle.cg_ask.specs.Asked.{references_of, all_words_of, outside_at};
@@ -8,14 +8,14 @@ use cg_search::{add_row, count_targets};
 use cg_snapshot::Member;
 use std::alloc::{AllocError, Global};
 
-/// How often each member stands among references, and among untold words.
+/// How often each member occurs among references, and among untold words.
 #[derive(Drop)]
 pub(crate) struct Counts {
     pub(crate) told: Vec<u64>,
     pub(crate) words: Vec<u64>,
 }
 
-/// How often each member stands among references.
+/// How often each member occurs among references.
 fn count_told(alloc: Global, members: &[Member]) -> Result<Vec<u64>, AllocError>
     requires { length (references_of members.now) < 2 ^ 64 }
     ensures { IfOk result (λ counts. CountEach (length members.now) (references_of members.now) counts.items) }
@@ -25,7 +25,7 @@ fn count_told(alloc: Global, members: &[Member]) -> Result<Vec<u64>, AllocError>
     Ok(counts)
 }
 
-/// How often each member stands among untold words.
+/// How often each member occurs among untold words.
 fn count_words(alloc: Global, members: &[Member]) -> Result<Vec<u64>, AllocError>
     requires { length (all_words_of members.now) < 2 ^ 64 }
     ensures { IfOk result (λ counts. CountEach (length members.now) (all_words_of members.now) counts.items) }
@@ -37,7 +37,7 @@ fn count_words(alloc: Global, members: &[Member]) -> Result<Vec<u64>, AllocError
     Ok(counts)
 }
 
-/// How often each member stands among references, and among untold words.
+/// How often each member occurs among references, and among untold words.
 pub(crate) fn counts_of(alloc: Global, members: &[Member]) -> Result<Counts, AllocError>
     requires references { length (references_of members.now) < 2 ^ 64 }
     requires words { length (all_words_of members.now) < 2 ^ 64 }

@@ -19,7 +19,7 @@ pub(crate) fn in_degrees(alloc: Global, members: &[Member]) -> Result<Vec<u64>, 
     members.iter().map(|member| member.degree).collect(alloc)
 }
 
-/// A reference of a dead member is given up: its target dies where that was the last one.
+/// Releases a reference of a dead member: its target dies if that was the last one.
 fn release(
     left: &mut Vec<u64>,
     target: usize,
@@ -40,7 +40,7 @@ fn release(
     Ok(())
 }
 
-/// The references of a dead member are given up.
+/// Releases the references of a dead member.
 fn release_all(
     left: &mut Vec<u64>,
     row: &[usize],
@@ -58,7 +58,7 @@ fn release_all(
     Ok(())
 }
 
-/// The places that are marked.
+/// The marked places.
 fn places_of(alloc: Global, marks: &[bool]) -> Result<Vec<usize>, AllocError>
     ensures { IfOk result (λ places. WaitOnce marks.now places.items) }
 {
@@ -71,7 +71,7 @@ fn places_of(alloc: Global, marks: &[bool]) -> Result<Vec<usize>, AllocError>
     Ok(places)
 }
 
-/// What dies by count where all references to the marked members are given up, and no code runs.
+/// What dies by count if all references to the marked members are dropped, and no code runs.
 pub(crate) fn dying(
     alloc: Global,
     members: &[Member],

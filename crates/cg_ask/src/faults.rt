@@ -11,21 +11,21 @@ use cg_snapshot::Member;
 /// A fault of a recorded heap.
 #[derive(Clone, Copy, Debug, PartialEq, Eq, Drop)]
 pub struct Fault {
-    /// 2 a reference or an untold word names no member; 3 an in-degree is below the member's occurrences among the
-    /// references; 4 it is below those among references and untold words together.
+    /// 2: a reference or an untold word names no member; 3: an in-degree is below the member's occurrences among the
+    /// references; 4: it is below those among references and untold words together.
     pub code: u8,
     /// The place of the member.
     pub member: usize,
 }
 
-/// Whether all these are places of members, of which there are so many.
+/// Whether all these are places of members, given how many there are.
 fn all_below(count: usize, places: &[usize]) -> bool
     ensures { result ≡ are_below count places.now }
 {
     places.iter().all(|place| *place < count)
 }
 
-/// The least code of what is wrong with a member, if anything is.
+/// The least fault code of a member, if it has a fault.
 fn fault_at(members: &[Member], counts: &Counts, with_words: bool, at: usize) -> Option<u8>
     requires counts { IsCounts members.now counts.now }
     requires within { at < length members.now }
@@ -48,8 +48,8 @@ fn fault_at(members: &[Member], counts: &Counts, with_words: bool, at: usize) ->
     None
 }
 
-/// The first member with a fault, and its least code; none where nothing is wrong with any. Untold words are counted
-/// where they are asked for.
+/// The first member with a fault, and its least code; `None` if there is none. Untold words count only if they are
+/// asked about.
 pub(crate) fn find_fault(members: &[Member], counts: &Counts, with_words: bool) -> Option<Fault>
     requires { IsCounts members.now counts.now }
     ensures right { IfNone result (AreRight members.now with_words) }

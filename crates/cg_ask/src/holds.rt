@@ -1,4 +1,4 @@
-//! Who holds members: referrers, and outside holds that no member tells of.
+//! Who holds members: referrers, and outside holds that no member explains.
 ghost use Rattle.std.specs.Prelude.{◌≡◌, ◌<◌, ◌∷◌, [], codes, length, OnOk};
 ghost use Rattle.cg_graph.specs.Holdings.{occurrences};
 ghost use Rattle.cg_ask.specs.Asked.{outside_at};
@@ -12,7 +12,7 @@ use crate::lines::put_line;
 use cg_snapshot::Member;
 use std::alloc::AllocError;
 
-/// How often a place stands among others.
+/// How often a place occurs among others.
 fn times(places: &[usize], place: usize) -> u64
     ensures { result ≡ occurrences place places.now }
 {

@@ -38,7 +38,7 @@ pub(crate) fn flag(mark: bool) -> u64
     if mark { 1 } else { 0 }
 }
 
-/// Appends a row for each marked place, with the number 1 where it is marked there too.
+/// Appends a row for each marked place, with the number 1 if it is also marked there, else 0.
 pub(crate) fn put_flagged(
     out: &mut Vec<u8>,
     word: &[u8],

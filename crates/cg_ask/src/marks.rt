@@ -1,4 +1,4 @@
-//! Marks that stand for sets of members.
+//! Marks that represent sets of members.
 ghost use Rattle.std.specs.Prelude.{◌≡◌, ◌<◌, ◌⊎◌, ◌&&◌, ◌||◌, not, ℕ, length, slice_index, IfOk};
 ghost use Rattle.cg_graph.specs.Member.{Includes};
 ghost use Rattle.cg_search.specs.Places.{Marks};
@@ -7,14 +7,14 @@ ghost use Rattle.cg_ask.specs.Marked.{MarkJust};
 
 use std::alloc::{AllocError, Global};
 
-/// A mark that the other lacks.
+/// Marked here and not there.
 fn is_only(mark: bool, other: bool) -> bool
     ensures { result ≡ (mark && not other) }
 {
     mark && !other
 }
 
-/// A mark of either.
+/// Marked here or there.
 fn is_any(mark: bool, other: bool) -> bool
     ensures { result ≡ (mark || other) }
 {
@@ -53,7 +53,7 @@ pub(crate) fn joined(
     Ok(all)
 }
 
-/// Marks where a number is below the other.
+/// Marks the places where a number is below the other.
 pub(crate) fn below(alloc: Global, numbers: &[u64], others: &[u64]) -> Result<Vec<bool>, AllocError>
     requires { length numbers.now ≡ length others.now }
     ensures { IfOk result (λ marks. MarkJust (length numbers.now) (λ i. slice_index numbers.now i < slice_index others.now i) marks.items) }
@@ -65,7 +65,7 @@ pub(crate) fn below(alloc: Global, numbers: &[u64], others: &[u64]) -> Result<Ve
     Ok(marks)
 }
 
-/// Marks these of so many places.
+/// Marks these places, given how many there are.
 pub(crate) fn marked(alloc: Global, count: usize, places: &[usize]) -> Result<Vec<bool>, AllocError>
     requires { AreMembers count places.now }
     ensures { IfOk result (λ marks. MarkJust count (Includes places.now) marks.items) }
@@ -77,7 +77,7 @@ pub(crate) fn marked(alloc: Global, count: usize, places: &[usize]) -> Result<Ve
     Ok(marks)
 }
 
-/// Marks so many places.
+/// Marks all places, given how many there are.
 pub(crate) fn all_marked(alloc: Global, count: usize) -> Result<Vec<bool>, AllocError>
     ensures { IfOk result (λ marks. MarkJust count (λ i. i < count) marks.items) }
 {

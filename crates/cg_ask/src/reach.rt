@@ -1,4 +1,4 @@
-//! What paths from outside-held members reach.
+//! What paths from members held from outside reach.
 ghost use Rattle.std.specs.Prelude.{false, ◌≡◌, ◌<◌, ℕ, length, map, nat_lt, IfOk};
 ghost use Rattle.cg_graph.specs.Reach.{Reach};
 ghost use Rattle.cg_snapshot.specs.Text.{AreMembers};
@@ -32,7 +32,7 @@ pub(crate) fn held_of(
     Ok(held)
 }
 
-/// Which members are none of these.
+/// Which members are not in this list.
 pub(crate) fn others_of(
     alloc: Global,
     members: &[Member],
@@ -47,7 +47,7 @@ pub(crate) fn others_of(
     Ok(others)
 }
 
-/// Which members are reached by paths of members other than these.
+/// Which members are reached by paths that avoid this list.
 pub(crate) fn reached_without(
     alloc: Global,
     members: &[Member],

@@ -1,4 +1,4 @@
-//! The questions as a top call: what it does for its words, its source and its sink.
+//! The questions as a top call: what it does with its words, its source and its sink.
 ghost use Rattle.std.specs.Prelude.{false, ◌≡◌, ◌≢◌, ◌≤◌, ◌<◌, ◌^◌, ◌⊎◌, [], true, ℕ, List, length, codes, IfSome};
 ghost use Rattle.std.specs.List.{AllByRecursion};
 ghost use Rattle.std.specs.Io.KnownBytes.{Appends, Keeps, IsAtEnd};
@@ -18,7 +18,7 @@ use cg_io::{InputFault, Sink, Source, WriteFailed, read_up_to};
 use cg_snapshot::{Member, Question, Reading, Snapshot, read_snapshot};
 use std::alloc::{AllocError, Global};
 
-/// One more byte than a snapshot may have.
+/// One byte more than the size limit of a snapshot.
 const LIMIT: usize = 268_435_457;
 
 /// Whether a question is about untold words.
@@ -38,7 +38,7 @@ fn asks_words(questions: &[Question]) -> bool
     questions.iter().any(is_about_words)
 }
 
-/// Writes the answer to each question about members of which nothing is wrong.
+/// Writes the answer to each question about members without faults.
 fn write_answers<K: Sink>(
     alloc: Global,
     members: &[Member],
@@ -69,7 +69,7 @@ fn write_answers<K: Sink>(
     AskStatus::Answered
 }
 
-/// Tells the first fault of a snapshot, or answers its questions.
+/// Reports the first fault of a snapshot, or answers its questions.
 fn ask_snapshot<K: Sink>(alloc: Global, snapshot: &Snapshot, sink: &mut K) -> AskStatus
     requires writable { IsWritable snapshot.now }
     requires references { length (references_of snapshot.now.members) < 2 ^ 32 }
@@ -91,7 +91,7 @@ fn ask_snapshot<K: Sink>(alloc: Global, snapshot: &Snapshot, sink: &mut K) -> As
     }
 }
 
-/// Reads bytes and answers, or says what is wrong.
+/// Reads bytes and answers, or reports what is wrong.
 fn ask_bytes<K: Sink>(alloc: Global, bytes: Vec<u8>, sink: &mut K) -> AskStatus
     ensures told { (result ≡ AskStatus.Answered) ⊎ (result ≡ AskStatus.Faulty) ⊎ (result ≡ AskStatus.TooLarge) → WritesOutcome bytes.items result (K.written sink.old) (K.written sink.new) }
     ensures many { result ≡ AskStatus.TooLarge → LIMIT ≤ length bytes.items }
@@ -103,7 +103,7 @@ fn ask_bytes<K: Sink>(alloc: Global, bytes: Vec<u8>, sink: &mut K) -> AskStatus
         return tell_large(sink);
     }
     let reading = read_snapshot(alloc, bytes.as_slice());
-    // The text is as large as what was read of it.
+    // Freed early: the text is as large as the snapshot read from it.
     drop(bytes);
     match reading {
         Ok(Reading::Read(snapshot)) => ask_snapshot(alloc, &snapshot, sink),
@@ -112,7 +112,7 @@ fn ask_bytes<K: Sink>(alloc: Global, bytes: Vec<u8>, sink: &mut K) -> AskStatus
     }
 }
 
-/// Reads a source to its end, and answers what it asks.
+/// Reads a source to its end, and answers its questions.
 fn ask_source<S: Source, K: Sink>(alloc: Global, source: &mut S, sink: &mut K) -> AskStatus
     ensures told { (result ≡ AskStatus.Answered) ⊎ (result ≡ AskStatus.Faulty) ⊎ (result ≡ AskStatus.TooLarge) → IfSome (S.left source.old) (λ bytes. WritesOutcome bytes result (K.written sink.old) (K.written sink.new)) }
     ensures read_to_end { (result ≡ AskStatus.Answered) ⊎ (result ≡ AskStatus.Faulty) → IsAtEnd (S.left source.new) }
@@ -131,41 +131,41 @@ fn ask_source<S: Source, K: Sink>(alloc: Global, source: &mut S, sink: &mut K) -
     }
 }
 
-/// Reads a recorded heap and questions from the source, and writes their answers to the sink, or the line of the first bad
-/// line or of the first fault.
+/// Reads a recorded heap and questions from the source, and writes their answers to the sink, or a line for the first
+/// bad line or the first fault.
 ///
-/// It takes no words. It answers `Answered` and `Faulty` with all of that written; `BadWords` or `TooLarge`, each with its
-/// line written, where there are words or too many bytes; `ReadFault` and `WriteFault` where the source or the sink failed;
-/// and `OutOfMemory` where memory was refused. A failed write and a lack of memory leave the answers to the first questions,
-/// or a front of them. (Ours.)
+/// It takes no words. Returns `Answered` or `Faulty` with all of that written; `BadWords` or `TooLarge`, each with its
+/// line written, if there are words or too many bytes; `ReadFault` or `WriteFault` if the source or the sink failed;
+/// and `OutOfMemory` if memory ran out. A failed write or lack of memory leaves the answers to the first questions, or
+/// a prefix of them. (Ours.)
 pub fn ask_run<S: Source, K: Sink>(
     alloc: Global,
     words: &[String],
     source: &mut S,
     sink: &mut K,
 ) -> AskStatus
-    // The source was read to its end, or more than may be was read, and what follows from its bytes was written.
+    // The source was read to its end or past the limit, and what follows from its bytes was written.
     ensures told { (result ≡ AskStatus.Answered) ⊎ (result ≡ AskStatus.Faulty) ⊎ (result ≡ AskStatus.TooLarge) → IfSome (S.left source.old) (λ bytes. WritesOutcome bytes result (K.written sink.old) (K.written sink.new)) }
     ensures read_to_end { (result ≡ AskStatus.Answered) ⊎ (result ≡ AskStatus.Faulty) → IsAtEnd (S.left source.new) }
     ensures taken { result ≡ AskStatus.TooLarge → TookTooMany (S.left source.old) (S.left source.new) }
 
-    // There are words, and that was told.
+    // There are words, and that was reported.
     ensures bad_words { result ≡ AskStatus.BadWords → Appends (K.written sink.old) (K.written sink.new) (codes "bad words\n") }
 
-    // Faults, which come only where the count of faults rose, and memory that was refused.
+    // Faults, which come only if the fault count rose, and lack of memory.
     ensures read_cause { result ≡ AskStatus.ReadFault → Rose (S.faults source.old) (S.faults source.new) }
     ensures read { result ≡ AskStatus.ReadFault → Keeps (K.written sink.old) (K.written sink.new) }
     ensures write_cause { result ≡ AskStatus.WriteFault → Rose (K.faults sink.old) (K.faults sink.new) }
     ensures cut { words.now ≡ [] → (result ≡ AskStatus.WriteFault) ⊎ (result ≡ AskStatus.OutOfMemory) → IfSome (S.left source.old) (λ bytes. WritesFront bytes (K.written sink.old) (K.written sink.new)) }
     ensures write_words { words.now ≢ [] → result ≡ AskStatus.WriteFault → AppendsFront (K.written sink.old) (K.written sink.new) (codes "bad words\n") }
 
-    // Which answer comes: by the words and the bytes alone, but for faults and lack of memory.
+    // Which status comes: determined by the words and the bytes, except for faults and lack of memory.
     ensures answers { words.now ≡ [] → IsCutShort result ⊎ IfSome (S.left source.old) (λ bytes. HasOutcome bytes result) }
     ensures no_words { words.now ≡ [] → result ≢ AskStatus.BadWords }
     ensures words { words.now ≢ [] → (result ≡ AskStatus.BadWords) ⊎ (result ≡ AskStatus.WriteFault) }
     ensures nothing_read { words.now ≢ [] → source.new ≡ source.old }
 
-    // Where nothing fails, the answer goes by the bytes, lack of memory aside.
+    // If neither source nor sink fails, the status is determined by the bytes, except for lack of memory.
     ensures complete { words.now ≡ [] → ¬ (Rose (S.faults source.old) (S.faults source.new)) → ¬ (Rose (K.faults sink.old) (K.faults sink.new))
         → (result ≡ AskStatus.OutOfMemory) ⊎ IfSome (S.left source.old) (λ bytes. HasOutcome bytes result) }
 {

@@ -5,15 +5,15 @@
 pub enum AskStatus {
     /// The questions were answered.
     Answered = 0,
-    /// The bytes are no heap with questions, or the heap has a fault.
+    /// The bytes are not a heap with questions, or the heap has a fault.
     Faulty = 1,
-    /// There are words, and the program has none.
+    /// There are words, but the program takes none.
     BadWords = 2,
     /// The source of the bytes failed.
     ReadFault = 3,
     /// The sink of the answers failed.
     WriteFault = 4,
-    /// Memory was refused.
+    /// Memory ran out.
     OutOfMemory = 5,
     /// There are more than 268,435,456 bytes.
     TooLarge = 7,

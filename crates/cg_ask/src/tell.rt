@@ -1,4 +1,4 @@
-//! The lines that tell what is wrong.
+//! The lines that report errors.
 ghost use Rattle.std.specs.Prelude.{◌≡◌, ◌∷◌, [], ◌⊎◌, codes, IfOk};
 ghost use Rattle.std.specs.Io.KnownBytes.{Appends, Keeps};
 ghost use Rattle.cg_io.specs.Causes.{AppendsFront, Rose};
@@ -10,7 +10,7 @@ use crate::status::AskStatus;
 use cg_io::{Sink, WriteFailed};
 use std::alloc::{AllocError, Global};
 
-/// Says that there are words.
+/// Reports that there are words.
 pub(crate) fn tell_bad_words<K: Sink>(sink: &mut K) -> AskStatus
     ensures bad_words { result ≡ AskStatus.BadWords → Appends (K.written sink.old) (K.written sink.new) (codes "bad words\n") }
     ensures write { result ≡ AskStatus.WriteFault → AppendsFront (K.written sink.old) (K.written sink.new) (codes "bad words\n") }
@@ -23,7 +23,7 @@ pub(crate) fn tell_bad_words<K: Sink>(sink: &mut K) -> AskStatus
     }
 }
 
-/// Says that there are too many bytes.
+/// Reports that there are too many bytes.
 pub(crate) fn tell_large<K: Sink>(sink: &mut K) -> AskStatus
     ensures large { result ≡ AskStatus.TooLarge → Appends (K.written sink.old) (K.written sink.new) (codes "too large\n") }
     ensures write { result ≡ AskStatus.WriteFault → AppendsFront (K.written sink.old) (K.written sink.new) (codes "too large\n") }
@@ -36,7 +36,7 @@ pub(crate) fn tell_large<K: Sink>(sink: &mut K) -> AskStatus
     }
 }
 
-/// The line of a bad line.
+/// The line that reports a bad line.
 fn bad_line(alloc: Global, number: u64) -> Result<Vec<u8>, AllocError>
     ensures { IfOk result (λ text. text.items ≡ line (codes "bad line") (number ∷ [])) }
 {
@@ -45,7 +45,7 @@ fn bad_line(alloc: Global, number: u64) -> Result<Vec<u8>, AllocError>
     Ok(text)
 }
 
-/// The line of a fault.
+/// The line that reports a fault.
 fn fault_line(alloc: Global, fault: Fault) -> Result<Vec<u8>, AllocError>
     ensures { IfOk result (λ text. text.items ≡ line (codes "fault") (fault.code ∷ fault.member ∷ [])) }
 {
@@ -58,7 +58,7 @@ fn fault_line(alloc: Global, fault: Fault) -> Result<Vec<u8>, AllocError>
     Ok(text)
 }
 
-/// Tells a bad line.
+/// Reports a bad line.
 pub(crate) fn tell_bad_line<K: Sink>(alloc: Global, number: u64, sink: &mut K) -> AskStatus
     ensures told { result ≡ AskStatus.Faulty → Appends (K.written sink.old) (K.written sink.new) (line (codes "bad line") (number ∷ [])) }
     ensures write { result ≡ AskStatus.WriteFault → AppendsFront (K.written sink.old) (K.written sink.new) (line (codes "bad line") (number ∷ [])) }
@@ -75,7 +75,7 @@ pub(crate) fn tell_bad_line<K: Sink>(alloc: Global, number: u64, sink: &mut K) -
     }
 }
 
-/// Tells a fault.
+/// Reports a fault.
 pub(crate) fn tell_fault<K: Sink>(alloc: Global, fault: Fault, sink: &mut K) -> AskStatus
     ensures told { result ≡ AskStatus.Faulty → Appends (K.written sink.old) (K.written sink.new) (line (codes "fault") (fault.code ∷ fault.member ∷ [])) }
     ensures write { result ≡ AskStatus.WriteFault → AppendsFront (K.written sink.old) (K.written sink.new) (line (codes "fault") (fault.code ∷ fault.member ∷ [])) }

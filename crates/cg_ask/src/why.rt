@@ -13,7 +13,7 @@ use cg_search::shortest_way;
 use cg_snapshot::Member;
 use std::alloc::{AllocError, Global};
 
-/// A shortest path of members other than these, from one that is held from outside.
+/// A shortest path, from a member held from outside, that avoids these members.
 fn path_to(
     alloc: Global,
     members: &[Member],
@@ -33,7 +33,7 @@ fn path_to(
     Ok(path)
 }
 
-/// Appends a line for each next one of a path.
+/// Appends a line for each further member of a path.
 fn put_rest(out: &mut Vec<u8>, path: &[usize]) -> Result<(), AllocError>
     ensures { OnOk result (out.new.items ≡ out.old.items ++ flat_map (λ o. line (codes "via") (o ∷ [])) path.now) }
 {

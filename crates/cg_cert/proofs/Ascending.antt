@@ -1,4 +1,4 @@
--- Names that ascend, a search by halves among them, and what tells positions.
+-- Ascending names, a binary search among them, and how positions are found.
 use Rattle.std.proofs.Common.{◌≡◌, sym, ◌∙◌, ap, subst, ℕ, zero, suc, ◌+◌, ◌-◌, ◌<◌, ◌≤◌, false, List, [], length, get_or, Some, None, Ok, Err, arith}
 use Rattle.std.specs.Prelude.{slice_get, slice_index}
 use Rattle.std.specs.List.Sorted.{IsBinarySearchResult, IsNonDecreasingBy, IsStrictlyIncreasing}
@@ -16,11 +16,11 @@ use Rattle.cg_cert.specs.declared.table.Places.{Places}
 use Rattle.cg_cert.specs.declared.table.Places.TheVariants.{Ascending, Listed}
 use Rattle.cg_cert.specs.Positions.{Tells, IsPositionOf, ArePlacedOnce}
 
--- what stands at a place
+-- the name at a place
 value_at : (names : List ℕ) (i o : ℕ) → slice_get names i ≡ Some o → get_or names i 0 ≡ o
 value_at names i o at = same_Some (get_or names i 0) o (sym (slice_get-get_or names i 0 (slice_get_within names i o at)) ∙ at)
 
--- one of them is below each one behind it
+-- each name is below all later ones
 below_later : (names : List ℕ) → IsStrictlyIncreasing names → (i j : ℕ) → i < j → j < length names → get_or names i 0 < get_or names j 0
 below_later names up i zero before within = absurd (omega (arith, before))
 below_later names up i (suc j) before within =
@@ -30,19 +30,19 @@ below_later names up i (suc j) before within =
     (λ same. subst (λ k. get_or names k 0 < get_or names (suc j) 0) (sym same) next)
     (λ other. either other (λ l. omega (arith, next, below_later names up i j l (omega (arith, within)))) (λ g. absurd (omega (arith, g, before))))
 
--- so each stands at one place
+-- so each occurs at one place
 ascending_once : (names : List ℕ) → IsStrictlyIncreasing names → ArePlacedOnce names
 ascending_once names up o i j a b = either (cases_order i j) (λ e. e)
     (λ other. either other
     (λ l. absurd (omega (arith, below_later names up i j l (slice_get_within names j o b), value_at names i o a, value_at names j o b)))
     (λ g. absurd (omega (arith, below_later names up j i g (slice_get_within names i o a), value_at names i o a, value_at names j o b))))
 
--- each name is placed once
+-- each name has one place
 pub told_once : (names : List ℕ) (places : Places) → Tells names places → ArePlacedOnce names
 told_once names Ascending up = ascending_once names up
 told_once names (Listed table) locates = λ o i j a b. same_Some i j (sym ((locates o i).1 a) ∙ (locates o j).1 b)
 
--- what is found at a place has that position
+-- a name found at a place has that position
 pub known : (names : List ℕ) (o i : ℕ) → ArePlacedOnce names → slice_get names i ≡ Some o → IsPositionOf names o (Some i)
 known names o i once at = λ j. (λ e. subst (λ k. slice_get names k ≡ Some o) (same_Some i j e) at, λ there. ap Some (once o i j at there))
 
@@ -68,7 +68,7 @@ module _ (members : List Member) (up : IsStrictlyIncreasing (serials_of members)
       let keys_rise = rises i j le within in
       grind (arith, nat_tests))
 
-  -- a search by halves finds the position, or that there is none
+  -- a binary search finds the position, or that there is none
   pub searched_found : (i : ℕ) → i < length members → IsBinarySearchResult (λ (m : Member). nat_cmp m.serial s) members (Ok i) → IsPositionOf (serials_of members) s (Some i)
   searched_found i within equal =
       let same : get_or (serials_of members) i 0 ≡ s = serial_at i within ∙ ranked _ s _ (sym (equal no_member)) in
@@ -92,7 +92,6 @@ module _ (members : List Member) (up : IsStrictlyIncreasing (serials_of members)
 abbrev pub AscendTo : List Member → ℕ → Type 0
 AscendTo members n = (k : ℕ) → k + 1 < n → slice_index (serials_of members) k < slice_index (serials_of members) (k + 1)
 
--- one more
 pub ascend_more : (members : List Member) (at : ℕ) (x y : Member) → at < length members → AscendTo members at → 0 < at → x ≡ get_or members (at - 1) x → y ≡ get_or members at y → x.serial < y.serial → AscendTo members (at + 1)
 ascend_more members at x y within so some before_it here less = λ k before. either (cases_order (k + 1) at)
     (λ same.

@@ -1,4 +1,4 @@
--- Facts of a check where the source tells its bytes.
+-- Facts of a check, for a source that reveals its bytes.
 use Rattle.std.proofs.Common.{◌≡◌, ◌⊎◌, inl, inr, ◌<◌, ℕ, ◌≤◌, List, ◌++◌, length, length-append, append-nil, Option, None, Some, IfSome, sym, ap, subst, ◌∙◌, arith}
 use Rattle.std.proofs.lemmas.Bool.{cases_lt}
 use Rattle.std.specs.Io.KnownBytes.{Consumes, IsAtEnd}
@@ -10,7 +10,7 @@ use Rattle.cg_cert.specs.declared.check.Verdict.TheVariants as verdicts
 use Rattle.cg_cert.specs.declared.status.CheckStatus.{CheckStatus}
 use Rattle.cg_cert.specs.declared.status.CheckStatus.TheVariants as status
 
--- What holds of the bytes that were read holds of those that the source told: either these are all, or they are too many.
+-- What holds of the bytes read holds of the source's bytes: either these are all of them, or there are too many.
 module _ (left after : Option (List ℕ)) (bytes : List ℕ) (took : Consumes left after bytes) (ends : length bytes < LIMIT → IsAtEnd after) where
   told : (P : List ℕ → Type 0) → P bytes → ((more : List ℕ) → LIMIT ≤ length bytes → P bytes → P (bytes ++ more)) → IfSome left P
   told P here longer = by left after took ends
@@ -37,7 +37,7 @@ module _ (left after : Option (List ℕ)) (bytes : List ℕ) (took : Consumes le
   told_answers answer says =
       told (λ bs. AnswersRecords bs answer) says (λ more many s. (λ few. absurd (omega (arith, many, few, length-append bytes more)), λ large. s.1 many))
 
--- where neither source nor sink failed, only memory cuts a check short
+-- if neither source nor sink failed, only lack of memory cuts a check short
 pub complete : (answer : CheckStatus) (SourceRose SinkRose Told : Type 0) → (answer ≡ status.ReadFault → SourceRose) → (answer ≡ status.WriteFault → SinkRose) → IsCutShort answer ⊎ Told
     → ¬ SourceRose → ¬ SinkRose → (answer ≡ status.OutOfMemory) ⊎ Told
 complete answer SourceRose SinkRose Told read write (inr told) no_source no_sink = inr told
@@ -45,11 +45,11 @@ complete answer SourceRose SinkRose Told read write (inl (inl e)) no_source no_s
 complete answer SourceRose SinkRose Told read write (inl (inr (inl e))) no_source no_sink = absurd (no_sink (write e))
 complete answer SourceRose SinkRose Told read write (inl (inr (inr e))) no_source no_sink = inl e
 
--- the answer of a verdict
+-- the status of a verdict
 pub answers_of : (bytes : List ℕ) (answer : CheckStatus) (v : Verdict) → length bytes < LIMIT → Judges bytes v → answer ≡ status_of v → AnswersRecords bytes answer
 answers_of bytes answer v short judges is = (λ few. record { verdict = v; judges = judges; status_is = is }, λ many. absurd (omega (arith, short, many)))
 
--- a verdict is told as one of two statuses
+-- a verdict has one of two statuses
 pub status_cases : (answer : CheckStatus) (v : Verdict) → answer ≡ status_of v → (answer ≡ status.Yes) ⊎ (answer ≡ status.No)
 status_cases answer (verdicts.Yes n) is = inl is
 status_cases answer (verdicts.No g c) is = inr is

@@ -1,4 +1,4 @@
--- Counts beside in-degrees, member by member.
+-- Counts against in-degrees, member by member.
 use Rattle.std.proofs.Common.{◌≡◌, refl, sym, ◌∙◌, ap, subst, ℕ, ◌+◌, ◌<◌, ◌≤◌, Bool, true, List, [], ◌∷◌, ◌++◌, length, take, Some, arith, get_or, replicate, append-nil, length-append}
 use Rattle.std.specs.Prelude.{◌↔◌, slice_get}
 use Rattle.std.specs.List.{concat}
@@ -46,7 +46,7 @@ pub record ExceedFirst (members : List Member) (k : ℕ) (marks : List Bool) : T
   pub each : (i : ℕ) (m : Member) → i < k → slice_get members i ≡ Some m → (Marks marks i ↔ occurrences m.serial (references_of members) < m.degree)
 
 module _ (members : List Member) (counts : List ℕ) (is : CountReferences members counts) (k : ℕ) (m : Member) (within : k < length members) (read : m ≡ get_or members k m) where
-  -- a member that is read
+  -- the member at a position
   here : slice_get members k ≡ Some m
   here = slice_get_read members (length members) k m refl within read
 

@@ -1,4 +1,4 @@
--- A graph by positions is the graph: rows and edges, counts, paths, and the sets that were found.
+-- A graph by positions is the graph: rows and edges, counts, paths, and the sets found.
 use Rattle.std.proofs.Common.{◌≡◌, refl, sym, ◌∙◌, ap, subst, ℕ, zero, suc, ◌<◌, Bool, true, false, inl, inr, List, [], ◌∷◌, ◌++◌, length, Option, Some, None, arith, map}
 use Rattle.std.specs.Prelude.{◌↔◌, slice_get, option_map}
 use Rattle.std.specs.List.{concat}
@@ -16,7 +16,7 @@ use Rattle.cg_records.specs.declared.graph.Member.{Member}
 use Rattle.cg_cert.specs.Judged.{serials_of, references_of, edges_of, IsHeld, IsMarked}
 use Rattle.cg_cert.specs.Positions.{ArePlacedOnce, names_in, IsRowOf, AreRowsOf, MarksAll, CountTargets, CountReferences, ExceedEach}
 
--- an element that a function was applied to
+-- an element of a mapped list
 some_mapped : {A B : Type 0} (f : A → B) (o : Option A) (y : B) → option_map f o ≡ Some y → (x : A) × (o ≡ Some x) × (f x ≡ y)
 some_mapped f None y e = absurd (none-some y e)
 some_mapped f (Some x) y e = (x, refl, same_Some (f x) y e)
@@ -27,7 +27,7 @@ mapped_at f xs i x at = slice_get-map f xs i ∙ ap (option_map f) at
 pub from_mapped : {A B : Type 0} (f : A → B) (xs : List A) (i : ℕ) (y : B) → slice_get (map f xs) i ≡ Some y → (x : A) × (slice_get xs i ≡ Some x) × (f x ≡ y)
 from_mapped f xs i y at = some_mapped f (slice_get xs i) y (sym (slice_get-map f xs i) ∙ at)
 
--- what stands below the length
+-- an element exists below the length
 pub something_at : {A : Type 0} (xs : List A) (i : ℕ) → i < length xs → (x : A) × (slice_get xs i ≡ Some x)
 something_at [] i within = absurd (omega (arith, within))
 something_at (x ∷ xs) zero within = (x, refl)
@@ -48,7 +48,7 @@ edge_from (k ∷ members) e h = either (Includes-append_cases (map (λ q. record
     (k, inl refl, ap (λ (f : Edge). f.from) found.2, subst (λ q. Includes k.refs q) (ap (λ (f : Edge). f.to) found.2) found.1))
     (λ rest. let found = edge_from members e rest in (found.0, inr found.1, found.2, found.3))
 
--- what stands in a row, and in the serials that it stands for
+-- an element of a row, and of the serials that the row represents
 module _ (names refs row : List ℕ) (is : IsRowOf names refs row) where
   pub row_named : (j : ℕ) → Includes row j → (o : ℕ) × (slice_get names j ≡ Some o) × Includes refs o
   row_named j h =
@@ -58,7 +58,7 @@ module _ (names refs row : List ℕ) (is : IsRowOf names refs row) where
   pub named_row : (o : ℕ) → Includes refs o → (j : ℕ) × Includes row j × (slice_get names j ≡ Some o)
   named_row o h = Includes-map_cases (slice_get names) row (Some o) (subst (λ (os : List (Option ℕ)). Includes os (Some o)) (sym is) (Includes-map Some refs o h))
 
--- all rows stand for all references
+-- all rows represent all references
 pub rows_joined : (names : List ℕ) (members : List Member) (rows : List (List ℕ)) → AreRowsOf names members rows → IsRowOf names (references_of members) (concat rows)
 rows_joined names [] [] e = refl
 rows_joined names [] (r ∷ rows) e = absurd (cc)
@@ -86,12 +86,10 @@ counted names once (p ∷ refs) (j ∷ row) e i o at =
 
 -- a graph by positions
 module _ (members : List Member) (rows : List (List ℕ)) (once : ArePlacedOnce (serials_of members)) (are : AreRowsOf (serials_of members) members rows) where
-  -- a member has a row
   row_at : (i : ℕ) (m : Member) → slice_get members i ≡ Some m → (row : List ℕ) × (slice_get rows i ≡ Some row) × IsRowOf (serials_of members) m.refs row
   row_at i m at =
       from_mapped (names_in (serials_of members)) rows i (map Some m.refs) (ap (λ (os : List (List (Option ℕ))). slice_get os i) are ∙ mapped_at (λ (n : Member). map {B = Option ℕ} Some n.refs) members i m at)
 
-  -- a row has a member
   member_at : (i : ℕ) (row : List ℕ) → slice_get rows i ≡ Some row → (m : Member) × (slice_get members i ≡ Some m) × IsRowOf (serials_of members) m.refs row
   member_at i row at =
       let found = from_mapped (λ (n : Member). map {B = Option ℕ} Some n.refs) members i (names_in (serials_of members) row) (ap (λ (os : List (List (Option ℕ))). slice_get os i) (sym are) ∙ mapped_at (names_in (serials_of members)) rows i row at) in
@@ -117,7 +115,7 @@ module _ (members : List Member) (rows : List (List ℕ)) (once : ArePlacedOnce 
     each = λ i m at. h.each i (omega (arith, slice_get_within members i m at, rows_long)) ∙ occurrences-at i m at;
   }
 
-  -- one that is held from outside is marked
+  -- a member held from outside is marked
   module _ (marks : List Bool) (h : ExceedEach members marks) where
     pub held_there : (i o : ℕ) → slice_get (serials_of members) i ≡ Some o → Marks marks i → IsHeld members o
     held_there i o at mark =
@@ -166,7 +164,7 @@ module _ (members : List Member) (rows : List (List ℕ)) (once : ArePlacedOnce 
         let same : t ≡ i = once o t i named at in
         follows j i row (reach_back held inside q r j (mapped_at (λ (n : Member). n.serial) members j k here ∙ ap Some from)) row_is (subst (λ s. Includes row s) same in_row) (inside i o at m)
 
--- marks that agree are the same
+-- marks that agree are equal
 pub same_marks : (a b : List Bool) → length a ≡ length b → ((i : ℕ) → Marks a i ↔ Marks b i) → a ≡ b
 same_marks [] [] long agree = refl
 same_marks [] (y ∷ b) long agree = absurd (omega (arith, long))
@@ -179,7 +177,7 @@ same_marks (x ∷ a) (y ∷ b) long agree = heads x y (agree 0) (same_marks a b 
     heads true false e rest = let clash = e.0 refl in absurd (cc)
     heads false true e rest = let clash = e.1 refl in absurd (cc)
 
--- a set was found right where its marks are those that were made
+-- a set was found correctly exactly if its marks are the computed ones
 pub finds_same : (names serials : List ℕ) (P : ℕ → Type 0) (marks found : List Bool) → MarksAll names serials marks → length found ≡ length names → ((i o : ℕ) → slice_get names i ≡ Some o → (Marks found i ↔ P o))
     → ((o : ℕ) → Includes serials o → Includes names o) → ((o : ℕ) → P o → Includes names o) → (found ≡ marks) ↔ ((o : ℕ) → Includes serials o ↔ P o)
 finds_same names serials P marks found all long is named inside = (there, back)

@@ -1,4 +1,4 @@
--- A graph whose names are right, by positions, and the faults of a graph.
+-- A well-named graph by positions, and the faults of a graph.
 use Rattle.std.proofs.Common.{◌≡◌, refl, sym, ◌∙◌, ap, subst, ℕ, zero, suc, ◌<◌, Bool, true, false, List, [], ◌∷◌, Some, arith}
 use Rattle.std.specs.Prelude.{◌↔◌}
 use Rattle.std.specs.List.{concat}
@@ -18,7 +18,7 @@ use Rattle.cg_cert.proofs.Judging.{counts_there, named_row, rows_joined}
 pub differs : ◌≡◌ {A = Bool} false true → ⊥
 differs e = absurd (cc)
 
--- where each stands at one place, each stands there once
+-- if each name is at one place, each occurs once
 once_from_placed : (xs : List ℕ) → ArePlacedOnce xs → IsOnceEach xs
 once_from_placed [] placed o = omega arith
 once_from_placed (x ∷ xs) placed o = either (cases_eq x o) same
@@ -34,14 +34,14 @@ once_from_placed (x ∷ xs) placed o = either (cases_eq x o) same
     same : x ≡ o → occurrences o (x ∷ xs) < 2
     same e = omega (arith, occurrences-same o x xs e, none (occurrences o xs) refl e)
 
--- the sets of a graph whose names are right
+-- the sets of a well-named graph
 pub lost_set : (g : Graph) → IsWellNamed g → IsSetOf (serials_of g.members) g.lost
 lost_set g well = record { once = well.lost_once; named = well.lost }
 
 pub legacy_set : (g : Graph) → IsWellNamed g → IsSetOf (serials_of g.members) g.legacy
 legacy_set g well = record { once = well.legacy_once; named = well.legacy }
 
--- each reference stands in a row
+-- each reference is in a row
 names_of_rows : (g : Graph) (rows : List (List ℕ)) → AreRowsOf (serials_of g.members) g.members rows → AreNames (serials_of g.members) (references_of g.members)
 names_of_rows g rows are o h =
     let (j, in_row, at) = named_row (serials_of g.members) (references_of g.members) (concat rows) (rows_joined (serials_of g.members) g.members rows are) o h in

@@ -16,7 +16,7 @@ use Rattle.cg_records.specs.declared.graph.Member.{Member}
 use Rattle.cg_cert.specs.Judged.{IsOnceEach, serials_of, references_of}
 use Rattle.cg_cert.specs.Positions.{Locates, IsPositionOf, AreNames, IsSetOf, names_in, IsRowOf, AreRowsOf, MarksAll, rows_in}
 
--- what was there already comes again
+-- a repeated element
 twice : (xs : List ℕ) (k d : ℕ) → k < length xs → Includes (take k xs) (get_or xs k d) → IsOnceEach xs → ⊥
 twice xs k d within before once =
     let s = get_or xs k d in
@@ -56,7 +56,7 @@ locates_more members at d table now within locates new updates =
     let more : serials_of (take (at + 1) members) ≡ names ++ s ∷ [] = ap serials_of (take_more members at d within) ∙ map-append (λ m. m.serial) (take at members) (get_or members at d ∷ []) in
     subst (λ (ns : List ℕ). Locates ns now) (sym more) (locates_one names s table now locates new (subst (λ n. Updates nat_cmp table now s (Some n)) (sym long) updates))
 
--- a serial that has a position already
+-- a serial that already has a position
 pub located_before : (members : List Member) (at : ℕ) (d : Member) (table : BTreeMap ℕ ℕ) (j : ℕ) → at < length members → Locates (serials_of (take at members)) table
     → get nat_cmp table (get_or members at d).serial ≡ Some j → IsOnceEach (serials_of members) → ⊥
 located_before members at d table j within locates found once =
@@ -65,11 +65,11 @@ located_before members at d table j within locates found once =
     twice (serials_of members) at s (omega (arith, within, length-map members (λ (m : Member). m.serial)))
     (subst (λ o. Includes (take at (serials_of members)) o) (sym here) (subst (λ (ns : List ℕ). Includes ns s) (sym (take-map (λ m. m.serial) at members)) (includes_at (serials_of (take at members)) j s ((locates s j).0 found)))) once
 
--- a position that is known
+-- a known position
 pub position_some : (names : List ℕ) (o : ℕ) (told : Option ℕ) (i : ℕ) → told ≡ Some i → IsPositionOf names o told → IsPositionOf names o (Some i)
 position_some names o told i e is = subst (λ at. IsPositionOf names o at) e is
 
--- what has no position is no name
+-- a serial without a position is not a name
 pub no_name : (names : List ℕ) (o : ℕ) (told : Option ℕ) → IsPositionOf names o told → told ≡ None → Includes names o → ⊥
 no_name names o told is none h = let found = place_in names o h in none-some found.0 (sym none ∙ (is found.0).1 found.1)
 
@@ -107,12 +107,12 @@ references_among [] m o h r = absurd h
 references_among (k ∷ members) m o (inl e) r = Includes-append_left k.refs (references_of members) o (subst (λ (n : Member). Includes n.refs o) (sym e) r)
 references_among (k ∷ members) m o (inr h) r = Includes-append_right k.refs (references_of members) o (references_among members m o h r)
 
--- How far marks have come: those of the first serials are made.
+-- How far marking has come: the marks of the first serials are set.
 pub record MarksFirst (names done : List ℕ) (marks : List Bool) : Type 0 where
   pub marked : MarksAll names done marks
   pub set : IsSetOf names done
 
--- none is made
+-- no mark is set yet
 pub marks_none : (names : List ℕ) (members : ℕ) (marks : List Bool) → members ≡ length names → marks ≡ replicate members false → MarksFirst names [] marks
 marks_none names members marks long is = record {
   marked = record {
@@ -122,7 +122,7 @@ marks_none names members marks long is = record {
   set = record { once = λ o. omega arith; named = λ o h. absurd h };
 }
 
--- a serial with a mark stands there already
+-- a serial whose mark is set has occurred before
 pub marked_before : (names serials : List ℕ) (k d at : ℕ) (marks : List Bool) → k < length serials → MarksFirst names (take k serials) marks → IsPositionOf names (get_or serials k d) (Some at) → slice_get marks at ≡ Some true → IsSetOf names serials → ⊥
 marked_before names serials k d at marks within so is mark set = twice serials k d within (((so.marked.marked at (get_or serials k d) ((is at).0 refl)).0 mark)) set.once
 
@@ -130,11 +130,11 @@ marked_before names serials k d at marks within so is mark set = twice serials k
 pub mark_there : (names done : List ℕ) (s at : ℕ) (marks : List Bool) → MarksFirst names done marks → IsPositionOf names s (Some at) → at < length marks
 mark_there names done s at marks so is = omega (arith, slice_get_within names at s ((is at).0 refl), so.marked.len)
 
--- what is read at a place
+-- the mark at a place
 pub at_place : (marks : List Bool) (at : ℕ) (b x : Bool) → at < length marks → x ≡ get_or marks at x → x ≡ b → slice_get marks at ≡ Some b
 at_place marks at b x within read is = slice_get_read marks (length marks) at x refl within read ∙ ap Some is
 
--- one more is made
+-- one more mark is set
 pub marks_more : (names serials : List ℕ) (k d at : ℕ) (marks : List Bool) → k < length serials → MarksFirst names (take k serials) marks → IsPositionOf names (get_or serials k d) (Some at) → slice_get marks at ≡ Some false
     → MarksFirst names (take (k + 1) serials) (set marks at true)
 marks_more names serials k d at marks within so is mark = record {
@@ -184,11 +184,10 @@ marks_more names serials k d at marks within so is mark = record {
     named o (inl h) = so.set.named o h
     named o (inr e) = subst (λ p. Includes names p) e (includes_at names at s named_s)
 
--- none is named by more serials than name members
+-- more distinct serials than members cannot all name members
 pub named_by_more : (names xs : List ℕ) (members : List Member) (m : Member) → Includes members m → xs ≡ m.refs → AreNames names (references_of members) → AreNames names xs
 named_by_more names xs members m h e all o r = all o (references_among members m o h (subst (λ (ys : List ℕ). Includes ys o) e r))
 
--- how is_some is read
 pub some_of : (o : Option ℕ) → is_some o ≡ true → (x : ℕ) × (o ≡ Some x)
 some_of None h = absurd (cc)
 some_of (Some x) h = (x, refl)

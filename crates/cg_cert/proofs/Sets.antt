@@ -1,4 +1,4 @@
--- The sets that were found are right just where their marks are those that the searches made.
+-- The sets found are right exactly if their marks are those of the searches.
 use Rattle.std.proofs.Common.{◌≡◌, sym, ◌∙◌, ap, subst, ℕ, ◌<◌, Bool, true, false, not, List, length, Some, arith, map, replicate}
 use Rattle.std.specs.Prelude.{◌↔◌, slice_get}
 use Rattle.std.specs.List.{concat}
@@ -25,7 +25,7 @@ reach_inside (first h m) = m
 reach_inside (next r a m) = m
 
 module _ (g : Graph) (l : Located) (located : IsLocated g l) where
-  -- what was found is what is reached from outside, and the other members are lost
+  -- the set found is what is reached from outside, and the other members are lost
   module _ (held : List Bool) (exceed : ExceedEach g.members held) (found : List Bool) (long : length found ≡ length g.members)
       (led : (i : ℕ) → Marks found i ↔ Leads held (replicate (length g.members) true) (rows_in l.rows.items) i) where
     reaches : (i o : ℕ) → slice_get (serials_of g.members) i ≡ Some o → Marks found i ↔ Reach (IsHeld g.members) (IsMember g.members) (edges_of g.members) o
@@ -60,7 +60,7 @@ module _ (g : Graph) (l : Located) (located : IsLocated g l) where
     lost_same =
         finds_same (serials_of g.members) g.lost (IsLost g.members) l.lost.items (map not found) located.lost (omega (arith, long, length-map found not, length-map g.members (λ (m : Member). m.serial))) unreached located.names.lost (λ o p. p.member)
 
-  -- what was found is what paths of lost members lead to from a mark
+  -- the set found is what paths of lost members lead to from a marked one
   module _ (right : FindsLost g) (found : List Bool) (long : length found ≡ length g.members) (led : (i : ℕ) → Marks found i ↔ Leads (map (λ (m : Member). m.legacy) g.members) l.lost.items (rows_in l.rows.items) i) where
     sets_aside : (i o : ℕ) → slice_get (serials_of g.members) i ≡ Some o → Marks found i ↔ IsSetAside g.members o
     sets_aside i o at = (
@@ -74,11 +74,11 @@ module _ (g : Graph) (l : Located) (located : IsLocated g l) where
     legacy_same =
         finds_same (serials_of g.members) g.legacy (IsSetAside g.members) l.legacy.items found located.legacy (omega (arith, long, length-map g.members (λ (m : Member). m.serial))) sets_aside located.names.legacy (λ o p. (reach_inside p).member)
 
--- one answer stands for another
+-- equivalences compose
 through : {A B C : Type 0} → A ↔ B → B ↔ C → A ↔ C
 through f g = (λ a. g.0 (f.0 a), λ c. f.1 (g.1 c))
 
--- what a search found, where its arguments are these
+-- the result of a search with these arguments
 led_by : (found starts allowed starts' allowed' : List Bool) (vecs vecs' : List (Vec ℕ)) → starts ≡ starts' → allowed ≡ allowed' → vecs ≡ vecs' → ((i : ℕ) → Marks found i ↔ Leads starts allowed (rows_in vecs) i) → (i : ℕ)
     → Marks found i ↔ Leads starts' allowed' (rows_in vecs') i
 led_by found starts allowed starts' allowed' vecs vecs' a b c led i =

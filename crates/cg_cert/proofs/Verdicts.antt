@@ -84,12 +84,12 @@ right_so_far_more records k r graphs more within read so here count few = record
 pub all_right : (records : List Rec) (k : ℕ) → length records ≤ k → All IsRight (all_parts (take k records)) → All IsRight (all_parts records)
 all_right records k end h = subst (λ (rs : List Rec). All IsRight (all_parts rs)) (take_all k records end) h
 
--- the verdict on bytes is that on the records that they are
+-- the verdict on bytes is that on their records
 pub judged : (bytes : List ℕ) (records : List Rec) (v : Verdict) → IsTextOf records bytes → JudgesRecords records v → Judges bytes v
 judged bytes records (Yes n) text h = subst (λ m. Judges bytes (Yes m)) (sym h.0) (right records text h.1)
 judged bytes records (No position code) text h = faulty records text position code h
 
--- a graph that is right has no fault
+-- a right graph has no fault
 no_fault : (p : Part) (code : ℕ) → IsRight p → HasFault p code → ⊥
 no_fault p code h (misnamed f) = f h.names
 no_fault p code h (too_low a f) = f h.degrees
@@ -121,7 +121,7 @@ each_right [] h p m = absurd m
 each_right (q ∷ ps) h p (inl e) = subst IsRight e (h 0 p (omega arith))
 each_right (q ∷ ps) h p (inr m) = each_right ps (λ k d within. h (suc k) d (omega (arith, within))) p m
 
--- the first fault stands in one place
+-- the first fault is in one place
 one_place : (front other : List Part) (p q : Part) (back rest : List Part) → front ++ p ∷ back ≡ other ++ q ∷ rest → ((x : Part) → Includes front x → IsRight x) → ((x : Part) → Includes other x → IsRight x) → (c d : ℕ) → HasFault p c → HasFault q d → (length front ≡ length other) × (p ≡ q)
 one_place [] [] p q back rest e h k c d f g = (refl, cc)
 one_place [] (y ∷ other) p q back rest e h k c d f g = let same : p ≡ y = cc in absurd (no_fault p c (k p (inl (sym same))) f)

@@ -1,4 +1,4 @@
--- What is right of a recorded graph, and the verdict on the bytes of records. (Developer guide, "identifying reference
+-- When a recorded graph is right, and the verdict on the bytes of records. (Developer guide, "identifying reference
 -- cycles"; the `gc` manual on `gc.garbage`. The order of the faults is ours.)
 use Rattle.std.specs.Prelude.{◌≡◌, ℕ, ◌+◌, ◌<◌, ◌≤◌, Bool, true, false, List, [], ◌∷◌, ◌++◌, length, map, flat_map, Option, None, Some, ◌↔◌}
 use Rattle.std.specs.List.{All}
@@ -29,7 +29,7 @@ edges_of members = flat_map (λ m. map (λ r. record { from = m.serial; to = r }
 abbrev pub IsMember : List Member → ℕ → Type 0
 IsMember members o = Includes (serials_of members) o
 
--- A member is held from outside where its in-degree exceeds its occurrences among the references of members.
+-- A member is held from outside if its in-degree exceeds its occurrences among the members' references.
 pub record IsHeld (members : List Member) (o : ℕ) : Type 0 where
   pub member : Member
   pub among : Includes members member
@@ -43,15 +43,15 @@ pub record IsMarked (members : List Member) (o : ℕ) : Type 0 where
   pub serial : member.serial ≡ o
   pub marked : member.legacy ≡ true
 
--- no path of members leads to it from one that is held from outside
+-- no path of members leads to it from one held from outside
 abbrev pub IsLost : List Member → ℕ → Type 0
 IsLost members o = Unreachable (IsHeld members) (IsMember members) (edges_of members) o
 
--- it is lost with a legacy finalizer, or a path of lost members leads to it from one that is
+-- it is lost and has a legacy finalizer, or a path of lost members leads to it from such a member
 abbrev pub IsSetAside : List Member → ℕ → Type 0
 IsSetAside members o = Reach (IsMarked members) (IsLost members) (edges_of members) o
 
--- no serial stands twice
+-- no serial occurs twice
 abbrev pub IsOnceEach : List ℕ → Type 0
 IsOnceEach serials = (o : ℕ) → occurrences o serials < 2
 
@@ -59,7 +59,7 @@ IsOnceEach serials = (o : ℕ) → occurrences o serials < 2
 abbrev pub NamesMembers : List Member → List ℕ → Type 0
 NamesMembers members serials = (o : ℕ) → Includes serials o → IsMember members o
 
--- The names are right: no two members share a serial, no set has one twice, and all name members.
+-- The names are right: members have distinct serials, sets have no duplicates, and all serials name members.
 pub record IsWellNamed (g : Graph) : Type 0 where
   pub members : IsOnceEach (serials_of g.members)
   pub references : NamesMembers g.members (references_of g.members)
@@ -72,11 +72,11 @@ pub record IsWellNamed (g : Graph) : Type 0 where
 abbrev pub CoversReferences : List Member → Type 0
 CoversReferences members = (m : Member) → Includes members m → occurrences m.serial (references_of members) ≤ m.degree
 
--- what was found unreachable is just that
+-- the set found unreachable is exactly the lost members
 abbrev pub FindsLost : Graph → Type 0
 FindsLost g = (o : ℕ) → Includes g.lost o ↔ IsLost g.members o
 
--- what was set aside is just that
+-- the legacy set is exactly the members to set aside
 abbrev pub FindsSetAside : Graph → Type 0
 FindsSetAside g = (o : ℕ) → Includes g.legacy o ↔ IsSetAside g.members o
 
@@ -85,11 +85,10 @@ pub record Part : Type 0 where
   pub is_first : Bool
   pub graph : Graph
 
--- one of them
 abbrev pub part : Bool → Graph → Part
 part is_first graph = record { is_first = is_first; graph = graph }
 
--- the second graph, where there is one
+-- the second graph, if there is one
 abbrev pub second_part : Option Graph → List Part
 second_part None = []
 second_part (Some g) = part false g ∷ []
@@ -102,21 +101,21 @@ parts_of r = part true r.first ∷ second_part r.second
 abbrev pub all_parts : List Rec → List Part
 all_parts records = flat_map parts_of records
 
--- A graph is right. Only a first graph has a set that was set aside.
+-- A graph is right. Only a first graph has a legacy set.
 pub record IsRight (p : Part) : Type 0 where
   pub names : IsWellNamed p.graph
   pub degrees : CoversReferences p.graph.members
   pub lost : FindsLost p.graph
   pub set_aside : p.is_first ≡ true → FindsSetAside p.graph
 
--- The least code of a fault: what stands before it in this order is right.
+-- The least code of a fault: all earlier conditions in this order hold.
 pub data HasFault (p : Part) : ℕ → Type 0 where
   misnamed : ¬ IsWellNamed p.graph → HasFault p 2
   too_low : IsWellNamed p.graph → ¬ CoversReferences p.graph.members → HasFault p 3
   loses : IsWellNamed p.graph → CoversReferences p.graph.members → ¬ FindsLost p.graph → HasFault p 4
   sets_aside : IsWellNamed p.graph → CoversReferences p.graph.members → FindsLost p.graph → p.is_first ≡ true → ¬ FindsSetAside p.graph → HasFault p 5
 
--- the first graph with a fault, by its position from 1, and the least code
+-- the first graph with a fault, by its position from 1, and its least code
 pub record IsFirstFault (parts : List Part) (position code : ℕ) : Type 0 where
   pub front : List Part
   pub faulty : Part

@@ -18,20 +18,20 @@ use Rattle.cg_cert.specs.declared.graph.Located.{Located}
 use Rattle.cg_cert.specs.declared.table.Places.{Places}
 use Rattle.cg_cert.specs.declared.table.Places.TheVariants.{Ascending, Listed}
 
--- the table has the position of each name, and nothing else
+-- the table has exactly the position of each name
 abbrev pub Locates : List ℕ → BTreeMap ℕ ℕ → Type 0
 Locates names table = (o i : ℕ) → (get nat_cmp table o ≡ Some i) ↔ (slice_get names i ≡ Some o)
 
--- the places tell the position of each name: the names ascend, or a table has it
+-- `Places` gives the position of each name: the names ascend, or a table has it
 abbrev pub Tells : List ℕ → Places → Type 0
 Tells names Ascending = IsStrictlyIncreasing names
 Tells names (Listed table) = Locates names table
 
--- the position of a name, or none where there is no such name
+-- the position of a name, `None` if it is not a name
 abbrev pub IsPositionOf : List ℕ → ℕ → Option ℕ → Type 0
 IsPositionOf names o at = (i : ℕ) → (at ≡ Some i) ↔ (slice_get names i ≡ Some o)
 
--- no name stands at two positions
+-- no name is at two positions
 abbrev pub ArePlacedOnce : List ℕ → Type 0
 ArePlacedOnce names = (o i j : ℕ) → slice_get names i ≡ Some o → slice_get names j ≡ Some o → i ≡ j
 
@@ -39,7 +39,7 @@ ArePlacedOnce names = (o i j : ℕ) → slice_get names i ≡ Some o → slice_g
 abbrev pub AreNames : List ℕ → List ℕ → Type 0
 AreNames names serials = (o : ℕ) → Includes serials o → Includes names o
 
--- a set of names: each is one, and none stands twice
+-- a set of names, without duplicates
 pub record IsSetOf (names serials : List ℕ) : Type 0 where
   pub once : IsOnceEach serials
   pub named : AreNames names serials
@@ -48,11 +48,11 @@ pub record IsSetOf (names serials : List ℕ) : Type 0 where
 abbrev pub names_in : List ℕ → List ℕ → List (Option ℕ)
 names_in names row = map (slice_get names) row
 
--- a row of positions stands for these serials
+-- a row of positions represents these serials
 abbrev pub IsRowOf : List ℕ → List ℕ → List ℕ → Type 0
 IsRowOf names serials row = names_in names row ≡ map Some serials
 
--- each row of positions stands for the references of its member
+-- each row of positions represents the references of its member
 abbrev pub AreRowsOf : List ℕ → List Member → List (List ℕ) → Type 0
 AreRowsOf names members rows = map (names_in names) rows ≡ map (λ m. map Some m.refs) members
 
@@ -60,12 +60,12 @@ AreRowsOf names members rows = map (names_in names) rows ≡ map (λ m. map Some
 abbrev pub rows_in : List (Vec ℕ) → List (List ℕ)
 rows_in rows = map (λ v. v.items) rows
 
--- just the positions of these serials are marked
+-- exactly the positions of these serials are marked
 pub record MarksAll (names serials : List ℕ) (marks : List Bool) : Type 0 where
   pub len : length marks ≡ length names
   pub marked : (i o : ℕ) → slice_get names i ≡ Some o → (Marks marks i ↔ Includes serials o)
 
--- a graph whose names are right, by positions
+-- a well-named graph, by positions
 pub record IsLocated (g : Graph) (l : Located) : Type 0 where
   pub names : IsWellNamed g
   pub once : ArePlacedOnce (serials_of g.members)
@@ -73,12 +73,12 @@ pub record IsLocated (g : Graph) (l : Located) : Type 0 where
   pub lost : MarksAll (serials_of g.members) g.lost l.lost.items
   pub legacy : MarksAll (serials_of g.members) g.legacy l.legacy.items
 
--- how often each position stands in rows
+-- how often each position occurs in rows
 pub record CountTargets (rows : List (List ℕ)) (counts : List ℕ) : Type 0 where
   pub len : length counts ≡ length rows
   pub each : (i : ℕ) → i < length rows → slice_index counts i ≡ occurrences i (concat rows)
 
--- how often each member stands among the references
+-- how often each member occurs among the references
 pub record CountReferences (members : List Member) (counts : List ℕ) : Type 0 where
   pub len : length counts ≡ length members
   pub each : (i : ℕ) (m : Member) → slice_get members i ≡ Some m → slice_index counts i ≡ occurrences m.serial (references_of members)

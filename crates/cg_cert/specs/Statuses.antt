@@ -1,4 +1,4 @@
--- When each status of the checker comes, and what is written then. (Ours.)
+-- When each status of the checker comes, and what is written. (Ours.)
 use Rattle.std.specs.Prelude.{◌≡◌, ◌<◌, ◌≤◌, ◌⊎◌, ℕ, List, ◌++◌, length, codes, decimal, Option}
 use Rattle.std.specs.Io.KnownBytes.{Appends, Consumes}
 use Rattle.cg_io.specs.Causes.{AppendsFront}
@@ -27,18 +27,18 @@ pub record ToldVerdict (status : CheckStatus) (bytes : List ℕ) (before now : O
   pub status_is : status ≡ status_of verdict
   pub wrote : Appends before now (verdict_text verdict)
 
--- One byte more than records may have was taken, and no further one.
+-- Exactly one byte more than the size limit was read.
 pub record TookTooMany (left after : Option (List ℕ)) : Type 0 where
   pub bytes : List ℕ
   pub number : length bytes ≡ LIMIT
   pub taken : Consumes left after bytes
 
--- what is written of these bytes: the line of their verdict, or that they are too many
+-- what is written for these bytes: the line of their verdict, or that they are too many
 pub data RowText (bytes : List ℕ) : List ℕ → Type 0 where
   verdict_row : (verdict : Verdict) → length bytes < LIMIT → Judges bytes verdict → RowText bytes (verdict_text verdict)
   large_row : LIMIT ≤ length bytes → RowText bytes (codes "too large\n")
 
--- A front of that was written.
+-- A prefix of that line was written.
 pub record ToldFront (bytes : List ℕ) (before now : Option (List ℕ)) : Type 0 where
   pub text : List ℕ
   pub row : RowText bytes text
@@ -50,8 +50,8 @@ pub record AnswersVerdict (bytes : List ℕ) (status : CheckStatus) : Type 0 whe
   pub judges : Judges bytes verdict
   pub status_is : status ≡ status_of verdict
 
--- The answer to these bytes where neither source nor sink failed and memory was there: up to the limit that of their
--- verdict, and beyond it that they are too many.
+-- The status for these bytes if neither source nor sink failed and memory sufficed: up to the limit that of their
+-- verdict, beyond it that they are too many.
 abbrev pub AnswersRecords : List ℕ → CheckStatus → Type 0
 AnswersRecords bytes status = (length bytes < LIMIT → AnswersVerdict bytes status) × (LIMIT ≤ length bytes → status ≡ TooLarge)
 

@@ -8,20 +8,20 @@ use crate::graph::fault_of;
 use cg_records::{Rec, read_records};
 use std::alloc::{AllocError, Global};
 
-/// What is said of bytes.
+/// The verdict on bytes.
 #[derive(Clone, Copy, Debug, PartialEq, Eq, Drop)]
 pub enum Verdict {
     /// They are records, and each graph of them is right.
     Yes {
-        /// How many records they are.
+        /// The number of records.
         records: u64,
     },
-    /// They are no records, or a graph of them has a fault.
+    /// They are not records, or a graph in them has a fault.
     No {
-        /// The position of the first such graph, from 1; 0 where the bytes are no records.
+        /// The position of the first such graph, from 1; 0 if the bytes are not records.
         graph: u64,
-        /// The least code of its faults: 2 a wrong name, 3 an in-degree too low, 4 what was found unreachable is not,
-        /// 5 what was set aside is not; 1 where the bytes are no records.
+        /// Its least fault code: 2 a wrong name, 3 an in-degree too low, 4 the set found unreachable is wrong, 5 the
+        /// legacy set is wrong; 1 if the bytes are not records.
         code: u8,
     },
 }
@@ -34,7 +34,7 @@ struct Fault {
     code: u8,
 }
 
-/// How many graphs a record has, 1 or 2.
+/// The number of graphs in a record, 1 or 2.
 fn graphs_in(rec: &Rec) -> u64
     ensures count { result ≡ length (parts_of rec.now) }
     ensures few { result ≤ 2 }
@@ -63,7 +63,7 @@ fn fault_in(alloc: Global, rec: &Rec) -> Result<Option<Fault>, AllocError>
     }
 }
 
-/// The verdict on records that were read.
+/// The verdict on records.
 fn judge(alloc: Global, records: &[Rec]) -> Result<Verdict, AllocError>
     ensures { IfOk result (λ verdict. JudgesRecords records.now verdict) }
 {
@@ -82,10 +82,10 @@ fn judge(alloc: Global, records: &[Rec]) -> Result<Verdict, AllocError>
     })
 }
 
-/// The verdict on bytes: whether they are records whose graphs are all right, and else where the first fault stands.
+/// The verdict on bytes: whether they are records whose graphs are all right, else where the first fault is.
 ///
-/// It takes time near linear in the bytes, and memory of a constant factor of them. `AllocError` is an allocation
-/// failure. (What is right of a graph: developer guide, "identifying reference cycles"; `gc` manual, `gc.garbage`.)
+/// Takes time near linear in the bytes, and memory linear in them. `AllocError` means memory ran out. (When a graph is
+/// right: developer guide, "identifying reference cycles"; `gc` manual, `gc.garbage`.)
 pub fn check_records(alloc: Global, bytes: &[u8]) -> Result<Verdict, AllocError>
     ensures { IfOk result (λ verdict. Judges bytes.now verdict) }
 {

@@ -1,4 +1,4 @@
-//! How often members stand among the references, and what that says of their in-degrees.
+//! How often members occur among the references, compared with their in-degrees.
 ghost use Rattle.std.specs.Prelude.{◌≡◌, ◌<◌, ◌^◌, length, true, IfOk, ◌↔◌};
 ghost use Rattle.std.specs.List.{concat};
 ghost use Rattle.cg_cert.specs.Judged.{CoversReferences};
@@ -8,7 +8,7 @@ use cg_records::Member;
 use cg_search::count_targets;
 use std::alloc::{AllocError, Global};
 
-/// Whether the rows have fewer than 2^64 positions together.
+/// Whether the rows have fewer than 2^64 positions in total.
 fn are_few(rows: &[Vec<usize>]) -> bool
     ensures { result ≡ true → length (concat (rows_in rows.now)) < 2 ^ 64 }
 {
@@ -22,7 +22,7 @@ fn are_few(rows: &[Vec<usize>]) -> bool
     true
 }
 
-/// How often each position stands in the rows. No memory holds rows of 2^64 positions.
+/// How often each position occurs in the rows. No memory holds rows of 2^64 positions.
 pub(crate) fn counts_of(alloc: Global, rows: &[Vec<usize>]) -> Result<Vec<u64>, AllocError>
     ensures { IfOk result (λ counts. CountTargets (rows_in rows.now) counts.items) }
 {

@@ -9,7 +9,7 @@ use cg_records::{Graph, Member};
 use cg_search::reached;
 use std::alloc::{AllocError, Global};
 
-/// A graph whose names are right, by the positions of its members.
+/// A well-named graph, by the positions of its members.
 #[derive(Drop)]
 pub(crate) struct Located {
     /// The references of each member.
@@ -20,7 +20,7 @@ pub(crate) struct Located {
     pub(crate) legacy: Vec<bool>,
 }
 
-/// The graph by positions; `None` where a name is wrong.
+/// The graph by positions; `None` if a name is wrong.
 fn locate(alloc: Global, graph: &Graph) -> Result<Option<Located>, AllocError>
     ensures found { IfOk result (λ named. IfSome named (λ located. IsLocated graph.now located)) }
     ensures none { IfOk result (λ named. IfNone named (IsWellNamed graph.now → ⊥)) }
@@ -48,7 +48,7 @@ fn marked_of(alloc: Global, members: &[Member]) -> Result<Vec<bool>, AllocError>
     members.iter().map(|member| member.legacy).collect(alloc)
 }
 
-/// The other marks.
+/// The marks inverted.
 fn opposite(alloc: Global, marks: &[bool]) -> Result<Vec<bool>, AllocError>
     ensures { IfOk result (λ others. others.items ≡ map not marks.now) }
 {
@@ -62,7 +62,7 @@ fn are_same(marks: &[bool], others: &[bool]) -> bool
     marks == others
 }
 
-/// Whether just those were found unreachable that are.
+/// Whether the set found unreachable is exactly the lost members.
 fn finds_lost(
     alloc: Global,
     graph: &Graph,
@@ -81,7 +81,7 @@ fn finds_lost(
     Ok(are_same(&unreachable, &located.lost))
 }
 
-/// Whether just those were set aside that are to be, where just those were found unreachable that are.
+/// Whether the legacy set is exactly the members to set aside, if the set found unreachable is right.
 fn finds_set_aside(alloc: Global, graph: &Graph, located: &Located) -> Result<bool, AllocError>
     requires located { IsLocated graph.now located.now }
     requires lost { FindsLost graph.now }
@@ -92,7 +92,7 @@ fn finds_set_aside(alloc: Global, graph: &Graph, located: &Located) -> Result<bo
     Ok(are_same(&found, &located.legacy))
 }
 
-/// The least code of a fault of the graph, if it has one. Only a first graph has a set that was set aside.
+/// The least fault code of the graph, if it has a fault. Only a first graph has a legacy set.
 pub(crate) fn fault_of(
     alloc: Global,
     graph: &Graph,

@@ -1,15 +1,15 @@
-//! A checker of records of collections: it says yes only where the recorded sets are right for the recorded graphs.
+//! A checker of records of collections: it says yes only if the recorded sets are right for the recorded graphs.
 //!
-//! The layer above rests on one contract: the verdict on bytes is a definition (`specs/Judged`), by the text of records
-//! and by what a path of members reaches. Whoever made a record need not be trusted.
+//! The layer above rests on one contract: the verdict on bytes is a definition (`specs/Judged`), in terms of the text
+//! of records and of what a path of members reaches. The maker of a record need not be trusted.
 //!
 //! - `table`: the serials of a graph, turned into positions of its members.
-//! - `counts`: how often members are referred to, beside their in-degrees.
+//! - `counts`: how often members are referred to, compared with their in-degrees.
 //! - `graph`: the fault of one graph; `check`: the verdict on all graphs of records.
 //! - `laws`: no bytes have two verdicts.
-//! - `input`, `tell`, `status`, `run`: the checker as a top call, over a source and a sink.
+//! - `tell`, `status`, `run`: the checker as a top call, over a source and a sink.
 //!
-//! Records themselves, and what reads and writes them, are those of `cg_records`, named here too.
+//! Records, and the calls that read and write them, are those of `cg_records`, re-exported here.
 #![tactic(auto)]
 
 mod check;

@@ -8,10 +8,10 @@ use cg_records::Member;
 use std::alloc::{AllocError, Global};
 use std::collections::BTreeMap;
 
-/// What tells the positions of the members' serials.
+/// How to find the positions of the members' serials.
 #[derive(Drop)]
 pub(crate) enum Places {
-    /// They ascend, as where members stand by age, and a search by halves tells them.
+    /// They ascend, as when members are in order of age; a binary search finds them.
     Ascending,
     /// A table of them.
     Listed(BTreeMap<u64, usize>),
@@ -29,7 +29,7 @@ fn ascend(members: &[Member]) -> bool
     true
 }
 
-/// The position of each member, by serial; `None` where two members share one.
+/// The position of each member, by serial; `None` if two members share one.
 fn positions_of(
     alloc: Global,
     members: &[Member],
@@ -46,7 +46,7 @@ fn positions_of(
     Ok(Some(table))
 }
 
-/// What tells the positions of members; `None` where two members share a serial.
+/// How to find the positions of members; `None` if two members share a serial.
 pub(crate) fn places_of(alloc: Global, members: &[Member]) -> Result<Option<Places>, AllocError>
     ensures found { IfOk result (λ told. IfSome told (λ places. Tells (serials_of members.now) places)) }
     ensures none { IfOk result (λ told. IfNone told (IsOnceEach (serials_of members.now) → ⊥)) }
@@ -60,7 +60,7 @@ pub(crate) fn places_of(alloc: Global, members: &[Member]) -> Result<Option<Plac
     }
 }
 
-/// The position of a serial among those that ascend.
+/// The position of a serial among ascending ones, by binary search.
 fn position_by_halves(members: &[Member], serial: u64) -> Option<usize>
     requires { IsStrictlyIncreasing (serials_of members.now) }
     ensures { IsPositionOf (serials_of members.now) serial result }
@@ -78,7 +78,7 @@ fn is_at(members: &[Member], at: usize, serial: u64) -> bool
     at < members.len() && members[at].serial == serial
 }
 
-/// The position of a serial. A guess spares the search where it is right.
+/// The position of a serial. A right guess saves the search.
 fn position_at(places: &Places, members: &[Member], guess: usize, serial: u64) -> Option<usize>
     requires { Tells (serials_of members.now) places.now }
     ensures { IsPositionOf (serials_of members.now) serial result }
@@ -92,8 +92,8 @@ fn position_at(places: &Places, members: &[Member], guess: usize, serial: u64) -
     }
 }
 
-/// The position of a serial that the member at `at` refers to. References mostly lead to a neighbour, or to the one
-/// after the `last` that was found.
+/// The position of a serial that the member at `at` refers to. Most references lead to a neighbour, or to the member
+/// after the `last` one found.
 fn position_near(
     places: &Places,
     members: &[Member],
@@ -115,7 +115,7 @@ fn position_near(
     position_at(places, members, at.wrapping_sub(1), serial)
 }
 
-/// The positions of the serials that the member at `at` refers to, in order; `None` where one names no member.
+/// The positions of the serials that the member at `at` refers to, in order; `None` if one names no member.
 pub(crate) fn row_of(
     alloc: Global,
     places: &Places,
@@ -141,7 +141,7 @@ pub(crate) fn row_of(
     Ok(Some(row))
 }
 
-/// The row of each member: the positions of its references, in order; `None` where one names no member.
+/// The row of each member: the positions of its references, in order; `None` if one names no member.
 pub(crate) fn rows_of(
     alloc: Global,
     places: &Places,
@@ -161,7 +161,7 @@ pub(crate) fn rows_of(
     Ok(Some(rows))
 }
 
-/// Marks the positions of serials; `None` where one names no member, or stands twice.
+/// Marks the positions of serials; `None` if one names no member or occurs twice.
 pub(crate) fn marks_of(
     alloc: Global,
     places: &Places,

@@ -10,7 +10,7 @@ use arrayvec::ArrayString;
 use cg_io::{Sink, WriteFailed};
 use itoa::Buffer;
 
-/// Says that there are words.
+/// Reports that there are words.
 pub(crate) fn tell_bad_words<K: Sink>(sink: &mut K) -> CheckStatus
     ensures bad_words { result ≡ CheckStatus.BadWords → Appends (K.written sink.old) (K.written sink.new) (codes "bad words\n") }
     ensures write { result ≡ CheckStatus.WriteFault → AppendsFront (K.written sink.old) (K.written sink.new) (codes "bad words\n") }
@@ -23,7 +23,7 @@ pub(crate) fn tell_bad_words<K: Sink>(sink: &mut K) -> CheckStatus
     }
 }
 
-/// Says that there are too many bytes.
+/// Reports that there are too many bytes.
 pub(crate) fn tell_large<K: Sink>(sink: &mut K) -> CheckStatus
     ensures large { result ≡ CheckStatus.TooLarge → Appends (K.written sink.old) (K.written sink.new) (codes "too large\n") }
     ensures write { result ≡ CheckStatus.WriteFault → AppendsFront (K.written sink.old) (K.written sink.new) (codes "too large\n") }

@@ -1,4 +1,4 @@
--- One box among the six, before and after a call on it.
+-- One of the six boxes, before and after a call on it.
 use Rattle.std.proofs.Common.{◌≡◌, ℕ, ◌+◌, ◌<◌, List, [], ◌∷◌, ◌++◌, map, length, get_or, set, Option, Some, None, refl, sym, ap, ◌∙◌, subst, arith}
 use Rattle.std.specs.Prelude.{OnSome, IfNone, IsTrue, IsSome, is_some, ◌↔◌, position, cond, if◌then◌else◌, Bool, true, false}
 use Rattle.std.specs.List.{position_from}
@@ -32,7 +32,7 @@ at_index Inst = refl
 at_index Func = refl
 at_index Weak = refl
 
--- kinds stand at different indexes
+-- kinds have different indexes
 pub one_index : (c d : KindCode) → code_index c ≡ code_index d → c ≡ d
 one_index c d same = sym (at_index c) ∙ ap (λ i. get_or six_kinds i ListKind) same ∙ at_index d
 
@@ -56,7 +56,7 @@ module _ {K : Type 0} (kind : K → KindCode) (bodies : K → Bodies) (items : L
       ap bodies at ∙ sym (get_or-map bodies items i k fin.empty box_there)
       ∙ (λ j. get_or (view j) (index j) fin.empty)
 
-  -- another box in its place
+  -- another box put in its place
   module _ (l : K) (same : kind l ≡ kind k) where
     pub six_after : map kind (set items i l) ≡ six_kinds
     six_after = map-set_same kind items i l k (same ∙ ap kind at) ∙ six
@@ -73,7 +73,7 @@ module _ {K : Type 0} (kind : K → KindCode) (bodies : K → Bodies) (items : L
     pub box_unchanged : bodies l ≡ bodies k → map bodies (set items i l) ≡ old
     box_unchanged is = map-set_same bodies items i l k (is ∙ ap bodies at) ∙ view
 
-    -- a body made, whose spare is told by the box after it
+    -- making a body, whose spare capacity is the box's
     pub box_made : (at' : ℕ) (entries : List Entry) → bodies l ≡ with_body (bodies k) at' entries (spare_at (bodies l) at') → map bodies (set items i l) ≡ boxes_with_body old code at' entries (spare_in_box (map bodies (set items i l)) code at')
     box_made at' entries is =
         box_written (λ _ b. with_body b at' entries (spare_at (bodies l) at')) is
@@ -89,7 +89,7 @@ module _ {K : Type 0} (kind : K → KindCode) (bodies : K → Bodies) (items : L
         box_written (λ _ b. with_body b at' (entries_at b at') (spare_at (bodies l) at')) is
         ∙ ap (λ b. boxes_with_body old code at' (entries_in_box old code at') (spare_at b at')) (sym box_after)
 
--- a clause that says less
+-- a weaker clause
 pub on_some_weaker : {X P Q : Type 0} (r : Option X) → (P → Q) → OnSome r P → OnSome r Q
 on_some_weaker None f h = tt
 on_some_weaker (Some x) f h = f h
@@ -98,7 +98,7 @@ pub if_none_weaker : {X P Q : Type 0} (r : Option X) → (P → Q) → IfNone r 
 if_none_weaker None f h = f h
 if_none_weaker (Some x) f h = tt
 
--- the first position of a key is found where there is a value under it
+-- a key with a value has a first position
 found_next : (b : Bool) (i : ℕ) (v : Val) (p : Option ℕ) (w : Option Val) → is_some p ≡ is_some w → is_some (cond b (Some i) p) ≡ is_some (if b then Some v else w)
 found_next true i v p w e = refl
 found_next false i v p w e = e

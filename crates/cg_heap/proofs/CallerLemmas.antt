@@ -1,5 +1,5 @@
--- What a caller may conclude of the store after a call: which objects live, of which kind, and how many outside holds
--- there are.
+-- What a caller may conclude about the store after a call: which objects live, of which kind, and how many outside
+-- holds there are.
 use Rattle.std.proofs.Common.{◌≡◌, ◌≢◌, ℕ, ◌+◌, ◌-◌, ◌<◌, ◌≤◌, Bool, true, false, List, [], ◌∷◌, map, length, Option, Some, None, IsSome, refl, sym, ap, ◌∙◌, subst, inl, inr, arith, sum_by}
 use Rattle.std.specs.Prelude.{◌==◌, option_map, if◌then◌else◌}
 use Rattle.std.proofs.lemmas.Bool.{cases_eq, eq-eqb, ne_eqb}
@@ -22,7 +22,7 @@ use Rattle.cg_heap.specs.Calls.{place_merged, merged, with_node}
 abbrev out : Node → ℕ
 out n = n.outside
 
--- each object of the old store lives in the new one, and is of the same kind
+-- each object of the old store is in the new one, with the same kind
 abbrev pub KeepsKinds : Store → Store → Type 0
 KeepsKinds old new = (s : ℕ) (c : KindCode) → HasCode old s c → HasCode new s c
 
@@ -36,11 +36,11 @@ kind_of_live store s live = known (fin.get store.nodes s) refl live
     known None e l = absurd (cc)
     known (Some n) e l = (n.code, (n, e, refl))
 
--- what was live is live
+-- live objects stay live
 pub lives_on : (old new : Store) → KeepsKinds old new → (s : ℕ) → IsLive old s → IsLive new s
 lives_on old new kinds s live = let (c, has) = kind_of_live old s live in live_of_kind new s c (kinds s c has)
 
--- the calls that change what objects are keep them and their kinds
+-- calls that change objects keep them and their kinds
 pub kinds-mapped : (g : ℕ → Node → Node) → ((s : ℕ) (n : Node) → (g s n).code ≡ n.code) → (old new : Store) → new.nodes ≡ mapped g old.nodes → KeepsKinds old new
 kinds-mapped g same old new is s c (n, at, kind) = (g s n, ap (λ m. fin.get m s) is ∙ get-mapped g old.nodes s ∙ ap (option_map (g s)) at, same s n ∙ kind)
 
@@ -73,7 +73,7 @@ kinds-merged p q store = kinds-mapped (λ s n. place_merged p q n) (λ s n. know
 pub kinds-with_node : (f : Node → Node) → ((n : Node) → (f n).code ≡ n.code) → (o : ℕ) (store : Store) → KeepsKinds store (with_node f o store)
 kinds-with_node f same o store = kinds-changed f same o store (with_node f o store) refl
 
--- an object made, where no live serial is above the last: the others live on, and it lives
+-- making an object, when no live serial is above the last: the others live on, and it lives
 pub kinds-made : (code : KindCode) (class : Option ℕ) (parts : List Entry) (store : Store) → ((s : ℕ) → IsLive store s → s ≤ store.last) → KeepsKinds store (made code class parts store)
 kinds-made code class parts store below s c (n, at, kind) =
     let low : s ≤ store.last = below s (subst IsSome (sym at) refl) in
@@ -82,11 +82,11 @@ kinds-made code class parts store below s c (n, at, kind) =
 pub made_kind : (code : KindCode) (class : Option ℕ) (parts : List Entry) (store : Store) → HasCode (made code class parts store) (store.last + 1) code
 made_kind code class parts store = (new_node code class parts, get-insert_same store.nodes (store.last + 1) (store.last + 1) (new_node code class parts) refl, refl)
 
--- one gone: the others live on
+-- freeing an object: the others live on
 pub kinds-gone : (o : ℕ) (store : Store) (s : ℕ) (c : KindCode) → s ≢ o → HasCode store s c → HasCode (gone o store) s c
 kinds-gone o store s c differs (n, at, kind) = (n, get-remove_other store.nodes o s differs ∙ at, kind)
 
--- nothing is in no map
+-- the empty map sums to 0
 pub total-empty : (f : Node → ℕ) → total f fin.empty ≡ 0
 total-empty f = known (fin.entries fin.empty) (sym (fin.len-entries fin.empty) ∙ fin.len-empty nat_cmp Node)
   where
@@ -94,7 +94,7 @@ total-empty f = known (fin.entries fin.empty) (sym (fin.len-entries fin.empty) �
     known [] e = refl
     known (x ∷ es) e = absurd (omega (arith, e))
 
--- the garbage list lives at first, and nothing is held from outside
+-- in the initial store the garbage list lives, and nothing is held from outside
 pub opening_live : (names : ℕ) → IsLive (opening_store names) 1
 opening_live names = subst IsSome (sym (get-insert_same fin.empty 1 1 garbage_node refl)) refl
 
@@ -104,7 +104,7 @@ opening_total names =
     omega (arith, total-insert out fin.empty 1 garbage_node, none, total-empty out)
 
 module _ (m : fin.FinMap nat_cmp Node) where
-  -- no object has more outside holds
+  -- if no object gains outside holds, the total does not grow
   total_lower : (g : ℕ → Node → Node) → ((s : ℕ) (n : Node) → (g s n).outside ≤ n.outside) → total out (mapped g m) ≤ total out m
   total_lower g lower = subst (λ es. sum_by {X = ℕ × Node} (λ e. out e.1) es ≤ total out m) (sym (entries-mapped g m)) (sums (fin.entries m))
     where
@@ -119,7 +119,7 @@ module _ (m : fin.FinMap nat_cmp Node) where
             sum_by-cons {X = ℕ × Node} (λ e. out e.1) e es,
           )
 
-  -- one object has one more
+  -- one object gains one hold
   one_more : (r : ℕ) → total out (changed (more 1) r m) ≤ total out m + 1
   one_more r = known (fin.get m r) refl
     where
@@ -137,7 +137,7 @@ more_twice : (j k l : ℕ) → l ≡ j + k → (x : Option Node) → option_map 
 more_twice j k l e None = refl
 more_twice j k l e (Some n) = let same : n.outside + l ≡ (n.outside + j) + k = omega (arith, e) in ap (λ c. Some (record n { outside = c })) same
 
--- holds one after the other
+-- adding holds one by one
 held_next : (r : ℕ) (refs : List ℕ) (m : fin.FinMap nat_cmp Node) → mapped (λ s n. more (occurrences s (r ∷ refs)) n) m ≡ mapped (λ s n. more (occurrences s refs) n) (changed (more 1) r m)
 held_next r refs m =
     same_map (mapped (λ s n. more (occurrences s (r ∷ refs)) n) m) (mapped (λ s n. more (occurrences s refs) n) (changed (more 1) r m)) (λ q.
@@ -165,11 +165,11 @@ total_held (r ∷ refs) m =
     let is : total out (mapped (λ s n. more (occurrences s (r ∷ refs)) n) m) ≡ total out (mapped (λ s n. more (occurrences s refs) n) (changed (more 1) r m)) = ap (total out) (held_next r refs m) in
     omega (arith, is, total_held refs (changed (more 1) r m), one_more m r)
 
--- How many outside holds there are then. No more than one more for each reference:
+-- The number of outside holds afterwards. At most one more for each reference:
 pub total-held : (refs : List ℕ) (store : Store) → outside_total (held refs store) ≤ outside_total store + length refs
 total-held refs store = total_held refs store.nodes
 
--- no more than before:
+-- at most the old number:
 pub total-unheld : (refs : List ℕ) (store : Store) → outside_total (unheld refs store) ≤ outside_total store
 total-unheld refs store = total_lower store.nodes (λ s n. less (occurrences s refs) n) (λ s n. omega arith)
 
@@ -180,7 +180,7 @@ total-gone o store = omega (arith, total-remove out store.nodes o)
 pub total-made : (code : KindCode) (class : Option ℕ) (parts : List Entry) (store : Store) → outside_total (made code class parts store) ≤ outside_total store + 1
 total-made code class parts store = omega (arith, total-insert out store.nodes (store.last + 1) (new_node code class parts))
 
--- as many as before:
+-- unchanged:
 pub total-with_node : (f : Node → Node) → ((n : Node) → (f n).outside ≡ n.outside) → (o : ℕ) (store : Store) → outside_total (with_node f o store) ≡ outside_total store
 total-with_node f same o store = total-mapped (λ s x. if s == o then f x else x) out out store.nodes (λ s n. known (s == o) n)
   where
@@ -201,7 +201,7 @@ total-merged p q store = total-mapped (λ s n. place_merged p q n) out out store
     known true n = refl
     known false n = refl
 
--- one hold given up, of which there was one: exactly one less
+-- releasing a hold that exists: exactly one less
 pub total-unheld_one : (o : ℕ) (store : Store) → 0 < outside_of store o → outside_total (unheld (o ∷ []) store) + 1 ≡ outside_total store
 total-unheld_one o store has = known (fin.get store.nodes o) refl has
   where

@@ -1,4 +1,4 @@
--- What the calls of a heap leave, over the store that it stood for.
+-- The effect of a heap's calls on its store.
 use Rattle.std.proofs.Common.{Result, Ok, Err, ◌≡◌, ℕ, ◌+◌, ◌<◌, ◌≤◌, List, [], ◌∷◌, length, set, remove, slice_get, Option, Some, None, IsSome, refl, sym, ap, ◌∙◌, subst, arith}
 use Rattle.std.specs.Prelude.{OnErr, option_map, IfSome}
 use Rattle.std.proofs.lemmas.Option.{some_pair_parts}
@@ -35,11 +35,11 @@ use Rattle.cg_heap.specs.Keeps.{RowsAndHolds, outside_total}
 use Rattle.cg_heap.proofs.CallerLemmas.{lives_on, kinds-held, kinds-unheld, kinds-rewritten, kinds-moved, kinds-merged, kinds-with_node, kinds-made, total-held, total-unheld, total-moved, total-merged, total-with_node, total-made}
 use Rattle.cg_heap.proofs.RowsAndHolds.{kept}
 
--- the fields of a heap, and the store that they stand for
+-- the fields of a heap, and the store they represent
 pub stands : (all : List Bodies) (v : Nodes) (names : List (Option Val)) (last : ℕ) (rows : List Row) (objects number : ℕ) (old : Store) → HeapKeeps all v.nodes objects number (store_of all v names last rows) × RowsAndHolds (store_of all v names last rows) → store_of all v names last rows ≡ old → Closed all v names last rows objects number old
 stands all v names last rows objects number old ok view = record { keeps = ok; is = view }
 
--- a refusal that leaves what a fact says
+-- a fact that holds after an error
 pub on_err : {T E P : Type 0} (r : Result T E) → P → OnErr r P
 on_err (Ok t) fact = tt
 on_err (Err e) fact = fact
@@ -51,23 +51,23 @@ uncounted v (val.Int n) h = none-counted v
 uncounted v (val.Str n) h = none-counted v
 uncounted v (val.Ref o) h = absurd (h o refl)
 
--- what one count more leaves
+-- the effect of raising a count
 pub still_live : (v w : Nodes) (refs : List ℕ) → w ≡ counted_up refs v → (s : ℕ) → IsSome (fin.get v.nodes s) → IsSome (fin.get w.nodes s)
 still_live v w refs e s live = subst (λ (z : Nodes). IsSome (fin.get z.nodes s)) (sym e) (live-mapped (λ s n. node_counted_up (occurrences s refs) n) v.nodes s live)
 
--- one count more has room too
+-- after raising a count there is room again
 pub count_fits_after : (x : Val) (v w : Nodes) → w ≡ counted_up (references_of_value (Some x)) v → ((s : ℕ) → count_in (fin.get v.nodes s) < 4294967294) → (s : ℕ) → count_in (fin.get w.nodes s) < 4294967295
 count_fits_after x v w e fits s =
     subst (λ (z : Nodes). count_in (fin.get z.nodes s) < 4294967295) (sym e)
     (omega (arith, count-le (references_of_value (Some x)) v s, occurrences-le s (references_of_value (Some x)), reference-le x, fits s))
 
--- a put lets no object go
+-- a put frees no object
 pub live_put : (store : Store) (o : ℕ) (key val : Val) (q : ℕ) → IsLive store q → IsLive (with_put store o key val) q
 live_put store o key val q live =
     lives_on (rewritten o (after_put (code_of store o) (entries_of store o) key val) store) (with_put store o key val) (kinds-held (references_of_value (value_in store o key)) (rewritten o (after_put (code_of store o) (entries_of store o) key val) store)) q
     (lives_on store (rewritten o (after_put (code_of store o) (entries_of store o) key val) store) (kinds-rewritten o (after_put (code_of store o) (entries_of store o) key val) store) q live)
 
--- nothing is held by no references
+-- holding no references changes nothing
 pub held-none : (store : Store) → held [] store ≡ store
 held-none store = λ i. record store { nodes = same_map (held [] store).nodes store.nodes (λ q. get-mapped (λ s n. more 0 n) store.nodes q ∙ known (fin.get store.nodes q)) i }
   where
@@ -83,7 +83,7 @@ takes Inst k es i = refl
 takes Func k es i = absurd k
 takes Weak k es i = absurd k
 
--- the lists of the places and the rows are no part of it
+-- the places' lists and the rows do not matter here
 pub keeps-aside : {all : List Bodies} {nodes : fin.FinMap nat_cmp ArenaNode} {objects number : ℕ} {store : Store} {lists : List (List ℕ)} {rows : List Row} → HeapKeeps all nodes objects number store → HeapKeeps all nodes objects number (record store { lists = lists; rows = rows })
 keeps-aside ok = record {
   shape = record { six = ok.shape.six; alike = ok.shape.alike; apart = ok.shape.apart; below = ok.shape.below };
@@ -112,14 +112,14 @@ module _ {all : List Bodies} {v : Nodes} {names : List (Option Val)} {last : ℕ
   pub count_fits : (o : ℕ) → count_in (fin.get v.nodes o) < 4294967295
   count_fits o = omega (arith, count_below o)
 
-  -- and for two more
+  -- room for two more
   pub count_fits_twice : (o : ℕ) → count_in (fin.get v.nodes o) < 4294967294
   count_fits_twice o = omega (arith, count_below o)
 
   pub total_is : outside_total was ≡ outside_total old
   total_is = ap outside_total h.is
 
-  -- there is room for two holds more
+  -- there is room for two more holds
   pub holds_fit : HasFewHolds old → (refs : List ℕ) → length refs ≤ 2 → outside_total old + length refs < 2147483648
   holds_fit few refs two = let holds : outside_total old < 2147483646 = few in omega (arith, holds, two)
 
@@ -129,11 +129,11 @@ module _ {all : List Bodies} {v : Nodes} {names : List (Option Val)} {last : ℕ
   pub count_is : (o : ℕ) → count_in (fin.get v.nodes o) ≡ count_of old o
   count_is o = h.keeps.0.counted o ∙ ap (λ s. count_of s o) h.is
 
-  -- a value that is live has a node
+  -- a live value has a node
   pub live_value : (x : Val) → IsLiveValue old x → (s : ℕ) → x ≡ val.Ref s → IsSome (fin.get v.nodes s)
   live_value x live s e = has_node s (live s e)
 
-  -- a field of the node is that of the object
+  -- a field of the node equals the object's
   pub field_is : {Y : Type 0} (f : ArenaNode → Y) (g : Node → Y) → ((n : ArenaNode) (k : ℕ) → g (node_from all n k) ≡ f n) → (o : ℕ) (y : Y) → IfSome (fin.get v.nodes o) (λ n. y ≡ f n) → IfSome (fin.get old.nodes o) (λ n. y ≡ g n)
   field_is {Y} f g same o y told = subst (λ (s : Store). IfSome (fin.get s.nodes o) (λ n. y ≡ g n)) h.is (known (fin.get v.nodes o) (fin.get was.nodes o) (h.keeps.0.shape.alike o) told)
     where
@@ -163,7 +163,7 @@ module _ {all : List Bodies} {v : Nodes} {names : List (Option Val)} {last : ℕ
   pub next_here : (o : ℕ) → following o (list_of v.lists (place_number (arena_place_of v o))) ≡ following o (list_of old.lists (place_number (place_of old o)))
   next_here o = λ i. following o (list_of (h.is i).lists (place_number (place_same o i)))
 
-  -- counts and holds
+  -- after counting and holding
   pub after_hold : (refs : List ℕ) → outside_total old + length refs < 2147483648 → (v' : Nodes) → v' ≡ counted_up refs v → Closed all v' names last rows objects number (held refs old)
   after_hold refs fits v' e =
       subst (λ s. Closed all v' names last rows objects number (held refs s)) h.is
@@ -179,7 +179,7 @@ module _ {all : List Bodies} {v : Nodes} {names : List (Option Val)} {last : ℕ
       (keeps-unheld all v objects number was h.keeps.0 (o ∷ []) (one-enough was o (subst (λ s. 0 < outside_of s o) (sym h.is) has)))
       (kept was (unheld (o ∷ []) was) (kinds-unheld (o ∷ []) was) refl (omega (arith, total-unheld (o ∷ []) was, h.keeps.1.holds)) h.keeps.1) refl))
 
-  -- a name has another value
+  -- after rebinding a name
   pub after_name : (i : ℕ) (old_val new : Option Val) → slice_get names i ≡ Some old_val → ((s : ℕ) → 0 < occurrences s (references_of_value new) → IsLive old s) → HasFewHolds old → (v' : Nodes) → v' ≡ counted_up (references_of_value new) v → (names' : List (Option Val)) → names' ≡ set names i new
       → Closed all v' names' last rows objects number (held (references_of_value old_val) (named i new old))
   after_name i old_val new at live few v' counts names' is =
@@ -191,7 +191,7 @@ module _ {all : List Bodies} {v : Nodes} {names : List (Option Val)} {last : ℕ
       (kept was (held (references_of_value old_val) (named i new was)) (kinds-held (references_of_value old_val) (named i new was)) refl
       (let fits = holds_fit few (references_of_value old_val) (let one = name-le old_val in omega (arith, one)) in omega (arith, total-held (references_of_value old_val) (named i new was), total_is, fits)) h.keeps.1) refl)))
 
-  -- places, marks and numbers
+  -- after changing places, marks or numbers
   pub after_move : (o : ℕ) (p : Place) (v' : Nodes) → v' ≡ with_node_moved o p v → Closed all v' names last rows objects number (moved o p old)
   after_move o p v' e =
       subst (λ s. Closed all v' names last rows objects number (moved o p s)) h.is
@@ -228,7 +228,7 @@ module _ {all : List Bodies} {v : Nodes} {names : List (Option Val)} {last : ℕ
       (closed all (with_node_changed node_lowered o v) objects number (with_node lowered o was) (keeps-lowered all v objects number was h.keeps.0 o)
       (kept was (with_node lowered o was) (kinds-with_node lowered (λ n. refl) o was) refl (omega (arith, total-with_node lowered (λ n. refl) o was, h.keeps.1.holds)) h.keeps.1) refl))
 
-  -- each object stands once in the list of its place
+  -- each object is once in the list of its place
   places_alike : (s : ℕ) → option_map (λ (n : ArenaNode). n.place) (fin.get v.nodes s) ≡ option_map (λ (n : Node). n.place) (fin.get was.nodes s)
   places_alike s = known (fin.get v.nodes s) (fin.get was.nodes s) (h.keeps.0.shape.alike s)
     where
@@ -261,7 +261,7 @@ module _ {all : List Bodies} {v : Nodes} {names : List (Option Val)} {last : ℕ
       known (Some n) None e same at = absurd same
       known (Some n) (Some x) e same at = (x, at, ap (λ (y : Node). y.code) same.0 ∙ (some_pair_parts n.code ListKind n.body h.keeps.0.root.body e).0)
 
-  -- what every heap tells
+  -- the public invariant of every heap
   pub is_sound : IsArenaListed v → IsSound old
   is_sound listed = subst IsSound h.is (record {
     live = held-live all v.nodes objects number was h.keeps.0;
@@ -285,14 +285,14 @@ module _ {all : List Bodies} {v : Nodes} {names : List (Option Val)} {last : ℕ
   pub with_rows : (rows' : List Row) → rows' ≡ rows → Closed all v names last rows' objects number old
   with_rows rows' is = subst (λ r. Closed all v names last r objects number old) (sym is) h
 
-  -- the boxes and the nodes as they were, and other room
+  -- boxes and nodes unchanged, with other room
   pub as_before : (all' : List Bodies) → all' ≡ all → Closed all' v names last rows objects number old
   as_before all' is = subst (λ bs. Closed bs v names last rows objects number old) (sym is) h
 
   pub with_other_room : (v' : Nodes) (room : ℕ) → v' ≡ with_room room v → Closed all v' names last rows objects number old
   with_other_room v' room is = subst (λ w. Closed all w names last rows objects number old) (sym is) (record { keeps = h.keeps; is = h.is })
 
-  -- a new serial names no node
+  -- a new serial has no node
   pub is_fresh : fin.get v.nodes (last + 1) ≡ None
   is_fresh = known (fin.get v.nodes (last + 1)) (fin.get was.nodes (last + 1)) (h.keeps.0.shape.alike (last + 1)) (λ live. absurd (omega (arith, h.keeps.0.shape.below (last + 1) live)))
     where
@@ -305,7 +305,7 @@ module _ {all : List Bodies} {v : Nodes} {names : List (Option Val)} {last : ℕ
   pub parts_fit : (parts : List Entry) → length parts ≤ 4000000 → (s : ℕ) → count_in (fin.get v.nodes s) + occurrences s (references parts) < 4294967294
   parts_fit parts fits s = omega (arith, count_below s, occurrences-le s (references parts), references-le parts, fits)
 
-  -- the garbage root holds it
+  -- the garbage root holds the garbage list
   pub root_live : IsLive old 1
   unfolding held_within
   root_live = subst (λ s. IsLive s 1) h.is (held-live all v.nodes objects number was h.keeps.0 1 (omega arith))
@@ -321,7 +321,7 @@ module _ {all : List Bodies} {v : Nodes} {names : List (Option Val)} {last : ℕ
   pub garbage_seat : (body : ℕ) → IfSome (fin.get v.nodes 1) (λ n. body ≡ n.body) → seat_in (fin.get v.nodes 1) ≡ Some (ListKind, body)
   garbage_seat body told = h.keeps.0.root.seat ∙ ap (λ b. Some (ListKind, b)) (sym (garbage_is body told))
 
-  -- an object made
+  -- after making an object
   pub after_make : (garbage : ℕ) → IfSome (fin.get v.nodes 1) (λ n. garbage ≡ n.body) → objects < length (entries_of old 1) + spare_in_box all ListKind garbage → (code : KindCode) (class : Option ℕ) (parts : List Entry) → IsParts code parts → HasClass code class → ((s : ℕ) → 0 < occurrences s (references parts) → IsLive old s) → HasFewHolds old → objects < 1000000 → number + length parts ≤ 4000000
       → (body : ℕ) → fin.get (bodies_at all code) body ≡ None → (spare : ℕ) (all' : List Bodies) → all' ≡ boxes_with_body all code body parts spare
       → (room : ℕ) (v' : Nodes) → v' ≡ counted_up (references parts) (counted_up ((last + 1) ∷ []) (with_arena_node (last + 1) (new_arena_node code class body (first_place code)) (with_room room v)))

@@ -1,4 +1,4 @@
--- References counted one after the other.
+-- References counted one by one.
 use Rattle.std.proofs.Common.{◌≡◌, ◌⊎◌, ℕ, ◌+◌, ◌<◌, ◌≤◌, List, [], ◌∷◌, ◌++◌, length, get_or, Option, Some, None, IsSome, refl, sym, ap, ◌∙◌, subst, inl, inr, arith, take, drop}
 use Rattle.std.specs.Prelude.{◌==◌, option_map, IfSome}
 use Rattle.std.proofs.lemmas.Bool.{cases_eq, eq-eqb}
@@ -22,7 +22,7 @@ counts-more : (j k : ℕ) (a : Option ArenaNode) (m : ℕ) → m ≡ j + k → o
 counts-more j k None m e = refl
 counts-more j k (Some n) m e = let same : (n.count + j) + k ≡ n.count + m = omega (arith, e) in ap (λ c. Some (record n { count = c })) same
 
--- counts one after the other, and at once
+-- counting one by one, and all at once
 pub counted_twice : (xs ys zs : List ℕ) (v : Nodes) → ((s : ℕ) → occurrences s zs ≡ occurrences s xs + occurrences s ys) → counted_up ys (counted_up xs v) ≡ counted_up zs v
 counted_twice xs ys zs v e =
     λ i. record {
@@ -42,7 +42,7 @@ count-le xs v s = subst (λ a. count_in a ≤ count_in (fin.get v.nodes s) + occ
     known None = omega arith
     known (Some n) = omega arith
 
--- the references of the entries so far and of the next one
+-- the references of the entries so far and the next one
 references-more : (s : ℕ) (es : List Entry) (i : ℕ) (d : Entry) → i < length es → occurrences s (references (take (i + 1) es)) ≡ occurrences s (references (take i es)) + occurrences s (references_of_value (Some (get_or es i d).val)) + occurrences s (references_of_value (Some (get_or es i d).key))
 references-more s es i d h =
     ap (λ l. occurrences s (references l)) (take_more es i d h)
@@ -96,7 +96,7 @@ module _ (v now : Nodes) (es : List Entry) (i : ℕ) (d : Entry) (h : i < length
       ∙ counted_twice (references (take i es) ++ references_of_value (Some (get_or es i d).val)) (references_of_value (Some (get_or es i d).key)) (references (take (i + 1) es)) v
       (λ s. omega (arith, references-more s es i d h, occurrences-append s (references (take i es)) (references_of_value (Some (get_or es i d).val))))
 
--- none counted yet, and all
+-- none counted yet, and all counted
 pub none-counted : (v : Nodes) → v ≡ counted_up [] v
 none-counted v = λ i. record { nodes = same_map v.nodes (counted_up [] v).nodes (λ s. known (fin.get v.nodes s) ∙ sym (get-mapped (λ s n. node_counted_up (occurrences s []) n) v.nodes s)) i; lists = v.lists; room = v.room }
   where
@@ -135,7 +135,7 @@ module _ (v w x : Nodes) (serial : ℕ) (n : ArenaNode) (room : ℕ) (fresh : fi
         ] in
         omega (arith, up, one, here, fits)
 
--- the seat of a node that is there
+-- the seat of a node
 pub seated : (a : Option ArenaNode) (code : KindCode) (body : ℕ) → IsSome a → IfSome a (λ n. code ≡ n.code) → IfSome a (λ n. body ≡ n.body) → seat_in a ≡ Some (code, body)
 seated None code body live c b = absurd (cc)
 seated (Some n) code body live c b = λ i. Some (sym c i, sym b i)

@@ -1,4 +1,4 @@
--- What a caller may conclude of the outside holds of one object, and of what is held inside.
+-- What a caller may conclude about the outside holds of one object, and about what is held inside.
 use Rattle.std.proofs.Common.{◌≡◌, ◌≢◌, ℕ, ◌+◌, ◌-◌, ◌<◌, ◌≤◌, Bool, true, false, List, [], ◌∷◌, Option, Some, None, IsSome, get_or, refl, sym, ap, ◌∙◌, subst, inl, inr, arith, sum_by}
 use Rattle.std.specs.Prelude.{◌==◌, option_map, if◌then◌else◌, slice_get}
 use Rattle.std.proofs.lemmas.Bool.{cases_eq, eq-eqb, ne_eqb}
@@ -18,7 +18,7 @@ use Rattle.cg_graph.proofs.Maps.{get-mapped, total-remove, get-insert_same, get-
 use Rattle.cg_heap.specs.Calls.{with_node}
 use Rattle.cg_heap.proofs.ReferenceLemmas.{occurrences-one, occurrences-append, one_if, references-remove}
 
--- what has an outside hold lives
+-- an object with an outside hold lives
 pub outside_live : (store : Store) (s : ℕ) → 0 < outside_of store s → IsLive store s
 outside_live store s has = known (fin.get store.nodes s) has
   where
@@ -26,7 +26,7 @@ outside_live store s has = known (fin.get store.nodes s) has
     known None some = absurd (omega (arith, some))
     known (Some n) some = refl
 
--- one hold more for each reference to it
+-- one more hold for each reference to it
 pub outside-held : (refs : List ℕ) (store : Store) (s : ℕ) → (0 < occurrences s refs → IsLive store s) → outside_of (held refs store) s ≡ outside_of store s + occurrences s refs
 outside-held refs store s live = ap outside_in (get-mapped (λ s n. more (occurrences s refs) n) store.nodes s) ∙ known (fin.get store.nodes s) live
   where
@@ -53,7 +53,7 @@ outside-unheld refs store s = ap outside_in (get-mapped (λ s n. less (occurrenc
     known None = omega arith
     known (Some n) = refl
 
--- the same where an object is changed in another way
+-- unchanged if an object is changed in another way
 pub outside-with_node : (f : Node → Node) → ((n : Node) → (f n).outside ≡ n.outside) → (o : ℕ) (store : Store) (s : ℕ) → outside_of (with_node f o store) s ≡ outside_of store s
 outside-with_node f same o store s = ap outside_in (get-mapped (λ s x. if s == o then f x else x) store.nodes s) ∙ known (s == o) (fin.get store.nodes s)
   where
@@ -68,7 +68,7 @@ outside-rewritten o es store s = outside-with_node (with_entries es) (λ n. refl
 pub outside-moved : (o : ℕ) (p : Place) (store : Store) (s : ℕ) → outside_of (moved o p store) s ≡ outside_of store s
 outside-moved o p store s = outside-with_node (with_place p) (λ n. refl) o store s
 
--- a new object has one
+-- a new object has one hold
 pub outside-made : (code : KindCode) (class : Option ℕ) (parts : List Entry) (store : Store) → ((s : ℕ) → IsLive store s → s ≤ store.last) → (s : ℕ) → outside_of (made code class parts store) s ≡ outside_of store s + occurrences s ((store.last + 1) ∷ [])
 outside-made code class parts store below s = elim (cases_eq s (store.last + 1)) [
   | inl same ↦
@@ -86,11 +86,11 @@ outside-made code class parts store below s = elim (cases_eq s (store.last + 1))
     known None dead = refl
     known (Some n) dead = absurd (dead refl)
 
--- the others keep theirs when one is gone
+-- the others keep theirs when one is freed
 pub outside-gone : (o : ℕ) (store : Store) (s : ℕ) → s ≢ o → outside_of (gone o store) s ≡ outside_of store s
 outside-gone o store s differs = ap outside_in (get-remove_other store.nodes o s differs)
 
--- What entries hold, and names, is held inside; and what is held inside lives in every heap (`IsSound`).
+-- What entries or names hold is held inside; and whatever is held inside lives, in every heap (`IsSound`).
 pub entries_hold : (store : Store) (o s : ℕ) → occurrences s (references (entries_of store o)) ≤ inner store s
 unfolding held_within
 entries_hold store o s = known (fin.get store.nodes o) refl

@@ -1,4 +1,4 @@
--- Names bound, objects moved and changed, and objects gone.
+-- Binding names, moving and changing objects, and freeing them.
 use Rattle.std.proofs.Common.{◌≡◌, ◌≢◌, ℕ, ◌+◌, ◌-◌, ◌<◌, ◌≤◌, Bool, true, false, List, [], length, get_or, set, Option, Some, None, IsSome, refl, sym, ap, ◌∙◌, subst, inl, inr, arith}
 use Rattle.std.specs.Prelude.{◌==◌, if◌then◌else◌, slice_get}
 use Rattle.std.proofs.lemmas.Bool.{cases_eq}
@@ -29,7 +29,7 @@ use Rattle.cg_value.specs.declared.Entry.{Entry}
 use Rattle.cg_value.specs.declared.KindCode.TheVariants.{List as ListKind}
 
 module _ (all : List Bodies) (v : Nodes) (objects number : ℕ) (store : Store) (ok : HeapKeeps all v.nodes objects number store) where
-  -- a name has another value
+  -- a name gets another value
   module _ (i : ℕ) (old new : Option Val) (was : slice_get store.names i ≡ Some old) (live : (s : ℕ) → 0 < occurrences s (references_of_value new) → IsSome (fin.get v.nodes s)) where
     abbrev pub bound : Store
     bound = held (references_of_value old) (named i new store)
@@ -67,7 +67,7 @@ module _ (all : List Bodies) (v : Nodes) (objects number : ℕ) (store : Store) 
           names = omega (arith, length-set store.names i new, ok.names);
         }
 
-  -- One object is changed in its node and in the store alike, its entries, its seat and its counts aside.
+  -- An object is changed in its node and in the store, except its entries, seat and counts.
   module _ (f : ArenaNode → ArenaNode) (g : Node → Node) (at : (n : ArenaNode) → seat_in (Some (f n)) ≡ seat_in (Some n)) (pair : (x : Node) (n : ArenaNode) (k : ℕ) → x ≡ node_from all n k → g x ≡ node_from all (f n) k) (es : (x : Node) → (g x).entries ≡ x.entries) (out : (x : Node) → (g x).outside ≡ x.outside) (count : (n : ArenaNode) → (f n).count ≡ n.count) (well : (x : Node) → IsWellMade x → IsWellMade (g x)) where
     abbrev f_if : Bool → ArenaNode → ArenaNode
     f_if b n = if b then f n else n
@@ -162,7 +162,7 @@ module _ (all : List Bodies) (v : Nodes) (objects number : ℕ) (store : Store) 
       known (Some n) None h = absurd h
       known (Some n) (Some x) h = sym (ap (λ (y : Node). place_in (Some y)) h.0)
 
-  -- an object is gone
+  -- an object is freed
   module _ (o : ℕ) (n : ArenaNode) (found : fin.get v.nodes o ≡ Some n) (none : count_of store o ≡ 0) (empty : entries_of store o ≡ []) where
     not_root : o ≢ 1
     unfolding held_within

@@ -1,4 +1,4 @@
--- An entry put in, or its value replaced.
+-- An entry added, or its value replaced.
 use Rattle.std.proofs.Common.{◌≡◌, ◌≢◌, ℕ, zero, suc, ◌+◌, ◌<◌, ◌≤◌, Bool, true, false, List, [], ◌∷◌, ◌++◌, length, set, Option, Some, None, IsSome, refl, sym, ap, ◌∙◌, subst, arith, pos, negsuc}
 use Rattle.std.specs.Prelude.{if◌then◌else◌, slice_get, option_map, remove, ◌==◌, All}
 use Rattle.std.proofs.lemmas.List.{length-set}
@@ -25,7 +25,7 @@ use Rattle.cg_heap.proofs.Rewrites.{all_after, object-of, shape-written, inner-w
 use Rattle.cg_heap.proofs.Takes.{held-live}
 use Rattle.cg_heap.specs.Boxes.{spare_in_box}
 
--- Entries other than before: what comes is counted, what leaves is held.
+-- Changed entries: what enters is counted, what leaves is held.
 pub keeps-put : (all : List Bodies) (v : Nodes) (objects number : ℕ) (store : Store) (ok : HeapKeeps all v.nodes objects number store) (o : ℕ) (n : ArenaNode) (found : fin.get v.nodes o ≡ Some n) (es : List Entry) (spare : ℕ) (ups outs : List ℕ)
     → ((s : ℕ) → occurrences s (references es) + occurrences s outs ≡ occurrences s (references (entries_of store o)) + occurrences s ups)
     → ((s : ℕ) → occurrences s outs ≤ occurrences s (references (entries_of store o)))
@@ -70,7 +70,7 @@ some_value e = cc
 abbrev pair : Val → Val → Entry
 pair key v = record { key = key; val = v }
 
--- a value replaced under a present key: at the entry, or further on
+-- a value replaced under an existing key: at this entry, or further on
 module _ (key v old : Val) (s : ℕ) where
   replaces_next : (b : Bool) (e : Entry) (es rest : List Entry) (was : Option Val) → (if b then Some e.val else was) ≡ Some old
       → (was ≡ Some old → occurrences s (references rest) + occurrences s (references_of_value (Some old)) ≡ occurrences s (references es) + occurrences s (references_of_value (Some v)))
@@ -127,7 +127,7 @@ item_next s v old (e ∷ es) zero items at =
 item_next s v old (e ∷ es) (suc i) items at =
     omega (arith, item_next s v old es i (All-tail (λ (x : Entry). x.key ≡ val.None) e es items) at, occurrences-append s (entry_references e) (references (set es i (item v))), occurrences-append s (entry_references e) (references es))
 
--- a value replaced, in a kind that takes values
+-- a value replaced, in a mutable kind
 pub replaced-balance : (c : KindCode) (es : List Entry) (key v old : Val) → (c ≡ ListKind → AreItems es) → IsMutable c → value_under c es key ≡ Some old → (s : ℕ) → occurrences s (references (after_put c es key v)) + occurrences s (references_of_value (Some old)) ≡ occurrences s (references es) + occurrences s (references_of_value (Some v))
 replaced-balance ListKind es val.None v old items mutable at s = absurd (cc)
 replaced-balance ListKind es (val.Int (pos i)) v old items mutable at s = item_next s v old es i (items refl) at
@@ -152,7 +152,7 @@ replaced-length Inst es key v mutable at = put_length es key v at
 replaced-length Func es key v mutable at = refl
 replaced-length Weak es key v mutable at = refl
 
--- what is replaced was held
+-- the replaced value was held
 pub replaced-were : (c : KindCode) (es : List Entry) (key old : Val) → (c ≡ ListKind → AreItems es) → IsMutable c → value_under c es key ≡ Some old → (s : ℕ) → occurrences s (references_of_value (Some old)) ≤ occurrences s (references es)
 replaced-were c es key old items mutable at s = omega (arith, replaced-balance c es key val.None old items mutable at s)
 
@@ -161,7 +161,7 @@ none_there [] i h at = absurd (omega (arith, h))
 none_there (e ∷ es) zero h at = absurd (cc)
 none_there (e ∷ es) (suc i) h at = none_there es i (omega (arith, h)) at
 
--- a list takes values at its indices alone
+-- a list takes values only at its indices
 pub list_has : (es : List Entry) (key : Val) → CanPut ListKind es key → value_under ListKind es key ≡ None → ⊥
 list_has es key (i, is, h) none = none_there es i h (ap (value_under ListKind es) (sym is) ∙ none)
 

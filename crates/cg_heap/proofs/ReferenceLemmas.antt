@@ -1,4 +1,4 @@
--- How often an object stands in references: of values, of entries, and of lists of them.
+-- How often an object occurs in references: of values, of entries, and of lists of entries.
 use Rattle.std.proofs.Common.{◌≡◌, ℕ, zero, suc, ◌+◌, ◌-◌, ◌*◌, ◌<◌, ◌≤◌, Bool, List, [], ◌∷◌, ◌++◌, length, Option, Some, None, cond, refl, ap, ◌∙◌, inl, inr, arith, length-append, remove, take}
 use Rattle.std.specs.Prelude.{◌==◌, slice_get, option_to_list}
 use Rattle.std.proofs.lemmas.Bool.{cases_eq, ne_eqb}
@@ -9,7 +9,7 @@ use Rattle.cg_value.specs.declared.Entry.{Entry}
 use Rattle.cg_graph.specs.Holdings.{occurrences, name_holdings}
 use Rattle.cg_graph.specs.Value.{references, entry_references, reference_in, references_of_value, item, without_last}
 
--- at most one in a value, and at most two in an entry
+-- at most one reference in a value, and at most two in an entry
 pub reference-le : (v : Val) → length (option_to_list (reference_in v)) ≤ 1
 reference-le val.None = omega arith
 reference-le (val.Int n) = omega arith
@@ -38,14 +38,13 @@ occurrences-le s xs = count_by-le-length (λ r. r == s) xs
 abbrev pub one_if : Bool → ℕ
 one_if b = cond b 1 0
 
--- one reference
 pub occurrences-one : (s o : ℕ) → occurrences s (o ∷ []) ≡ one_if (o == s)
 occurrences-one s o = omega (arith, sum_by-cons {X = ℕ} (λ r. cond (r == s) 1 0) o [])
 
 pub occurrences-append : (s : ℕ) (xs ys : List ℕ) → occurrences s (xs ++ ys) ≡ occurrences s xs + occurrences s ys
 occurrences-append s xs ys = sum_by-append (λ r. cond (r == s) 1 0) xs ys
 
--- the references of a list with an entry at the end, and of one without an entry
+-- the references of a list with an entry appended or removed
 pub references-append : (s : ℕ) (xs ys : List Entry) → occurrences s (references (xs ++ ys)) ≡ occurrences s (references xs) + occurrences s (references ys)
 references-append s [] ys = omega arith
 references-append s (x ∷ xs) ys =
@@ -67,7 +66,7 @@ length-remove [] i e at = absurd (cc)
 length-remove (x ∷ es) zero e at = refl
 length-remove (x ∷ es) (suc i) e at = ap suc (length-remove es i e at)
 
--- the last entry taken off
+-- the last entry removed
 pub last-remove : (es rest : List Entry) (e : Entry) → es ≡ rest ++ e ∷ [] → (without_last es ≡ rest) × ((s : ℕ) → occurrences s (references es) ≡ occurrences s (references rest) + occurrences s (entry_references e)) × (length es ≡ suc (length rest))
 last-remove es rest e is =
     let len : length es ≡ length rest + 1 = ap length is ∙ length-append rest (e ∷ []) in

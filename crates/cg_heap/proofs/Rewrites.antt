@@ -1,4 +1,4 @@
--- What one body written, or one gone, leaves.
+-- The effect of writing or freeing one body.
 use Rattle.std.proofs.Common.{◌≡◌, ◌≢◌, ℕ, zero, suc, ◌+◌, ◌≤◌, List, length, set, Option, Some, None, refl, sym, ap, ◌∙◌, subst, inl, inr, arith}
 use Rattle.std.specs.Prelude.{◌==◌, option_map, if◌then◌else◌}
 use Rattle.std.proofs.lemmas.Bool.{cases_eq}
@@ -85,7 +85,7 @@ module _ (all : List Bodies) (nodes : fin.FinMap nat_cmp ArenaNode) (store : Sto
         | inr other ↦ ap (λ x. fin.get x m.body) (bodies_at-other m.code (λ e. other (ap code_index e)))
       ]
 
-  -- the spares of all others are kept, and the new one stands
+  -- all other spare capacities are kept, and the new one is set
   pub spare-kept : (p : ℕ) (code : KindCode) (body : ℕ) → p ≢ o → seat_in (fin.get nodes p) ≡ Some (code, body) → spare_in_box all_after code body ≡ spare_in_box all code body
   spare-kept p code body differs seat =
       let (m, at, c, b) = node_seated (fin.get nodes p) code body seat in
@@ -121,7 +121,7 @@ module _ (all : List Bodies) (nodes : fin.FinMap nat_cmp ArenaNode) (store : Sto
         below = λ s h. ok.below s (is_live-mapped (λ s x. if s == o then with_entries es x else x) store.nodes s h);
       }
 
--- the entries that an object has already
+-- writing an object's own entries changes nothing
 pub rewritten-same : (store : Store) (o : ℕ) → rewritten o (entries_of store o) store ≡ store
 rewritten-same store o = λ i. record store { nodes = same_map (changed (with_entries (entries_of store o)) o store.nodes) store.nodes same i }
   where
@@ -139,7 +139,7 @@ rewritten-same store o = λ i. record store { nodes = same_map (changed (with_en
           | inr differs ↦ get-changed_other (with_entries (entries_of store o)) o store.nodes q differs
         ]
 
--- what an object's new entries change
+-- what new entries of an object change
 module _ (store : Store) (o : ℕ) (x : Node) (found : fin.get store.nodes o ≡ Some x) (es : List Entry) where
   pub inner-written : (s : ℕ) → inner (rewritten o es store) s + occurrences s (references x.entries) ≡ inner store s + occurrences s (references es)
   unfolding held_within
@@ -166,7 +166,7 @@ module _ (store : Store) (o : ℕ) (x : Node) (found : fin.get store.nodes o ≡
   pub entries-written_other : (s : ℕ) → s ≢ o → entries_of (rewritten o es store) s ≡ entries_of store s
   entries-written_other s differs = ap entries_in (get-changed_other (with_entries es) o store.nodes s differs)
 
-  -- two objects have together no more entries than all
+  -- two objects together have at most as many entries as all objects
   pub two-sizes : (s : ℕ) → s ≢ o → length x.entries + length (entries_of store s) ≤ total size store.nodes
   two-sizes s differs =
       let first : total size (fin.remove store.nodes o) + length x.entries ≡ total size store.nodes = ap (λ y. total size (fin.remove store.nodes o) + part size y) (sym found) ∙ total-remove size store.nodes o in
@@ -178,7 +178,7 @@ module _ (store : Store) (o : ℕ) (x : Node) (found : fin.get store.nodes o ≡
       known None = refl
       known (Some y) = refl
 
--- A body is gone with its node.
+-- A body is freed with its node.
 module _ (all : List Bodies) (nodes : fin.FinMap nat_cmp ArenaNode) (store : Store) (ok : Shape all nodes store) (o : ℕ) (n : ArenaNode) (found : fin.get nodes o ≡ Some n) where
   abbrev left : Bodies
   left = fin.remove (bodies_at all n.code) n.body

@@ -1,4 +1,4 @@
--- No count is too large.
+-- No count overflows.
 use Rattle.std.proofs.Common.{◌≡◌, ℕ, ◌+◌, ◌*◌, ◌<◌, ◌≤◌, List, [], ◌∷◌, length, Option, Some, None, IsSome, refl, ap, inl, inr, arith, sum_by}
 use Rattle.std.specs.Prelude.{◌==◌}
 use Rattle.std.proofs.lemmas.Bool.{cases_eq, eq-eqb, ne_eqb}
@@ -42,7 +42,7 @@ pub room-below : (all : List Bodies) (nodes : fin.FinMap nat_cmp ArenaNode) (obj
 room-below all nodes objects number store ok rest s =
     omega (arith, ok.counted s, inner-le store s, outside-le store s, ok.sized, ok.entry_limit, ok.garbage, ok.names, rest.holds)
 
--- what the nodes and the store have is the same
+-- the nodes and the store agree on liveness
 pub live-node : (all : List Bodies) (nodes : fin.FinMap nat_cmp ArenaNode) (objects number : ℕ) (store : Store) → HeapKeeps all nodes objects number store → (s : ℕ) → IsLive store s → IsSome (fin.get nodes s)
 live-node all nodes objects number store ok s live = known (fin.get nodes s) (fin.get store.nodes s) (ok.shape.alike s) live
   where

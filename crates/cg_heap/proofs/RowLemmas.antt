@@ -1,4 +1,4 @@
--- What a caller may conclude of the rows: what they name lives, and an object that no query finds is in none of them.
+-- What a caller may conclude about the rows: the objects they name live, and an object found by no query is in no row.
 use Rattle.std.proofs.Common.{◌≡◌, ◌≢◌, ◌⊎◌, ℕ, length, Bool, true, false, not, cond, List, [], ◌∷◌, map, Option, Some, None, refl, sym, ap, ◌∙◌, subst, inl, inr, arith}
 use Rattle.std.specs.Prelude.{◌==◌, ◌&&◌, find, filter, reverse, slice_get, option_map}
 use Rattle.std.specs.List.{All}
@@ -15,7 +15,7 @@ module _ (test : Row → Bool) where
   abbrev found : List Row → ℕ → Option ℕ
   found rows weak = option_map (λ r. r.referent) (find (λ r. (r.weak == weak) && test r) rows)
 
-  -- what is true of each row is true of the one that is found
+  -- a property of each row holds for the one found
   of_found : (P : ℕ → ℕ → Type 0) (rows : List Row) (weak o : ℕ) → All (λ r. P r.weak r.referent) rows → found rows weak ≡ Some o → P weak o
   of_found P [] weak o each is = absurd (cc)
   of_found P (r ∷ rows) weak o each is = go (r.weak == weak) refl (test r) refl (of_found P rows weak o (All-tail (λ x. P x.weak x.referent) r rows each))
@@ -41,19 +41,19 @@ refers_live store rows weak o is = (
   of_found (λ r. not r.waits) (λ w x. IsLive store x) store.rows weak o rows.referent is,
 )
 
--- and so do one that waits, and the object with which it waits
+-- so do a waiting one and the object with which it waits
 pub waits_live : (store : Store) → AreRows store → (weak o : ℕ) → waited_in store.rows weak ≡ Some o → HasCode store weak Weak × IsLive store o
 waits_live store rows weak o is = (
   of_found (λ r. r.waits) (λ w x. HasCode store w Weak) store.rows weak o rows.weak is,
   of_found (λ r. r.waits) (λ w x. IsLive store x) store.rows weak o rows.referent is,
 )
 
--- two facts of each
+-- two properties of each element
 pub all_both : {X : Type 0} (P Q R : X → Type 0) → ((x : X) → P x → Q x → R x) → (xs : List X) → All P xs → All Q xs → All R xs
 all_both P Q R both [] ps qs = All-nil R
 all_both P Q R both (x ∷ xs) ps qs = All-cons R x xs (both x (All-head P x xs ps) (All-head Q x xs qs)) (all_both P Q R both xs (All-tail P x xs ps) (All-tail Q x xs qs))
 
--- where no row passes a test, each fails it
+-- if no row passes a test, each fails it
 no_newest : (test : Row → Bool) (P : Row → Type 0) → ((r : Row) → test r ≡ false → P r) → (rows : List Row) → slice_get (reverse (map (λ (r : Row). r.weak) (filter test rows))) 0 ≡ None → All P rows
 no_newest test P fails rows is = each rows (empty (filter test rows) is)
   where
@@ -78,7 +78,7 @@ fails true true x y = absurd (let e : true ≡ false = x in cc)
 fails true false x y = absurd (let e : true ≡ false = y in cc)
 fails false b x y = refl
 
--- An object that no weak reference has as referent, and with which none waits, is in no row but its own.
+-- An object that is no weak reference's referent, and with which none waits, is in no row except its own.
 pub no_referent : (rows : List Row) (o : ℕ) → slice_get (weak_references_in rows o) 0 ≡ None → slice_get (waiting_in rows o) 0 ≡ None → All (λ r. r.referent ≢ o) rows
 no_referent rows o newest waiting =
     all_both (λ r. waits_with o r ≡ false) (λ r. refers_to o r ≡ false) (λ r. r.referent ≢ o)
@@ -87,7 +87,7 @@ no_referent rows o newest waiting =
     (no_newest (waits_with o) (λ r. waits_with o r ≡ false) (λ r is. is) rows waiting)
     (no_newest (refers_to o) (λ r. refers_to o r ≡ false) (λ r is. is) rows newest)
 
--- An object that is no weak reference has no row of its own, and neither has one whose row has left.
+-- An object that is not a weak reference has no row of its own, nor does one whose row has left.
 pub no_own_row : (store : Store) → AreRows store → (o : ℕ) → (HasCode store o Weak → ⊥) → All (λ r. r.weak ≢ o) store.rows
 no_own_row store rows o other = All-weaker (λ r. HasCode store r.weak Weak) (λ r. r.weak ≢ o) (λ r has same. other (subst (λ w. HasCode store w Weak) same has)) store.rows rows.weak
 
@@ -99,6 +99,6 @@ row_left weak (x ∷ rows) = go (cases_eq x.weak weak) (row_left weak rows)
     go (inl same) rest = subst (All (λ r. r.weak ≢ weak)) (sym (ap (λ b. cond (not b) (x ∷ without_row weak rows) (without_row weak rows)) (eq-eqb x.weak weak same))) rest
     go (inr differs) rest = subst (All (λ r. r.weak ≢ weak)) (sym (ap (λ b. cond (not b) (x ∷ without_row weak rows) (without_row weak rows)) (ne_eqb x.weak weak differs))) (All-cons (λ r. r.weak ≢ weak) x (without_row weak rows) differs rest)
 
--- together: it is in no row, as `free` asks
+-- together: it is in no row, as `free` requires
 pub in_no_row : (rows : List Row) (o : ℕ) → All (λ r. r.weak ≢ o) rows → All (λ r. r.referent ≢ o) rows → IsInNoRow o rows
 in_no_row rows o weak referent = all_both (λ r. r.weak ≢ o) (λ r. r.referent ≢ o) (λ r. (r.weak ≢ o) × (r.referent ≢ o)) (λ r w x. (w, x)) rows weak referent

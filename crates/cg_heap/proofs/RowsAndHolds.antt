@@ -1,4 +1,4 @@
--- What a heap keeps of its rows and outside holds, after each change.
+-- What a heap keeps of its rows and outside holds through each change.
 use Rattle.std.proofs.Common.{◌≡◌, ◌≢◌, ℕ, ◌<◌, Bool, true, false, Option, Some, None, IsSome, refl, sym, subst, arith}
 use Rattle.std.specs.Prelude.{IfSome}
 use Rattle.std.specs.List.{All}
@@ -14,7 +14,7 @@ use Rattle.cg_heap.specs.Keeps.{RowsAndHolds, outside_total}
 use Rattle.cg_heap.proofs.RowLemmas.{all_both}
 use Rattle.cg_heap.proofs.CallerLemmas.{KeepsKinds, lives_on, live_of_kind, kind_of_live, kinds-gone, total-gone}
 
--- the rows stay, and all that they name lives on
+-- the rows are unchanged, and the objects they name live on
 pub kept : (old new : Store) → KeepsKinds old new → new.rows ≡ old.rows → outside_total new < 2147483648 → RowsAndHolds old → RowsAndHolds new
 kept old new kinds same fits ok = record {
   rows = record {
@@ -25,7 +25,7 @@ kept old new kinds same fits ok = record {
   holds = fits;
 }
 
--- an object is gone that is in no row
+-- an object in no row is freed
 pub kept-gone : (o : ℕ) (store : Store) → IsInNoRow o store.rows → RowsAndHolds store → RowsAndHolds (gone o store)
 kept-gone o store none ok = record {
   rows = record {

@@ -1,4 +1,4 @@
--- The garbage list: its room, and an object saved there.
+-- The garbage list: its room, and saving an object.
 use Rattle.std.proofs.Common.{◌≡◌, ◌≢◌, ℕ, suc, ◌+◌, ◌-◌, ◌<◌, ◌≤◌, List, [], ◌∷◌, ◌++◌, length, Option, Some, None, IsSome, refl, sym, ap, ◌∙◌, subst, inl, inr, arith, length-append}
 use Rattle.std.specs.Prelude.{All, IfSome, ◌==◌}
 use Rattle.std.proofs.lemmas.Bool.{cases_eq, eq-eqb, ne_eqb}
@@ -42,7 +42,7 @@ occurs_head x xs =
     let one : one_if (x == x) ≡ 1 = ap one_if (eq-eqb x x refl) in
     omega (arith, occurrences-append x (x ∷ []) xs, occurrences-one x x, one)
 
--- different serials of objects are no more than the objects
+-- distinct serials of objects are at most as many as the objects
 pub no_more_than : (xs : List ℕ) (m : fin.FinMap nat_cmp Node) → ((s : ℕ) → occurrences s xs ≤ 1) → ((s : ℕ) → 0 < occurrences s xs → IsSome (fin.get m s)) → length xs ≤ total one m
 no_more_than [] m once live = omega arith
 no_more_than (x ∷ xs) m once live =
@@ -80,7 +80,7 @@ module _ (all : List Bodies) (v : Nodes) (objects number : ℕ) (store : Store) 
       let fits = no_more_than (1 ∷ references (entries_of store 1)) store.nodes ok.saves.once saved_live in
       omega (arith, fits, saved_length (entries_of store 1) ok.saves.saved, ok.numbered)
 
-  -- and fewer than all where it does not name one
+  -- and fewer than all if it does not name this one
   module _ (o : ℕ) (live : IsLive store o) (other : o ≢ 1) (new : occurrences o (references (entries_of store 1)) ≡ 0) where
     once_more : (s : ℕ) → occurrences s (o ∷ 1 ∷ references (entries_of store 1)) ≤ 1
     once_more s =
@@ -157,7 +157,7 @@ module _ (all : List Bodies) (v : Nodes) (objects number : ℕ) (store : Store) 
           names = ok.names;
         }
 
-  -- the garbage list has more room
+  -- the garbage list gets more room
   keeps-reserved : n.code ≡ ListKind → n.body ≡ ok.root.body → (spare : ℕ) → spare_in_box all n.code n.body ≤ spare → HeapKeeps (boxes_with_body all n.code n.body (entries_of store 1) spare) v.nodes objects number store
   keeps-reserved list at_root spare more = record {
     shape = subst (λ s. Shape (boxes_with_body all n.code n.body (entries_of store 1) spare) v.nodes s) (rewritten-same store 1) (shape-written all v.nodes store ok.shape 1 n found (entries_of store 1) spare);
@@ -204,7 +204,7 @@ module _ {all : List Bodies} {v : Nodes} {names : List (Option Val)} {last : ℕ
       let len : length (entries_in_box all ListKind body) ≡ length (entries_of was 1) = ap length (garbage_entries ∙ entries_was) in
       omega (arith, len, saved_fit all v objects number was h.keeps.0 root.0 root.1)
 
-  -- room was made
+  -- after reserving room
   pub after_reserve : (spare : ℕ) → spare_in_box all ListKind body ≤ spare → (all' : List Bodies) → all' ≡ boxes_with_body all ListKind body (entries_in_box all ListKind body) spare → Closed all' v names last rows objects number old
   after_reserve spare more all' is =
       subst (λ s. Closed all' v names last rows objects number s) h.is
@@ -217,7 +217,7 @@ module _ {all : List Bodies} {v : Nodes} {names : List (Option Val)} {last : ℕ
   pub ready_after : (all' : List Bodies) → objects + 1 ≤ length (entries_in_box all ListKind body) + spare_in_box all' ListKind body → objects < length (entries_of old 1) + spare_in_box all' ListKind body
   ready_after all' room = let len = ap length garbage_entries in omega (arith, room, len)
 
-  -- an object saved
+  -- after saving an object
   module _ (o : ℕ) (live : IsLive old o) (other : o ≢ 1) (new : occurrences o (references (entries_of old 1)) ≡ 0) where
     live_was : IsLive was o
     live_was = subst (λ s. IsLive s o) (sym h.is) live

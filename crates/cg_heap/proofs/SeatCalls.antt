@@ -1,4 +1,4 @@
--- What the calls on the entries of one object leave, by the seat of the object.
+-- The effect of calls on one object's entries, by its seat.
 use Rattle.std.proofs.Common.{◌≡◌, ◌≢◌, ℕ, suc, ◌+◌, ◌-◌, ◌<◌, ◌≤◌, List, [], ◌∷◌, ◌++◌, length, remove, slice_get, Option, Some, None, IsSome, refl, sym, ap, ◌∙◌, subst, inl, inr, arith, length-append}
 use Rattle.std.specs.Prelude.{All, ◌&&◌, ◌||◌, IfSome}
 use Rattle.std.proofs.lemmas.Bool.{cases_eq}
@@ -66,7 +66,7 @@ module _ {all : List Bodies} {v : Nodes} {names : List (Option Val)} {last : ℕ
     pub code_is : code ≡ code_of old o
     code_is = sym object_there.2 ∙ sym (ap code_in object_there.1)
 
-    -- the kind, and no other
+    -- an object has one kind
     pub has_code : HasCode old o code
     has_code = (object_there.0, object_there.1, object_there.2)
 
@@ -82,11 +82,11 @@ module _ {all : List Bodies} {v : Nodes} {names : List (Option Val)} {last : ℕ
     boxes_are : (es : List Entry) (spare : ℕ) → boxes_with_body all code body es spare ≡ boxes_with_body all there.0.code there.0.body es spare
     boxes_are es spare = λ i. boxes_with_body all (sym there.2 i) (sym there.3 i) es spare
 
-    -- other entries, and holds, let no object go
+    -- new entries and holds free no object
     kinds-put : (refs : List ℕ) (es : List Entry) → KeepsKinds was (held refs (rewritten o es was))
     kinds-put refs es s c has = kinds-held refs (rewritten o es was) s c (kinds-rewritten o es was s c has)
 
-    -- entries other than before
+    -- after changing entries
     after_entries : (es : List Entry) (spare : ℕ) (all' : List Bodies) → all' ≡ boxes_with_body all code body es spare → (ups outs : List ℕ) → ((s : ℕ) → occurrences s (references es) + occurrences s outs ≡ occurrences s (references (entries_of old o)) + occurrences s ups) → ((s : ℕ) → occurrences s outs ≤ occurrences s (references (entries_of old o))) → ((s : ℕ) → 0 < occurrences s ups → IsLive old s) → outside_total old + length outs < 2147483648 → o ≢ 1
         → ((x : Node) → fin.get old.nodes o ≡ Some x → IsWellMade x → IsWellMade (with_entries es x)) → (number' : ℕ) → number' + length (entries_of old o) ≡ number + length es → number' ≤ 4000000 → (v' : Nodes) → v' ≡ counted_up ups v
         → Closed all' v' names last rows objects number' (held outs (rewritten o es old))
@@ -107,7 +107,7 @@ module _ {all : List Bodies} {v : Nodes} {names : List (Option Val)} {last : ℕ
         (kept was (held outs (rewritten o es was)) (kinds-put outs es) refl (omega (arith, total-held outs (rewritten o es was), total-rewritten o es was, total_is h, fits)) h.keeps.1)
         refl)))
 
-    -- an entry taken out
+    -- after taking an entry
     after_leave : (es : List Entry) (spare : ℕ) (all' : List Bodies) → all' ≡ boxes_with_body all code body es spare → (refs : List ℕ) → ((s : ℕ) → occurrences s (references (entries_of old o)) ≡ occurrences s (references es) + occurrences s refs) → length (entries_of old o) ≡ suc (length es)
         → ((x : Node) → fin.get old.nodes o ≡ Some x → IsWellMade x → IsWellMade (with_entries es x)) → (o ≡ 1 → spare_in_box all code body + 1 ≤ spare) → (o ≡ 1 → All IsSaved (entries_of old o) → All IsSaved es) → (number' : ℕ) → number' ≡ number_less o number → outside_total old + length refs < 2147483648
         → Closed all' v names last rows objects number' (held refs (rewritten o es old))
@@ -162,7 +162,7 @@ module _ {all : List Bodies} {v : Nodes} {names : List (Option Val)} {last : ℕ
         (λ y found good. subst (λ es. IsWellMade (with_entries (es ++ item x ∷ []) y)) (entries_of_object y found) (well-append y x (ap code_in (sym found) ∙ sym code_is ∙ list) good))
         (number + 1) (omega (arith, length-append (entries_of old o) (item x ∷ []))) (omega (arith, fits)) v' counts)
 
-    -- the value under a key replaced
+    -- after replacing the value under a key
     pub after_replace : (key x was_val : Val) → IsMutable (code_of old o) → value_in old o key ≡ Some was_val → (spare : ℕ) (all' : List Bodies) → all' ≡ boxes_with_body all code body (after_put (code_of old o) (entries_of old o) key x) spare → o ≢ 1 → IsLiveValue old x → HasFewHolds old → (v' : Nodes) → v' ≡ counted_up (references_of_value (Some x)) v
         → Closed all' v' names last rows objects number (held (references_of_value (Some was_val)) (rewritten o (after_put (code_of old o) (entries_of old o) key x) old))
     after_replace key x was_val mutable at spare all' is other live few v' counts =
@@ -181,7 +181,7 @@ module _ {all : List Bodies} {v : Nodes} {names : List (Option Val)} {last : ℕ
             let (x, at, c, es, has) = object_there in
             subst AreItems (entries_of_object x at) ((well_there x at).items (ap code_in (sym at) ∙ list))
 
-    -- a key added
+    -- after adding a key
     pub after_add : (key x : Val) → IsMutable (code_of old o) → CanPut (code_of old o) (entries_of old o) key → value_in old o key ≡ None → (spare : ℕ) (all' : List Bodies) → all' ≡ boxes_with_body all code body (after_put (code_of old o) (entries_of old o) key x) spare → o ≢ 1 → IsLiveValue old key → IsLiveValue old x → number < 4000000 → (v1 v' : Nodes) → v1 ≡ counted_up (references_of_value (Some x)) v → v' ≡ counted_up (references_of_value (Some key)) v1
         → Closed all' v' names last rows objects (number + 1) (held [] (rewritten o (after_put (code_of old o) (entries_of old o) key x) old))
     after_add key x mutable can none spare all' is other live_key live_val fits v1 v' first second =
@@ -199,7 +199,7 @@ module _ {all : List Bodies} {v : Nodes} {names : List (Option Val)} {last : ℕ
         (number + 1) (let len = ap length added in omega (arith, len, length-append (entries_of old o) (record { key = key; val = x } ∷ []))) (omega (arith, fits)) v'
         (second ∙ ap (counted_up (references_of_value (Some key))) first ∙ counted_twice (references_of_value (Some x)) (references_of_value (Some key)) (references_of_value (Some x) ++ references_of_value (Some key)) v (λ s. occurrences-append s (references_of_value (Some x)) (references_of_value (Some key))))
 
-    -- the body gone, and the node
+    -- after freeing the body and the node
     pub after_free : count_of old o ≡ 0 → entries_of old o ≡ [] → IsInNoRow o old.rows → (all' : List Bodies) → all' ≡ boxes_without all code body → (room : ℕ) (v' : Nodes) → v' ≡ without_node o (with_room room v) → Closed all' v' names last rows (objects - 1) number (gone o old)
     after_free none empty no_row all' is room v' e =
         subst (λ s. Closed all' v' names last rows (objects - 1) number (gone o s)) h.is
@@ -219,7 +219,7 @@ module _ {all : List Bodies} {v : Nodes} {names : List (Option Val)} {last : ℕ
     pub has_object : count_of old o ≡ 0 → entries_of old o ≡ [] → 0 < objects
     has_object none empty = (others all v objects number was h.keeps.0 o there.0 there.1 (subst (λ s. count_of s o ≡ 0) (sym h.is) none) (subst (λ s. entries_of s o ≡ []) (sym h.is) empty)).1
 
-    -- the same, as the boxes tell it
+    -- the same, by the boxes
     pub is_list : HasCode old o ListKind → code ≡ ListKind
     is_list (x, at, list) = code_is ∙ ap code_in at ∙ list
 
@@ -238,7 +238,7 @@ module _ {all : List Bodies} {v : Nodes} {names : List (Option Val)} {last : ℕ
     pub value_here : (key : Val) → value_under code (entries_in_box all code body) key ≡ value_in old o key
     value_here key = λ i. value_under (code_is i) (entries_are i) key
 
-    -- the garbage list has room for one item more
+    -- the garbage list has room for one more item
     room_left : o ≡ 1 → spare_in_box all code body + 1 ≤ spare_after_leave code (spare_in_box all code body)
     room_left same =
         let parts = some_pair_parts code ListKind body h.keeps.0.root.body (sym seat ∙ ap (λ k. seat_in (fin.get v.nodes k)) same ∙ h.keeps.0.root.seat) in
@@ -303,6 +303,6 @@ module _ {all : List Bodies} {v : Nodes} {names : List (Option Val)} {last : ℕ
         subst (λ w. Closed all' v' names last rows objects (number + 1) (held (references_of_value w) (rewritten o (after_put (code_of old o) (entries_of old o) key x) old))) (sym none)
         (after_add key x can.1 can.2 none spare all' (is ∙ put_here key x spare) other live_key live_val fits v1 v' first second)
 
-    -- whether the put makes the object tracked, by its kind and place
+    -- whether a put makes the object tracked, by its kind and place
     pub tracks_put : (key x : Val) (place : Place) → IsLive old o → IfSome (fin.get v.nodes o) (λ n. place ≡ n.place) → (is_dict_at code place && (may_be_tracked old key || may_be_tracked old x)) ≡ becomes_tracked old o key x
     tracks_put key x place live told = ap (λ b. b && (may_be_tracked old key || may_be_tracked old x)) (dict_here (fin.get old.nodes o) code place live code_is (place_told h o live place told))

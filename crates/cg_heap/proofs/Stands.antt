@@ -1,4 +1,4 @@
--- A heap stands for one store, and what counts and holds do to it.
+-- A heap represents exactly one store; the effect of counts and holds on it.
 use Rattle.std.proofs.Common.{◌≡◌, ℕ, ◌+◌, ◌-◌, ◌<◌, ◌≤◌, List, [], ◌∷◌, length, Option, Some, None, IsSome, refl, sym, ap, ◌∙◌, subst, inl, inr, arith}
 use Rattle.std.specs.Prelude.{option_map}
 use Rattle.std.proofs.lemmas.Bool.{cases_eq}
@@ -20,7 +20,7 @@ use Rattle.cg_heap.specs.Keeps.{HeapKeeps, Shape, Alike, node_from, bare_nodes, 
 use Rattle.cg_value.specs.declared.Entry.{Entry}
 use Rattle.cg_value.specs.declared.KindCode.TheVariants.{List as ListKind}
 
--- what is held depends on the entries alone
+-- what is held depends only on the entries
 pub within-mapped : (g : ℕ → Node → Node) → ((s : ℕ) (x : Node) → (g s x).entries ≡ x.entries) → (names : List (Option Val)) (m : fin.FinMap nat_cmp Node) (s : ℕ) → held_within names (mapped g m) s ≡ held_within names m s
 unfolding held_within
 within-mapped g same names m s =
@@ -41,7 +41,7 @@ bare-mapped all nodes m alike =
     same q (Some n) None h = absurd h
     same q (Some n) (Some x) h = sym (ap (λ y. Some (emptied q y)) h.0)
 
--- alike nodes with the counts of a map are that map
+-- nodes that agree with the counts of a map are that map
 pub nodes-are : (all : List Bodies) (names : List (Option Val)) (nodes : fin.FinMap nat_cmp ArenaNode) (m : fin.FinMap nat_cmp Node) → ((s : ℕ) → Alike all (fin.get nodes s) (fin.get m s)) → ((s : ℕ) → count_in (fin.get nodes s) ≡ held_within names m s + outside_in (fin.get m s)) → nodes_from all names nodes ≡ m
 unfolding nodes_from
 nodes-are all names nodes m alike counted =
@@ -61,7 +61,7 @@ nodes-are all names nodes m alike counted =
         let out : n.count - held_within names (bare_nodes all nodes) q ≡ x.outside = omega (arith, c, within-bare q) in
         ap (λ k. Some (node_from all n k)) out ∙ sym (ap Some h.0)
 
--- The fields stand for the store, and the struct may close over them.
+-- The fields represent the store, and the struct's invariant holds.
 pub record Closed (all : List Bodies) (v : Nodes) (names : List (Option Val)) (last : ℕ) (rows : List Row) (objects number : ℕ) (store : Store) : Type 0 where
   pub keeps : HeapKeeps all v.nodes objects number (store_of all v names last rows) × RowsAndHolds (store_of all v names last rows)
   pub is : store_of all v names last rows ≡ store
@@ -84,7 +84,7 @@ HeldAt all (Some b) = HasBody all b.0 b.1
 abbrev with_outside : Node → ℕ → Node
 with_outside y k = record y { outside = k }
 
--- the answers of maps, mapped
+-- look-ups in mapped maps
 alike-counted : (all : List Bodies) (f : ArenaNode → ArenaNode) → ((n : ArenaNode) (k : ℕ) → node_from all (f n) k ≡ node_from all n k) → ((n : ArenaNode) → seat_in (Some (f n)) ≡ seat_in (Some n)) → (a : Option ArenaNode) (x : Option Node) → Alike all a x → Alike all (option_map f a) x
 alike-counted all f same at None None h = tt
 alike-counted all f same at None (Some x) h = absurd h
@@ -124,7 +124,7 @@ alike-both all f g at pair None (Some x) h = absurd h
 alike-both all f g at pair (Some n) None h = absurd h
 alike-both all f g at pair (Some n) (Some x) h = (pair x n x.outside h.0, subst (HeldAt all) (sym (at n)) h.1)
 
--- nodes and objects changed alike
+-- nodes and objects changed in the same way
 module _ (f : ℕ → ArenaNode → ArenaNode) (g : ℕ → Node → Node) (all : List Bodies) (nodes : fin.FinMap nat_cmp ArenaNode) (store : Store) (ok : Shape all nodes store) (at : (s : ℕ) (n : ArenaNode) → seat_in (Some (f s n)) ≡ seat_in (Some n)) (pair : (s : ℕ) (x : Node) (n : ArenaNode) (k : ℕ) → x ≡ node_from all n k → g s x ≡ node_from all (f s n) (g s x).outside) where
   alike-after : (s : ℕ) → Alike all (fin.get (mapped f nodes) s) (fin.get (mapped g store.nodes) s)
   alike-after s =
@@ -172,7 +172,7 @@ module _ (all : List Bodies) (nodes : fin.FinMap nat_cmp ArenaNode) (store : Sto
     below = λ s h. ok.below s (is_live-mapped (λ s x. more (occurrences s refs) x) store.nodes s h);
   }
 
--- what is held is live
+-- a held object is live
 pub up-counts : (refs : List ℕ) (nodes : fin.FinMap nat_cmp ArenaNode) (s : ℕ) → (0 < occurrences s refs → IsSome (fin.get nodes s)) → count_in (fin.get (mapped (λ s n. node_counted_up (occurrences s refs) n) nodes) s) ≡ count_in (fin.get nodes s) + occurrences s refs
 up-counts refs nodes s live = ap count_in (get-mapped (λ s n. node_counted_up (occurrences s refs) n) nodes s) ∙ known (fin.get nodes s) live
   where
@@ -195,7 +195,7 @@ held-sizes refs store = total-mapped (λ s n. more (occurrences s refs) n) size 
 pub held-entries : (refs : List ℕ) (store : Store) (s : ℕ) → entries_of (held refs store) s ≡ entries_of store s
 held-entries refs store s = entries-mapped_nodes (λ s n. more (occurrences s refs) n) (λ s x. refl) store.nodes s
 
--- what is true of each object stays true
+-- a property of each object is kept
 pub well-mapped : (g : ℕ → Node → Node) (m : fin.FinMap nat_cmp Node) → ((s : ℕ) (x : Node) → IsWellMade x → IsWellMade (g s x)) → ((s : ℕ) → IsWellMadeAt (fin.get m s)) → (s : ℕ) → IsWellMadeAt (fin.get (mapped g m) s)
 well-mapped g m well was s = subst IsWellMadeAt (sym (get-mapped g m s)) (known (fin.get m s) (was s))
   where
@@ -207,7 +207,7 @@ pub held-well : (refs : List ℕ) (store : Store) → ((s : ℕ) → IsWellMadeA
 held-well refs store = well-mapped (λ s n. more (occurrences s refs) n) store.nodes (λ s x h. record { items = h.items; classed = h.classed; single = h.single })
 
 module _ (all : List Bodies) (v : Nodes) (objects number : ℕ) (store : Store) (ok : HeapKeeps all v.nodes objects number store) where
-  -- counts and holds changed alike
+  -- counts and holds changed in the same way
   module _ (f : ℕ → ArenaNode → ArenaNode) (g : ℕ → Node → Node) (at : (s : ℕ) (n : ArenaNode) → seat_in (Some (f s n)) ≡ seat_in (Some n)) (pair : (s : ℕ) (x : Node) (n : ArenaNode) (k : ℕ) → x ≡ node_from all n k → g s x ≡ node_from all (f s n) (g s x).outside) (es : (s : ℕ) (x : Node) → (g s x).entries ≡ x.entries) (counts : (s : ℕ) (n : ArenaNode) (x : Node) (within : ℕ) → fin.get store.nodes s ≡ Some x → n.count ≡ within + x.outside → (f s n).count ≡ within + (g s x).outside) (well : (s : ℕ) (x : Node) → IsWellMade x → IsWellMade (g s x)) where
     abbrev after : Store
     after = record store { nodes = mapped g store.nodes }
@@ -248,7 +248,7 @@ module _ (all : List Bodies) (v : Nodes) (objects number : ℕ) (store : Store) 
           names = ok.names;
         }
 
-  -- one hold more for each reference
+  -- one more hold for each reference
   pub keeps-held : (refs : List ℕ) → HeapKeeps all (counted_up refs v).nodes objects number (held refs store)
   keeps-held refs =
       keeps-counts (λ s n. node_counted_up (occurrences s refs) n) (λ s n. more (occurrences s refs) n) (λ s n. refl)

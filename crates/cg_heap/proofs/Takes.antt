@@ -1,4 +1,4 @@
--- An entry goes.
+-- Removing an entry.
 use Rattle.std.proofs.Common.{◌≡◌, ◌≢◌, ℕ, suc, ◌+◌, ◌-◌, ◌<◌, ◌≤◌, List, [], ◌∷◌, length, Option, Some, None, IsSome, refl, sym, ap, ◌∙◌, inl, inr, arith, subst}
 use Rattle.std.specs.Prelude.{◌==◌, if◌then◌else◌, All}
 use Rattle.std.proofs.lemmas.Bool.{cases_eq, eq-eqb, ne_eqb}
@@ -22,7 +22,7 @@ use Rattle.cg_heap.specs.Boxes.{spare_in_box}
 use Rattle.std.proofs.lemmas.Option.{some_pair_parts}
 use Rattle.cg_value.specs.declared.KindCode.TheVariants.{List as ListKind}
 
--- what is held is live
+-- a held object is live
 pub held-live : (all : List Bodies) (nodes : fin.FinMap nat_cmp ArenaNode) (objects number : ℕ) (store : Store) → HeapKeeps all nodes objects number store → (s : ℕ) → 0 < inner store s → IsLive store s
 held-live all nodes objects number store ok s held = known (fin.get nodes s) (fin.get store.nodes s) (ok.shape.alike s) (omega (arith, ok.counted s, held))
   where
@@ -82,7 +82,7 @@ module _ (all : List Bodies) (v : Nodes) (objects number : ℕ) (store : Store) 
             let was : occurrences s (references x.entries) ≡ occurrences s (references (entries_of store o)) = ap (λ l. occurrences s (references l)) (entries-now x at) in
             omega (arith, ok.counted s, inner-written store o x at es s, was, split s, outside-rewritten o es store s, held-inner refs (rewritten o es store) s, outside-held refs (rewritten o es store) s (refs_live x at s))
 
-        -- of the garbage list too
+        -- the entries of the garbage list too
         entries_root : (x : Node) → fin.get store.nodes o ≡ Some x → o ≡ 1 → entries_of taken 1 ≡ es
         entries_root x at same = held-entries refs (rewritten o es store) 1 ∙ ap (entries_of (rewritten o es store)) (sym same) ∙ entries-written store o x at es
 

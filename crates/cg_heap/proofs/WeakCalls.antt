@@ -1,4 +1,4 @@
--- What the calls on weak references leave.
+-- The effect of calls on weak references.
 use Rattle.std.proofs.Common.{◌≡◌, ℕ, Bool, ◌+◌, ◌<◌, ◌≤◌, List, Option, Some, None, IsSome, refl, sym, ap, subst, arith}
 use Rattle.std.specs.Prelude.{IfSome, if◌then◌else◌, All}
 use Rattle.cg_value.specs.declared.Val.{Val}
@@ -36,7 +36,7 @@ module _ {all : List Bodies} {v : Nodes} {names : List (Option Val)} {last : ℕ
       (subst (λ r. Closed all v names last r objects number (forgotten_weak weak was)) (sym e)
       (closed all v objects number (forgotten_weak weak was) (keeps-aside h.keeps.0) (kept-forgotten weak was h.keeps.1) refl))
 
-  -- all rows are of weak references below a new serial
+  -- all rows have weak references below a new serial
   pub rows_below : All (λ r. r.weak < last + 1) rows
   rows_below = All-weaker (λ r. HasCode was r.weak Weak) (λ r. r.weak < last + 1) (λ r has. let low : r.weak ≤ last = h.keeps.0.shape.below r.weak (live_of_kind was r.weak Weak has) in omega (arith, low)) rows h.keeps.1.rows.weak
 
@@ -58,7 +58,7 @@ module _ {all : List Bodies} {v : Nodes} {names : List (Option Val)} {last : ℕ
   last_is : last ≡ old.last
   last_is = ap (λ (s : Store). s.last) h.is
 
-  -- and its row
+  -- and its row is added
   pub after_making : (code : KindCode) (class : Option ℕ) (parts : List Entry) (referent : Option ℕ) → HasReferent code referent → IfSome referent (λ o. IsLive old o) → (all' : List Bodies) (v' : Nodes) (objects' number' : ℕ) → Closed all' v' names (last + 1) rows objects' number' (made code class parts old)
       → (rows' : List Row) → rows' ≡ with_new_row (last + 1) referent rows → Closed all' v' names (last + 1) rows' objects' number' (attached (old.last + 1) referent (made code class parts old))
   after_making code class parts referent has live all' v' objects' number' made_so rows' e =

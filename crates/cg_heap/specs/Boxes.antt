@@ -22,7 +22,7 @@ body_code =
 abbrev pub boxes_code : Coded (List Bodies)
 boxes_code = coded_list (fin.code coded_ℕ body_code)
 
--- where the box of a kind stands
+-- the index of a kind's box
 abbrev pub code_index : KindCode → ℕ
 code_index ListKind = 0
 code_index Tuple = 1
@@ -35,7 +35,7 @@ code_index Weak = 5
 abbrev pub bodies_at : List Bodies → KindCode → Bodies
 bodies_at all code = slice_index_or all (code_index code) fin.empty
 
--- other bodies of one kind
+-- the boxes with other bodies for one kind
 abbrev pub boxes_with : List Bodies → KindCode → Bodies → List Bodies
 boxes_with all code bodies = slice_set all (code_index code) bodies
 
@@ -43,17 +43,17 @@ boxes_with all code bodies = slice_set all (code_index code) bodies
 abbrev pub HasBody : List Bodies → KindCode → ℕ → Type 0
 HasBody all code at = Holds (bodies_at all code) at
 
--- its entries, and its spare
+-- its entries, and its spare capacity
 abbrev pub entries_in_box : List Bodies → KindCode → ℕ → List Entry
 entries_in_box all code at = entries_at (bodies_at all code) at
 
 abbrev pub spare_in_box : List Bodies → KindCode → ℕ → ℕ
 spare_in_box all code at = spare_at (bodies_at all code) at
 
--- one body with these entries and this spare, and all others as they were
+-- one body with these entries and this spare capacity, all others unchanged
 abbrev pub boxes_with_body : List Bodies → KindCode → ℕ → List Entry → ℕ → List Bodies
 boxes_with_body all code at entries spare = boxes_with all code (with_body (bodies_at all code) at entries spare)
 
--- one body gone
+-- one body removed
 abbrev pub boxes_without : List Bodies → KindCode → ℕ → List Bodies
 boxes_without all code at = boxes_with all code (fin.remove (bodies_at all code) at)

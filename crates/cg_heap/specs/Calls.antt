@@ -1,4 +1,4 @@
--- What the calls of a heap ask for, and what they leave. (Ours.)
+-- What the calls of a heap require and what they change. (Ours.)
 use Rattle.std.specs.Prelude.{◌≡◌, ℕ, ◌-◌, ◌<◌, ◌≤◌, ◌==◌, if◌then◌else◌, Bool, true, false, not, ◌&&◌, ◌||◌, Option, Some, None, List, length, option_map, slice_get}
 use Rattle.std.specs.FinMap as fin
 use Rattle.cg_value.specs.declared.Val.{Val}
@@ -20,23 +20,23 @@ use Rattle.cg_arena.specs.Nodes.{count_in_list, number_lowered}
 use Rattle.cg_heap.specs.Keeps.{size, one, IsWellMadeAt, IsGarbage, outside_total}
 use Rattle.cg_heap.specs.Weak.{AreRows}
 
--- All objects together have fewer than 2^31 - 2 outside holds, so that a call may give two more. (Ours: so no count passes
--- 2^32 - 1.)
+-- All objects together have fewer than 2^31 - 2 outside holds, so that a call may add two. (Ours: it keeps every count
+-- within 2^32 - 1.)
 abbrev pub HasFewHolds : Store → Type 0
 HasFewHolds store = outside_total store < 2147483646
 
--- the number of live objects, and of their entries, the garbage list aside
+-- the number of live objects, and of their entries, not counting the garbage list
 abbrev pub object_number : Store → ℕ
 object_number store = total one store.nodes - 1
 
 abbrev pub entry_number : Store → ℕ
 entry_number store = total size store.nodes - length (entries_of store 1)
 
--- the number of entries once one of an object is gone
+-- the number of entries after one entry of an object is removed
 abbrev pub number_less : ℕ → ℕ → ℕ
 number_less o number = if o == 1 then number else number - 1
 
--- the kind of a node that may be there, and of an object
+-- the kind of an optional node, and of an object
 abbrev pub code_in : Option Node → KindCode
 code_in None = ListKind
 code_in (Some n) = n.code
@@ -44,8 +44,8 @@ code_in (Some n) = n.code
 abbrev pub code_of : Store → ℕ → KindCode
 code_of store o = code_in (fin.get store.nodes o)
 
--- Values are put into lists, dictionaries and instances, and entries are taken out of them. The other kinds never change
--- but when they are emptied.
+-- Values are put into lists, dictionaries and instances, and entries taken out of them. The other kinds never change
+-- until they are cleared.
 abbrev pub IsMutable : KindCode → Type 0
 IsMutable ListKind = Unit {0}
 IsMutable Dict = Unit {0}
@@ -72,21 +72,21 @@ IsBound names n = (v : Val) × (slice_get names n ≡ Some (Some v))
 abbrev pub AreBoundBelow : ℕ → List (Option Val) → Type 0
 AreBoundBelow upper names = (n : ℕ) → IsBound names n → n < upper
 
--- the greatest number of a bound name, None where no name is bound
+-- the greatest number of a bound name, None if no name is bound
 abbrev pub IsGreatestBound : List (Option Val) → Option ℕ → Type 0
 IsGreatestBound names None = (n : ℕ) → ¬ IsBound names n
 IsGreatestBound names (Some greatest) = IsBound names greatest × ((n : ℕ) → IsBound names n → n ≤ greatest)
 
--- the value that a put at the key replaces, if there is one
+-- the value that a put at the key replaces, if any
 abbrev pub value_in : Store → ℕ → Val → Option Val
 value_in store o key = value_under (code_of store o) (entries_of store o) key
 
--- A value put under a key: the one that it replaces is held from outside.
+-- Puts a value under a key; the value it replaces becomes held from outside.
 abbrev pub with_put : Store → ℕ → Val → Val → Store
 with_put store o key val = held (references_of_value (value_in store o key)) (rewritten o (after_put (code_of store o) (entries_of store o) key val) store)
 
--- An object may be tracked when it is no tuple, or a tracked one; an atom may not. (Developer guide, "optimization: delay
--- tracking containers".)
+-- An object may be tracked if it is not a tuple, or is a tracked tuple; an atom may not. (Developer guide,
+-- "optimization: delay tracking containers".)
 abbrev pub code_may_be_tracked : KindCode → Place → Bool
 code_may_be_tracked Tuple place = not (same_place place Untracked)
 code_may_be_tracked code place = true
@@ -110,15 +110,15 @@ abbrev pub is_untracked_dict : Option Node → Bool
 is_untracked_dict None = false
 is_untracked_dict (Some n) = is_dict_at n.code n.place
 
--- An untracked dictionary becomes tracked by a key or a value that may be tracked. (`gc` manual, `gc.is_tracked`.)
+-- A key or value that may be tracked makes an untracked dictionary tracked. (`gc` manual, `gc.is_tracked`.)
 abbrev pub becomes_tracked : Store → ℕ → Val → Val → Bool
 becomes_tracked store o key val = is_untracked_dict (fin.get store.nodes o) && (may_be_tracked store key || may_be_tracked store val)
 
--- it goes to the end of generation 0
+-- it moves to the end of generation 0
 abbrev pub tracked_if : Bool → ℕ → Store → Store
 tracked_if b o store = if b then moved o (Gen 0) store else store
 
--- all objects of one place go to the end of another, in their order
+-- all objects of one place move to the end of another, in order
 abbrev pub place_merged : Place → Place → Node → Node
 place_merged p q n = if place_number n.place == place_number p then with_place q n else n
 
@@ -136,28 +136,28 @@ marked n = record n { finalized = true }
 abbrev pub with_number : ℕ → Node → Node
 with_number number n = record n { number = number }
 
--- one object with a number one lower, if it is a candidate's and above 0
+-- one object with its number lowered by one, if it is a candidate and the number is above 0
 abbrev pub lowered : Node → Node
 lowered n = record n { number = number_lowered n.place n.number }
 
 abbrev pub with_node : (Node → Node) → ℕ → Store → Store
 with_node f o store = record store { nodes = changed f o store.nodes }
 
--- Each live object stands once in the list of its place, and in no other list. (Developer guide, "Optimization:
+-- Each live object is once in the list of its place, and in no other list. (Developer guide, "Optimization:
 -- generations": each tracked object is in one generation.)
 pub record IsListed (store : Store) : Type 0 where
   pub ten : length store.lists ≡ 10
   pub placed : (s : ℕ) (n : Node) → fin.get store.nodes s ≡ Some n → place_number n.place < 10
   pub once : (p s : ℕ) → p < 10 → occurrences s (list_of store.lists p) ≡ count_in_list p (option_map (λ n. n.place) (fin.get store.nodes s))
 
--- What a caller may rest on in every heap.
+-- The invariant of every heap, for callers.
 pub record IsSound (store : Store) : Type 0 where
   -- what names, the garbage root and entries hold is live
   pub live : (s : ℕ) → 0 < inner store s → IsLive store s
   pub fits : (s : ℕ) → count_of store s < 4294967296
   pub below : (s : ℕ) → IsLive store s → s ≤ store.last
-  -- the items of a list and the callback of a weak reference have no keys, a weak reference has no other entry, and
-  -- instances and functions have a number
+  -- items of a list and a weak reference's callback have no keys, a weak reference has no other entry, and instances
+  -- and functions have a number
   pub well : (s : ℕ) → IsWellMadeAt (fin.get store.nodes s)
   pub listed : IsListed store
   pub root : HasCode store 1 ListKind  -- the garbage list lives

@@ -1,4 +1,4 @@
--- The codes by which proofs tell stores apart. (Ours.)
+-- Encodings by which proofs distinguish stores. (Ours.)
 use Rattle.std.specs.Prelude.{ℕ, Bool, List, Option, refl}
 use Rattle.std.specs.Ordering.{nat_cmp}
 use Rattle.std.specs.FinMap as fin
@@ -14,7 +14,7 @@ use Rattle.cg_value.specs.contracts.Place as where_it_is
 use Rattle.cg_graph.specs.Rows.{Row}
 use Rattle.cg_graph.specs.Store.{Store, Node}
 
--- a node is stored as the tuple of its fields
+-- a node is encoded as the tuple of its fields
 abbrev pub node_code : Coded Node
 node_code =
     code_by
@@ -24,7 +24,6 @@ node_code =
     (λ p. record { code = p.0; class = p.1.0; entries = p.1.1.0; finalized = p.1.1.1.0; place = p.1.1.1.1.0; number = p.1.1.1.1.1.0; outside = p.1.1.1.1.1.1 })
     (λ _. refl)
 
--- so is a row of a weak reference
 abbrev pub row_code : Coded Row
 row_code =
     code_by
@@ -34,7 +33,6 @@ row_code =
     (λ p. record { weak = p.0; referent = p.1.0; waits = p.1.1 })
     (λ _. refl)
 
--- and a store
 abbrev pub store_code : Coded Store
 store_code =
     code_by

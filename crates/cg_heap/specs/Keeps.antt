@@ -1,4 +1,4 @@
--- How boxes, nodes and names stand for a store, and what is true of them. (Ours.)
+-- How boxes, nodes and names represent a store, and their invariant. (Ours.)
 use Rattle.std.specs.Prelude.{◌≡◌, ℕ, ◌+◌, ◌-◌, ◌<◌, ◌≤◌, List, length, Option, Some, None, IsSome, ◌∷◌, All}
 use Rattle.std.specs.Ordering.{nat_cmp}
 use Rattle.std.specs.FinMap as fin
@@ -19,7 +19,7 @@ use Rattle.cg_graph.specs.Value.{item, references}
 use Rattle.cg_graph.specs.Holdings.{occurrences}
 use Rattle.cg_heap.specs.Weak.{AreRows}
 
--- what a node stands for, with a number of outside holds
+-- the object that a node represents, given its outside holds
 abbrev pub node_from : List Bodies → ArenaNode → ℕ → Node
 node_from all n outside = record {
   code = n.code;
@@ -31,45 +31,45 @@ node_from all n outside = record {
   outside = outside;
 }
 
--- what the nodes stand for, the outside holds aside
+-- the objects that the nodes represent, without outside holds
 abbrev pub bare_nodes : List Bodies → fin.FinMap nat_cmp ArenaNode → fin.FinMap nat_cmp Node
 bare_nodes all nodes = mapped (λ s n. node_from all n 0) nodes
 
--- The outside holds are the count less what names, garbage root and entries hold.
+-- The outside holds are the count minus the holds of names, the garbage root and entries.
 unfoldable pub nodes_from : List Bodies → List (Option Val) → fin.FinMap nat_cmp ArenaNode → fin.FinMap nat_cmp Node
 nodes_from all names nodes = mapped (λ s n. node_from all n (n.count - held_within names (bare_nodes all nodes) s)) nodes
 
--- what the fields of a heap stand for
+-- the store that a heap's fields represent
 abbrev pub store_of : List Bodies → Nodes → List (Option Val) → ℕ → List Row → Store
 store_of all v names last rows = record { nodes = nodes_from all names v.nodes; last = last; names = names; lists = v.lists; rows = rows }
 
--- a node stands for an object, and has a body
+-- a node represents an object, and has a body
 abbrev pub Alike : List Bodies → Option ArenaNode → Option Node → Type 0
 Alike all None None = Unit {0}
 Alike all None (Some x) = ⊥
 Alike all (Some n) None = ⊥
 Alike all (Some n) (Some x) = (x ≡ node_from all n x.outside) × HasBody all n.code n.body
 
--- the box and the place of the body of a node that may be there
+-- the box and place of an optional node's body
 abbrev pub seat_in : Option ArenaNode → Option (KindCode × ℕ)
 seat_in None = None
 seat_in (Some n) = Some (n.code, n.body)
 
--- the number of entries of an object, and an object as one
+-- the number of entries of an object, and 1 for each object
 abbrev pub size : Node → ℕ
 size n = length n.entries
 
 abbrev pub one : Node → ℕ
 one n = 1
 
--- an instance has a class, a function a procedure, and no other object has a number
+-- an instance has a class, a function a procedure, and other objects have no number
 abbrev pub HasClass : KindCode → Option ℕ → Type 0
 HasClass Inst class = IsSome class
 HasClass Func class = IsSome class
 HasClass code class = class ≡ None
 
--- What is true of each object: the items of a list have no keys, and a weak reference has at most one entry, its callback,
--- which has no key.
+-- The invariant of each object: items of a list have no keys, and a weak reference has at most one entry, its
+-- callback, without a key.
 pub record IsWellMade (n : Node) : Type 0 where
   pub items : n.code ≡ ListKind → AreItems n.entries
   pub classed : HasClass n.code n.class
@@ -94,7 +94,7 @@ pub record HasRoomToSave (all : List Bodies) (nodes : fin.FinMap nat_cmp ArenaNo
   pub seat : seat_in (fin.get nodes 1) ≡ Some (ListKind, body)
   pub ready : objects ≤ length (entries_of store 1) + spare_in_box all ListKind body
 
--- boxes, nodes and objects agree, the counts aside
+-- boxes, nodes and objects agree, except for the counts
 pub record Shape (all : List Bodies) (nodes : fin.FinMap nat_cmp ArenaNode) (store : Store) : Type 0 where
   pub six : length all ≡ 6
   pub alike : (s : ℕ) → Alike all (fin.get nodes s) (fin.get store.nodes s)
@@ -102,11 +102,11 @@ pub record Shape (all : List Bodies) (nodes : fin.FinMap nat_cmp ArenaNode) (sto
   pub apart : (o p : ℕ) (seat : KindCode × ℕ) → seat_in (fin.get nodes o) ≡ Some seat → seat_in (fin.get nodes p) ≡ Some seat → o ≡ p
   pub below : (s : ℕ) → IsLive store s → s ≤ store.last
 
--- What a heap keeps: the fields agree, and the counts are right. The garbage list counts neither as an object nor with its
--- entries.
+-- The invariant of a heap: the fields agree, and the counts are right. The garbage list and its entries do not count
+-- towards the limits.
 pub record HeapKeeps (all : List Bodies) (nodes : fin.FinMap nat_cmp ArenaNode) (objects entries : ℕ) (store : Store) : Type 0 where
   pub shape : Shape all nodes store
-  -- the count is the in-degree, and so what is held is live
+  -- the count is the in-degree, so a held object is live
   pub counted : (s : ℕ) → count_in (fin.get nodes s) ≡ count_of store s
   pub well : (s : ℕ) → IsWellMadeAt (fin.get store.nodes s)
   pub numbered : total one store.nodes ≡ objects + 1
@@ -118,11 +118,11 @@ pub record HeapKeeps (all : List Bodies) (nodes : fin.FinMap nat_cmp ArenaNode) 
   pub garbage : length (entries_of store 1) ≤ MOST_OBJECTS
   pub names : length store.names < 1073741824
 
--- the number of outside holds of all objects together
+-- the total number of outside holds
 abbrev pub outside_total : Store → ℕ
 outside_total store = total (λ n. n.outside) store.nodes
 
--- What a heap keeps besides: what is true of its rows, and few enough outside holds that every count fits.
+-- A further invariant of a heap: about its rows, and few enough outside holds that every count fits.
 pub record RowsAndHolds (store : Store) : Type 0 where
   pub rows : AreRows store
   pub holds : outside_total store < 2147483648

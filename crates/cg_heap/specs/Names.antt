@@ -1,8 +1,8 @@
--- Names as the heap keeps them. (Ours.)
+-- Names as stored in the heap. (Ours.)
 use Rattle.std.specs.Prelude.{Option, List, map}
 use Rattle.cg_value.specs.declared.Val.{Val}
 use Rattle.cg_heap.specs.declared.names.Bound.{Bound}
 
--- What they are bound to. Where the objects lie says nothing.
+-- The values of the names. The hints for their objects do not matter.
 abbrev pub values_of : List Bound → List (Option Val)
 values_of = map (λ b. b.val)

@@ -50,13 +50,13 @@ impl<B: Kind> Model for Boxes<B> {
     ghost invariant = { λ a. map B.kind a.kinds.items ≡ six_kinds };
 }
 
-/// Where the box of a kind stands.
+/// The index of a kind's box.
 #[inline(always)]
 fn index_of(code: KindCode) -> usize
     ensures index { result ≡ code_index code }
     ensures below { result < 6 }
 {
-    // The kinds are declared in this order. A `match` would become a jump by way of a table.
+    // The kinds are declared in this order. A `match` would compile to a jump table.
     code as usize
 }
 
@@ -69,7 +69,7 @@ impl<B: Kind> Boxes<B> {
         Boxes { kinds }
     }
 
-    /// Makes a body of a kind, and answers its place.
+    /// Makes a body of a kind, and returns its place.
     pub fn make(&mut self, code: KindCode, parts: &[Entry]) -> Result<usize, AllocError>
         requires { IsParts code parts.now }
         ensures made { IfOk result (λ at. self.new ≡
@@ -113,7 +113,7 @@ impl<B: Kind> Boxes<B> {
         kind.get(seat.body, i)
     }
 
-    /// Writes down the references of some entries from a position on.
+    /// Writes the references of some entries from a position on.
     #[inline(always)]
     pub fn note_from(&self, seat: Seat, from: usize, found: &mut [u64]) -> Noted
         requires held { HasBody self.now seat.code seat.body }
@@ -150,7 +150,7 @@ impl<B: Kind> Boxes<B> {
         kind.value_of(seat.body, key)
     }
 
-    /// Puts a value under a key, and answers the one that it replaces.
+    /// Puts a value under a key, and returns the one that it replaces.
     #[inline(always)]
     pub fn put(&mut self, seat: Seat, key: Val, val: Val) -> Result<Option<Val>, AllocError>
         requires held { HasBody self.old seat.code seat.body }
@@ -169,7 +169,7 @@ impl<B: Kind> Boxes<B> {
         put
     }
 
-    /// Takes the entry at a position out, where the kind lets it go.
+    /// Takes the entry at a position, if the kind allows it.
     #[inline(always)]
     pub fn take(&mut self, seat: Seat, i: usize) -> Entry
         requires held { HasBody self.old seat.code seat.body }
@@ -184,7 +184,7 @@ impl<B: Kind> Boxes<B> {
         entry
     }
 
-    /// Takes the first entry with this key out, where the kind lets it go.
+    /// Takes the first entry with this key, if the kind allows it.
     #[inline(always)]
     pub fn take_key(&mut self, seat: Seat, key: Val) -> Option<Entry>
         requires { HasBody self.old seat.code seat.body }
@@ -199,7 +199,7 @@ impl<B: Kind> Boxes<B> {
         entry
     }
 
-    /// Takes the last entry off.
+    /// Removes the last entry.
     pub fn detach(&mut self, seat: Seat) -> Option<Entry>
         requires { HasBody self.old seat.code seat.body }
         ensures last { IfSome result (λ e. entries_in_box self.old seat.code seat.body ≡
@@ -228,7 +228,7 @@ impl<B: Kind> Boxes<B> {
         appended
     }
 
-    /// Makes room in a list for `n` items more.
+    /// Reserves room in a list for `n` more items.
     pub fn reserve(&mut self, list: usize, n: usize) -> Result<(), AllocError>
         requires { HasBody self.old code.List list }
         ensures ok { OnOk result (self.new ≡ boxes_with_body self.old code.List list
@@ -242,7 +242,7 @@ impl<B: Kind> Boxes<B> {
         reserved
     }
 
-    /// Makes room in a list for items until they are `total`, at least as many as there are.
+    /// Reserves room in a list for `total` items, at least its length.
     pub fn reserve_total(&mut self, list: usize, total: usize) -> Result<(), AllocError>
         requires held { HasBody self.old code.List list }
         requires more { length (entries_in_box self.old code.List list) ≤ total }
@@ -270,7 +270,7 @@ impl<B: Kind> Boxes<B> {
         lists.append_reserved(list, val);
     }
 
-    /// Gives the place of an empty body back.
+    /// Frees the place of an empty body.
     pub fn free(&mut self, seat: Seat)
         requires held { HasBody self.old seat.code seat.body }
         requires empty { entries_in_box self.old seat.code seat.body ≡ [] }

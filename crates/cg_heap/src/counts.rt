@@ -1,4 +1,4 @@
-//! The counts of nodes, and what the entries and names of a heap add to them.
+//! The counts of nodes, as changed by a heap's entries and names.
 ghost use Rattle.std.specs.Prelude.{◌≡◌, ◌≢◌, ◌<◌, ◌+◌, ℕ, IfSome, Some, None, ◌^◌, ◌-◌, ◌∷◌, []};
 ghost use Rattle.std.specs.FinMap as fin;
 ghost use Rattle.cg_value.specs.declared.Val.TheVariants as val_of;
@@ -23,7 +23,7 @@ pub fn seat_of(arena: &Arena, object: u64) -> Seat
     Seat { code, body }
 }
 
-/// `seat_of`, where the object is near.
+/// `seat_of`, with a hint of the object's slot.
 #[inline(always)]
 pub fn seat_near(arena: &Arena, object: u64, near: Near) -> Seat
     requires { HasNode arena.now object }
@@ -33,7 +33,7 @@ pub fn seat_near(arena: &Arena, object: u64, near: Near) -> Seat
     Seat { code, body }
 }
 
-/// `seat_near`, and the place, in whose list the object stands, by one look-up.
+/// `seat_near`, and the place whose list has the object, in one look-up.
 #[inline(always)]
 pub fn seat_and_place_near(arena: &Arena, object: u64, near: Near) -> (Seat, Place)
     requires { HasNode arena.now object }
@@ -48,7 +48,7 @@ pub fn seat_and_place_near(arena: &Arena, object: u64, near: Near) -> (Seat, Pla
     (seat, head.place)
 }
 
-/// The node of an object that nothing counts is gone. It answers where its entries are.
+/// Removes the node of an object with count 0. Returns where its entries are.
 pub fn drop_seat(arena: &mut Arena, object: u64) -> Seat
     requires has { HasNode arena.old object }
     requires unheld { count_at arena.old object ≡ 0 }
@@ -69,7 +69,7 @@ pub fn count_in(arena: &mut Arena, val: Val)
     let _near = count_in_located(arena, val);
 }
 
-/// The same, and where the object is to which the value refers, if it refers to one.
+/// The same; also returns the slot of the object that the value refers to, if any.
 #[inline(always)]
 pub fn count_in_located(arena: &mut Arena, val: Val) -> Near
     requires live { (s : ℕ) → val ≡ val_of.Ref s → HasNode arena.old s }
@@ -83,7 +83,7 @@ pub fn count_in_located(arena: &mut Arena, val: Val) -> Near
     near
 }
 
-/// `count_in`, where the object is near to which the value refers, if it refers to one.
+/// `count_in`, with a hint of the slot of the object that the value refers to, if any.
 #[inline(always)]
 pub fn count_near(arena: &mut Arena, val: Val, near: Near)
     requires live { (s : ℕ) → val ≡ val_of.Ref s → HasNode arena.old s }
@@ -107,7 +107,7 @@ pub fn count_all(arena: &mut Arena, parts: &[Entry])
     }
 }
 
-/// One entry less, where the object is not the garbage list.
+/// Lowers the number of entries by one, unless the object is the garbage list.
 #[inline(always)]
 pub fn fewer(entries: &mut u64, object: u64)
     requires { object ≢ 1 → 0 < entries.old }
@@ -118,7 +118,7 @@ pub fn fewer(entries: &mut u64, object: u64)
     }
 }
 
-/// Where an object stands when it is made. (`gc` manual, `gc.is_tracked`: a new dictionary is untracked.)
+/// The place of a new object. (`gc` manual, `gc.is_tracked`: a new dictionary is untracked.)
 pub fn first_place(code: KindCode) -> Place
     ensures { result ≡ place_at_first code }
 {
@@ -128,7 +128,7 @@ pub fn first_place(code: KindCode) -> Place
     }
 }
 
-/// The node of a new object, held once from outside, and its references.
+/// Adds the node of a new object, held once from outside, and counts its references.
 pub fn add_object(
     arena: &mut Arena,
     serial: u64,

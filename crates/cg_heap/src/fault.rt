@@ -1,16 +1,16 @@
-//! Why a call of the heap refuses.
+//! Why a call of the heap fails.
 use thiserror::Error;
 
-/// Why a call of the heap refuses. It has changed nothing then.
+/// Why a call of the heap fails. It has then changed nothing.
 #[derive(Clone, Copy, Debug, PartialEq, Eq, Drop, Error)]
 pub enum HeapFault {
-    /// 1,000,000 objects are live, the garbage list aside.
+    /// 1,000,000 objects are live, not counting the garbage list.
     #[error("too many objects")]
     ObjectLimit,
-    /// The objects would have more than 4,000,000 entries together, those of the garbage list aside.
+    /// The objects would have more than 4,000,000 entries in total, not counting those of the garbage list.
     #[error("too many entries")]
     EntryLimit,
-    /// Memory was refused.
+    /// Memory ran out.
     #[error("out of memory")]
     OutOfMemory,
 }

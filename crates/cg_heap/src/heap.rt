@@ -1,4 +1,4 @@
-//! The heap: what it is, a new one, and what it answers.
+//! The heap: its type, `new`, and its queries.
 ghost use Rattle.std.specs.Prelude.{◌≡◌, ◌<◌, IfOk, IfSome, IfNone, OnSome, IsTrue, ◌↔◌, Some, None, map, replicate, length, position, slice_get};
 ghost use Rattle.std.specs.FinMap as fin;
 ghost use Rattle.cg_kind.specs.Calls.{has_key};
@@ -28,17 +28,17 @@ use cg_weak::WeakTable;
 use std::alloc::{AllocError, Global};
 use std::marker::Model;
 
-/// Objects, whose entries lie in six boxes of kinds, and names.
+/// Objects, whose entries are in six boxes of kinds, and names.
 ///
-/// An object is named by its serial; serials rise and are never used again. `#1` is the garbage list, which the garbage
-/// root holds. Each live object has a number of outside holds, which are the caller's: an object's count is the number
-/// of the references to it from names, the garbage root and entries, plus its outside holds. (Developer guide,
-/// "Reference counting". The limits and the serials are ours.)
+/// An object is identified by its serial; serials rise and are never reused. `#1` is the garbage list, held by the
+/// garbage root. Each live object has a number of outside holds, owned by the caller: an object's count is the number
+/// of references to it from names, the garbage root and entries, plus its outside holds. (Developer guide, "Reference
+/// counting". The limits and the serials are ours.)
 ///
-/// Every call that takes a serial wants it live, every call that takes a name wants it below the number that `new` was
-/// given, and every call that takes a place wants a generation of at most 2. No call but `new`, `make`, `append` and
-/// `put` can be refused memory. `take` and `take_key` may ask for some, for an order of many keys, and do without where
-/// it is refused.
+/// Every call that takes a serial requires it to be live, every call that takes a name requires it to be below the
+/// number given to `new`, and every call that takes a place requires a generation of at most 2. Only `new`, `make`,
+/// `append` and `put` can fail for lack of memory. `take` and `take_key` may allocate an order of many keys, and do
+/// without if that fails.
 #[derive(Drop)]
 pub struct Heap<B: Kind> {
     boxes: Boxes<B>,
@@ -67,9 +67,10 @@ impl<B: Kind> Model for Heap<B> {
 }
 
 impl<B: Kind> Heap<B> {
-    /// A heap with the garbage list alone, and `names` names, below 2^30, of which none is bound.
+    /// A heap with only the garbage list, and `names` unbound names, below 2^30.
     ///
-    /// The kinds stand in the order of `KindCode`, and have no object. It answers `AllocError` only where memory runs out.
+    /// `kinds` has the kinds in the order of `KindCode`, without objects. Returns `AllocError` only if memory runs
+    /// out.
     pub fn new(alloc: Global, kinds: Vec<B>, names: u32) -> Result<Self, AllocError>
         requires kinds { map B.kind kinds.items ≡ six_kinds }
         requires empty { map B.bodies kinds.items ≡ replicate 6 fin.empty }
@@ -93,10 +94,11 @@ impl<B: Kind> Heap<B> {
         })
     }
 
-    /// It changes nothing, and tells what is true of every heap: what names, the garbage root and entries hold is live, no
-    /// live serial is above the last, each in-degree is below 2^32, each object stands once in the list of its place and
-    /// in no other, the garbage list names each object at most once and never itself, each row is that of a live weak
-    /// reference with a live referent, and there are at most 1,000,000 objects and 4,000,000 entries.
+    /// Exposes the heap's invariant to proofs, and does nothing at run time: what names, the garbage root and entries
+    /// hold is live, no live serial is above the last, each in-degree is below 2^32, each object is once in the list
+    /// of its place and in no other, the garbage list names each object at most once and never itself, each row is
+    /// that of a live weak reference with a live referent, and there are at most 1,000,000 objects and 4,000,000
+    /// entries.
     #[inline(always)]
     pub fn sound(&self)
         ensures { IsSound self.now }
@@ -104,7 +106,7 @@ impl<B: Kind> Heap<B> {
         let _untracked = self.arena.size(Place::Untracked);
     }
 
-    /// The in-degree, which is below 2^32. (Python: `sys.getrefcount`, without the reference of its argument.)
+    /// The in-degree, below 2^32. (Python: `sys.getrefcount`, without the reference of its argument.)
     #[inline(always)]
     pub fn refs(&self, object: u64) -> u64
         requires { IsLive self.now object }
@@ -114,21 +116,21 @@ impl<B: Kind> Heap<B> {
         self.arena.count_of(object) as u64
     }
 
-    /// The number of live objects, the garbage list aside.
+    /// The number of live objects, not counting the garbage list.
     pub fn live(&self) -> u64
         ensures { result ≡ object_number self.now }
     {
         self.objects
     }
 
-    /// The number of entries of live objects, those of the garbage list aside.
+    /// The number of entries of live objects, not counting those of the garbage list.
     pub fn entries(&self) -> u64
         ensures { result ≡ entry_number self.now }
     {
         self.entries
     }
 
-    /// Whether an object with this serial lives.
+    /// Whether an object with this serial is live.
     pub fn has(&self, object: u64) -> bool
         ensures { IsTrue result ↔ IsLive self.now object }
     {
@@ -144,7 +146,7 @@ impl<B: Kind> Heap<B> {
         self.arena.code_of(object)
     }
 
-    /// The number that the object was made with: the class of an instance, or the procedure of a function.
+    /// The number given to `make`: the class of an instance, or the procedure of a function.
     #[inline(always)]
     pub fn class_of(&self, object: u64) -> Option<u32>
         requires { IsLive self.now object }
@@ -153,7 +155,7 @@ impl<B: Kind> Heap<B> {
         self.arena.class_of(object)
     }
 
-    /// The place, in whose list the object stands.
+    /// The place whose list has the object.
     #[inline(always)]
     pub fn place_of(&self, object: u64) -> Place
         requires { IsLive self.now object }
@@ -178,7 +180,7 @@ impl<B: Kind> Heap<B> {
         self.arena.gc_of(object)
     }
 
-    /// The kind, the place and the collector's number, by one look-up.
+    /// The kind, the place and the collector's number, in one look-up.
     #[inline(always)]
     pub fn head_of(&self, object: u64) -> Head
         requires { IsLive self.now object }
@@ -210,7 +212,7 @@ impl<B: Kind> Heap<B> {
         self.boxes.entry_at(seat, i)
     }
 
-    /// The first position whose key is this one, `None` exactly where there is none.
+    /// The first position with this key, `None` exactly if there is none.
     #[inline(always)]
     pub fn find(&self, object: u64, key: Val) -> Option<usize>
         requires { IsLive self.now object }
@@ -220,7 +222,7 @@ impl<B: Kind> Heap<B> {
         self.boxes.find(seat, key)
     }
 
-    /// The value under a key, `None` exactly where no entry has the key.
+    /// The value under a key, `None` exactly if no entry has the key.
     #[inline(always)]
     pub fn value_of(&self, object: u64, key: Val) -> Option<Val>
         requires { IsLive self.now object }
@@ -230,7 +232,8 @@ impl<B: Kind> Heap<B> {
         self.boxes.value_of(seat, key)
     }
 
-    /// `value_of`, where the object is near and of this kind. `None` comes exactly where it is of another.
+    /// `value_of`, with a hint of the object's slot, if the object is of this kind. `None` exactly if it is of
+    /// another.
     #[inline(always)]
     pub fn value_if(&self, code: KindCode, object: u64, near: Near, key: Val) -> Option<Option<Val>>
         requires { IsLive self.now object }
@@ -245,7 +248,7 @@ impl<B: Kind> Heap<B> {
         Some(self.boxes.value_of(seat, key))
     }
 
-    /// The value of a name, `None` where it is unbound.
+    /// The value of a name, `None` if it is unbound.
     #[inline(always)]
     pub fn name(&self, name: u32) -> Option<Val>
         requires { name < length self.now.names }
@@ -254,7 +257,7 @@ impl<B: Kind> Heap<B> {
         self.names.get(name as usize)
     }
 
-    /// The first of the list of a place, `None` where it is empty.
+    /// The first of the list of a place, `None` if it is empty.
     pub fn first(&self, place: Place) -> Option<u64>
         requires { IsPlace place }
         ensures { result ≡ slice_get (list_at self.now place) 0 }
@@ -262,7 +265,7 @@ impl<B: Kind> Heap<B> {
         self.arena.first(place)
     }
 
-    /// What comes after an object in the list of its place, `None` at the end.
+    /// The successor of an object in the list of its place, `None` at the end.
     pub fn next(&self, object: u64) -> Option<u64>
         requires { IsLive self.now object }
         ensures { result ≡ following object (list_at self.now (place_at self.now object)) }
@@ -270,7 +273,7 @@ impl<B: Kind> Heap<B> {
         self.arena.next(object)
     }
 
-    /// How many objects stand in a place.
+    /// The number of objects in a place.
     pub fn size(&self, place: Place) -> u64
         requires { IsPlace place }
         ensures { result ≡ length (list_at self.now place) }

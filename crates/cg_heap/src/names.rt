@@ -1,4 +1,4 @@
-//! The names, and up to which of them one may be bound.
+//! The names, with an upper bound on the bound ones.
 ghost use Rattle.std.specs.Prelude.{◌≡◌, ◌<◌, IfOk, Some, None, length, replicate, slice_get, slice_set};
 ghost use Rattle.cg_heap.specs.Calls.{IsGreatestBound};
 ghost use Rattle.cg_heap.specs.Names.{values_of};
@@ -8,7 +8,7 @@ use cg_value::Val;
 use std::alloc::{AllocError, Global};
 use std::marker::Model;
 
-/// The value of a name, `None` where it is unbound, and where the object may lie to which it refers.
+/// The value of a name, `None` if it is unbound, and a hint of its object's slot.
 #[derive(Clone, Copy, Drop)]
 struct Bound {
     val: Option<Val>,
@@ -36,7 +36,7 @@ impl Model for Names {
     ghost invariant = { λ n. (n.upper ≤ length (values_of n.names.items)) × AreBoundBelow n.upper (values_of n.names.items) };
 }
 
-/// Another value for a name. It answers the one that it had.
+/// Replaces the value of a name, and returns the old one.
 #[inline(always)]
 fn replace(names: &mut Vec<Bound>, name: usize, bound: Bound) -> Option<Val>
     requires { name < length names.old.items }
@@ -50,7 +50,7 @@ fn replace(names: &mut Vec<Bound>, name: usize, bound: Bound) -> Option<Val>
 }
 
 impl Names {
-    /// Names without a value.
+    /// Unbound names.
     pub fn new(alloc: Global, n: u32) -> Result<Names, AllocError>
         ensures { IfOk result (λ names. names ≡ replicate n None) }
     {
@@ -74,7 +74,7 @@ impl Names {
         self.names[name].val
     }
 
-    /// The same, and where the object may lie to which the name refers.
+    /// The same, with a hint of its object's slot.
     #[inline(always)]
     pub fn get_near(&self, name: usize, near: &mut Near) -> Option<Val>
         requires { name < length self.now }
@@ -85,7 +85,7 @@ impl Names {
         bound.val
     }
 
-    /// Gives a name another value, whose object may lie there, and answers the one that it had.
+    /// Replaces the value of a name and the hint of its object's slot, and returns the old value.
     #[inline(always)]
     pub fn replace(&mut self, name: usize, val: Option<Val>, near: Near) -> Option<Val>
         requires { name < length self.old }
@@ -99,7 +99,8 @@ impl Names {
         old
     }
 
-    /// The bound name with the greatest number. It skips each unbound name once, unless a name above is bound again.
+    /// The bound name with the greatest number. It skips each unbound name once, unless a name above it is bound
+    /// again.
     pub fn greatest(&mut self) -> Option<usize>
         ensures same { self.new ≡ self.old }
         ensures greatest { IsGreatestBound self.old result }

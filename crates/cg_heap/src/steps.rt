@@ -1,13 +1,13 @@
-//! A counter of the entries and weak references that were looked at. It takes no bytes.
+//! A counter of the entries and weak references looked at. It takes no bytes.
 ghost use Rattle.std.specs.Prelude.{◌≡◌, ℕ, ◌+◌, ◌<◌};
 
 use std::marker::Model;
 use std::sync::ledger::{Blank, Book, Ledger, Share};
 
-/// How many looks were taken at entries, and at the rows of weak references: contracts see a number that rises, and nothing
-/// stands there at run time.
+/// The number of looks at entries and at the rows of weak references: contracts see a rising number; at run time there
+/// is no counter.
 ///
-/// Only the calls of `heap/look`, and `Heap::look_near` and `Heap::note_near`, let it rise. (Ours.)
+/// Only the calls of `heap/look`, and `Heap::look_near` and `Heap::note_near`, raise it. (Ours.)
 #[derive(Drop)]
 pub struct Steps<L: Ledger> {
     book: Book<L>,
@@ -23,7 +23,7 @@ impl<L: Ledger> Model for Steps<L> {
 }
 
 impl<L: Ledger> Steps<L> {
-    /// A counter at 0. `blank` is `Blank::new(1)`, or has more parts, and `L` stands for it.
+    /// A counter at 0. `blank` is `Blank::new(1)`, or has more parts, and `L` names it.
     pub fn new(blank: Blank) -> Steps<L>
         requires name { blank.name ≡ L.name }
         requires parts { blank.parts ≡ L.parts }
@@ -34,7 +34,7 @@ impl<L: Ledger> Steps<L> {
         Steps { book, share }
     }
 
-    /// So many looks more were taken.
+    /// Raises the counter by a number of looks.
     #[inline(always)]
     pub(crate) fn rise(&mut self, looks: usize)
         ensures { self.new ≡ self.old + looks }

@@ -1,4 +1,4 @@
--- Entries that are searched one after the other: what a search finds, and what a put leaves.
+-- Entries searched one by one: what a search finds, and the effect of a put.
 use Rattle.std.proofs.Common.{◌≡◌, ℕ, ◌+◌, ◌-◌, ◌<◌, ◌≤◌, Bool, true, false, List, [], ◌∷◌, ◌++◌, Some, None, cond, refl, sym, ap, ◌∙◌, subst, length, drop, get_or, set, arith, length-append}
 use Rattle.std.specs.Prelude.{position, slice_get}
 use Rattle.std.specs.List.{position_from}
@@ -13,7 +13,7 @@ use Rattle.cg_kind.specs.Calls.{has_key}
 use Rattle.cg_kinds.proofs.KeyLemmas.{same_is}
 
 module _ (key : Val) where
-  -- the first of the rest has the key, or has it not
+  -- whether the first of the rest has the key
   pub found_here : (i : ℕ) (es : List Entry) (d : Entry) → i < length es → has_key key (get_or es i d) ≡ true → position_from (has_key key) i (drop i es) ≡ Some i
   found_here i es d within has =
       ap (position_from (has_key key) i) (drop_more es i d within)
@@ -24,7 +24,7 @@ module _ (key : Val) where
       ap (position_from (has_key key) i) (drop_more es i d within)
       ∙ ap (λ b. cond b (Some i) (position_from (has_key key) (i + 1) (drop (i + 1) es))) lacks
 
-  -- where a key is not found, there is no value for it
+  -- if a key is not found, it has no value
   pub value_none : (i : ℕ) (es : List Entry) → position_from (has_key key) i es ≡ None → value_at es key ≡ None
   value_none i [] none = refl
   value_none i (e ∷ es) none = by (same_value e.key key) none (value_none (i + 1) es)
@@ -33,7 +33,7 @@ module _ (key : Val) where
       by true h again = absurd (cc)
       by false h again = again h
 
-  -- what is told of entries of which the one at a place has the key, and none before it
+  -- the entry at this position has the key, and none before it has
   pub record IsFound (es : List Entry) (k : ℕ) : Type 0 where
     pub front : List Entry
     pub entry : Entry
@@ -75,7 +75,7 @@ module _ (key : Val) where
             },
           )
 
-  -- a put among entries that have not the key is one behind them
+  -- a put among entries without the key appends
   pub back_put : (val : Val) (xs ys : List Entry) → value_at xs key ≡ None → put (xs ++ ys) key val ≡ xs ++ put ys key val
   back_put val [] ys none = refl
   back_put val (e ∷ xs) ys none = by (same_value e.key key) none (back_put val xs ys)
@@ -84,7 +84,7 @@ module _ (key : Val) where
       by true h again = absurd (cc)
       by false h again = ap (λ l. e ∷ l) (again h)
 
-  -- the entry that a search found
+  -- the entry found by a search
   pub found_first : (es : List Entry) (k : ℕ) → position_from (has_key key) 0 es ≡ Some k → IsFound es k
   found_first es k some = let n : k - 0 ≡ k = omega arith in subst (λ m. IsFound es m) n (found_at 0 k es some).1
 
@@ -107,11 +107,10 @@ module _ (key : Val) where
       ∙ set-append_seam f.front f.entry f.back (record { key = f.entry.key; val = val })
       ∙ sym (f.putting val)
 
--- a new key goes last
 pub put_new : (es : List Entry) (key val : Val) → value_at es key ≡ None → put es key val ≡ es ++ record { key = key; val = val } ∷ []
 put_new es key val none = ap (λ l. put l key val) (sym (append-nil es)) ∙ back_put key val es [] none
 
--- what stands where a key is found has that key
+-- the entry at a found position has the key
 pub key_there : (es : List Entry) (key : Val) (i : ℕ) (e : Entry) → position (has_key key) es ≡ Some i → slice_get es i ≡ Some e → e.key ≡ key
 key_there es key i e found here =
     same_is e.key key (ap (has_key key) (sym (get_or_from_slice_get es i e e here)) ∙ (position-Some (has_key key) es i e found).1)

@@ -1,4 +1,4 @@
--- Items, as lists, tuples, functions and weak references keep them.
+-- Items, as lists, tuples, functions and weak references store them.
 use Rattle.std.proofs.Common.{◌≡◌, ℕ, suc, ◌+◌, ◌<◌, true, false, List, [], ◌∷◌, length, get_or, Some, None, refl, sym, ap, ◌∙◌, cond, arith, map}
 use Rattle.std.specs.Prelude.{position, pos, slice_get, slice_set, option_map}
 use Rattle.std.specs.List.{position_from}
@@ -13,12 +13,12 @@ use Rattle.cg_graph.specs.Value.{same_value, item}
 use Rattle.cg_kind.specs.Calls.{has_key, AreItems, value_under, after_put}
 use Rattle.cg_kinds.proofs.KeyLemmas.{equal, equal-same_value}
 
--- items are told by their values
+-- items are determined by their values
 pub items-values : (es : List Entry) → AreItems es → map item (map (λ e. e.val) es) ≡ es
 items-values [] h = refl
 items-values (e ∷ es) h = λ i. record { key = sym (h 0 e (omega arith)) i; val = e.val } ∷ items-values es (λ k d below. h (suc k) d (omega (arith, below))) i
 
--- the key none is found at the first item, and no other key
+-- the key none is found at the first item, and no other key is found
 module _ (key : Val) where
   first_is : (values : List Val) → same_value Nothing key ≡ true → 0 < length values → Some 0 ≡ position (has_key key) (map item values)
   first_is [] same some = absurd (omega (arith, some))
@@ -43,7 +43,7 @@ module _ (key : Val) where
   found-nothing [] none = refl
   found-nothing (v ∷ values) none = absurd (omega (arith, none))
 
--- the items of values that stand each in something
+-- the items of values stored in some form
 pub items-of : {X : Type 0} (value : X → Val) (xs : List X) → map (λ x. item (value x)) xs ≡ map item (map value xs)
 items-of value [] = refl
 items-of value (x ∷ xs) = ap (λ l. item (value x) ∷ l) (items-of value xs)

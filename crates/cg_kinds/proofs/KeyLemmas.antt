@@ -1,4 +1,4 @@
--- The equality that `Val` derives is `same_value`, with its sides changed.
+-- The equality that `Val` derives is `same_value` with its arguments swapped.
 use Rattle.std.proofs.Common.{◌≡◌, ◌≢◌, ℕ, pred, ℤ, pos, negsuc, Bool, true, false, refl, sym, ap, ◌∙◌, inl, inr, eqb}
 use Rattle.std.specs.Prelude.{nat_abs}
 use Rattle.std.proofs.lemmas.Bool.{cases_eq, eq-eqb, ne_eqb}
@@ -11,7 +11,7 @@ use Rattle.cg_value.specs.declared.Val.TheVariants.{None as Nothing, Int, Str, R
 use Rattle.cg_value.specs.contracts.ValPartialEq.TheImpl as val_eq
 use Rattle.cg_graph.specs.Value.{same_value, same_int}
 
--- what `==` answers on two values
+-- the result of `==` on two values
 abbrev pub equal : Val → Val → Bool
 equal = (val_eq.ghosts).eq
 

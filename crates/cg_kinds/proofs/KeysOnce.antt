@@ -1,4 +1,4 @@
--- Entries of which no two have one key: what leaves them so, and that they come out as they are where each is put under its key.
+-- Entries with distinct keys: what keeps them distinct, and that putting each under its key rebuilds them.
 use Rattle.std.proofs.Common.{◌≡◌, ℕ, zero, suc, ◌<◌, Bool, true, false, List, [], ◌∷◌, ◌++◌, Option, Some, None, cond, refl, sym, ap, ◌∙◌, subst, length, take, get_or, remove, arith}
 use Rattle.std.specs.Prelude.{option_to_list, OnSome, IfNone}
 use Rattle.cg_value.specs.declared.Val.{Val}
@@ -7,7 +7,7 @@ use Rattle.cg_graph.specs.Value.{same_value, value_at, put}
 use Rattle.cg_kinds.specs.Pairs.{AreKeysOnce}
 use Rattle.cg_kinds.proofs.KeyLemmas.{same_is}
 
--- values that differ do so from both sides
+-- inequality of values is symmetric
 differs : (a b : Val) → same_value a b ≡ false → same_value b a ≡ false
 differs a b other = by (same_value b a) refl
   where
@@ -18,7 +18,7 @@ differs a b other = by (same_value b a) refl
         let yes : same_value a b ≡ true = ap (λ x. same_value x b) (sym same) ∙ ap (same_value b) same ∙ is in
         absurd (cc)
 
--- what has no entry under a key has none where another key gets a value
+-- a put under another key adds no entry for this key
 absent_put : (es : List Entry) (k key val : Val) → same_value key k ≡ false → value_at es k ≡ None → value_at (put es key val) k ≡ None
 absent_put [] k key val other none = ap (λ b. cond b (Some val) None) other
 absent_put (e ∷ es) k key val other none = by (same_value e.key k) (same_value e.key key) refl none (absent_put es k key val other)
@@ -40,7 +40,7 @@ pub once_replaced : (old new : List Entry) (key val : Val) (was : Option Val) �
 once_replaced old new key val (Some v) is stays once = subst AreKeysOnce (sym is) (once_put old key val once)
 once_replaced old new key val None is stays once = subst AreKeysOnce (sym stays) once
 
--- and one that is gone is in none
+-- an absent key stays absent after a removal
 absent_remove : (es : List Entry) (i : ℕ) (k : Val) → value_at es k ≡ None → value_at (remove es i) k ≡ None
 absent_remove [] zero k none = none
 absent_remove [] (suc i) k none = none
@@ -76,7 +76,7 @@ once_front (e ∷ es) back once = (absent_front es back e.key once.0, once_front
 pub once_popped : (old new : List Entry) (last : Option Entry) → old ≡ new ++ option_to_list last → AreKeysOnce old → AreKeysOnce new
 once_popped old new last is once = once_front new (option_to_list last) (subst AreKeysOnce is once)
 
--- the key of one entry differs from that of a later one
+-- the keys of two entries differ
 later_key : (es : List Entry) (i : ℕ) (d : Entry) (k : Val) → value_at es k ≡ None → i < length es → same_value k (get_or es i d).key ≡ false
 later_key [] i d k none within = absurd (omega (arith, within))
 later_key (e ∷ es) zero d k none within = differs e.key k (by (same_value e.key k) refl none)
@@ -90,7 +90,7 @@ later_key (e ∷ es) (suc i) d k none within = by (same_value e.key k) none (λ 
     by true h again = absurd (cc)
     by false h again = again h
 
--- one more of them, put behind those before it
+-- putting the next entry appends it
 pub put_next : (es : List Entry) (i : ℕ) (d : Entry) → AreKeysOnce es → i < length es → put (take i es) (get_or es i d).key (get_or es i d).val ≡ take (suc i) es
 put_next [] i d once within = absurd (omega (arith, within))
 put_next (e ∷ es) zero d once within = refl

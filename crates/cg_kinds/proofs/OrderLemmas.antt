@@ -1,4 +1,4 @@
--- What slots and homes say of each other, and what that leaves of the order once an index is taken or comes last.
+-- How slots and homes relate, and the order after an index is removed or appended.
 use Rattle.std.proofs.Common.{◌≡◌, ◌≢◌, ℕ, zero, suc, ◌+◌, ◌*◌, ◌-◌, ◌<◌, ◌≤◌, ◌^◌, ◌/◌, min, List, [], ◌∷◌, ◌++◌, Option, Some, None, refl, sym, ap, ◌∙◌, subst, length, take, drop, get_or, set, map, arith, length-append, inl, inr, ◌⊎◌}
 use Rattle.std.specs.Prelude.{slice_get, remove, All}
 use Rattle.std.specs.List.{filter, range_with_len}
@@ -17,7 +17,7 @@ use Rattle.cg_kinds.proofs.SlotLemmas.{pair_within, gap_later, before_all, few_p
 some_is : (a b : ℕ) → Some a ≡ Some b → a ≡ b
 some_is a b is = cc
 
--- another index in a slot leaves the number of pairs
+-- replacing an index in a slot keeps the number of pairs
 pub refilled_before : (slots : List (Option ℕ)) (slot was index k : ℕ) → get_or slots slot None ≡ Some was → pairs_before (set slots slot (Some index)) k ≡ pairs_before slots k
 refilled_before [] slot was index k pair = refl
 refilled_before (x ∷ slots) slot was index zero pair = refl
@@ -27,21 +27,21 @@ refilled_before (x ∷ slots) (suc slot) was index (suc k) pair =
     ∙ ap (λ n. length (option_to_list x) + n) (refilled_before slots slot was index k pair)
     ∙ sym (length-append (option_to_list x) (indexes (take k slots)))
 
--- a new gap takes the index out of the order
+-- a new gap removes the index from the order
 pub indexes-gap : (slots : List (Option ℕ)) (slot index : ℕ) → get_or slots slot None ≡ Some index → indexes (set slots slot None) ≡ remove (indexes slots) (pairs_before slots slot)
 indexes-gap [] slot index pair = absurd (cc)
 indexes-gap (x ∷ slots) zero index pair = sym (ap (λ o. remove (option_to_list o ++ indexes slots) 0) pair)
 indexes-gap (None ∷ slots) (suc slot) index pair = indexes-gap slots slot index pair
 indexes-gap (Some m ∷ slots) (suc slot) index pair = ap (λ l. m ∷ l) (indexes-gap slots slot index pair)
 
--- the index of a slot stands in the order where so many pairs are before the slot
+-- the index in a slot is in the order at the number of pairs before it
 pub order_at : (slots : List (Option ℕ)) (slot index : ℕ) → get_or slots slot None ≡ Some index → slice_get (indexes slots) (pairs_before slots slot) ≡ Some index
 order_at [] slot index pair = absurd (cc)
 order_at (x ∷ slots) zero index pair = ap (λ o. slice_get (option_to_list o ++ indexes slots) 0) pair
 order_at (None ∷ slots) (suc slot) index pair = order_at slots slot index pair
 order_at (Some m ∷ slots) (suc slot) index pair = order_at slots slot index pair
 
--- the slot of what stands at a place of the order
+-- the slot of the index at a place of the order
 pub record HasSlot (slots : List (Option ℕ)) (place index : ℕ) : Type 0 where
   pub slot : ℕ
   pub pair : get_or slots slot None ≡ Some index
@@ -71,7 +71,7 @@ others_stay last gone (Some m ∷ slots) none =
     ap (λ n. n ∷ map (renamed last gone) (indexes slots)) (renamed_other last gone m (λ is. none 0 (ap Some is)))
     ∙ ap (λ l. m ∷ l) (others_stay last gone slots (λ slot. none (suc slot)))
 
--- the last index, which stands in one slot, is called otherwise there
+-- the last index, which is in one slot, is renamed there
 pub indexes-refilled : (last gone : ℕ) (slots : List (Option ℕ)) (slot : ℕ) → get_or slots slot None ≡ Some last → ((other : ℕ) → get_or slots other None ≡ Some last → other ≡ slot)
     → indexes (set slots slot (Some gone)) ≡ map (renamed last gone) (indexes slots)
 indexes-refilled last gone [] slot pair only = absurd (cc)
@@ -86,7 +86,7 @@ indexes-refilled last gone (Some m ∷ slots) (suc slot) pair only =
     ap (λ l. m ∷ l) (indexes-refilled last gone slots slot pair (λ other is. omega (arith, only (suc other) is)))
     ∙ ap (λ n. n ∷ map (renamed last gone) (indexes slots)) (sym (renamed_other last gone m (λ is. absurd (omega (arith, only 0 (ap Some is))))))
 
--- where the last index itself goes, no other is called otherwise
+-- if the last index itself is removed, no other is renamed
 pub renamed-itself : (last : ℕ) (order : List ℕ) → map (renamed last last) order ≡ order
 renamed-itself last [] = refl
 renamed-itself last (index ∷ order) =
@@ -94,7 +94,7 @@ renamed-itself last (index ∷ order) =
     ap (λ n. n ∷ map (renamed last last) order) same ∙ ap (λ l. index ∷ l) (renamed-itself last order)
 
 module _ (slots : List (Option ℕ)) (homes : List ℕ) (are : AreHomes slots homes) where
-  -- an index stands in one slot alone
+  -- an index is in only one slot
   pub one_slot : (index slot other : ℕ) → get_or slots slot None ≡ Some index → get_or slots other None ≡ Some index → other ≡ slot
   one_slot index slot other here there = sym (are.at_home other index there) ∙ are.at_home slot index here
 
@@ -110,7 +110,7 @@ module _ (slots : List (Option ℕ)) (homes : List ℕ) (are : AreHomes slots ho
       let b = before_all slots (length slots) (omega arith) in
       omega (arith, n, a, b, are.each)
 
-  -- what stands in a slot once there is a gap
+  -- the contents of a slot after a gap is made
   pub left_there : (slot other index : ℕ) → get_or (set slots slot None) other None ≡ Some index → (other ≢ slot) × (get_or slots other None ≡ Some index)
   left_there slot other index is = elim (cases_eq other slot) [
     | inl same ↦ absurd (gone same)
@@ -143,11 +143,11 @@ module _ (slots : List (Option ℕ)) (homes : List ℕ) (are : AreHomes slots ho
     pub last_is : length homes - 1 ≡ length rest
     last_is = omega (arith, long)
 
-    -- the last index stands where it stood, once there is a gap elsewhere
+    -- the last index keeps its slot when a gap is made elsewhere
     pub still_there : (slot : ℕ) → (moved ≡ slot → ⊥) → get_or (set slots slot None) moved None ≡ Some (length rest)
     still_there slot differs = get_or-set_other slots slot moved None None differs ∙ last_there
 
-    -- the last index is taken out
+    -- the last index is removed
     pub taken_last : (slot index : ℕ) → get_or slots slot None ≡ Some index → moved ≡ slot → (index ≡ length rest) × AreHomes (set slots slot None) rest
     taken_last slot index pair same =
         let last : index ≡ length rest = one_index slot index (length rest) pair (subst (λ s. get_or slots s None ≡ Some (length rest)) same last_there) in (
@@ -169,13 +169,13 @@ module _ (slots : List (Option ℕ)) (homes : List ℕ) (are : AreHomes slots ho
             let differs : k ≢ length rest = λ at. left.0 (sym (one_slot k s moved left.1 (last_there ∙ ap Some (sym at))) ∙ same) in
             omega (arith, differs, long, are.within s k left.1)
 
-    -- where another is taken out, its index is not the last
+    -- if another is removed, its index is not the last
     pub other_within : (slot index : ℕ) → get_or slots slot None ≡ Some index → moved ≢ slot → index < length rest
     other_within slot index pair differs =
         let other : index ≢ length rest = λ is. differs (one_slot index slot moved pair (last_there ∙ ap Some (sym is))) in
         omega (arith, other, long, are.within slot index pair)
 
-    -- another is taken out, and the last index is then called so
+    -- another is removed, and the last index is renamed to it
     pub taken_other : (slot index : ℕ) → get_or slots slot None ≡ Some index → moved ≢ slot → AreHomes (set (set slots slot None) moved (Some index)) (set rest index moved)
     taken_other slot index pair differs = record {
       home = λ k below. elim (cases_eq k index) [
@@ -231,7 +231,7 @@ module _ (slots : List (Option ℕ)) (homes : List ℕ) (are : AreHomes slots ho
               inr (omega (arith, a, long, are.within s k left.1), b, left.1)
         ]
 
--- the slots once the index of one is another's
+-- the slots after one index is renamed to another
 pub slots_moved : (slots : List (Option ℕ)) (slot moved index : ℕ) (gap filled : Option ℕ) → gap ≡ None → filled ≡ Some index → set (set slots slot None) moved (Some index) ≡ set (set slots slot gap) moved filled
 slots_moved slots slot moved index gap filled is_gap is_filled =
     sym (ap (λ o. set (set slots slot o) moved filled) is_gap ∙ ap (set (set slots slot None) moved) is_filled)
@@ -250,20 +250,20 @@ get_or-closed [] slot index is = absurd (cc)
 get_or-closed (m ∷ order) zero index is = is
 get_or-closed (m ∷ order) (suc slot) index is = get_or-closed order slot index is
 
--- with no gap, as many pairs are before a slot as slots
+-- without gaps, a slot has as many pairs as slots before it
 before-closed : (order : List ℕ) (slot : ℕ) → slot ≤ length order → pairs_before (map (λ index. Some index) order) slot ≡ slot
 before-closed order zero within = refl
 before-closed [] (suc slot) within = absurd (omega (arith, within))
 before-closed (m ∷ order) (suc slot) within = ap suc (before-closed order slot (omega (arith, within)))
 
--- the order stays while gaps are closed
+-- closing gaps keeps the order
 pub same_order : (slots now : List (Option ℕ)) → now ≡ map (λ index. Some index) (indexes slots) → indexes now ≡ indexes slots
 same_order slots now closed = ap indexes closed ∙ indexes-closed (indexes slots)
 
 pub length-closed : (slots now : List (Option ℕ)) → now ≡ map (λ index. Some index) (indexes slots) → length now ≡ length (indexes slots)
 length-closed slots now closed = ap length closed ∙ length-map (indexes slots) (λ index. Some index)
 
--- as many pairs are before a slot, as far as there are slots, where there is no gap
+-- without gaps, the number of pairs before a slot within the length
 before_within : (order : List ℕ) (now : List (Option ℕ)) → now ≡ map (λ index. Some index) order → (slot : ℕ) → pairs_before now slot ≡ min slot (length now)
 before_within order now closed slot =
     let n : length now ≡ length order = ap length closed ∙ length-map order (λ index. Some index) in
@@ -297,7 +297,7 @@ module _ (now : List (Option ℕ)) (homes : List ℕ) (are : AreClosed now homes
       let b = closed_was other index there in
       sym a.before ∙ ap (pairs_before are.was) (one_slot are.was homes are.homes_were index b.slot a.slot b.pair a.pair) ∙ b.before
 
-  -- one more home is told
+  -- one more home is set
   pub settled_more : (now_homes : List ℕ) (slot index : ℕ) → length now_homes ≡ length homes → get_or now slot None ≡ Some index
       → ((s k : ℕ) → s < slot → get_or now s None ≡ Some k → get_or now_homes k 0 ≡ s)
       → (s k : ℕ) → s < slot + 1 → get_or now s None ≡ Some k → get_or (set now_homes index slot) k 0 ≡ s
@@ -324,7 +324,7 @@ module _ (now : List (Option ℕ)) (homes : List ℕ) (are : AreClosed now homes
     each = ap length (same_order are.was now are.closed) ∙ are.homes_were.each ∙ sym long;
   }
 
--- one more pair goes last
+-- one more pair is appended
 pub pushed_homes : (slots : List (Option ℕ)) (homes : List ℕ) → AreHomes slots homes → AreHomes (slots ++ Some (length homes) ∷ []) (homes ++ length slots ∷ [])
 pushed_homes slots homes are = record {
   home = λ index below. elim (cases_lt index (length homes)) [
@@ -388,7 +388,7 @@ pushed_counts slots index counts counts_now are room small counts_are =
       small = omega (arith, small, length_push slots (Some index));
     }
 
--- a block with no slot yet
+-- a block without slots
 pub block_counts : (slots : List (Option ℕ)) (counts counts_now : List ℕ) → AreCounts slots counts → counts_now ≡ counts ++ 0 ∷ [] → AreCounts slots counts_now
 block_counts slots counts counts_now are counts_are =
     let a : length counts_now ≡ length counts + 1 = ap length counts_are ∙ length_push counts 0 in
@@ -399,7 +399,7 @@ block_counts slots counts counts_now are counts_are =
       small = are.small;
     }
 
--- as much room, and as many blocks
+-- room and number of blocks are unchanged
 pub blocks_kept : (room room_now : ℕ) (counts counts_now : List ℕ) → room_now ≡ room → length counts_now ≡ length counts → HasBlocks room counts → HasBlocks room_now counts_now
 blocks_kept room room_now counts counts_now same long has = record {
   blocks = omega (arith, same, long, has.blocks);
@@ -409,19 +409,19 @@ blocks_kept room room_now counts counts_now same long has = record {
 pub few_homes : (slots : List (Option ℕ)) (homes : List ℕ) → AreHomes slots homes → length homes ≤ length slots
 few_homes slots homes are = omega (arith, are.each, few_pairs slots)
 
--- what stays of slots where the gaps are filtered out
+-- slots with the gaps filtered out
 pub closed-filter : (slots : List (Option ℕ)) → filter is_some slots ≡ map (λ index. Some index) (indexes slots)
 closed-filter [] = refl
 closed-filter (None ∷ slots) = closed-filter slots
 closed-filter (Some index ∷ slots) = ap (λ l. Some index ∷ l) (closed-filter slots)
 
--- an index stands at one place of the order
+-- an index has only one place in the order
 pub place_only : (slots : List (Option ℕ)) (homes : List ℕ) → AreHomes slots homes → (index slot place : ℕ) → get_or slots slot None ≡ Some index → slice_get (indexes slots) place ≡ Some index → place ≡ pairs_before slots slot
 place_only slots homes are index slot place pair is =
     let there = has_slot slots place index is in
     sym there.before ∙ ap (pairs_before slots) (one_slot slots homes are index slot there.slot pair there.pair)
 
--- the slot that an index has as its home, seen from the index's place
+-- the slot that is an index's home, from the index's place
 pub record HasHome (slots : List (Option ℕ)) (homes order : List ℕ) (index place home : ℕ) : Type 0 where
   pub pair : get_or slots home None ≡ Some index
   pub one : (other : ℕ) → get_or slots home None ≡ Some other → other ≡ index
@@ -447,7 +447,7 @@ all_indexes P slots each = λ k d within.
     let there = has_slot slots k (get_or (indexes slots) k d) (slice_get-get_or (indexes slots) k d within) in
     each there.slot (get_or (indexes slots) k d) there.pair
 
--- what is left once an index is taken out
+-- what remains after an index is removed
 abbrev pub IsOther : List ℕ → ℕ → ℕ → Type 0
 IsOther order index other = (other < length order) × (other ≢ index)
 
@@ -469,7 +469,7 @@ taken_facts slots homes are slot index place order pair is before = (
   ),
 )
 
--- one more index of a whole order
+-- a complete order extended by one index
 pub range_more : (from count : ℕ) → range_with_len from (suc count) ≡ range_with_len from count ++ (from + count) ∷ []
 range_more from zero = let n : from ≡ from + 0 = omega arith in ap (λ m. m ∷ []) n
 range_more from (suc count) =
@@ -488,7 +488,7 @@ sound_order slots homes are order is = subst IsSound is (record {
       };
 })
 
--- some of the indexes of an order are below its length
+-- some indexes of an order are below its length
 pub some_within : (order : List ℕ) (i : ℕ) (some : List ℕ) → some ≡ take AT_ONCE (drop i order) → IsSound order → All (λ index. index < length order) some
 some_within order i some is sound k d below =
     let n : k < length (take AT_ONCE (drop i order)) = omega (arith, below, ap length is) in

@@ -19,7 +19,7 @@ map-choice f true xs ys = refl
 map-choice f false xs ys = refl
 
 module _ (key : Val) where
-  -- a key stands where the map has it
+  -- a key has the position that the map gives it
   find_from : (i : ℕ) (ps : List (Val × Val)) → position_from (equal key) i (keys_of ps) ≡ position_from (has_key key) i (map pair_entry ps)
   find_from i [] = refl
   find_from i (p ∷ ps) =
@@ -32,7 +32,7 @@ module _ (key : Val) where
       ∙ find_from 0 ps
       ∙ sym (position_from-zero (has_key key) (map pair_entry ps))
 
-  -- the value that the map has under a key
+  -- the value of a key in the map
   lookup-pairs : (ps : List (Val × Val)) → lookup (equal key) ps ≡ value_at (map pair_entry ps) key
   lookup-pairs [] = refl
   lookup-pairs (p ∷ ps) =
@@ -47,7 +47,7 @@ module _ (key : Val) where
       ∙ ap (λ b. cond b (pair_entry (p.0, val) ∷ map pair_entry ps) (pair_entry p ∷ map pair_entry (insert_entry equal ps key val))) (equal-same_value key p.0)
       ∙ ap (λ es. cond (same_value p.0 key) (pair_entry (p.0, val) ∷ map pair_entry ps) (pair_entry p ∷ es)) (insert-pairs val ps)
 
--- the same of a packed key, which is the key
+-- the same for a packed key, which equals the key
 pub find-packed : (key packed : Val) → packed ≡ key → (ps : List (Val × Val)) → position (equal packed) (keys_of ps) ≡ position (has_key key) (map pair_entry ps)
 find-packed key packed is ps = ap (λ k. position (equal k) (keys_of ps)) is ∙ find-pairs key ps
 
@@ -60,7 +60,7 @@ insert-packed key packed_key val packed_val key_is val_is ps =
     ∙ ap (λ v. map pair_entry (insert_entry equal ps key v)) val_is
     ∙ insert-pairs key val ps
 
--- where no entry is taken, all stay
+-- if no entry is removed, all remain
 pub none_taken : (key : Val) (taken : Option Entry) (es now : List Entry) → taken ≡ entry_at es key → now ≡ without_key es key → IfNone taken (body_of now 0 ≡ body_of es 0)
 none_taken key None es now is rest = ap (λ l. body_of l 0) (rest ∙ (lacks_key key es (sym is)).rest)
 none_taken key (Some e) es now is rest = tt

@@ -1,4 +1,4 @@
--- What a call on one value of a slab does to the bodies at its keys, for all kinds at once.
+-- The effect on the bodies of a call on one value of a slab, for all kinds at once.
 use Rattle.std.proofs.Common.{◌≡◌, ◌≢◌, ℕ, zero, suc, ◌+◌, ◌<◌, true, false, List, [], ◌∷◌, get_or, Option, Some, None, cond, refl, sym, ap, ◌∙◌, subst, inl, inr, arith, map, IsSome}
 use Rattle.std.specs.Prelude.{option_map, Result, Ok, Err, OnErr, OnSome, IfNone}
 use Rattle.std.proofs.lemmas.Bool.{cases_eq, eq-eqb, ne_eqb}
@@ -17,12 +17,12 @@ tied a b e = unsigned_tied a b ∙ eq-eqb a b e
 apart : (a b : ℕ) → a ≢ b → eq_by_cmp nat_cmp a b ≡ false
 apart a b n = unsigned_tied a b ∙ ne_eqb a b n
 
--- what holds anyway holds after an error
+-- a fact that holds after an error
 pub on_err_any : {T E P : Type 0} (r : Result T E) → P → OnErr r P
 on_err_any (Ok x) p = tt
 on_err_any (Err e) p = p
 
--- a fact that follows from another
+-- a weaker fact
 pub on_some_weaker : {T P Q : Type 0} (o : Option T) → (P → Q) → OnSome o P → OnSome o Q
 on_some_weaker None f p = tt
 on_some_weaker (Some x) f p = f p
@@ -34,7 +34,7 @@ if_none_weaker (Some x) f p = tt
 some_key : {T : Type 0} (o : Option T) (v : T) → o ≡ Some v → IsSome o
 some_key o v e = rw e refl
 
--- the body at a place, the empty one where there is none
+-- the body at a place, empty if there is none
 abbrev body_at : Bodies → ℕ → Body
 body_at bodies at = body_of (entries_at bodies at) (spare_at bodies at)
 
@@ -42,7 +42,7 @@ module _ {T : Type 0} (f : T → Body) where
   abbrev listed : ℕ → List (Option T) → List (ℕ × Body)
   listed key slots = map (λ e. (e.0, f e.1)) (entries_from key slots)
 
-  -- no key stands below the first
+  -- no key is below the first
   find_below : (q key : ℕ) (slots : List (Option T)) → q < key → fin.find nat_cmp q (listed key slots) ≡ None
   find_below q key [] h = refl
   find_below q key (None ∷ rest) h = find_below q (key + 1) rest (omega arith)
@@ -65,7 +65,7 @@ module _ {T : Type 0} (f : T → Body) where
   unfolding bodies_of
   get-bodies_of s k = fin.get-from_entries nat_cmp_total _ k ∙ find_at k k 0 s.slots (omega arith)
 
-  -- one value is there instead, or more
+  -- one value replaced or added
   pub bodies-set : (old new : Slab T) (k : ℕ) (v : T) → Updates old new k (Some v) → bodies_of f new ≡ fin.insert (bodies_of f old) k (f v)
   bodies-set old new k v u =
       fin.same_map nat_cmp_total fin.nat_cmp-IsAntisymmetric _ _
@@ -81,7 +81,7 @@ module _ {T : Type 0} (f : T → Body) where
       ]
       ∙ sym (fin.get-insert nat_cmp_total (bodies_of f old) k (f v) q))
 
-  -- one value is gone
+  -- one value removed
   pub bodies-gone : (old new : Slab T) (k : ℕ) → Updates old new k None → bodies_of f new ≡ fin.remove (bodies_of f old) k
   bodies-gone old new k u =
       fin.same_map nat_cmp_total fin.nat_cmp-IsAntisymmetric _ _
@@ -131,7 +131,7 @@ module _ {T : Type 0} (f : T → Body) where
     at_place : body_at (bodies_of f s) k ≡ f v
     at_place = body_at-value s k v e
 
-    -- what is true of the body at the place is true of the value's, and the other way round
+    -- a property of the body at the place is a property of the value's body, and conversely
     pub of_value : (P : Body → Type 0) → P (body_at (bodies_of f s) k) → P (f v)
     of_value P h = subst P at_place h
 
@@ -144,11 +144,11 @@ module _ {T : Type 0} (f : T → Body) where
     written : (w : T) → bodies_of f (with_value s k w) ≡ fin.insert (bodies_of f s) k (f w)
     written w = bodies-set s (with_value s k w) k w (updates w)
 
-    -- the value is another, whose body is made from that at the place
+    -- the value is replaced; its body is computed from the old one
     pub rewritten : (change : Body → Body) (w : T) → f w ≡ change (f v) → bodies_of f (with_value s k w) ≡ fin.insert (bodies_of f s) k (change (body_at (bodies_of f s) k))
     rewritten change w h = written w ∙ ap (fin.insert (bodies_of f s) k) (h ∙ ap change (sym at_place))
 
-    -- the value is another of the same body
+    -- the value is replaced by one with the same body
     pub kept : (w : T) → f w ≡ f v → bodies_of f (with_value s k w) ≡ bodies_of f s
     kept w same =
         let u = updates w in
@@ -161,7 +161,7 @@ module _ {T : Type 0} (f : T → Body) where
         ]
         ∙ sym (get-bodies_of s q))
 
-    -- the other body has entries made from these, or the same, and its own spare
+    -- the new body has its own spare capacity, and entries computed from the old ones or equal to them
     pub with_entries : (change : List Entry → List Entry) (w : T) → f w ≡ body_of (change (f v).entries) (f w).spare → bodies_of f (with_value s k w) ≡ with_body (bodies_of f s) k (change (entries_at (bodies_of f s) k)) (spare_at (bodies_of f (with_value s k w)) k)
     with_entries change w same =
         made s (with_value s k w) k w (change (entries_at (bodies_of f s) k)) (updates w)
@@ -170,7 +170,7 @@ module _ {T : Type 0} (f : T → Body) where
     pub with_spare : (w : T) → f w ≡ body_of (f v).entries (f w).spare → bodies_of f (with_value s k w) ≡ with_body (bodies_of f s) k (entries_at (bodies_of f s) k) (spare_at (bodies_of f (with_value s k w)) k)
     with_spare = with_entries (λ es. es)
 
-    -- what is true of both values' bodies is true of the place before and after
+    -- a relation of the two values' bodies is one of the place before and after
     pub of_places : (P : Body → Body → Type 0) (w : T) → P (f v) (f w) → P (body_at (bodies_of f s) k) (body_at (bodies_of f (with_value s k w)) k)
     of_places P w h = subst (λ b. P b (body_at (bodies_of f (with_value s k w)) k)) (sym at_place)
         (subst (P (f v)) (sym (body_at-value (with_value s k w) k w ((updates w).changed))) h)

@@ -1,4 +1,4 @@
--- Slots with gaps: how many pairs are before one, and what a new gap does to that.
+-- Slots with gaps: the number of pairs before a slot, and the effect of a new gap.
 use Rattle.std.proofs.Common.{◌≡◌, ℕ, zero, suc, ◌+◌, ◌*◌, ◌-◌, ◌<◌, ◌≤◌, ◌/◌, List, [], ◌∷◌, ◌++◌, Option, Some, None, refl, sym, ap, ◌∙◌, subst, length, take, drop, get_or, set, arith, length-append, IsSome, inl, inr}
 use Rattle.std.proofs.lemmas.Bool.{cases_lt}
 use Rattle.std.proofs.lemmas.List.{get_or_past, get_or_default}
@@ -12,7 +12,6 @@ use Rattle.std.specs.List.{sum}
 use Rattle.cg_kinds.specs.Order.{indexes, pairs_before, sum_before, AreSums, AreCounts}
 use Rattle.cg_kinds.proofs.SumLemmas.{sums_reach, sum_all, IsOneMore, one_within, lowered}
 
--- one more slot
 pub before_more : (slots : List (Option ℕ)) (slot : ℕ) → slot < length slots → pairs_before slots (slot + 1) ≡ pairs_before slots slot + length (option_to_list (get_or slots slot None))
 before_more slots slot within =
     let whole : indexes (take (slot + 1) slots) ≡ indexes (take slot slots) ++ (option_to_list (get_or slots slot None) ++ []) =
@@ -27,11 +26,10 @@ before_more-gap slots slot within gap = let n = ap (λ o. length (option_to_list
 pub before_more-pair : (slots : List (Option ℕ)) (slot index : ℕ) → slot < length slots → get_or slots slot None ≡ Some index → pairs_before slots (slot + 1) ≡ pairs_before slots slot + 1
 before_more-pair slots slot index within pair = let n = ap (λ o. length (option_to_list o)) pair in omega (arith, before_more slots slot within, n)
 
--- all slots
 pub before_all : (slots : List (Option ℕ)) (n : ℕ) → length slots ≤ n → pairs_before slots n ≡ length (indexes slots)
 before_all slots n all = ap (λ l. length (indexes l)) (take_all n slots all)
 
--- no more pairs than slots
+-- at most as many pairs as slots
 pub few_pairs : (slots : List (Option ℕ)) → length (indexes slots) ≤ length slots
 few_pairs [] = omega arith
 few_pairs (None ∷ slots) = omega (arith, few_pairs slots)
@@ -51,11 +49,11 @@ before_later slots slot more =
     ∙ ap length (flat_map-append option_to_list (take slot slots) (take more (drop slot slots)))
     ∙ length-append (indexes (take slot slots)) (indexes (take more (drop slot slots)))
 
--- a new gap leaves what is before it
+-- a new gap keeps the pairs before it
 pub gap_earlier : (slots : List (Option ℕ)) (slot k : ℕ) → k ≤ slot → pairs_before (set slots slot None) k ≡ pairs_before slots k
 gap_earlier slots slot k earlier = ap (λ l. length (indexes l)) (take-set-le k slots slot None earlier)
 
--- and behind it there is one pair less
+-- after it there is one pair less
 pub gap_later : (slots : List (Option ℕ)) (slot k index : ℕ) → get_or slots slot None ≡ Some index → slot < k → pairs_before (set slots slot None) k + 1 ≡ pairs_before slots k
 gap_later [] slot k index pair later = absurd (cc)
 gap_later (x ∷ slots) zero zero index pair later = absurd (omega (arith, later))
@@ -74,7 +72,7 @@ before_grows slots slot k later =
     let e : pairs_before slots (slot + (k - slot)) ≡ pairs_before slots k = ap (pairs_before slots) n in
     omega (arith, before_later slots slot (k - slot), e)
 
--- where one more slot is one more pair, the slot has a pair
+-- if a slot adds a pair, it contains one
 pub pair_there : (slots : List (Option ℕ)) (slot : ℕ) → pairs_before slots slot < pairs_before slots (slot + 1) → IsSome (get_or slots slot None)
 pair_there slots slot more = elim (cases_lt slot (length slots)) [
   | inl within ↦ by (get_or slots slot None) refl within
@@ -85,7 +83,7 @@ pair_there slots slot more = elim (cases_lt slot (length slots)) [
     by None is within = absurd (omega (arith, more, before_more-gap slots slot within is))
     by (Some index) is within = subst IsSome (sym is) refl
 
--- a new gap is one pair less behind its slot
+-- a new gap means one pair less after its slot
 pub gap_less : (slots : List (Option ℕ)) (slot index : ℕ) → get_or slots slot None ≡ Some index → IsOneMore (pairs_before (set slots slot None)) (pairs_before slots) slot
 gap_less slots slot index pair = record {
   earlier = λ k before. sym (gap_earlier slots slot k before);
@@ -93,7 +91,7 @@ gap_less slots slot index pair = record {
 }
 
 module _ (slots : List (Option ℕ)) (counts : List ℕ) (are : AreCounts slots counts) where
-  -- the pairs in the blocks before one
+  -- the pairs in the blocks before a given block
   pub counts_reach : (block : ℕ) → block ≤ length counts → sum_before counts block ≡ pairs_before slots (block * 16)
   counts_reach block within =
       let n : 16 * block ≡ block * 16 = omega arith in
@@ -106,14 +104,14 @@ module _ (slots : List (Option ℕ)) (counts : List ℕ) (are : AreCounts slots 
   pub block_there : (slot : ℕ) → slot < length slots → slot / 16 < length counts
   block_there slot within = omega (arith, within, are.covered)
 
-  -- the pairs before a slot's block, and what lies between
+  -- the pairs before a slot's block, and those between
   pub block_and_rest : (slot : ℕ) → slot < length slots → sum_before counts (slot / 16) + length (indexes (between (slot / 16 * 16) slot slots)) ≡ pairs_before slots slot
   block_and_rest slot within =
       let m : slot / 16 * 16 + (slot - slot / 16 * 16) ≡ slot = omega arith in
       let f : pairs_before slots (slot / 16 * 16 + (slot - slot / 16 * 16)) ≡ pairs_before slots slot = ap (pairs_before slots) m in
       omega (arith, f, counts_reach (slot / 16) (omega (arith, within, are.covered)), before_later slots (slot / 16 * 16) (slot - slot / 16 * 16))
 
-  -- in a block with no gap each slot has a pair
+  -- in a block without gaps each slot has a pair
   pub full_block : (block k : ℕ) → block < length counts → get_or counts block 0 ≡ 16 → k < 16
       → (pairs_before slots (block * 16 + k) ≡ pairs_before slots (block * 16) + k) × IsSome (get_or slots (block * 16 + k) None)
   full_block block k within full below =
@@ -131,15 +129,15 @@ module _ (slots : List (Option ℕ)) (counts : List ℕ) (are : AreCounts slots 
       (here, pair_there slots (block * 16 + k) next)
 
   module _ (slot index : ℕ) (pair : get_or slots slot None ≡ Some index) where
-    -- no more pairs are before a block without the slot's pair than behind it
+    -- without the slot's pair, no more pairs are before its block than after it
     block_grows : pairs_before (set slots slot None) (16 * (slot / 16)) ≤ pairs_before (set slots slot None) (16 * (slot / 16) + 16)
     block_grows = before_grows (set slots slot None) (16 * (slot / 16)) (16 * (slot / 16) + 16) (omega arith)
 
-    -- the block of a pair has one
+    -- the block of a pair has at least one
     pub block_some : slot / 16 < length counts → 0 < get_or counts (slot / 16) 0
     block_some within = one_within (pairs_before (set slots slot None)) (pairs_before slots) slot (gap_less slots slot index pair) counts within are.each block_grows
 
-    -- one pair less in the block of a new gap
+    -- a new gap lowers its block's count by one
     pub lowered_counts : slot / 16 < length counts → (now : List (Option ℕ)) (counts_now : List ℕ) → ((k : ℕ) → pairs_before now k ≡ pairs_before (set slots slot None) k) → length now ≡ length slots
         → counts_now ≡ set counts (slot / 16) (get_or counts (slot / 16) 0 - 1) → AreCounts now counts_now
     lowered_counts within now counts_now before long counts_are =
@@ -173,11 +171,11 @@ pair_of slots slot some = by (get_or slots slot None) refl
     by None is = absurd (none_is_none (subst IsSome is some))
     by (Some index) is = record { index = index; is = is; within = pair_within slots slot index is }
 
--- what a slot is read as, whatever stands for a slot past the last
+-- the contents of a slot, with any default past the end
 pub pair_read : (slots : List (Option ℕ)) (slot index : ℕ) (past read : Option ℕ) → slot < length slots → read ≡ get_or slots slot past → read ≡ Some index → get_or slots slot None ≡ Some index
 pair_read slots slot index past read within told is = get_or_default slots slot None past within ∙ sym told ∙ is
 
--- the indexes in the slots from one on, with one slot more
+-- the indexes in the slots from one on, and one more slot
 pub indexes_more : (slots : List (Option ℕ)) (first slot : ℕ) (o : Option ℕ) → first ≤ slot → slot < length slots → get_or slots slot None ≡ o
     → indexes (take (slot + 1 - first) (drop first slots)) ≡ indexes (take (slot - first) (drop first slots)) ++ option_to_list o
 indexes_more slots first slot o behind within is =
@@ -190,20 +188,20 @@ indexes_more slots first slot o behind within is =
     ∙ ap (λ (x : Option ℕ). indexes (take (slot - first) rest) ++ (option_to_list x ++ [])) (get_or-drop first slots (slot - first) None ∙ ap (λ k. get_or slots k None) m ∙ is)
     ∙ ap (λ (l : List ℕ). indexes (take (slot - first) rest) ++ l) (append-nil (option_to_list o))
 
--- so many of them are the first so many
+-- a prefix of them
 pub first_so_many : (rest : List (Option ℕ)) (k n : ℕ) (some : List ℕ) → some ≡ indexes (take k rest) → length some ≡ n → some ≡ take n (indexes rest)
 first_so_many rest k n some is many =
     let parts : indexes rest ≡ some ++ indexes (drop k rest) =
     ap indexes (sym (take-append-drop k rest)) ∙ flat_map-append option_to_list (take k rest) (drop k rest) ∙ ap (λ (l : List ℕ). l ++ indexes (drop k rest)) (sym is) in
     sym (take-append_seam some (indexes (drop k rest))) ∙ ap (λ m. take m (some ++ indexes (drop k rest))) many ∙ ap (take n) (sym parts)
 
--- no more than so many are all of them
+-- a prefix longer than the list is the whole list
 pub all_so_many : (rest : List (Option ℕ)) (k n : ℕ) (some : List ℕ) → some ≡ indexes (take k rest) → length rest ≤ k → length some ≤ n → some ≡ take n (indexes rest)
 all_so_many rest k n some is all few =
     let whole : some ≡ indexes rest = is ∙ ap indexes (take_all k rest all) in
     sym (take_all n some few) ∙ ap (take n) whole
 
--- those behind so many are in the slots from theirs on
+-- the indexes after a prefix are those in the slots after its slots
 pub indexes_behind : (slots : List (Option ℕ)) (slot place : ℕ) → pairs_before slots slot ≡ place → indexes (drop slot slots) ≡ drop place (indexes slots)
 indexes_behind slots slot place before =
     let parts : indexes slots ≡ indexes (take slot slots) ++ indexes (drop slot slots) =

@@ -1,4 +1,4 @@
--- Sums of the parts of a count, and what one more in it does to them.
+-- Sums of the parts of a count, and the effect of adding one.
 use Rattle.std.proofs.Common.{◌≡◌, ℕ, zero, suc, ◌+◌, ◌*◌, ◌-◌, ◌<◌, ◌≤◌, ◌/◌, min, List, [], ◌∷◌, ◌++◌, Option, Some, None, refl, sym, ap, ◌∙◌, subst, length, take, drop, get_or, set, arith, inl, inr}
 use Rattle.std.proofs.lemmas.Bool.{cases_lt, cases_eq}
 use Rattle.std.proofs.lemmas.List.{take_all, take_min, length-set, length_push, take-take, drop-take, get_or-set_same, get_or-set_other, get_or_append_left, get_or_push, take-append-le, take-set-le}
@@ -8,11 +8,9 @@ use Rattle.std.specs.Global.{Box}
 use Rattle.cg_kinds.specs.Pairs.{unboxed}
 use Rattle.cg_kinds.specs.Order.{sum_before, AreSums, AreSumsOf, AreAbove}
 
--- one more number
 pub sum_more : (numbers : List ℕ) (k : ℕ) → k < length numbers → sum_before numbers (k + 1) ≡ sum_before numbers k + get_or numbers k 0
 sum_more numbers k within = sum_by_more (λ x. x) numbers k 0 within
 
--- all numbers
 pub sum_all : (numbers : List ℕ) (k : ℕ) → length numbers ≤ k → sum_before numbers k ≡ sum numbers
 sum_all numbers k all = ap sum (take_all k numbers all)
 
@@ -29,7 +27,7 @@ sum_later numbers k more =
 pub sum_grows : (numbers : List ℕ) (k more : ℕ) → sum_before numbers k ≤ sum_before numbers (k + more)
 sum_grows numbers k more = omega (arith, sum_later numbers k more)
 
--- sums of parts add up to the count that they are of
+-- the sums of the parts add up to the count
 pub sums_reach : (before : ℕ → ℕ) (sums : List ℕ) → before 0 ≡ 0 → AreSums before sums → (part : ℕ) → part ≤ length sums → sum_before sums part ≡ before (16 * part)
 sums_reach before sums none are zero within = sym none
 sums_reach before sums none are (suc part) within =
@@ -41,18 +39,18 @@ sums_reach before sums none are (suc part) within =
     let f : sum_before sums (part + 1) ≡ sum_before sums (suc part) = ap (sum_before sums) m in
     omega (arith, rest, here, e, f, sum_more sums part (omega (arith, within)))
 
--- what is counted over a part
+-- the count over one part
 pub sum_here : (numbers : List ℕ) (part : ℕ) → sum_before numbers (16 * part + 16) ≡ sum_before numbers (16 * part) + sum (take 16 (drop (16 * part) numbers))
 sum_here numbers part = sum_later numbers (16 * part) 16
 
 pub sum_here_part : (numbers : List ℕ) (part : ℕ) → sum (take 16 (drop (16 * part) numbers)) ≤ sum numbers
 sum_here_part numbers part = omega (arith, sum_here numbers part, sum_part numbers (16 * part + 16))
 
--- a part taken off the rest of the numbers
+-- splitting a part off the rest of the numbers
 pub part_taken : (numbers rest front : List ℕ) (part count : ℕ) → front ≡ take count rest → count ≡ min 16 (length rest) → rest ≡ drop (16 * part) numbers → sum front ≡ sum (take 16 (drop (16 * part) numbers))
 part_taken numbers rest front part count taken few left = ap sum (taken ∙ ap (λ n. take n rest) few ∙ take_min 16 rest ∙ ap (take 16) left)
 
--- numbers that a count is dealt to by 16
+-- numbers into which a count is dealt, 16 each
 pub dealt_sum : (numbers : List ℕ) (count : ℕ) → ((i : ℕ) → i < length numbers → get_or numbers i 0 ≡ min 16 (count - 16 * i)) → (k : ℕ) → k ≤ length numbers → sum_before numbers k ≡ min (16 * k) count
 dealt_sum numbers count dealt zero within = omega arith
 dealt_sum numbers count dealt (suc k) within =
@@ -61,7 +59,7 @@ dealt_sum numbers count dealt (suc k) within =
     let f : sum_before numbers (k + 1) ≡ sum_before numbers (suc k) = ap (sum_before numbers) m in
     omega (arith, rest, f, sum_more numbers k (omega (arith, within)), dealt k (omega (arith, within)))
 
--- another number in the place of one
+-- one number replaced
 pub sum_set : (numbers : List ℕ) (i other k : ℕ) → i < length numbers → i < k → sum_before (set numbers i other) k + get_or numbers i 0 ≡ sum_before numbers k + other
 sum_set [] i other k within later = absurd (omega (arith, within))
 sum_set (n ∷ numbers) i other zero within later = absurd (omega (arith, later))
@@ -73,7 +71,7 @@ sum_set (n ∷ numbers) (suc i) other (suc k) within later =
 pub sum_set-earlier : (numbers : List ℕ) (i other k : ℕ) → k ≤ i → sum_before (set numbers i other) k ≡ sum_before numbers k
 sum_set-earlier numbers i other k earlier = ap sum (take-set-le k numbers i other earlier)
 
--- a count that has one more behind some place
+-- a count that has one more after a place
 pub record IsOneMore (less more : ℕ → ℕ) (place : ℕ) : Type 0 where
   pub earlier : (k : ℕ) → k ≤ place → more k ≡ less k
   pub later : (k : ℕ) → place < k → more k ≡ less k + 1
@@ -109,7 +107,7 @@ module _ (less more : ℕ → ℕ) (place : ℕ) (one : IsOneMore less more plac
             ]
       ]
 
-  -- the sum that the one is in has it
+  -- the sum that contains the extra one is at least 1
   pub one_within : AreSums more sums → less (16 * (place / 16)) ≤ less (16 * (place / 16) + 16) → 0 < get_or sums (place / 16) 0
   one_within are rising =
       omega (arith, rising, are (place / 16) within, one.later (16 * (place / 16) + 16) (omega arith), one.earlier (16 * (place / 16)) (omega arith))
@@ -132,7 +130,7 @@ module _ (less more : ℕ → ℕ) (place : ℕ) (one : IsOneMore less more plac
             ]
       ]
 
--- a 0 last, where the count goes on over nothing
+-- a trailing 0, where the count continues over nothing
 pub zero_last : (before : ℕ → ℕ) (sums : List ℕ) → AreSums before sums → before (16 * length sums + 16) ≡ before (16 * length sums) → AreSums before (sums ++ 0 ∷ [])
 zero_last before sums are nothing part below = elim (cases_lt part (length sums)) [
   | inl low ↦ omega (arith, are part low, get_or_append_left sums (0 ∷ []) 0 part low)
@@ -144,7 +142,7 @@ zero_last before sums are nothing part below = elim (cases_lt part (length sums)
       omega (arith, s, b, d, nothing)
 ]
 
--- a 0 behind numbers adds nothing
+-- a trailing 0 adds nothing
 pub zero_after : (numbers : List ℕ) (k : ℕ) → sum_before (numbers ++ 0 ∷ []) k ≡ sum_before numbers k
 zero_after numbers k = elim (cases_lt (length numbers) k) [
   | inl past ↦
@@ -167,7 +165,7 @@ first_above numbers sums full is =
     two (suc zero) below = omega (arith, sum_all numbers 32 (omega (arith, full)), sum_all numbers 16 (omega (arith, full)))
     two (suc (suc part)) below = absurd (omega (arith, below))
 
--- what is told of the sums above, once they are there
+-- what holds of the sums above, if there are any
 pub above_told : (numbers : List ℕ) (above : Option (Box (List ℕ))) (sums : Box (List ℕ)) → AreAbove numbers (unboxed above) → above ≡ Some sums → AreSumsOf numbers sums.value
 above_told numbers above sums are is = subst (λ o. AreAbove numbers (unboxed o)) is are
 
@@ -175,7 +173,7 @@ pub none_above : (numbers : List ℕ) (above : Option (Box (List ℕ))) → abov
 none_above numbers above is = subst (λ o. AreAbove numbers (unboxed o)) (sym is) tt
 
 module _ (numbers sums : List ℕ) (are : AreSumsOf numbers sums) where
-  -- the parts before one, and the numbers before it
+  -- the parts before a part, and the numbers before it
   pub part_reach : (part : ℕ) → part ≤ length sums → sum_before sums part ≡ sum_before numbers (part * 16)
   part_reach part within =
       let n : 16 * part ≡ part * 16 = omega arith in
@@ -185,7 +183,7 @@ module _ (numbers sums : List ℕ) (are : AreSumsOf numbers sums) where
   all_parts =
       sym (sum_all sums (length sums) (omega arith)) ∙ part_reach (length sums) (omega arith) ∙ sum_all numbers (length sums * 16) (omega (arith, are.covered))
 
-  -- the parts before a number's own, and what is before it there
+  -- the parts before a number's part, and the numbers before it within the part
   pub part_and_rest : (i : ℕ) → i ≤ length numbers → sum_before sums (i / 16) + sum (take (i - i / 16 * 16) (drop (i / 16 * 16) numbers)) ≡ sum_before numbers i
   part_and_rest i within =
       let n : i / 16 * 16 + (i - i / 16 * 16) ≡ i = omega arith in
@@ -195,7 +193,7 @@ module _ (numbers sums : List ℕ) (are : AreSumsOf numbers sums) where
   pub sums_within : (i : ℕ) → i < length numbers → i / 16 < length sums
   sums_within i within = omega (arith, within, are.covered)
 
-  -- one more in a number is one more in its part
+  -- raising a number raises its part's sum
   pub raised_above : (i : ℕ) → i < length numbers → (numbers_now sums_now : List ℕ) → numbers_now ≡ set numbers i (get_or numbers i 0 + 1) → sums_now ≡ set sums (i / 16) (get_or sums (i / 16) 0 + 1) → AreSumsOf numbers_now sums_now
   raised_above i within numbers_now sums_now numbers_are sums_are =
       let a : length numbers_now ≡ length numbers = ap length numbers_are ∙ length-set numbers i (get_or numbers i 0 + 1) in
@@ -212,7 +210,7 @@ module _ (numbers sums : List ℕ) (are : AreSumsOf numbers sums) where
       one_within (sum_before (set numbers i (get_or numbers i 0 - 1))) (sum_before numbers) i (number_lowered numbers i within some) sums (sums_within i within) are.each
       (sum_grows (set numbers i (get_or numbers i 0 - 1)) (16 * (i / 16)) 16)
 
-  -- one less in a number is one less in its part
+  -- lowering a number lowers its part's sum
   pub lowered_above : (i : ℕ) → i < length numbers → 0 < get_or numbers i 0 → (numbers_now sums_now : List ℕ) → numbers_now ≡ set numbers i (get_or numbers i 0 - 1) → sums_now ≡ set sums (i / 16) (get_or sums (i / 16) 0 - 1) → AreSumsOf numbers_now sums_now
   lowered_above i within some numbers_now sums_now numbers_are sums_are =
       let a : length numbers_now ≡ length numbers = ap length numbers_are ∙ length-set numbers i (get_or numbers i 0 - 1) in
@@ -225,7 +223,7 @@ module _ (numbers sums : List ℕ) (are : AreSumsOf numbers sums) where
         fewer = omega (arith, a, b, are.fewer);
       }
 
-  -- a 0 last, where there is room for it in the last part
+  -- appending a 0 if the last part has room
   pub pushed_below : length numbers < 16 * length sums → AreSumsOf (numbers ++ 0 ∷ []) sums
   pushed_below room = record {
     each = λ part below.
@@ -236,7 +234,7 @@ module _ (numbers sums : List ℕ) (are : AreSumsOf numbers sums) where
     fewer = omega (arith, are.fewer, length_push numbers 0);
   }
 
-  -- one more part, with nothing in it
+  -- one more part, still empty
   pub pushed_part : length numbers ≡ 16 * length sums → (sums_now : List ℕ) → sums_now ≡ sums ++ 0 ∷ [] → AreSumsOf numbers sums_now × (length numbers < 16 * length sums_now)
   pushed_part full sums_now sums_are =
       let long : length sums_now ≡ length sums + 1 = ap length sums_are ∙ length_push sums 0 in

@@ -1,4 +1,4 @@
--- Entries at the indexes of an order: what a search finds among them, and what a put or a take leaves.
+-- Entries at the indexes of an order: what a search finds, and the effect of a put or a take.
 use Rattle.std.proofs.Common.{◌≡◌, ℕ, zero, suc, ◌+◌, ◌-◌, ◌<◌, Bool, true, false, List, [], ◌∷◌, ◌++◌, Option, Some, None, cond, refl, sym, ap, ◌∙◌, length, take, get_or, set, map, arith, IsSome, inl, inr, true≢false, option_map, Result, Ok, Err, OnErr}
 use Rattle.std.specs.Prelude.{position, slice_get, remove, swap_remove, All}
 use Rattle.std.specs.List.{position_from, range_with_len, IsDistinct}
@@ -27,7 +27,7 @@ use Rattle.cg_kinds.proofs.PairLemmas.{find-packed, lookup-packed}
 use Rattle.cg_kinds.proofs.FewLemmas.{found_first, found_entry, found_put, value_none, put_new}
 use Rattle.cg_kinds.proofs.OrderLemmas.{IsOther, renamed_other, renamed_last}
 
--- where a test passes first
+-- the first position that passes a test
 from_at : (t : Entry → Bool) (i k : ℕ) (es : List Entry) (d : Entry) → k < length es → t (get_or es k d) ≡ true → ((j : ℕ) → j < k → t (get_or es j d) ≡ false) → position_from t i es ≡ Some (i + k)
 from_at t i k [] d within has before = absurd (omega (arith, within))
 from_at t i zero (e ∷ es) d within has before =
@@ -42,7 +42,7 @@ from_at t i (suc k) (e ∷ es) d within has before =
 pub position_at : (t : Entry → Bool) (k : ℕ) (es : List Entry) (d : Entry) → k < length es → t (get_or es k d) ≡ true → ((j : ℕ) → j < k → t (get_or es j d) ≡ false) → position t es ≡ Some k
 position_at t k es d within has before = position_from-zero t es ∙ from_at t 0 k es d within has before ∙ ap (λ m. Some m) (omega arith)
 
--- where it passes nowhere
+-- no position passes the test
 from_none : (t : Entry → Bool) (i : ℕ) (es : List Entry) (d : Entry) → ((j : ℕ) → j < length es → t (get_or es j d) ≡ false) → position_from t i es ≡ None
 from_none t i [] d lacks = refl
 from_none t i (e ∷ es) d lacks =
@@ -62,11 +62,11 @@ none_at t i (e ∷ es) d none (suc j) below = by (t e) none (λ h. none_at t (i 
     by true h again = absurd (cc)
     by false h again = again h
 
--- no two entries have one key
+-- no two entries have the same key
 abbrev pub AreUnique : List Entry → Type 0
 AreUnique es = (key : Val) (i j : ℕ) → i < length es → j < length es → has_key key (get_or es i nothing) ≡ true → has_key key (get_or es j nothing) ≡ true → i ≡ j
 
--- the set of an entry under a present key
+-- put replaces the entry of an existing key
 put_set : (key val : Val) (es : List Entry) (k : ℕ) → position (has_key key) es ≡ Some k → put es key val ≡ set es k (record { key = (get_or es k nothing).key; val = val })
 put_set key val es k is =
     let f = found_first key es k (sym (position_from-zero (has_key key) es) ∙ is) in
@@ -131,7 +131,7 @@ module _ (es : List Entry) (order : List ℕ) (within : All (λ index. index < l
                 let same = unique key (get_or order j 0) index (index_within j low) (position-Some (has_key key) es index nothing found).0 (sym (ap (has_key key) (picked_at j nothing low)) ∙ is) has in
                 absurd (omega (arith, below, only_here j low same))
 
-    -- another entry at an index is another at the index's place
+    -- replacing the entry at an index replaces it at the index's place
     pub picked_set : (e : Entry) → index < length es → picked (set es index e) order ≡ set (picked es order) place e
     picked_set e below =
         same_lists (picked (set es index e) order) (set (picked es order) place e)
@@ -168,7 +168,7 @@ module _ (es : List Entry) (order : List ℕ) (within : All (λ index. index < l
         ∙ ap (λ (e : Entry). Some e.val) (picked_at place nothing place_within ∙ ap (λ n. get_or es n nothing) place_is)
         ∙ sym (value_set key es index found)
 
--- an entry that comes last in both
+-- an entry appended to both
 pub picked_push : (es : List Entry) (order : List ℕ) (e : Entry) → All (λ index. index < length es) order → length order ≡ length es → picked (es ++ e ∷ []) (order ++ length order ∷ []) ≡ picked es order ++ e ∷ []
 picked_push es order e within long =
     map-append (λ index. get_or (es ++ e ∷ []) index nothing) order (length order ∷ [])
@@ -184,7 +184,7 @@ picked_push es order e within long =
         ∙ get_or_append_left es (e ∷ []) nothing (get_or order j 0) (within j 0 low)
         ∙ sym (get_or-map (λ index. get_or es index nothing) order j 0 d low))
 
--- a map's own order, noted down
+-- the map's own order, written out
 pub picked_all : (es : List Entry) (count : ℕ) → count ≡ length es → picked es (range_with_len 0 count) ≡ es
 picked_all es count long =
     same_lists _ es (length-map (range_with_len 0 count) (λ index. get_or es index nothing) ∙ length-range_with_len 0 count ∙ long)
@@ -195,7 +195,7 @@ picked_all es count long =
     ∙ ap (λ n. get_or es n nothing) (get_or-range_with_len 0 count j 0 low ∙ (omega arith))
     ∙ get_or_default es j nothing d (omega (arith, low, long)))
 
--- the keys of a map are no two the same
+-- the keys of a map are distinct
 distinct_pairs : (pairs : List (Val × Val)) → IsDistinct equal (keys_of pairs) → (key : Val) (i j : ℕ) → i < j → j < length pairs → has_key key (get_or (pairs_of pairs) i nothing) ≡ true → has_key key (get_or (pairs_of pairs) j nothing) ≡ true → ⊥
 distinct_pairs [] distinct key i j below within here there = absurd (omega (arith, within))
 distinct_pairs (p ∷ pairs) distinct key i zero below within here there = absurd (omega (arith, below))
@@ -223,7 +223,7 @@ module _ (pairs : List (Val × Val)) where
   long_enough : (order : List ℕ) → length order ≡ length pairs → IsSound order → All (λ index. index < length (pairs_of pairs)) order
   long_enough order long sound = λ k d within. omega (arith, sound.within k d within, long, length-map pairs pair_entry)
 
-  -- what a table that keeps its pairs in an order answers, and what it is after a put
+  -- the result of a look-up in an ordered table, and the table after a put
   pub ordered_none : (order : Option (List ℕ)) → IsOrderOf (length pairs) order → IsSoundOrder order → (key : Val) → position (has_key key) (pairs_of pairs) ≡ None → position (has_key key) (ordered pairs order) ≡ None
   ordered_none None long sound key none = none
   ordered_none (Some order) long sound key none = picked_none (pairs_of pairs) order (long_enough order long sound) (has_key key) none
@@ -233,7 +233,7 @@ module _ (pairs : List (Val × Val)) where
   ordered_some order long sound distinct index place at only key found =
       picked_some (pairs_of pairs) order (long_enough order long sound) index place at only (unique_pairs pairs distinct) key found
 
-  -- a present key
+  -- an existing key
   pub ordered_put : (order : Option (List ℕ)) → IsOrderOf (length pairs) order → IsSoundOrder order → IsDistinct equal (keys_of pairs) → (index : ℕ) (key val : Val) → position (has_key key) (pairs_of pairs) ≡ Some index
       → (now : List (Val × Val)) → pairs_of now ≡ put (pairs_of pairs) key val → ordered now order ≡ put (ordered pairs order) key val
   ordered_put None long sound distinct index key val found now is = is
@@ -262,12 +262,12 @@ module _ (pairs : List (Val × Val)) where
       ∙ picked_push (pairs_of pairs) order (record { key = key; val = val }) (long_enough order long sound) (long ∙ sym (length-map pairs pair_entry))
       ∙ sym (put_absent key val (picked (pairs_of pairs) order) (picked_none (pairs_of pairs) order (long_enough order long sound) (has_key key) none))
 
--- what the map has under a packed key
+-- the value of a packed key in the map
 pub lookup-ordered : (pairs : List (Val × Val)) (order : Option (List ℕ)) → IsOrderOf (length pairs) order → IsSoundOrder order → IsDistinct equal (keys_of pairs) → (key packed : Val) → packed ≡ key
     → lookup (equal packed) pairs ≡ value_at (ordered pairs order) key
 lookup-ordered pairs order long sound distinct key packed is = lookup-packed key packed is pairs ∙ sym (ordered_value pairs order long sound distinct key)
 
--- whether a key is there tells where
+-- whether a key is present decides its position
 pub position_absent : (key : Val) (es : List Entry) → value_at es key ≡ None → position (has_key key) es ≡ None
 position_absent key es none = by (position (has_key key) es) refl
   where
@@ -290,7 +290,7 @@ has_index key es val some = by (position (has_key key) es) refl
 pub picked_slice : (es : List Entry) (order : List ℕ) (i index : ℕ) → slice_get order i ≡ Some index → slice_get (picked es order) i ≡ Some (get_or es index nothing)
 picked_slice es order i index at = slice_get-map (λ n. get_or es n nothing) order i ∙ ap (option_map (λ n. get_or es n nothing)) at
 
--- the entry of a key that the map has at an index, at the index's place in the order
+-- the entry of a key at an index of the map is at the index's place in the order
 pub record StandsIn (es : List Entry) (order : List ℕ) (key : Val) (index : ℕ) : Type 0 where
   pub place : ℕ
   pub at : slice_get order place ≡ Some index
@@ -311,7 +311,7 @@ ordered_stands pairs order long sound distinct index key found =
           (picked_slice (pairs_of pairs) order p.place index p.at);
     }
 
--- what is left where the last entry has come to the place of the one that is gone
+-- what remains after the last entry has moved into the place of the removed one
 pub picked_take : (es now : List Entry) (order : List ℕ) (i index : ℕ) → length order ≡ length es → index < length order → All (IsOther order index) (remove order i) → now ≡ swap_remove es index nothing
     → picked now (map (renamed (length order - 1) index) (remove order i)) ≡ remove (picked es order) i
 picked_take es now order i index long low others is =
@@ -377,7 +377,7 @@ pub length-ordered : (pairs : List (Val × Val)) (order : Option (List ℕ)) →
 length-ordered pairs None long = length-map pairs pair_entry
 length-ordered pairs (Some order) long = length-map order (λ index. get_or (pairs_of pairs) index nothing) ∙ long
 
--- a refusal tells what holds anyway
+-- a fact that holds after an error
 pub on_err : {T E : Type 0} (r : Result T E) (P : Type 0) → P → OnErr r P
 on_err (Ok x) P p = tt
 on_err (Err e) P p = p
@@ -385,12 +385,12 @@ on_err (Err e) P p = p
 pub none_some : IsSome {T = Val} None → ⊥
 none_some some = cc
 
--- one pair more, and one place more in the order
+-- one more pair, and one more place in the order
 pub order_longer : (order : Option (List ℕ)) (count : ℕ) → IsOrderOf count order → IsOrderOf (count + 1) (option_map (λ o. o ++ length o ∷ []) order)
 order_longer None count long = tt
 order_longer (Some order) count long = length_push order (length order) ∙ ap (λ n. n + 1) long
 
--- a pair of a map, once it is taken out, as an entry
+-- a pair removed from a map, as an entry
 pub entry-pair : (pairs : List (Val × Val)) (index : ℕ) (pair : Val × Val) → slice_get pairs index ≡ Some pair → pair_entry pair ≡ get_or (pairs_of pairs) index nothing
 entry-pair pairs index pair at =
     sym (get_or_from_slice_get (pairs_of pairs) index (pair_entry pair) nothing (slice_get-map pair_entry pairs index ∙ ap (option_map pair_entry) at))
@@ -414,12 +414,12 @@ swapped-out pairs now key packed index is found rest =
     ap pairs_of (rest ∙ swap_remove_entry-found (equal packed) pairs index (key, key) found)
     ∙ pairs_of-swap pairs index (key, key) (omega (arith, below, length-map pairs pair_entry))
 
--- pairs that are the same entries are so in each order
+-- pairs that are the same entries are the same in each order
 pub ordered_same : (pairs now : List (Val × Val)) (order : Option (List ℕ)) → pairs_of now ≡ pairs_of pairs → ordered now order ≡ ordered pairs order
 ordered_same pairs now None is = is
 ordered_same pairs now (Some order) is = ap (λ l. picked l order) is
 
--- another value for a present key adds no pair
+-- replacing the value of an existing key adds no pair
 pub put_as_long : (pairs now : List (Val × Val)) (key val was : Val) → value_at (pairs_of pairs) key ≡ Some was → pairs_of now ≡ put (pairs_of pairs) key val → length now ≡ length pairs
 put_as_long pairs now key val was there is =
     let es = pairs_of pairs in
@@ -429,7 +429,7 @@ put_as_long pairs now key val was there is =
     ∙ length-set es at.index (record { key = (get_or es at.index nothing).key; val = val })
     ∙ length-map pairs pair_entry
 
--- a new pair, and what is left once it is taken off again
+-- a new pair, and the table after it is removed again
 module _ (pairs now : List (Val × Val)) (key val : Val) (new : value_at (pairs_of pairs) key ≡ None) (is : pairs_of now ≡ put (pairs_of pairs) key val) where
   pub put_longer : length now ≡ length pairs + 1
   put_longer =

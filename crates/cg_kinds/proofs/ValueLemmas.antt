@@ -1,4 +1,4 @@
--- Values in two columns of words: what a place of both holds, and what a change of both does to the values.
+-- Values in two columns of words: the value at a place, and the effect of changing both columns.
 use Rattle.std.proofs.Common.{◌≡◌, ℕ, zero, suc, ◌+◌, ◌-◌, ◌<◌, ◌≤◌, ◌^◌, List, [], ◌∷◌, ◌++◌, length, get_or, map, set, remove, take, drop, Some, Global, refl, sym, ap, subst, ◌∙◌, arith, length-append, length-drop}
 use Rattle.std.specs.Prelude.{Vec, vec_len, slice_get}
 use Rattle.std.specs.List.{All, AllZip}
@@ -22,7 +22,7 @@ length-numbers [] (y ∷ ys) words = absurd words
 length-numbers (x ∷ xs) [] words = absurd words
 length-numbers (x ∷ xs) (y ∷ ys) words = ap suc (length-numbers xs ys words.1)
 
--- a place of both columns
+-- the value at a place of both columns
 pub value-at : (sorts numbers : List ℕ) (i s n : ℕ) → i < length (values_in sorts numbers) → s ≡ get_or sorts i s → n ≡ get_or numbers i n → slice_get (values_in sorts numbers) i ≡ Some (value_in s n)
 value-at [] numbers i s n within sort number = absurd (omega (arith, within))
 value-at (x ∷ xs) [] i s n within sort number = absurd (omega (arith, within))
@@ -35,7 +35,7 @@ words-at (x ∷ xs) [] i s n words within sort number = absurd words
 words-at (x ∷ xs) (y ∷ ys) zero s n words within sort number = λ text. subst (λ m. m < 2 ^ 32) (sym number) (words.0 (sym sort ∙ text))
 words-at (x ∷ xs) (y ∷ ys) (suc i) s n words within sort number = words-at xs ys i s n words.1 (omega (arith, within)) sort number
 
--- both columns with other words at a place
+-- both columns with other words at one place
 values_none : (sorts : List ℕ) → values_in sorts [] ≡ []
 values_none [] = refl
 values_none (x ∷ xs) = refl
@@ -53,7 +53,7 @@ words-set (x ∷ xs) [] i s n words here = absurd words
 words-set (x ∷ xs) (y ∷ ys) zero s n words here = (here, words.1)
 words-set (x ∷ xs) (y ∷ ys) (suc i) s n words here = (words.0, words-set xs ys i s n words.1 here)
 
--- both columns without a place
+-- both columns with a place removed
 pub values-remove : (sorts numbers : List ℕ) (i : ℕ) → AllZip AreWords sorts numbers → values_in (remove sorts i) (remove numbers i) ≡ remove (values_in sorts numbers) i
 values-remove [] [] zero words = refl
 values-remove [] [] (suc i) words = refl
@@ -70,7 +70,7 @@ words-remove (x ∷ xs) [] i words = absurd words
 words-remove (x ∷ xs) (y ∷ ys) zero words = words.1
 words-remove (x ∷ xs) (y ∷ ys) (suc i) words = (words.0, words-remove xs ys i words.1)
 
--- both columns with one place more
+-- both columns with a place appended
 pub values-push : (sorts numbers : List ℕ) (s n : ℕ) → AllZip AreWords sorts numbers → values_in (sorts ++ s ∷ []) (numbers ++ n ∷ []) ≡ values_in sorts numbers ++ value_in s n ∷ []
 values-push [] [] s n words = refl
 values-push [] (y ∷ ys) s n words = absurd words
@@ -91,7 +91,7 @@ words-pop (x ∷ []) [] s n words = absurd words.1
 words-pop (x ∷ z ∷ xs) [] s n words = absurd words.1
 words-pop (x ∷ xs) (y ∷ ys) s n words = let front = words-pop xs ys s n words.1 in ((words.0, front.0), front.1)
 
--- both columns without so many places at the front
+-- both columns without their first places
 pub values-drop : (n : ℕ) (sorts numbers : List ℕ) → AllZip AreWords sorts numbers → values_in (drop n sorts) (drop n numbers) ≡ drop n (values_in sorts numbers)
 values-drop zero sorts numbers words = refl
 values-drop (suc n) [] [] words = refl
@@ -106,7 +106,7 @@ words-drop (suc n) [] (y ∷ ys) words = absurd words
 words-drop (suc n) (x ∷ xs) [] words = absurd words
 words-drop (suc n) (x ∷ xs) (y ∷ ys) words = words-drop n xs ys words.1
 
--- what is left without so many at the front, where one is looked for or taken
+-- searching and taking after a prefix is dropped
 slice_get-drop : {X : Type 0} (n : ℕ) (xs : List X) (i k : ℕ) → k ≡ n + i → slice_get (drop n xs) i ≡ slice_get xs k
 slice_get-drop zero xs i k there = ap (slice_get xs) (omega (arith, there))
 slice_get-drop (suc n) [] zero k there = refl
@@ -128,7 +128,7 @@ drop-one_more zero (x ∷ xs) (suc k) there = let none : k ≡ 0 = omega (arith,
 drop-one_more (suc n) [] (suc k) there = refl
 drop-one_more (suc n) (x ∷ xs) (suc k) there = drop-one_more n xs k (omega (arith, there))
 
--- what is known of the columns of a list
+-- facts about the columns of a list
 module _ (sorts numbers : Vec ℕ Global) (first : ℕ) (kept : Kept) (items : drop first (values_in sorts.items numbers.items) ≡ kept.items) (words : AllZip AreWords sorts.items numbers.items) (begins : first ≤ length sorts.items) where
   all-len : length (values_in sorts.items numbers.items) ≡ first + length kept.items
   all-len = omega (arith, ap length items, length-drop first (values_in sorts.items numbers.items), length-sorts sorts.items numbers.items words, begins)
@@ -152,7 +152,7 @@ module _ (sorts numbers : Vec ℕ Global) (first : ℕ) (kept : Kept) (items : d
         ∙ slice_get-drop first (values_in sorts.items numbers.items) i (first + i) refl
         ∙ value-at sorts.items numbers.items (first + i) s n inside sort number
 
--- the columns stay such
+-- the columns keep their invariant
 module _ (sorts numbers sorts' numbers' : List ℕ) (first room a b a' b' : ℕ) (columns : AreColumns sorts numbers first room a b) (as_sorts : a' ≡ a) (as_numbers : b' ≡ b) where
   pub columns-set : (i s n : ℕ) → AreWords s n → sorts' ≡ set sorts i s → numbers' ≡ set numbers i n → AreColumns sorts' numbers' first room a' b'
   columns-set i s n here is_sorts is_numbers = record {
@@ -224,7 +224,7 @@ module _ (sorts numbers sorts' numbers' : List ℕ) (first room a b a' b' : ℕ)
         ap (drop first) ((λ i. values_in (is_sorts i) (is_numbers i)) ∙ values-push sorts' numbers' s n popped.0)
         ∙ drop-append-le first (values_in sorts' numbers') (value_in s n ∷ []) (omega (arith, begins', length-sorts sorts' numbers' popped.0))
 
--- where all sorts between two places are those of references, the references there are the numbers
+-- if all sorts in a range are those of references, the references there are the numbers
 pub all-references : (sorts numbers : List ℕ) → length sorts ≡ length numbers → (from n : ℕ) → All (λ sort. 2 < sort) (take n (drop from sorts)) → references (take n (drop from (map item (values_in sorts numbers)))) ≡ take n (drop from numbers)
 all-references [] [] same zero zero all = refl
 all-references [] [] same zero (suc n) all = refl

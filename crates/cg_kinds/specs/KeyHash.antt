@@ -7,10 +7,10 @@ use Rattle.cg_kinds.specs.declared.hasher.KeyHasher.{KeyHasher}
 abbrev pub initial : KeyHasher
 initial = record { hash = 0 }
 
--- the bits 32 to 63 of the product with the factor, and the bits 96 to 127
+-- bits 32 to 63 of the product with the factor, and bits 96 to 127
 abbrev pub spread : ℕ → ℕ
 spread number = bit_xor (number * 0xda7e1043acb046c7 / 2 ^ 32 % 2 ^ 32) (number * 0xda7e1043acb046c7 / 2 ^ 96)
 
--- the hasher after a write: eight bytes are a number, and no other bytes count
+-- the hasher after a write: eight bytes are a number, other bytes are ignored
 abbrev pub key_write : KeyHasher → List ℕ → KeyHasher
 key_write h bytes = if length bytes == 8 then record { hash = spread (from_le_bytes w64 bytes) } else h

@@ -1,15 +1,15 @@
--- The values of a list, wherever they stand. (Ours.)
+-- The values of a list, in either form. (Ours.)
 use Rattle.std.specs.Prelude.{ℕ, ◌-◌, List, vec_len, vec_capacity}
 use Rattle.cg_value.specs.declared.Val.{Val}
 use Rattle.cg_kinds.specs.declared.listed.Listed.{Listed}
 use Rattle.cg_kinds.specs.declared.listed.Listed.TheVariants.{Few, Many}
 
--- a few in one vector, or any number in columns
+-- few in one vector, or any number in columns
 abbrev pub items_listed : Listed → List Val
 items_listed (Few few) = few.items
 items_listed (Many columns) = columns.value.items
 
--- how many more fit without memory
+-- how many more fit without allocating
 abbrev pub room_listed : Listed → ℕ
 room_listed (Few few) = vec_capacity few - vec_len few
 room_listed (Many columns) = columns.value.room

@@ -1,4 +1,4 @@
--- The number of a value, which is what is hashed of a key. (Ours.)
+-- The number of a value, which is what a key hashes. (Ours.)
 use Rattle.std.specs.Prelude.{ℕ, IsTrue, List}
 use Rattle.std.specs.Hash.{u64}
 use Rattle.std.proofs.Common.{◌≡◌, refl, ap, eqb, true, arith, w64}
@@ -9,21 +9,21 @@ use Rattle.cg_value.specs.declared.Val.{Val}
 use Rattle.cg_value.specs.declared.Val.TheVariants.{None as Nothing, Int, Str, Ref}
 use Rattle.cg_value.specs.contracts.ValPartialEq.TheImpl as val_eq
 
--- that of a whole number with sign by its 64 bits
+-- a signed integer by its 64 bits
 abbrev pub number_of : Val → ℕ
 number_of Nothing = 0
 number_of (Int z) = of_z w64 z
 number_of (Str name) = name
 number_of (Ref serial) = serial
 
--- the number alone is written: values of two sorts may have one
+-- only the number is written: values of two sorts may share it
 abbrev pub hashed : Val → List (List ℕ)
 hashed v = u64 (number_of v)
 
 same : (a b : ℕ) → eqb a b ≡ true → a ≡ b
 same a b is = grind (arith, nat_tests, is)
 
--- equal values have one number
+-- equal values have the same number
 equal_numbers : (x y : Val) → IsTrue ((val_eq.ghosts).eq x y) → number_of x ≡ number_of y
 equal_numbers Nothing Nothing is = refl
 equal_numbers Nothing (Int n) is = absurd (cc)

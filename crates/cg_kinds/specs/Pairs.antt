@@ -1,4 +1,4 @@
--- The pairs of a dictionary or an instance, and how a map keeps them. (Ours.)
+-- The pairs of a dictionary or an instance, and how a map stores them. (Ours.)
 use Rattle.std.specs.Prelude.{◌≡◌, ◌⊎◌, ℕ, map, length, slice_index_or, List, [], ◌∷◌, Option, Some, None}
 use Rattle.std.specs.Global.{Box}
 use Rattle.cg_value.specs.declared.Val.{Val}
@@ -21,7 +21,7 @@ pair_entry p = record { key = p.0; val = p.1 }
 abbrev pub pairs_of : List (Val × Val) → List Entry
 pairs_of pairs = map pair_entry pairs
 
--- the entry that stands for a position past the last
+-- the default entry, for a position past the end
 abbrev pub nothing : Entry
 nothing = record { key = val.None; val = val.None }
 
@@ -29,12 +29,12 @@ nothing = record { key = val.None; val = val.None }
 abbrev pub picked : List Entry → List ℕ → List Entry
 picked entries order = map (λ index. slice_index_or entries index nothing) order
 
--- the pairs of a map, as entries, in its own order or in another
+-- the pairs of a map, as entries, in its own order or in a given one
 abbrev pub ordered : List (Val × Val) → Option (List ℕ) → List Entry
 ordered pairs None = pairs_of pairs
 ordered pairs (Some order) = picked (pairs_of pairs) order
 
--- the order in a box, if there is one
+-- the order in a box, if any
 abbrev pub unboxed : Option (Box (List ℕ)) → Option (List ℕ)
 unboxed None = None
 unboxed (Some order) = Some order.value
@@ -48,7 +48,7 @@ abbrev pub IsSoundOrder : Option (List ℕ) → Type 0
 IsSoundOrder None = Unit {0}
 IsSoundOrder (Some order) = IsSound order
 
--- no two entries have one key
+-- no two entries have the same key
 abbrev pub AreKeysOnce : List Entry → Type 0
 AreKeysOnce [] = Unit {0}
 AreKeysOnce (e ∷ es) = (value_at es e.key ≡ None) × AreKeysOnce es

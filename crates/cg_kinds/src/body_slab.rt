@@ -9,7 +9,7 @@ use cg_value::{Entry, KindCode, Val};
 use slab::Slab;
 use std::alloc::{AllocError, Global};
 
-/// What each object of one kind holds, at the keys of a slab.
+/// The contents of each object of one kind, at the keys of a slab.
 #[derive(Drop)]
 pub struct BodySlab<C> {
     alloc: Global,
@@ -17,7 +17,7 @@ pub struct BodySlab<C> {
 }
 
 impl<C: Contents> BodySlab<C> {
-    /// A kind with no object.
+    /// A kind without objects.
     pub fn new(alloc: Global) -> Self
         ensures kind { ⟦<BodySlab<C> as Kind>⟧.kind result ≡ C.kind }
         ensures empty { ⟦<BodySlab<C> as Kind>⟧.bodies result ≡ fin.empty }

@@ -10,7 +10,7 @@ use cg_kind::{AT_ONCE, Noted, ROOM, note_entry};
 use cg_value::{Entry, KindCode, Val};
 use std::alloc::{AllocError, Global};
 
-/// What one object of a kind holds. Its calls are those of `cg_kind::Kind`, at one place.
+/// The contents of one object of a kind. Its calls are those of `cg_kind::Kind`, at one place.
 pub trait Contents: Drop {
     ghost kind: { KindCode };
 

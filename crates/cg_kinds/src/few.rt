@@ -1,4 +1,4 @@
-//! A few pairs, which are searched one after the other.
+//! A few pairs, searched one by one.
 ghost use Rattle.std.specs.Prelude.{◌≡◌, ◌<◌, ◌≤◌, ◌↔◌, ◌++◌, ◌+◌, ◌∷◌, [], length, take, IsTrue, None, IfOk, IfNone, IsNone, OnOk, OnErr, OnSome, option_to_list, position, slice_get, remove};
 ghost use Rattle.std.specs.List.{position_from};
 ghost use Rattle.cg_graph.specs.Value.{value_at, put, without_key, references, entry_at as entry_under};
@@ -14,13 +14,13 @@ use cg_value::{Entry, Val};
 use std::alloc::{AllocError, Global};
 use std::marker::Model;
 
-/// The most pairs that a list keeps. From some eight pairs on a search in a map is faster, but a small map takes
-/// too much room: one of ten pairs that has just grown takes more than 64 bytes a pair.
+/// The most pairs kept in a list. From about eight pairs on a map is faster to search, but a small map takes too much
+/// memory: one of ten pairs that has just grown takes more than 64 bytes a pair.
 const FEW: usize = 24;
 
-/// Pairs in the order in which their keys came, no two with one key.
+/// Pairs in insertion order, with distinct keys.
 ///
-/// They take exactly their room, and nothing is hashed.
+/// They have no spare capacity, and nothing is hashed.
 #[derive(Drop)]
 pub struct Few {
     pairs: Vec<Pair>,
@@ -38,7 +38,7 @@ impl Model for Few {
     ghost invariant = { λ f. AreKeysOnce f.pairs.items };
 }
 
-/// The first place of a key.
+/// The first position of a key.
 fn place_in(pairs: &[Pair], key: Val) -> Option<usize>
     ensures { result ≡ position_from (has_key key) 0 pairs.now }
 {
@@ -51,7 +51,7 @@ fn place_in(pairs: &[Pair], key: Val) -> Option<usize>
     None
 }
 
-/// Another value for a key, where it is there; it answers the one that the key had.
+/// Replaces the value of a key if it is present; returns the old one.
 fn replace_in(pairs: &mut Vec<Pair>, key: Val, val: Val) -> Option<Val>
     ensures replaced { result ≡ value_at pairs.old.items key }
     ensures put { OnSome result (pairs.new.items ≡ put pairs.old.items key val) }
@@ -68,8 +68,8 @@ fn replace_in(pairs: &mut Vec<Pair>, key: Val, val: Val) -> Option<Val>
     }
 }
 
-/// Adds a pair. A full list grows by half and one, so one pair takes the room of one, and two that
-/// of two, where a vector would make room for four at least.
+/// Adds a pair. A full list grows by half and one, so one pair takes the room of one, and two that of two; a vector
+/// would reserve room for at least four.
 fn push_to(pairs: &mut Vec<Pair>, pair: Entry) -> Result<(), AllocError>
     ensures ok { OnOk result (pairs.new.items ≡ pairs.old.items ++ pair ∷ []) }
     ensures err { OnErr result (pairs.new.items ≡ pairs.old.items) }
@@ -112,7 +112,7 @@ impl Few {
         self.pairs.len()
     }
 
-    /// Whether another pair would be one too many.
+    /// Whether the list is full.
     pub fn is_full(&self) -> bool
         ensures { IsTrue result ↔ (FEW ≤ length self.now) }
     {
@@ -127,7 +127,7 @@ impl Few {
         self.pairs[i].entry()
     }
 
-    /// Goes over some pairs from a position on, as `cg_kind::Kind::note_from` says it.
+    /// Visits pairs from a position on, as `cg_kind::Kind::note_from` specifies.
     #[inline(always)]
     pub fn note_from(&self, from: usize, found: &mut [u64]) -> Noted
         requires within { from ≤ length self.now }
@@ -157,7 +157,7 @@ impl Few {
         }
     }
 
-    /// Another value for a key, where it is there; it answers the one that the key had.
+    /// Replaces the value of a key if it is present; returns the old one.
     pub fn replace(&mut self, key: Val, val: Val) -> Option<Val>
         ensures replaced { result ≡ value_at self.old key }
         ensures put { OnSome result (self.new ≡ put self.old key val) }
@@ -167,7 +167,7 @@ impl Few {
         replaced
     }
 
-    /// A pair under a new key goes last.
+    /// Appends a pair with a new key.
     pub fn push(&mut self, key: Val, val: Val) -> Result<(), AllocError>
         requires new { value_at self.old key ≡ None }
         ensures ok { OnOk result (self.new ≡ put self.old key val) }
@@ -177,7 +177,7 @@ impl Few {
         Ok(())
     }
 
-    /// Takes the pair at a position; those behind it move down by one.
+    /// Removes the pair at a position; later ones move down.
     #[inline(always)]
     pub fn take(&mut self, i: usize) -> Entry
         requires { i < length self.old }
@@ -187,7 +187,7 @@ impl Few {
         self.pairs.remove(i).entry()
     }
 
-    /// Takes the pair under a key, if there is one; those behind it move down by one.
+    /// Removes the pair of a key, if there is one; later ones move down.
     pub fn take_key(&mut self, key: Val) -> Option<Entry>
         ensures entry { result ≡ entry_under self.old key }
         ensures rest { self.new ≡ without_key self.old key }
@@ -201,7 +201,7 @@ impl Few {
         }
     }
 
-    /// Takes the last pair, if there is one.
+    /// Removes the last pair, if there is one.
     pub fn detach(&mut self) -> Option<Entry>
         ensures pairs { self.old ≡ self.new ++ option_to_list result }
         ensures empty { IsNone result → self.old ≡ [] }
@@ -212,9 +212,9 @@ impl Few {
         }
     }
 
-    /// The pairs in a map, and another under a new key behind them. These pairs stay as they are.
+    /// The pairs in a map, and one more with a new key after them. These pairs are unchanged.
     ///
-    /// It is not inlined: else each put would carry the locals of a new map and clear them.
+    /// Not inlined: otherwise each put would carry the locals of a new map and clear them.
     #[inline(never)]
     pub fn table_with(&self, key: Val, val: Val) -> Result<Box<Table>, AllocError>
         ensures { IfOk result (λ table. table.value ≡ put self.now key val) }

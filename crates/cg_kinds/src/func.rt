@@ -15,13 +15,13 @@ use std::alloc::{AllocError, Global};
 /// Functions, each by its cells.
 pub type FuncKind = BodySlab<Cells>;
 
-/// The cells of a function, at most eight, which are as it was made until they leave one by one.
+/// The cells of a function, at most eight. They are fixed when it is made and only leave one by one.
 #[derive(Drop)]
 pub struct Cells {
     cells: ArrayVec<Cell, 8>,
 }
 
-/// What a cell holds.
+/// The contents of a cell.
 #[derive(Clone, Copy, Drop)]
 struct Cell(Val);
 

@@ -1,11 +1,11 @@
-//! What a slot holds, in four bytes.
+//! The contents of a slot, in four bytes.
 ghost use Rattle.std.specs.Prelude.{◌≡◌, ◌<◌, ◌-◌, ◌^◌, ℕ, None, Some, is_some};
 
 use std::marker::Model;
 
 /// The index of a pair, or a gap.
 ///
-/// One word of 32 bits: 0 for a gap, else the index and one. An `Option<u32>` takes eight bytes.
+/// A 32-bit word: 0 for a gap, else the index plus one. An `Option<u32>` takes eight bytes.
 #[derive(Drop)]
 pub struct IndexOrGap {
     word: u32,
@@ -29,7 +29,7 @@ impl IndexOrGap {
         IndexOrGap { word: 0 }
     }
 
-    /// An index. The highest number of 32 bits is none.
+    /// An index. The largest 32-bit number is not allowed.
     #[inline(always)]
     pub fn of(index: u32) -> IndexOrGap
         requires { index < 2 ^ 32 - 1 }
@@ -38,7 +38,7 @@ impl IndexOrGap {
         IndexOrGap { word: index + 1 }
     }
 
-    /// The index; in a gap none.
+    /// The index; `None` for a gap.
     #[inline(always)]
     pub fn index(&self) -> Option<u32>
         ensures index { result ≡ self.now }
@@ -51,7 +51,7 @@ impl IndexOrGap {
         }
     }
 
-    /// Whether it is no gap.
+    /// Whether it is not a gap.
     #[inline(always)]
     pub fn is_index(&self) -> bool
         ensures { result ≡ is_some self.now }

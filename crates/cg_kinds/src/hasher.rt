@@ -4,15 +4,15 @@ ghost use Rattle.cg_kinds.specs.KeyHash.{spread, key_write, initial};
 
 use std::hash::{BuildHasherDefault, Hasher};
 
-/// Makes a hasher for each key.
+/// Builds a hasher for each key.
 pub type KeyHashing = BuildHasherDefault<KeyHasher>;
 
 /// Hashes the number of one key, for an `IndexMap`.
 ///
-/// It multiplies, and takes the bits from the middle: so numbers in a row, or at an even distance, fill the groups of the map
-/// nearly evenly. A random hash overfills some, and a group that was once overfull has less room afterwards. The
-/// factor is the best of some three thousand that were tried for runs of numbers at distances from 1 to 2^48, in maps of 36 to
-/// 36,864 keys: one key in a thousand stands outside its group, and one in eighty by std's hasher.
+/// It multiplies and takes bits from the middle, so consecutive or evenly spaced numbers fill the groups of the map
+/// nearly evenly. A random hash overfills some groups, and a group that was once overfull has less room afterwards.
+/// The factor is the best of about three thousand tried for runs of numbers at distances from 1 to 2^48, in maps of 36
+/// to 36,864 keys: one key in a thousand is outside its group, against one in eighty with std's hasher.
 #[derive(Clone, Copy)]
 pub struct KeyHasher {
     hash: u64,
@@ -26,7 +26,8 @@ impl Default for KeyHasher {
     }
 }
 
-/// The hash of a number: bits 32 to 63 of its product with the factor, and bits 96 to 127, which tell large numbers apart.
+/// The hash of a number: bits 32 to 63 of its product with the factor, and bits 96 to 127, which distinguish large
+/// numbers.
 #[inline(always)]
 fn spread(number: u64) -> u64
     ensures { result ≡ spread number }
@@ -58,7 +59,7 @@ impl Hasher for KeyHasher {
     }
 }
 
-/// Makes a hasher for each key.
+/// Builds a hasher for each key.
 #[inline(always)]
 pub fn key_hashing() -> KeyHashing {
     BuildHasherDefault::new()

@@ -1,4 +1,4 @@
-//! The pairs of a dictionary or an instance: a few in a list, or any number in a map.
+//! The pairs of a dictionary or an instance: few in a list, or any number in a map.
 ghost use Rattle.std.specs.Prelude.{◌≡◌, ◌<◌, ◌+◌, ◌≤◌, ◌++◌, [], length, take, IfOk, IsOk, IsNone, IsSome, OnOk, OnErr, option_to_list, position, slice_get, remove};
 ghost use Rattle.cg_graph.specs.Value.{value_at, put, without_key, references, entry_at as entry_under};
 ghost use Rattle.cg_kind.specs.Calls.{has_key, next_entries};
@@ -10,19 +10,19 @@ use cg_kind::{Noted, ROOM};
 use cg_value::{Entry, Val};
 use std::alloc::{AllocError, Global};
 
-/// Pairs in the order in which their keys came.
+/// Pairs in insertion order.
 ///
-/// Where they become too many for a list all go into a map, and stay in it however many leave. So a search goes over a
-/// few pairs and hashes nothing, or it hashes once and goes over none.
+/// When they become too many for a list, all move into a map and stay there, however many leave. So a search visits a
+/// few pairs and hashes nothing, or hashes once and visits none.
 #[derive(Drop)]
 pub enum Held {
     Few(Few),
     Many(Box<Table>),
 }
 
-/// Takes the pair under a key out of a few, if there is one.
+/// Removes the pair of a key from a few, if there is one.
 ///
-/// It is a function of its own, so that its answer is not moved together with the other answers of its caller.
+/// A separate function, so that its result is not moved together with the caller's other results.
 #[inline(always)]
 fn take_from(few: &mut Few, key: Val) -> Option<Entry>
     ensures entry { result ≡ entry_under few.old key }
@@ -63,7 +63,7 @@ impl Held {
         }
     }
 
-    /// Goes over some pairs from a position on, as `cg_kind::Kind::note_from` says it.
+    /// Visits pairs from a position on, as `cg_kind::Kind::note_from` specifies.
     #[inline(always)]
     pub fn note_from(&self, from: usize, found: &mut [u64]) -> Noted
         requires within { from ≤ length (entries_held self.now) }
@@ -101,7 +101,7 @@ impl Held {
         }
     }
 
-    /// A present key gets the value, and a new one goes last. It answers the value that the key had.
+    /// An existing key gets the value; a new one goes last. Returns the old value of the key.
     #[inline(always)]
     pub fn put(&mut self, key: Val, val: Val) -> Result<Option<Val>, AllocError>
         ensures ok { OnOk result (entries_held self.new ≡ put (entries_held self.old) key val) }
@@ -124,9 +124,9 @@ impl Held {
         }
     }
 
-    /// A pair under a new key goes last. The map is complete before the list goes, so a refusal leaves the list.
+    /// Appends a pair with a new key. The map is complete before the list is dropped, so an error keeps the list.
     ///
-    /// It takes an entry, which is built for this call alone; a key and a value would be copied at each `put`.
+    /// It takes an entry, built only for this call; a key and a value would be copied at each `put`.
     #[inline(never)]
     fn add(&mut self, pair: Entry) -> Result<(), AllocError>
         requires new { value_at (entries_held self.old) pair.key ≡ None }
@@ -148,7 +148,7 @@ impl Held {
         Ok(())
     }
 
-    /// Takes the pair at a position; those behind it move down by one.
+    /// Removes the pair at a position; later ones move down.
     #[inline(always)]
     pub fn take(&mut self, i: usize) -> Entry
         requires { i < length (entries_held self.old) }
@@ -161,7 +161,7 @@ impl Held {
         }
     }
 
-    /// Takes the pair under a key, if there is one; those behind it move down by one.
+    /// Removes the pair of a key, if there is one; later ones move down.
     #[inline(always)]
     pub fn take_key(&mut self, key: Val) -> Option<Entry>
         ensures entry { result ≡ entry_under (entries_held self.old) key }
@@ -173,7 +173,7 @@ impl Held {
         }
     }
 
-    /// Takes the last pair, if there is one.
+    /// Removes the last pair, if there is one.
     pub fn detach(&mut self) -> Option<Entry>
         ensures pairs { entries_held self.old ≡ entries_held self.new ++ option_to_list result }
         ensures empty { IsNone result → entries_held self.old ≡ [] }

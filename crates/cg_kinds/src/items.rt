@@ -1,4 +1,4 @@
-//! Items: entries with no key, as lists, tuples, functions and weak references keep them.
+//! Items: entries without keys, as lists, tuples, functions and weak references store them.
 ghost use Rattle.std.specs.Prelude.{◌≡◌, IfOk, map, length, position, List};
 ghost use Rattle.cg_value.specs.declared.Val.{Val};
 ghost use Rattle.cg_graph.specs.Value.{item};
@@ -7,7 +7,7 @@ ghost use Rattle.cg_kind.specs.Calls.{has_key, AreItems};
 use cg_value::{Entry, Val};
 use std::alloc::{AllocError, Global};
 
-/// The entry of a value that has no key.
+/// The entry of a value without a key.
 #[inline(always)]
 pub fn item_of(val: Val) -> Entry
     ensures { result ≡ item val }
@@ -18,7 +18,7 @@ pub fn item_of(val: Val) -> Entry
     }
 }
 
-/// The values of items, in their order.
+/// The values of items, in order.
 pub fn values_of(alloc: Global, parts: &[Entry]) -> Result<Vec<Val>, AllocError>
     requires { AreItems parts.now }
     ensures { IfOk result (λ values. map item values.items ≡ parts.now) }
@@ -30,7 +30,7 @@ pub fn values_of(alloc: Global, parts: &[Entry]) -> Result<Vec<Val>, AllocError>
     Ok(values)
 }
 
-/// The first position of a key among so many items, which have none.
+/// The first position of a key among items, whose keys are `None`, given how many there are.
 pub fn find_item(count: usize, key: Val) -> Option<usize>
     ensures { (values : List Val) → length values ≡ count → result ≡ position (has_key key) (map item values) }
 {

@@ -1,4 +1,4 @@
-//! Entries that stand in a slice, in one form or another.
+//! Entries stored in a slice, in one form or another.
 ghost use Rattle.std.specs.Prelude.{◌≡◌, ◌≤◌, ◌+◌, ◌++◌, length, map, take};
 ghost use Rattle.cg_value.specs.declared.Entry.{Entry};
 ghost use Rattle.cg_graph.specs.Value.{entry_references, references};
@@ -8,12 +8,11 @@ use crate::items::item_of;
 use cg_kind::{AT_ONCE, Noted, ROOM, note_entry};
 use cg_value::Val;
 
-/// What a slice has for each entry.
+/// What a slice stores for each entry.
 pub trait KeepsEntry {
     ghost kept: { Self → Entry };
 
-    /// Writes its references, its value's and then its key's, behind so many that are written. It answers how many are written
-    /// then.
+    /// Writes its references, its value's and then its key's, after the first `count`. Returns the new count.
     fn note(&self, found: &mut [u64], count: usize) -> usize
         requires { count + 2 ≤ length found.old }
         ensures noted { take result found.new ≡ take count found.old ++ entry_references (kept self.now) }
@@ -32,7 +31,7 @@ impl KeepsEntry for Val {
     }
 }
 
-/// Goes over some entries of a slice from a position on, as `cg_kind::Kind::note_from` says it.
+/// Visits entries of a slice from a position on, as `cg_kind::Kind::note_from` specifies.
 #[inline(always)]
 pub fn note_slice<T: KeepsEntry>(slice: &[T], from: usize, found: &mut [u64]) -> Noted
     requires within { from ≤ length slice.now }

@@ -21,7 +21,7 @@ pub struct ListItems {
     values: Listed,
 }
 
-/// The index that a key of a list is.
+/// The index that a key of a list denotes.
 fn index_of(key: Val) -> usize
     requires { IsIndex key }
     ensures { key ≡ val.Int (pos result) }

@@ -1,4 +1,4 @@
-//! The values of a list: a few in one vector, or any number in columns.
+//! The values of a list: few in one vector, or any number in columns.
 ghost use Rattle.std.specs.Prelude.{◌≡◌, ◌+◌, ◌-◌, ◌<◌, ◌≤◌, ◌++◌, ◌∷◌, [], length, map, Some, IfOk, OnOk, OnErr, OnSome, IfNone, IsNone, option_to_list, remove, slice_get, slice_set, take, vec_len, vec_capacity};
 ghost use Rattle.cg_graph.specs.Value.{item, references};
 ghost use Rattle.cg_kind.specs.Calls.{AreItems, next_entries};
@@ -14,20 +14,20 @@ use std::alloc::{AllocError, Global};
 /// The most values that one vector has room for.
 const FEW: usize = 64;
 
-/// Values in their order.
+/// Values in order.
 ///
-/// Where they become too many for one vector all go into columns, and stay in them however many leave. So a few values
-/// take one block of memory, and of many those behind one that is taken move as two runs of bytes.
+/// When they become too many for one vector, all move into columns and stay there, however many leave. So a few values
+/// take one block of memory, and of many values those after a removed one move as two runs of bytes.
 #[derive(Drop)]
 pub enum Listed {
     Few(Vec<Packed>),
     Many(Box<Values>),
 }
 
-/// A few values in columns, with at least the room that they had, as much again as they are, and room for so many more.
-/// These values stay as they are.
+/// A few values in columns, with room for at least `n` more, for as many again as there are, and for as many as
+/// before. These values are unchanged.
 ///
-/// It is not inlined, so that the function that grows a list does not carry the locals of new columns.
+/// Not inlined, so that the function that grows a list does not carry the locals of new columns.
 #[inline(never)]
 fn columns_of(few: &Vec<Packed>, n: usize) -> Result<Box<Values>, AllocError>
     ensures items { IfOk result (λ columns. columns.value.items ≡ few.now.items) }
@@ -47,7 +47,7 @@ fn columns_of(few: &Vec<Packed>, n: usize) -> Result<Box<Values>, AllocError>
 }
 
 impl Listed {
-    /// The values of items, in their order.
+    /// The values of items, in order.
     pub fn of_items(alloc: Global, parts: &[Entry]) -> Result<Listed, AllocError>
         requires { AreItems parts.now }
         ensures { IfOk result (λ made. map item (items_listed made) ≡ parts.now) }
@@ -84,7 +84,7 @@ impl Listed {
         }
     }
 
-    /// Goes over some items of the values from a position on, as `cg_kind::Kind::note_from` says it.
+    /// Visits items from a position on, as `cg_kind::Kind::note_from` specifies.
     #[inline(always)]
     pub fn note_from(&self, from: usize, found: &mut [u64]) -> Noted
         requires within { from ≤ length (items_listed self.now) }
@@ -100,7 +100,7 @@ impl Listed {
         }
     }
 
-    /// Puts a value at a place, over the one that is there.
+    /// Replaces the value at a place.
     #[inline(always)]
     pub fn set(&mut self, i: usize, val: Val)
         requires { i < length (items_listed self.old) }
@@ -113,7 +113,7 @@ impl Listed {
         }
     }
 
-    /// Takes the value at a place; those behind it move down by one.
+    /// Removes the value at a place; later ones move down.
     pub fn remove(&mut self, i: usize) -> Val
         requires { i < length (items_listed self.old) }
         ensures val { slice_get (items_listed self.old) i ≡ Some result }
@@ -126,7 +126,7 @@ impl Listed {
         }
     }
 
-    /// Takes the last value, if there is one.
+    /// Removes the last value, if there is one.
     pub fn pop(&mut self) -> Option<Val>
         ensures items { items_listed self.old ≡ items_listed self.new ++ option_to_list result }
         ensures room { OnSome result (room_listed self.new ≡ room_listed self.old + 1) }
@@ -143,7 +143,7 @@ impl Listed {
         }
     }
 
-    /// How many more values fit without memory.
+    /// How many more values fit without allocating.
     #[inline(always)]
     fn room(&self) -> usize
         ensures { result ≡ room_listed self.now }
@@ -154,7 +154,7 @@ impl Listed {
         }
     }
 
-    /// Makes room for `n` more values.
+    /// Reserves room for `n` more values.
     #[inline(always)]
     pub fn reserve(&mut self, n: usize) -> Result<(), AllocError>
         ensures items { items_listed self.new ≡ items_listed self.old }
@@ -168,7 +168,7 @@ impl Listed {
         Ok(())
     }
 
-    /// The columns are complete before the vector goes, so a refusal leaves the vector.
+    /// The columns are complete before the vector is dropped, so an error keeps the vector.
     #[inline(never)]
     fn grow(&mut self, n: usize) -> Result<(), AllocError>
         ensures items { items_listed self.new ≡ items_listed self.old }
@@ -189,7 +189,7 @@ impl Listed {
         Ok(())
     }
 
-    /// Appends a value where there is room for it.
+    /// Appends a value if there is room for it.
     #[inline(always)]
     pub fn push_reserved(&mut self, val: Val)
         requires { 0 < room_listed self.old }

@@ -1,4 +1,4 @@
-//! Values in nine bytes, as tables keep their keys and values.
+//! Values in nine bytes, as tables store their keys and values.
 ghost use Rattle.std.specs.Prelude.{◌≡◌};
 ghost use Rattle.cg_value.specs.contracts.ValPartialEq.TheImpl as val_partial_eq;
 ghost use Rattle.cg_value.specs.contracts.ValPartialEq.TheImpl.Laws as val_partial_eq_laws;
@@ -11,11 +11,11 @@ use cg_value::Val;
 use std::hash::{Hash, Hasher};
 use std::marker::Model;
 
-/// A value in nine bytes: the bytes of its number, the lowest first, and its sort.
+/// A value in nine bytes: the little-endian bytes of its number, then its sort.
 ///
-/// The number comes first since a put then moves a value in fewer pieces.
-/// Bytes need no alignment, so that a run of these has no gaps. A `Val` takes sixteen bytes.
-/// A value has these words and no others, so that two are compared by their words.
+/// The number comes first because a put then moves a value in fewer pieces. Bytes need no alignment, so a run of these
+/// has no gaps; a `Val` takes sixteen bytes. Each value has only one encoding, so two values are compared by their
+/// bytes.
 #[derive(Drop)]
 pub struct Nine {
     number: [u8; 8],
@@ -55,7 +55,7 @@ impl Nine {
         val_of(self.sort, u64::from_le_bytes(self.number))
     }
 
-    /// The serial that it refers to, if it is a reference.
+    /// The serial of a reference.
     #[inline(always)]
     pub fn reference(&self) -> Option<u64>
         ensures { result ≡ reference_in self.now }
@@ -71,7 +71,7 @@ impl PartialEq for Nine {
 
     #[inline(always)]
     fn eq(&self, other: &Nine) -> bool {
-        // Most keys that differ have one sort.
+        // Most distinct keys have the same sort, so the number is compared first.
         u64::from_le_bytes(self.number) == u64::from_le_bytes(other.number)
             && self.sort == other.sort
     }
@@ -86,7 +86,8 @@ impl Hash for Nine {
 
     ghost respects_eq = { equal_hashed };
 
-    // The number alone, so that a key takes one round of the hasher. Keys of two sorts that share a number share a hash.
+    // Only the number, so that a key takes one round of the hasher. Keys of two sorts with the same number share a
+    // hash.
     #[inline(always)]
     fn hash<H: Hasher>(&self, state: &mut H) {
         state.write_u64(u64::from_le_bytes(self.number));

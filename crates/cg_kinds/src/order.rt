@@ -1,4 +1,4 @@
-//! The order in which keys came, of a map that fills holes with its last pair.
+//! The insertion order of keys, for a map that fills holes with its last pair.
 ghost use Rattle.std.specs.Prelude.{◌≡◌, ◌≢◌, ◌+◌, ◌*◌, ◌-◌, ◌<◌, ◌≤◌, ◌^◌, ◌++◌, ◌∷◌, ℕ, [], All, drop, length, map, take, None, Some, IfOk, IsSome, OnOk, OnErr, remove, slice_get, slice_index_or, slice_set};
 ghost use Rattle.std.specs.List.{range_with_len};
 ghost use Rattle.std.specs.Vec.{vec_len, vec_capacity};
@@ -12,7 +12,7 @@ use cg_kind::AT_ONCE;
 use std::alloc::{AllocError, Global};
 use std::marker::Model;
 
-/// The indexes of a map, in the order in which the keys came.
+/// The indexes of a map, in insertion order.
 #[derive(Drop)]
 pub struct Order {
     /// The index of the pair in each slot, or a gap.
@@ -35,7 +35,7 @@ impl Model for Order {
     ghost invariant = { λ o. AreHomes o.slots.items o.homes.items × AreCounts o.slots.items o.counts × HasBlocks (vec_capacity o.slots) o.counts };
 }
 
-/// Takes the index out of a slot. The last pair comes to that index.
+/// Removes the index from a slot. The last pair moves to that index.
 fn empty_slot(slots: &mut [IndexOrGap], homes: &mut Vec<u32>, slot: usize) -> usize
     requires homes { AreHomes slots.old homes.old.items }
     requires there { IsSome (slice_index_or slots.old slot None) }
@@ -61,7 +61,7 @@ fn empty_slot(slots: &mut [IndexOrGap], homes: &mut Vec<u32>, slot: usize) -> us
     }
 }
 
-/// Takes the index out of a slot, with one pair less in its block. The last pair comes to that index.
+/// Removes the index from a slot, and lowers its block's count. The last pair moves to that index.
 fn take_slot(
     slots: &mut Vec<IndexOrGap>,
     homes: &mut Vec<u32>,
@@ -91,7 +91,7 @@ fn close_gaps(slots: &mut Vec<IndexOrGap>)
     slots.retain(|slot| slot.is_index());
 }
 
-/// The homes, once the gaps between slots are closed.
+/// The homes after the gaps between slots are closed.
 fn settle(slots: &[IndexOrGap], homes: &mut [u32])
     requires closed { AreClosed slots.now homes.old }
     requires small { length slots.now < 2 ^ 32 }
@@ -104,10 +104,10 @@ fn settle(slots: &[IndexOrGap], homes: &mut [u32])
     }
 }
 
-/// The most slots.
+/// The maximum number of slots.
 const MOST: usize = 0x7FFF_FFFF;
 
-/// Makes room for one more, and for an eighth of what is there.
+/// Reserves room for one more, and for an eighth of the length.
 fn grow<T>(full: &mut Vec<T>) -> Result<(), AllocError>
     ensures items { full.new.items ≡ full.old.items }
     ensures room { OnOk result (vec_len full.new < vec_capacity full.new) }
@@ -116,7 +116,7 @@ fn grow<T>(full: &mut Vec<T>) -> Result<(), AllocError>
     full.reserve_exact(more)
 }
 
-/// Makes enough blocks for a number of slots.
+/// Adds enough blocks for a number of slots.
 fn cover(slots: &Vec<IndexOrGap>, counts: &mut Sums, room: usize) -> Result<(), AllocError>
     requires { AreCounts slots.now.items counts.old }
     ensures counts { AreCounts slots.now.items counts.new }
@@ -129,7 +129,7 @@ fn cover(slots: &Vec<IndexOrGap>, counts: &mut Sums, room: usize) -> Result<(), 
     Ok(())
 }
 
-/// No slots, with room for `count` and the blocks of these.
+/// No slots, with room for `count` and for their blocks.
 fn empty_slots(alloc: Global, count: usize) -> Result<(Vec<IndexOrGap>, Sums), AllocError>
     ensures slots { IfOk result (λ made. made.0.items ≡ []) }
     ensures counts { IfOk result (λ made. AreCounts [] made.1) }
@@ -144,7 +144,7 @@ fn empty_slots(alloc: Global, count: usize) -> Result<(Vec<IndexOrGap>, Sums), A
     Ok((slots, counts))
 }
 
-/// Makes room for one slot more, and for an eighth of what is there, with the blocks of all these.
+/// Reserves room for one more slot, and for an eighth of the length, with the blocks of all these.
 fn grow_slots(slots: &mut Vec<IndexOrGap>, counts: &mut Sums) -> Result<(), AllocError>
     requires counts { AreCounts slots.old.items counts.old }
     requires blocks { HasBlocks (vec_capacity slots.old) counts.old }
@@ -178,7 +178,7 @@ fn close(slots: &mut Vec<IndexOrGap>, homes: &mut Vec<u32>, counts: &mut Sums)
     counts.deal(slots.len());
 }
 
-/// Closes the gaps, where no slot is left and more than an eighth of them are gaps.
+/// Closes the gaps if no slot is free and more than an eighth of the slots are gaps.
 fn close_full(slots: &mut Vec<IndexOrGap>, homes: &mut Vec<u32>, counts: &mut Sums)
     requires homes { AreHomes slots.old.items homes.old.items }
     requires counts { AreCounts slots.old.items counts.old }
@@ -194,7 +194,7 @@ fn close_full(slots: &mut Vec<IndexOrGap>, homes: &mut Vec<u32>, counts: &mut Su
     }
 }
 
-/// Makes more room for one pair, where the slots or the homes are full.
+/// Reserves room for one more pair if the slots or the homes are full.
 fn grow_full(
     slots: &mut Vec<IndexOrGap>,
     homes: &mut Vec<u32>,
@@ -218,7 +218,7 @@ fn grow_full(
     Ok(())
 }
 
-/// Makes room for one pair more. Where the slots are full of many gaps, these are closed, and no more room is taken.
+/// Makes room for one more pair. If the slots are full with many gaps, the gaps are closed instead of allocating.
 #[inline(never)]
 fn widen(
     slots: &mut Vec<IndexOrGap>,
@@ -239,7 +239,7 @@ fn widen(
     grow_full(slots, homes, counts)
 }
 
-/// Makes room for one pair more. Each slot that there is room for has its block, and so no third test asks for that.
+/// Makes room for one more pair. Each slot that fits has its block, so no third test is needed.
 #[inline(always)]
 fn make_room(
     slots: &mut Vec<IndexOrGap>,
@@ -263,7 +263,7 @@ fn make_room(
 }
 
 impl Order {
-    /// The indexes below a number, in their own order.
+    /// The indexes below a number, in ascending order.
     pub fn new(alloc: Global, count: usize) -> Result<Order, AllocError>
         ensures { IfOk result (λ order. order ≡ range_with_len 0 count) }
     {
@@ -279,7 +279,7 @@ impl Order {
         Ok(order)
     }
 
-    /// The next index goes last. Where the slots are full of many gaps, these are closed, and no more room is taken.
+    /// Appends the next index. If the slots are full with many gaps, the gaps are closed instead of allocating.
     #[inline(always)]
     pub fn push(&mut self) -> Result<(), AllocError>
         ensures ok { OnOk result (self.new ≡ self.old ++ length self.old ∷ []) }
@@ -294,7 +294,7 @@ impl Order {
         Ok(())
     }
 
-    /// Costs nothing: each index stands at one place.
+    /// Exposes to proofs that each index has exactly one place. Does nothing at run time.
     pub fn sound(&self)
         ensures { IsSound self.now }
     {
@@ -314,7 +314,7 @@ impl Order {
         }
     }
 
-    /// The indexes from a place on, `AT_ONCE` of them or as many as there are. The slot of the first alone is looked for.
+    /// The indexes from a place on, at most `AT_ONCE`. Only the slot of the first is searched.
     pub fn some_from(&self, i: usize) -> ArrayVec<usize, AT_ONCE>
         ensures indexes { result.items ≡ take AT_ONCE (drop i self.now) }
         ensures within { All (λ index. index < length self.now) result.items }
@@ -340,7 +340,7 @@ impl Order {
         )
     }
 
-    /// Takes the index at a place out. The last index is then called so.
+    /// Removes the index at a place. The last index is renamed to it.
     pub fn take(&mut self, i: usize) -> usize
         requires { i < length self.old }
         ensures index { slice_get self.old i ≡ Some result }
@@ -354,7 +354,7 @@ impl Order {
         index
     }
 
-    /// Takes an index out, wherever it stands. The last index is then called so.
+    /// Removes an index, wherever it is. The last index is renamed to it.
     pub fn take_index(&mut self, index: usize)
         requires { index < length self.old }
         ensures rest { (place : ℕ) → slice_get self.old place ≡ Some index →
@@ -367,7 +367,7 @@ impl Order {
         self.close_many();
     }
 
-    /// Closes the gaps, where they are more than half of the slots.
+    /// Closes the gaps if they are more than half of the slots.
     #[inline(always)]
     fn close_many(&mut self)
         ensures { self.new ≡ self.old }

@@ -1,4 +1,4 @@
-//! Values in plain words, as lists keep a few of them.
+//! Values in plain words, as lists store a few of them.
 ghost use Rattle.std.specs.Prelude.{◌≡◌, IfOk, map};
 ghost use Rattle.cg_value.specs.declared.Val.{Val};
 ghost use Rattle.cg_graph.specs.Value.{item, reference_in};
@@ -12,10 +12,10 @@ use cg_value::{Entry, Val};
 use std::alloc::{AllocError, Global};
 use std::marker::Model;
 
-/// A value in two words of 64 bits: its sort, and its number.
+/// A value in two 64-bit words: its sort and its number.
 ///
-/// The two have no gap between or behind them, so that a run of them moves as one run of bytes. A `Val` has such gaps, and
-/// a run of those moves field by field.
+/// There is no padding between or after them, so a run of values moves as one run of bytes. A `Val` has padding, and a
+/// run of those moves field by field.
 #[derive(Drop)]
 pub struct Packed {
     sort: u64,
@@ -66,7 +66,7 @@ impl Packed {
         }
     }
 
-    /// The serial that it refers to, if it is a reference.
+    /// The serial of a reference.
     #[inline(always)]
     fn reference(&self) -> Option<u64>
         ensures { result ≡ reference_in self.now }
@@ -84,7 +84,7 @@ impl KeepsEntry for Packed {
     }
 }
 
-/// The values of items, in their order.
+/// The values of items, in order.
 pub fn packed_values_of(alloc: Global, parts: &[Entry]) -> Result<Vec<Packed>, AllocError>
     requires { AreItems parts.now }
     ensures { IfOk result (λ values. map item values.items ≡ parts.now) }

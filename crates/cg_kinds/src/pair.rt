@@ -1,4 +1,4 @@
-//! Pairs in eighteen bytes, as short dictionaries keep them.
+//! Pairs in eighteen bytes, as short dictionaries store them.
 ghost use Rattle.std.specs.Prelude.{◌≡◌, ◌+◌, ◌≤◌, ◌++◌, length, take};
 ghost use Rattle.cg_graph.specs.Value.{entry_references};
 ghost use Rattle.cg_kind.specs.Calls.{has_key};
@@ -56,7 +56,7 @@ impl Pair {
         self.val.val()
     }
 
-    /// Writes another value. The key stays in its bytes.
+    /// Replaces the value; the key's bytes are unchanged.
     #[inline(always)]
     pub fn set_val(&mut self, val: Val)
         ensures { self.new ≡ record { key = self.old.key; val = val } }
@@ -83,8 +83,8 @@ impl KeepsEntry for Pair {
     }
 }
 
-/// Writes the references of a packed value and its packed key, in this order, behind so many that are written. It answers how
-/// many are written then.
+/// Writes the references of a packed value and its packed key, in this order, after the first `count`. Returns the new
+/// count.
 #[inline(always)]
 pub fn note_pair(found: &mut [u64], count: usize, key: &Nine, val: &Nine) -> usize
     requires { count + 2 ≤ length found.old }

@@ -29,7 +29,7 @@ pub trait Keyed: Drop {
     ghost keyed: { IsKeyed kind };
 }
 
-/// Stands for dictionaries.
+/// Marks dictionaries.
 #[derive(Drop)]
 pub struct Dictionary;
 
@@ -46,7 +46,7 @@ impl Keyed for Dictionary {
     }
 }
 
-/// Stands for instances.
+/// Marks instances.
 #[derive(Drop)]
 pub struct Instance;
 
@@ -63,7 +63,7 @@ impl Keyed for Instance {
     }
 }
 
-/// Keys and their values, in the order in which the keys came.
+/// Keys and their values, in insertion order.
 #[derive(Drop)]
 pub struct Pairs<K> {
     held: Held,

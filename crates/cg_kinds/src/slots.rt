@@ -31,7 +31,7 @@ pub fn pairs_before(slots: &[IndexOrGap], counts: &Sums, slot: usize) -> usize
     counts.before(block) + count_pairs(&slots[block * PART..slot])
 }
 
-/// The slot that has `count` pairs between a first slot and itself.
+/// The first slot from `first` on with `count` pairs between `first` and it.
 fn slot_from(slots: &[IndexOrGap], first: usize, count: usize) -> usize
     requires within { before slots.now first + count < length (indexes slots.now) }
     ensures before { before slots.now result ≡ before slots.now first + count }
@@ -66,7 +66,7 @@ pub fn slot_of(slots: &[IndexOrGap], counts: &Sums, i: usize) -> usize
     }
 }
 
-/// The indexes in the slots from one on, `AT_ONCE` of them or as many as there are.
+/// The indexes in the slots from one on, at most `AT_ONCE`.
 pub fn some_indexes(slots: &[IndexOrGap], first: usize) -> ArrayVec<usize, AT_ONCE>
     ensures { result.items ≡ take AT_ONCE (indexes (drop first slots.now)) }
 {

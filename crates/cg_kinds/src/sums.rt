@@ -9,9 +9,9 @@ use std::marker::Model;
 /// How many numbers one sum covers.
 pub const PART: usize = 16;
 
-/// Numbers, and once they are more than 16 the sum of each 16, which have sums above them in their turn.
+/// Numbers and, if there are more than 16, the sum of each 16, which have sums above them in turn.
 ///
-/// So changing a number changes one sum of each height, and a prefix sum adds at most 16 numbers of each.
+/// So changing a number changes one sum per level, and a prefix sum adds at most 16 numbers per level.
 #[derive(Drop)]
 pub struct Sums {
     numbers: Vec<u32>,
@@ -48,7 +48,7 @@ fn sum_of(numbers: &[u32]) -> usize
     all
 }
 
-/// The number, from one on, in which a running sum reaches `count`, and what is left of `count` in it.
+/// The position, from `first` on, at which a running sum reaches `count`, and the rest of `count` within it.
 fn reached_from(numbers: &[u32], first: usize, count: usize) -> (usize, usize)
     requires { sum_before numbers.now first + count < sum numbers.now }
     ensures within { result.0 < length numbers.now }
@@ -84,7 +84,7 @@ fn first_sums(alloc: Global, numbers: &[u32]) -> Result<Box<Sums>, AllocError>
     Ok(boxed)
 }
 
-/// Each number becomes 16, as far as a count goes; one becomes what is left of it, and those behind become 0.
+/// Sets numbers to 16 each as far as the count goes, one to the remainder, and later ones to 0.
 fn deal_out(numbers: &mut [u32], count: usize)
     ensures long { length numbers.new ≡ length numbers.old }
     ensures each { (i : ℕ) → i < length numbers.new → slice_index numbers.new i ≡ min 16 (count - 16 * i) }
@@ -113,7 +113,7 @@ fn sum_parts(sums: &mut [u32], numbers: &[u32])
 }
 
 impl Sums {
-    /// No numbers, and room for `room`.
+    /// No numbers, with room for `room`.
     pub fn with_room(alloc: Global, room: usize) -> Result<Sums, AllocError>
         ensures { IfOk result (λ sums. sums ≡ []) }
     {
@@ -124,7 +124,7 @@ impl Sums {
         })
     }
 
-    /// How many numbers there are.
+    /// The number of numbers.
     #[inline(always)]
     pub fn len(&self) -> usize
         ensures { result ≡ length self.now }
@@ -141,7 +141,7 @@ impl Sums {
         self.numbers[i] as usize
     }
 
-    /// The sum of the numbers before one.
+    /// The sum of the numbers before a position.
     pub fn before(&self, i: usize) -> usize
         requires within { i ≤ length self.now }
         requires small { sum self.now < 2 ^ 32 }
@@ -156,7 +156,7 @@ impl Sums {
         }
     }
 
-    /// The number in which the running sum reaches `count`, and what is left of `count` in it.
+    /// The position at which the running sum reaches `count`, and the rest of `count` within it.
     pub fn reached(&self, count: usize) -> (usize, usize)
         requires { count < sum self.now }
         ensures within { result.0 < length self.now }
@@ -219,7 +219,7 @@ impl Sums {
         Ok(())
     }
 
-    /// The sums of the parts of other numbers.
+    /// Recomputes the sums for other numbers.
     fn sum_again(&mut self, numbers: &[u32])
         requires covered { length numbers.now ≤ 16 * length self.old }
         requires small { sum numbers.now < 2 ^ 32 }
@@ -232,7 +232,7 @@ impl Sums {
         }
     }
 
-    /// Each number becomes 16, as far as a count goes; one becomes what is left of it, and those behind become 0.
+    /// Sets numbers to 16 each as far as the count goes, one to the remainder, and later ones to 0.
     pub fn deal(&mut self, count: usize)
         requires { count < 2 ^ 32 }
         ensures long { length self.new ≡ length self.old }

@@ -1,4 +1,4 @@
-//! Pairs in the order in which their keys came, in a map that may have another order.
+//! Pairs in insertion order, in a map that may have another order.
 ghost use Rattle.std.specs.Prelude.{◌≡◌, ◌<◌, ◌^◌, ◌+◌, ◌≤◌, ◌++◌, ◌∷◌, [], All, length, Some, None, IfSome, IfNone, IsNone, IsSome, IsOk, IfOk, OnOk, OnErr, option_to_list, position, slice_get, remove, swap_remove, take, drop, slice_index_or, option_map, ◌-◌};
 ghost use Rattle.std.specs.List.{range_with_len};
 ghost use Rattle.cg_graph.specs.Value.{value_at, put, without_key, entry_references, references, entry_at as entry_under};
@@ -19,24 +19,24 @@ use std::marker::Model;
 /// A map of packed keys and values.
 type Map = IndexMap<Nine, Nine, KeyHashing>;
 
-/// Pairs in the order in which their keys came.
+/// Pairs in insertion order.
 ///
-/// The map keeps that order itself until a pair with many behind it is taken out. As it grows it keeps little more room than
-/// its pairs take.
+/// The map itself keeps that order until a pair with many after it is removed. As it grows it keeps little more room
+/// than its pairs need.
 #[derive(Drop)]
 pub struct Table {
     map: Map,
-    /// In a box, since most tables have none.
+    /// Boxed, since most tables have no order.
     order: Option<Box<Order>>,
     room: Room,
 }
 
-/// A note of a map's room, in eight bytes.
+/// A record of a map's room, in eight bytes.
 #[derive(Drop)]
 struct Room {
     /// The map's room in pairs when it last grew. More room than this means that it has grown again.
     all: u32,
-    /// The map cannot grow before this many new keys have come. Dropped keys leave more room than this counts.
+    /// The map cannot grow before this many new keys arrive. Removed keys leave more room than this counts.
     left: u32,
 }
 
@@ -52,8 +52,8 @@ impl Model for Table {
     ghost invariant = { λ t. IsOrderOf (length t.map.entries) (unboxed t.order) };
 }
 
-/// Where at most this many pairs stand from one on, those behind it shift when it goes. An order for fewer would take more than 300 bytes and
-/// 64 a pair leave for it, since the map doubles its index with the 37th.
+/// If at most this many pairs stand from a removed one on, itself included, the later ones shift down. An order for
+/// fewer would not fit in 300 bytes plus 64 a pair, since the map doubles its index at the 37th.
 const CLOSE: usize = 44;
 
 /// The entry of a packed key and a packed value.
@@ -79,7 +79,7 @@ fn pair_at(map: &Map, index: usize) -> Entry
     }
 }
 
-/// Writes the references of the pair at an index of a map after the first `count`, and answers the new number.
+/// Writes the references of the pair at an index of a map after the first `count`; returns the new count.
 #[inline(always)]
 fn note_pair_at(map: &Map, index: usize, found: &mut [u64], count: usize) -> usize
     requires within { index < length map.now.entries }
@@ -95,7 +95,7 @@ fn note_pair_at(map: &Map, index: usize, found: &mut [u64], count: usize) -> usi
     }
 }
 
-/// Writes down the references of the pairs at these indexes, which are at most `AT_ONCE`. It answers how many there are.
+/// Writes the references of the pairs at these indexes, at most `AT_ONCE`. Returns their number.
 fn note_at(map: &Map, indexes: &[usize], found: &mut [u64]) -> usize
     requires within { All (λ index. index < length map.now.entries) indexes.now }
     requires few { length indexes.now ≤ AT_ONCE }
@@ -111,7 +111,7 @@ fn note_at(map: &Map, indexes: &[usize], found: &mut [u64]) -> usize
     count
 }
 
-/// Writes down the references of the pairs from one index to another, which are at most `AT_ONCE`. It answers how many there are.
+/// Writes the references of the pairs in a range of indexes, at most `AT_ONCE`. Returns their number.
 fn note_between(map: &Map, from: usize, next: usize, found: &mut [u64]) -> usize
     requires order { from ≤ next }
     requires within { next ≤ length map.now.entries }
@@ -129,7 +129,7 @@ fn note_between(map: &Map, from: usize, next: usize, found: &mut [u64]) -> usize
     count
 }
 
-/// Takes out the pair at an index. The last one comes to its place.
+/// Removes the pair at an index. The last pair moves into its place.
 fn swap_out(map: &mut Map, index: usize) -> Entry
     requires { index < length map.old.entries }
     ensures entry { result ≡ slice_index_or (pairs_of map.old.entries) index nothing }
@@ -141,7 +141,7 @@ fn swap_out(map: &mut Map, index: usize) -> Entry
     }
 }
 
-/// Takes out the pair under a key, and answers the index that it had. The last one comes to its place.
+/// Removes the pair of a key, and returns its index. The last pair moves into its place.
 #[inline(always)]
 fn swap_out_key(map: &mut Map, key: Val) -> Option<(usize, Entry)>
     ensures index { option_map (λ p. p.0) result ≡ position (has_key key) (pairs_of map.old.entries) }
@@ -161,7 +161,7 @@ fn swap_out_key(map: &mut Map, key: Val) -> Option<(usize, Entry)>
     }
 }
 
-/// Takes out the pair at an index; those behind it move down by one.
+/// Removes the pair at an index; later ones move down.
 fn shift_out(map: &mut Map, index: usize) -> Entry
     requires { index < length map.old.entries }
     ensures entry { result ≡ slice_index_or (pairs_of map.old.entries) index nothing }
@@ -173,7 +173,7 @@ fn shift_out(map: &mut Map, index: usize) -> Entry
     }
 }
 
-/// Costs nothing: each index stands at one place of the order, if there is one.
+/// Exposes to proofs that each index has one place in the order, if there is an order. Does nothing at run time.
 #[inline(always)]
 fn sound(order: &Option<Box<Order>>)
     ensures { IsSoundOrder (unboxed order.now) }
@@ -184,9 +184,9 @@ fn sound(order: &Option<Box<Order>>)
     }
 }
 
-/// Puts a value under a key: a new key goes last. It answers the value that the key had.
+/// Puts a value under a key; a new key goes last. Returns the old value of the key.
 ///
-/// It uses the map's entry, since the error of `insert` carries the value, which would then be moved in pieces.
+/// It uses the map's entry: the error of `insert` would carry the value, which would then be moved in pieces.
 #[inline(always)]
 fn put_in(map: &mut Map, key: Val, val: Val) -> Result<Option<Val>, AllocError>
     ensures ok { OnOk result (pairs_of map.new.entries ≡ put (pairs_of map.old.entries) key val) }
@@ -194,7 +194,7 @@ fn put_in(map: &mut Map, key: Val, val: Val) -> Result<Option<Val>, AllocError>
     ensures present { IsSome (value_at (pairs_of map.old.entries) key) → IsOk result }
     ensures err { OnErr result (map.new.entries ≡ map.old.entries) }
 {
-    // It is packed before the search, during which its two words then take less to keep than a `Val`.
+    // Packed before the search: its two words then take less to keep than a `Val`.
     let packed = Nine::new(val);
     match map.entry(Nine::new(key)) {
         Ok(MapEntry::Occupied(there)) => {
@@ -211,7 +211,7 @@ fn put_in(map: &mut Map, key: Val, val: Val) -> Result<Option<Val>, AllocError>
     }
 }
 
-/// A new key has come. Only where the map may have grown for it is the map asked whether it has.
+/// Records a new key. The map is only asked whether it has grown if it may have.
 #[inline(always)]
 fn fit(map: &mut Map, room: &mut Room)
     ensures { map.new.entries ≡ map.old.entries }
@@ -223,7 +223,7 @@ fn fit(map: &mut Map, room: &mut Room)
     }
 }
 
-/// Gives part of a grown map's new room back, and notes how many keys may come before it grows again.
+/// Gives part of a grown map's new room back, and records how many keys may come before it grows again.
 #[inline(never)]
 fn fit_again(map: &mut Map, room: &mut Room)
     ensures { map.new.entries ≡ map.old.entries }
@@ -235,16 +235,16 @@ fn fit_again(map: &mut Map, room: &mut Room)
     room.left = in_32_bits(map.capacity() - map.len());
 }
 
-/// A number in 32 bits, or the highest of these.
+/// A number in 32 bits, saturating.
 fn in_32_bits(number: usize) -> u32 {
     number.min(0xFFFF_FFFF) as u32
 }
 
-/// Shrinks a map to the room of its pairs and about two fifths more.
+/// Shrinks a map to the room of its pairs plus about two fifths.
 ///
-/// Each growth leaves holes in the memory of the process, so growths must be rare. Of the fractions that were tried only this one
-/// kept each table that was measured, of 25 to 300 pairs as they were put and of some 90 sizes with an order, within 300 bytes and
-/// 64 a pair.
+/// Each growth leaves holes in the process's memory, so growths must be rare. Of the fractions tried, only this one
+/// kept every table measured (25 to 300 pairs as they were put, and about 90 sizes with an order) within 300 bytes
+/// plus 64 a pair.
 fn give_back(map: &mut Map)
     ensures { map.new.entries ≡ map.old.entries }
 {
@@ -252,7 +252,7 @@ fn give_back(map: &mut Map)
     map.shrink_to(map.len() + more + 1);
 }
 
-/// The indexes below a number, in their own order, in a box.
+/// The indexes below a number, in ascending order, boxed.
 fn boxed_order(alloc: Global, count: usize) -> Result<Box<Order>, AllocError>
     ensures { IfOk result (λ order. order.value ≡ range_with_len 0 count) }
 {
@@ -261,7 +261,7 @@ fn boxed_order(alloc: Global, count: usize) -> Result<Box<Order>, AllocError>
     Ok(boxed)
 }
 
-/// The order in which a map has its pairs, in a box. It takes room, and so the map first gives back what it does not need.
+/// The order of a map's pairs, boxed. It allocates, so the map first gives back the room that it does not need.
 fn noted_order(map: &mut Map) -> Result<Box<Order>, AllocError>
     ensures same { map.new.entries ≡ map.old.entries }
     ensures order { IfOk result (λ order. order.value ≡ range_with_len 0 (length map.old.entries)) }
@@ -271,7 +271,7 @@ fn noted_order(map: &mut Map) -> Result<Box<Order>, AllocError>
     Ok(order)
 }
 
-/// Takes the newest pair of a map out again. It is not inlined, since few puts come to it.
+/// Removes the newest pair of a map again. Not inlined, since few puts reach it.
 #[inline(never)]
 fn lose_last(map: &mut Map)
     ensures { map.new.entries ≡ take (length map.old.entries - 1) map.old.entries }
@@ -279,7 +279,7 @@ fn lose_last(map: &mut Map)
     let _ = map.pop();
 }
 
-/// The pair that a map got last goes last in the order, or out of the map again.
+/// Appends a map's newest pair to the order, or removes it from the map again.
 #[inline(always)]
 fn order_last(map: &mut Map, order: &mut Option<Box<Order>>) -> Result<(), AllocError>
     ensures ok { OnOk result (map.new.entries ≡ map.old.entries) }
@@ -311,12 +311,12 @@ impl Table {
         }
     }
 
-    /// No pairs, and room for `count`.
+    /// No pairs, with room for `count`.
     pub fn with_room(alloc: Global, count: usize) -> Result<Table, AllocError>
         ensures { IfOk result (λ table. table ≡ []) }
     {
         let mut map = IndexMap::with_capacity_and_hasher(alloc, count, key_hashing())?;
-        // The map makes room for all that its groups can take.
+        // The map reserves room for all that its groups can hold.
         map.shrink_to(count);
         let all = in_32_bits(map.capacity());
         Ok(Table {
@@ -345,7 +345,8 @@ impl Table {
         }
     }
 
-    /// Goes over some pairs from a position on, as `cg_kind::Kind::note_from` says it. In an order it goes on from slot to slot.
+    /// Visits pairs from a position on, as `cg_kind::Kind::note_from` specifies. With an order it walks from slot to
+    /// slot.
     pub fn note_from(&self, from: usize, found: &mut [u64]) -> Noted
         requires within { from ≤ length self.now }
         requires room { ROOM ≤ length found.old }
@@ -382,12 +383,12 @@ impl Table {
         }
     }
 
-    /// The value under a key, which no order is asked for.
+    /// The value under a key; it needs no order.
     #[inline(always)]
     pub fn value_of(&self, key: Val) -> Option<Val>
         ensures { result ≡ value_at self.now key }
     {
-        // The length is what says that the keys are unique.
+        // The contract of `len` says that the keys are unique.
         let _count = self.map.len();
         sound(&self.order);
         match self.map.get(&Nine::new(key)) {
@@ -396,7 +397,7 @@ impl Table {
         }
     }
 
-    /// A present key gets the value, and a new one goes last. It answers the value that the key had.
+    /// An existing key gets the value; a new one goes last. Returns the old value of the key.
     #[inline(always)]
     pub fn put(&mut self, key: Val, val: Val) -> Result<Option<Val>, AllocError>
         ensures ok { OnOk result (self.new ≡ put self.old key val) }
@@ -404,7 +405,7 @@ impl Table {
         ensures present { IsSome (value_at self.old key) → IsOk result }
         ensures err { OnErr result (self.new ≡ self.old) }
     {
-        // The length is what says that the keys are unique.
+        // The contract of `len` says that the keys are unique.
         let _count = self.map.len();
         sound(&self.order);
         match put_in(&mut self.map, key, val)? {
@@ -417,7 +418,7 @@ impl Table {
         }
     }
 
-    /// Notes the map's order before a pair with many behind it goes, if there is memory for that.
+    /// Records the map's order before a pair with many after it is removed, if there is memory for it.
     fn note_order(&mut self, i: usize)
         requires { i < length self.old }
         ensures { self.new ≡ self.old }
@@ -427,7 +428,7 @@ impl Table {
             Some(_) => {}
             None => {
                 if count - i > CLOSE {
-                    // The map gives back its room first, also where no order is noted.
+                    // The map gives back its room first, even if no order is recorded.
                     self.room.left = 0;
                     if let Ok(order) = noted_order(&mut self.map) {
                         self.order = Some(order);
@@ -437,7 +438,7 @@ impl Table {
         }
     }
 
-    /// Takes the pair at a position; those behind it move down by one.
+    /// Removes the pair at a position; later ones move down.
     #[inline(never)]
     pub fn take(&mut self, i: usize) -> Entry
         requires { i < length self.old }
@@ -451,13 +452,13 @@ impl Table {
         }
     }
 
-    /// Takes the pair under a key, if there is one; those behind it move down by one. No place is looked for in an order.
+    /// Removes the pair of a key, if there is one; later ones move down. An order needs no search for the place.
     #[inline(always)]
     pub fn take_key(&mut self, key: Val) -> Option<Entry>
         ensures entry { result ≡ entry_under self.old key }
         ensures rest { self.new ≡ without_key self.old key }
     {
-        // The length is what says that the keys are unique.
+        // The contract of `len` says that the keys are unique.
         let _count = self.map.len();
         sound(&self.order);
         match &mut self.order {
@@ -470,7 +471,7 @@ impl Table {
         }
     }
 
-    /// Takes the pair under a key out of a map that keeps the order itself.
+    /// Removes the pair of a key from a map that keeps the order itself.
     fn take_own(&mut self, key: Val) -> Option<Entry>
         ensures entry { result ≡ entry_under self.old key }
         ensures rest { self.new ≡ without_key self.old key }
@@ -481,7 +482,7 @@ impl Table {
         }
     }
 
-    /// Takes the last pair, if there is one.
+    /// Removes the last pair, if there is one.
     pub fn detach(&mut self) -> Option<Entry>
         ensures pairs { self.old ≡ self.new ++ option_to_list result }
         ensures empty { IsNone result → self.old ≡ [] }

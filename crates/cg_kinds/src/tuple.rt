@@ -13,7 +13,7 @@ use std::alloc::{AllocError, Global};
 /// Tuples, each by its items.
 pub type TupleKind = BodySlab<TupleItems>;
 
-/// The items of a tuple, which are as it was made until they leave one by one.
+/// The items of a tuple. They are fixed when it is made and only leave one by one.
 #[derive(Drop)]
 pub struct TupleItems {
     values: Vec<Val>,

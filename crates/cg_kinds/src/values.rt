@@ -1,4 +1,4 @@
-//! Values in two columns, as lists keep many of them.
+//! Values in two columns, as lists store many of them.
 ghost use Rattle.std.specs.Prelude.{true, ◌≡◌, ◌+◌, ◌-◌, ◌<◌, ◌≤◌, ◌++◌, ◌∷◌, [], length, map, Some, IfOk, OnOk, OnErr, OnSome, IfNone, IsNone, option_to_list, remove, slice_get, slice_set, take, drop, vec_len, vec_capacity};
 ghost use Rattle.std.specs.List.{All, AllZip};
 ghost use Rattle.cg_graph.specs.Value.{item, references, reference_in};
@@ -12,15 +12,15 @@ use std::marker::Model;
 
 /// The values of a list, each in nine bytes: its sort in one column, and its number in the other.
 ///
-/// So the values behind one that is taken move as two runs of bytes. Those behind the first stay where they are when it is
-/// taken, and leave a gap in front.
+/// So the values after a removed one move as two runs of bytes. When the first is removed the others stay in place,
+/// and leave a gap in front.
 #[derive(Drop)]
 pub struct Values {
     sorts: Vec<u8>,
     numbers: Vec<u64>,
-    /// The place of the first value. So many places in front of it hold no value any more.
+    /// The place of the first value. The places before it no longer hold values.
     first: usize,
-    /// How many more values fit into both columns without memory, some of them once the gap in front is closed.
+    /// How many more values fit into both columns without allocating, some of them only after the front gap is closed.
     room: usize,
 }
 
@@ -35,7 +35,7 @@ impl Model for Values {
     ghost invariant = { λ v. AreColumns v.sorts.items v.numbers.items v.first v.room (vec_capacity v.sorts) (vec_capacity v.numbers) };
 }
 
-/// The sort of a reference. No other is as high.
+/// The sort of a reference, the highest sort.
 const REFERENCE: u8 = 3;
 
 /// The sort of a value, and its number.
@@ -67,7 +67,7 @@ pub(crate) fn val_of(sort: u8, number: u64) -> Val
     }
 }
 
-/// The serial that the value of a sort with a number refers to, if it is a reference. The value itself is not unpacked for it.
+/// The serial of a reference, given its sort and number. The value itself is not unpacked.
 #[inline(always)]
 pub(crate) fn reference_of(sort: u64, number: u64) -> Option<u64>
     ensures { result ≡ reference_in (value_in sort number) }
@@ -75,7 +75,7 @@ pub(crate) fn reference_of(sort: u64, number: u64) -> Option<u64>
     if sort > 2 { Some(number) } else { None }
 }
 
-/// Whether all of some sorts are those of references. The loop has no other way out, so that many of them are looked at at once.
+/// Whether all these sorts are those of references. The loop has no early exit, so that it checks many at once.
 fn are_references(sorts: &[u8]) -> bool
     ensures { result ≡ true → All (λ sort. 2 < sort) sorts.now }
 {
@@ -86,7 +86,7 @@ fn are_references(sorts: &[u8]) -> bool
     least == REFERENCE
 }
 
-/// Writes down some numbers, and answers how many there are.
+/// Writes some numbers, and returns how many.
 fn note_all(numbers: &[u64], found: &mut [u64]) -> usize
     requires { length numbers.now ≤ length found.old }
     ensures numbers { take result found.new ≡ numbers.now }
@@ -98,8 +98,8 @@ fn note_all(numbers: &[u64], found: &mut [u64]) -> usize
     count
 }
 
-/// Writes down the references of the values from one place of both columns to another, which are at most `AT_ONCE`. It answers
-/// how many there are. In most lists all values are references, and then their numbers are copied as they are.
+/// Writes the references of the values in a range of both columns, at most `AT_ONCE`. Returns their number. In most
+/// lists all values are references, and then the numbers are copied directly.
 #[inline(always)]
 fn note_between(sorts: &[u8], numbers: &[u64], from: usize, next: usize, found: &mut [u64]) -> usize
     requires words { AllZip AreWords sorts.now numbers.now }
@@ -119,7 +119,7 @@ fn note_between(sorts: &[u8], numbers: &[u64], from: usize, next: usize, found: 
     }
 }
 
-/// The same, where each value is looked at.
+/// The same, checking each value.
 fn note_each(sorts: &[u8], numbers: &[u64], from: usize, next: usize, found: &mut [u64]) -> usize
     requires words { AllZip AreWords sorts.now numbers.now }
     requires order { from ≤ next }
@@ -138,7 +138,7 @@ fn note_each(sorts: &[u8], numbers: &[u64], from: usize, next: usize, found: &mu
     count
 }
 
-/// Drops the first `n` places. Those behind move down as one run; `drain` would first turn those in front to the
+/// Drops the first `n` places. The later ones move down as one run; `drain` would first rotate the front ones to the
 /// back.
 fn lose_front<T: Copy + Drop>(column: &mut Vec<T>, n: usize)
     requires { n ≤ vec_len column.old }
@@ -150,7 +150,7 @@ fn lose_front<T: Copy + Drop>(column: &mut Vec<T>, n: usize)
     column.truncate(len - n);
 }
 
-/// Closes the gap in front of the values. The first of them is at place 0 then.
+/// Closes the front gap, so that the first value is at place 0.
 #[inline(never)]
 fn close_gap(sorts: &mut Vec<u8>, numbers: &mut Vec<u64>, first: &mut usize)
     requires in_sorts { first.old ≤ vec_len sorts.old }
@@ -166,8 +166,8 @@ fn close_gap(sorts: &mut Vec<u8>, numbers: &mut Vec<u64>, first: &mut usize)
     *first = 0;
 }
 
-/// A place behind both columns, where one value more has room: the gap is closed once a column is full. Where the room is more
-/// than the gap, there is a place.
+/// Makes a free place at the end of both columns for one more value: closes the gap once a column is full. If the room
+/// exceeds the gap, there is a place.
 #[inline(always)]
 fn have_place(sorts: &mut Vec<u8>, numbers: &mut Vec<u64>, first: &mut usize, room: usize)
     requires columns { AreColumns sorts.old.items numbers.old.items first.old room (vec_capacity sorts.old) (vec_capacity numbers.old) }
@@ -186,16 +186,17 @@ fn have_place(sorts: &mut Vec<u8>, numbers: &mut Vec<u64>, first: &mut usize, ro
     close_gap(sorts, numbers, first);
 }
 
-/// How many more places are kept free, beside a number of values and their room. No room counts them.
+/// How many extra places are kept free, for a number of values and their room. `room` does not count them.
 ///
-/// So a full list that loses a value in front for each that it gains behind closes its gap only once in that many turns.
+/// So a full list that loses a value in front for each one it gains at the end closes its gap only once in that many
+/// turns.
 #[inline(always)]
 fn spare(len: usize) -> usize {
     len / 8
 }
 
 impl Values {
-    /// The values of items, in their order.
+    /// The values of items, in order.
     pub fn of_items(alloc: Global, parts: &[Entry]) -> Result<Values, AllocError>
         requires { AreItems parts.now }
         ensures { IfOk result (λ made. map item made.items ≡ parts.now) }
@@ -207,7 +208,7 @@ impl Values {
         Ok(values)
     }
 
-    /// No values, and room for `room`.
+    /// No values, with room for `room`.
     pub fn with_room(alloc: Global, room: usize) -> Result<Values, AllocError>
         ensures items { IfOk result (λ made. made.items ≡ []) }
         ensures room { IfOk result (λ made. made.room ≡ room) }
@@ -241,8 +242,8 @@ impl Values {
         val_of(self.sorts[at], self.numbers[at])
     }
 
-    /// Goes over some items of the values from a position on, as `cg_kind::Kind::note_from` says it. It is a call of its own, since
-    /// copying wants more registers than the few items of most lists do.
+    /// Visits items from a position on, as `cg_kind::Kind::note_from` specifies. A separate call, since copying needs
+    /// more registers than the few items of most lists do.
     #[inline(never)]
     pub fn note_from(&self, from: usize, found: &mut [u64]) -> Noted
         requires within { from ≤ length self.now.items }
@@ -260,7 +261,7 @@ impl Values {
         Noted { next, references }
     }
 
-    /// Puts a value at a place, over the one that is there.
+    /// Replaces the value at a place.
     #[inline(always)]
     pub fn set(&mut self, i: usize, val: Val)
         requires { i < length self.old.items }
@@ -273,7 +274,7 @@ impl Values {
         self.numbers[at] = number;
     }
 
-    /// Takes the value at a place. Those behind it move down by one; behind the first they stay, until the gap is closed.
+    /// Removes the value at a place. Later ones move down; if it is the first, they stay until the gap is closed.
     pub fn remove(&mut self, i: usize) -> Val
         requires { i < length self.old.items }
         ensures val { slice_get self.old.items i ≡ Some result }
@@ -290,7 +291,7 @@ impl Values {
         val_of(sort, number)
     }
 
-    /// Takes the first value. The gap is closed where it has become wider than what is left.
+    /// Removes the first value. Closes the gap if it is wider than the rest.
     fn take_first(&mut self) -> Val
         requires { 0 < length self.old.items }
         ensures val { slice_get self.old.items 0 ≡ Some result }
@@ -305,7 +306,7 @@ impl Values {
         val
     }
 
-    /// Without the first value.
+    /// Removes the first value.
     #[inline(always)]
     fn skip_first(&mut self)
         requires { 0 < length self.old.items }
@@ -316,14 +317,14 @@ impl Values {
         self.room += 1;
     }
 
-    /// Closes the gap in front.
+    /// Closes the front gap.
     fn close(&mut self)
         ensures { self.new ≡ self.old }
     {
         close_gap(&mut self.sorts, &mut self.numbers, &mut self.first);
     }
 
-    /// Takes the last value, if there is one.
+    /// Removes the last value, if there is one.
     pub fn pop(&mut self) -> Option<Val>
         ensures items { self.old.items ≡ self.new.items ++ option_to_list result }
         ensures room { OnSome result (self.new.room ≡ self.old.room + 1) }
@@ -339,7 +340,7 @@ impl Values {
         Some(val_of(sort, number))
     }
 
-    /// How many more values fit without memory.
+    /// How many more values fit without allocating.
     #[inline(always)]
     pub fn room(&self) -> usize
         ensures { result ≡ self.now.room }
@@ -347,7 +348,7 @@ impl Values {
         self.room
     }
 
-    /// Makes room for `n` more values.
+    /// Reserves room for `n` more values.
     #[inline(always)]
     pub fn reserve(&mut self, n: usize) -> Result<(), AllocError>
         ensures items { self.new.items ≡ self.old.items }
@@ -361,7 +362,7 @@ impl Values {
         Ok(())
     }
 
-    // The room stays as it was until both columns have grown.
+    // `room` stays as it was until both columns have grown.
     #[inline(never)]
     fn grow(&mut self, n: usize) -> Result<(), AllocError>
         requires { self.old.room < n }
@@ -380,7 +381,7 @@ impl Values {
         Ok(())
     }
 
-    /// Appends a value where there is room for it.
+    /// Appends a value if there is room for it.
     #[inline(always)]
     pub fn push_reserved(&mut self, val: Val)
         requires { 0 < self.old.room }

@@ -1,4 +1,4 @@
--- Going along the list of a place, from object to object.
+-- A walk along the list of a place, object by object.
 use Rattle.std.proofs.Common.{◌≡◌, ℕ, ◌<◌, List, [], ◌∷◌, ◌++◌, length, Option, Some, None, sym, ◌∙◌, ap, subst, append_assoc}
 use Rattle.std.specs.Prelude.{slice_get}
 use Rattle.cg_value.specs.declared.Place.{Place}
@@ -9,7 +9,7 @@ use Rattle.cg_trial.proofs.Lists.{IsAt, head_is, ahead}
 use Rattle.cg_trial.proofs.Placed.{once_at, where_is, next_is}
 use Rattle.cg_trial.proofs.Passes.{stands, turn_shorter, at_end}
 
--- what was met, before the object that comes next
+-- the objects visited before the next one
 abbrev pub Along : Store → Place → Option ℕ → List ℕ → Type 0
 Along store p cursor front = (back : List ℕ) × IsAt (list_at store p) cursor front back
 

@@ -1,4 +1,4 @@
--- What the entries of some objects hold is at most what all entries hold, so a count covers it.
+-- The entries of some objects hold at most what all entries hold, so a count bounds it.
 use Rattle.std.proofs.Common.{◌≡◌, ◌≢◌, refl, sym, ◌∙◌, ap, ℕ, ◌+◌, ◌≤◌, inl, inr, Bool, true, false, cond, List, [], ◌∷◌, Option, Some, None, arith}
 use Rattle.std.specs.Prelude.{◌==◌, sum_by}
 use Rattle.std.specs.Ordering.{nat_cmp}

@@ -1,4 +1,4 @@
--- What was sieved is split: in the words of the store, whatever place its members had before.
+-- After sieving, the members are split: in terms of the store, whatever place they were in before.
 use Rattle.std.proofs.Common.{◌≡◌, ◌≢◌, refl, sym, ◌∙◌, ap, subst, ℕ, ◌+◌, cond, List, [], ◌++◌, Option, Some, None, arith}
 use Rattle.std.specs.Prelude.{◌==◌, ◌↔◌, option_map}
 use Rattle.std.specs.FinMap as fin
@@ -22,7 +22,7 @@ use Rattle.cg_trial.proofs.Sifts.{in_lists, from_first}
 use Rattle.cg_trial.proofs.Splits.{reached_same, same_back, entries_same}
 use Rattle.cg_trial.proofs.Objects.{members, paths, entries_there}
 
--- nodes are the same but for places and numbers
+-- nodes are equal except for places and numbers
 same_nodes : (old new : Option Node) → option_map bare_node new ≡ option_map bare_node old → IsSameNode old new
 same_nodes None None h = tt
 same_nodes None (Some m) h = absurd (cc)
@@ -37,7 +37,7 @@ same_but_places old new same = record {
   rows = ap (λ b. b.rows) same.besides;
 }
 
--- The members of a place went to the candidates in the store in the middle.
+-- The members of a place became the candidates in the intermediate store.
 module _ (place kept : Place) (old mid new : Store) (listed : IsListed old) (is : IsSplitPlace place) (same : IsSame (view_of old) (view_of mid)) (candidates : list_at mid Cand ≡ list_at old place)
     (sieved : IsSieved kept (view_of mid) (view_of new)) where
   counts : (o : ℕ) → occurrences o (list_at new Cand) + occurrences o (list_at new kept) ≡ occurrences o (list_at old place)
@@ -86,7 +86,7 @@ keeps_place Back h = refl
 keeps_place Legacy h = refl
 keeps_place Pend h = refl
 
--- where there was no candidate, the members of a generation are the candidates after the merge
+-- if there was no candidate, the members of a generation are the candidates after the merge
 pub merged_candidates : (p : Place) (old mid : Store) → list_at old Cand ≡ [] → Merged p Cand (view_of old) (view_of mid) → list_at mid Cand ≡ list_at old p
 merged_candidates p old mid none merged = merged.joined ∙ ap (λ (xs : List ℕ). xs ++ list_at old p) none
 

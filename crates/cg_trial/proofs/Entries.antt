@@ -1,4 +1,4 @@
--- The walk over one object's entries: what the first of them refer to, and what the next one does.
+-- The walk over one object's entries: what the first of them refer to, and the next one.
 use Rattle.std.proofs.Common.{◌≡◌, true, false, cond, ◌⊎◌, inr, true≢false, replicate, refl, sym, ◌∙◌, ap, subst, ℕ, ◌+◌, ◌-◌, ◌<◌, ◌≤◌, List, [], ◌∷◌, ◌++◌, length, take, drop, get_or, inl, Option, Some, None, Bool, IsTrue, arith, append_assoc}
 use Rattle.std.proofs.lemmas.List.{append-nil, take-append-drop, drop_more, take_more, replicate_more}
 use Rattle.cg_kind.specs.Calls.{next_entries}
@@ -51,7 +51,7 @@ room_next old mid r s t all so room parts o h =
     let g : occurrences o all ≡ occurrences o (r ++ (s ++ t)) = ap (occurrences o) parts in
     omega (arith, occurrences-append o r (s ++ t), occurrences-append o s t)
 
--- Of some objects: those before one of them, this one, and the rest.
+-- Some objects: those before one of them, this one, and the rest.
 pub taken_parts : (xs : List ℕ) (i : ℕ) → i < length xs → xs ≡ take i xs ++ (get_or xs i 0 ∷ [] ++ drop (i + 1) xs)
 taken_parts xs i within = sym (take-append-drop i xs) ∙ ap (λ (l : List ℕ). take i xs ++ l) (drop_more xs i 0 within)
 
@@ -63,7 +63,7 @@ one_of xs i within =
 pub rest_of : (xs : List ℕ) (i o : ℕ) → Includes (drop i xs) o → Includes xs o
 rest_of xs i o h = subst (λ (l : List ℕ). Includes l o) (take-append-drop i xs) (Includes-append_right (take i xs) (drop i xs) o h)
 
--- One object in a row, from a place on.
+-- One more object in a run from a position on.
 pub run_more : (xs : List ℕ) (from end o : ℕ) → take end xs ≡ take from xs ++ replicate (end - from) o → from < end → end < length xs → get_or xs end 0 ≡ o
     → take (end + 1) xs ≡ take from xs ++ replicate (end + 1 - from) o
 run_more xs from end o so behind within same =
@@ -82,7 +82,7 @@ run_room old mid xs from end o run so room here =
     sym (take-append-drop end xs) ∙ ap (λ (l : List ℕ). l ++ drop end xs) run ∙ append_assoc (take from xs) (replicate (end - from) o) (drop end xs) in
     omega (arith, occurs_often (end - from) o, room_next old mid (take from xs) (replicate (end - from) o) (drop end xs) xs so room parts o here)
 
--- The same, of one object.
+-- The same for one object.
 pub one_room : (old mid : View) (xs : List ℕ) (from : ℕ) → from < length xs → Lowered (take from xs) old mid → ((p : ℕ) → Includes (old.listed Cand) p → occurrences p xs ≤ old.number p)
     → Includes (mid.listed Cand) (get_or xs from 0) → 0 < mid.number (get_or xs from 0)
 one_room old mid xs from within so room here =
@@ -98,7 +98,7 @@ pub lowered_next : (old mid new : View) (xs : List ℕ) (from next : ℕ) → fr
 lowered_next old mid new xs from next within is so more =
     subst (λ (r : List ℕ). Lowered r old new) (sym (ap (λ n. take n xs) is ∙ take_more xs from 0 within)) (lowered_more old mid new (take from xs) _ so more)
 
--- a candidate whose number is lower by this
+-- a candidate whose number falls by this
 pub lowered_by : (n o : ℕ) (old new : View) → n ≤ old.number o → Numbered o (old.number o - n) old new → Lowered (replicate n o) old new
 lowered_by n o old new room numbered = record {
   rest = numbered.rest;
@@ -115,19 +115,19 @@ lowered_by n o old new room numbered = record {
         let lower : new.number q ≡ old.number q = numbered.numbers q ∙ ap (λ b. cond b (old.number o - n) (old.number q)) e in
         omega (arith, lower, occurs_never n q o (λ i. true≢false (sym (eq-eqb q o (sym i)) ∙ e)))
 
--- one that is no candidate
+-- an object that is not a candidate
 pub lowered_idle : (n o : ℕ) (v : View) → (Includes (v.listed Cand) o → ⊥) → Lowered (replicate n o) v v
 lowered_idle n o v other = record {
   rest = but_numbers_itself v;
   lower = λ q h. omega (arith, occurs_never n q o (λ i. other (subst (λ p. Includes (v.listed Cand) p) (sym i) h)));
 }
 
--- Lowering has come to the entry `from`.
+-- Lowering has reached entry `from`.
 pub record Lowering (o : ℕ) (old now : View) (from : ℕ) : Type 0 where
   pub within : from ≤ length (old.entries o)
   pub lowered : Lowered (references (take from (old.entries o))) old now
 
--- the entries that come next are those that they were
+-- the next entries are unchanged
 pub next_same : (old mid : View) (o from : ℕ) → IsSame old mid → next_entries (mid.entries o) from ≡ next_entries (old.entries o) from
 next_same old mid o from same = ap (λ (es : ℕ → List Entry). next_entries (es o) from) same.hold
 
@@ -158,7 +158,7 @@ lowering_more o old mid new from next so is more =
           (lowered_more old mid new _ _ so.lowered (subst (λ (ns : List Entry). Lowered (references ns) mid new) same more));
     }
 
--- where few came next, these were the last
+-- a short batch is the last
 pub few_last : (o : ℕ) (old mid : View) (from next : ℕ) → from ≤ length (old.entries o) → IsSame old mid → next ≡ from + length (next_entries (mid.entries o) from) → next < from + AT_ONCE → next ≡ length (old.entries o)
 few_last o old mid from next within same is few =
     let e = ap (λ (ns : List Entry). length ns) (next_same old mid o from same) in
@@ -170,7 +170,7 @@ length_same old mid o same = ap (λ (es : ℕ → List Entry). length (es o)) sa
 pub lowering_all : (o : ℕ) (old now : View) (i : ℕ) → i ≡ length (old.entries o) → Lowering o old now i → Lowered (references (old.entries o)) old now
 lowering_all o old now i is so = subst (λ (es : List Entry). Lowered (references es) old now) (ap (λ n. take n (old.entries o)) is ∙ take-length (old.entries o)) so.lowered
 
--- Subtracting has come to the cursor.
+-- Subtracting has reached the cursor.
 pub record Subtracting (old now : View) (cursor : Option ℕ) (before steps : ℕ) : Type 0 where
   pub front : List ℕ
   pub back : List ℕ
@@ -193,7 +193,7 @@ held_by-split v front o rest = flat_map-append (λ p. references (v.entries p)) 
 pub entries_of-push : (v : View) (front : List ℕ) (o : ℕ) → entries_in v (front ++ o ∷ []) ≡ entries_in v front + length (v.entries o)
 entries_of-push v front o = sum_by_push (λ p. length (v.entries p)) front o
 
--- the object's references as they were
+-- the object's references are unchanged
 pub refs_same : (old mid : View) (o : ℕ) → IsSame old mid → references (mid.entries o) ≡ references (old.entries o)
 refs_same old mid o same = ap (λ (es : ℕ → List Entry). references (es o)) same.hold
 

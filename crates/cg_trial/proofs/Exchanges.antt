@@ -1,4 +1,4 @@
--- The walk ends: the candidates that it left and those that it set aside go where they are wanted.
+-- The walk ends: the remaining candidates and those set aside go to their final places.
 use Rattle.std.proofs.Common.{◌≡◌, ◌≢◌, refl, sym, ◌∙◌, ap, subst, ℕ, ◌<◌, ◌≤◌, ◌⊎◌, inl, inr, List, [], ◌∷◌, ◌++◌, length, Option, Some, None, IsTrue, arith, append_assoc}
 use Rattle.std.proofs.lemmas.Bool.{cases_eq}
 use Rattle.std.proofs.lemmas.List.{append-nil}
@@ -19,7 +19,7 @@ use Rattle.cg_trial.proofs.Placed.{one_place}
 use Rattle.cg_trial.proofs.Sifts.{without_middle}
 use Rattle.cg_trial.proofs.Waking.{member_within}
 
--- Those that have numbers have left the list of the candidates up to some, which the others follow.
+-- Those with numbers have left the list of candidates up to a point; the others follow.
 pub record Exchanging (old now : View) (cursor : Option ℕ) : Type 0 where
   pub gone : List ℕ
   pub rest : List ℕ
@@ -54,7 +54,7 @@ module _ (old now : View) (o : ℕ) (so : Exchanging old now (Some o)) (two : Is
   stands_first : Includes (now.listed Cand) o
   stands_first = subst (λ (xs : List ℕ). Includes xs o) (sym (head_is (now.listed Cand) o so.at).1) (inl refl)
 
-  -- the first of those that are left, or one of those that follow
+  -- the first of the remaining ones, or one of those that follow
   rest_is : now.number o ≢ 0 → (xs : List ℕ) → old.listed Cand ≡ so.gone ++ xs → now.listed Cand ≡ xs ++ old.listed Back → (ys : List ℕ) × (xs ≡ o ∷ ys)
   rest_is has [] whole is = absurd (has (ap (λ (n : ℕ → ℕ). n o) so.numbers ∙ two.asleep o (subst (λ (xs : List ℕ). Includes xs o) is stands_first)))
   rest_is has (x ∷ xs) whole is = (xs, ap (λ y. y ∷ xs) (sym (first_is x (xs ++ old.listed Back) is)))
@@ -69,7 +69,7 @@ module _ (old now : View) (o : ℕ) (so : Exchanging old now (Some o)) (two : Is
           go (inl k) = inl (subst (λ (xs : List ℕ). Includes xs o) (sym so.whole) (Includes-append_right so.gone so.rest o k))
           go (inr k) = inr k
 
-  -- one that has a number goes to the others that have
+  -- an object with a number joins the others that have one
   module _ (has : now.number o ≢ 0) (new : View) (moved : Moved o Back now new) where
     abbrev later : List ℕ
     later = (rest_is has so.rest so.whole so.candidates).0
@@ -119,7 +119,7 @@ exchanged old now cursor so none = record {
   aside = so.aside ∙ sym (append-nil so.gone) ∙ ap (λ (xs : List ℕ). so.gone ++ xs) (sym none) ∙ sym so.whole;
 }
 
--- The next one has no number, so all that have one are gone.
+-- The next one has no number, so all with a number are gone.
 pub exchanged_stop : (old now : View) (o : ℕ) → Exchanging old now (Some o) → IsTwofold old → now.number o ≡ 0 → IsExchanged old now
 exchanged_stop old now o so two is = exchanged old now (Some o) so (known so.rest so.whole so.candidates)
   where
@@ -171,7 +171,7 @@ module _ (old mid : View) (parted : IsParted old mid) where
     all_reached = λ o w. subst (λ (xs : List ℕ). Includes xs o) (sym then.aside) (parted.all_reached o w);
   }
 
-  -- those that were left go to the kept place, and those that were set aside are the candidates
+  -- the remaining ones go to the kept place, and those set aside become the candidates
   module _ (kept : Place) (half new : View) (apart : kept ≢ Cand) (other : kept ≢ Back) (empty : old.listed kept ≡ []) (none : old.listed Back ≡ []) (first : Merged Cand kept mid half) (then : Merged Back Cand half new) where
     kept_now : new.listed kept ≡ mid.listed Cand
     kept_now = then.others kept other apart ∙ first.joined ∙ ap (λ (xs : List ℕ). xs ++ mid.listed Cand) (parted.others kept apart other ∙ empty)

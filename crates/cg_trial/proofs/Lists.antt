@@ -1,4 +1,4 @@
--- Laws on what stands in a list, how often, and what is left without_serial it.
+-- Lemmas on elements of a list, how often they occur, and the list without one (`without_serial`).
 use Rattle.std.proofs.Common.{◌≡◌, ◌≢◌, refl, sym, ◌∙◌, ap, subst, replicate, ℕ, zero, suc, ◌+◌, ◌*◌, ◌≤◌, true, false, cond, not, ◌⊎◌, inl, inr, List, [], ◌∷◌, ◌++◌, length, Option, Some, None, arith, mul-le-mul_right}
 use Rattle.std.proofs.lemmas.Bool.{eqb-true, eq-eqb, ne_eqb}
 use Rattle.std.proofs.lemmas.Bool.Decides.{nat_tests}
@@ -29,7 +29,7 @@ occurs_in (x ∷ xs) o h = go (cases_of (x == o)) (λ k. occurs_in xs o k)
     go (inl e) rec = inl (eqb-true x o e)
     go (inr e) rec = let none : occurrences o (x ∷ xs) ≡ 0 + occurrences o xs = occurrences-cons o x xs ∙ ap (λ b. cond b 1 0 + occurrences o xs) e in inr (rec (omega arith))
 
--- one object, so many times
+-- a list that repeats one object
 pub occurs_often : (n o : ℕ) → occurrences o (replicate n o) ≡ n
 occurs_often n o = sum_by-replicate (λ y. cond (y == o) 1 0) n o ∙ ap (λ b. n * cond b 1 0) (eq-eqb o o refl) ∙ omega arith
 
@@ -85,13 +85,13 @@ Includes-without o (x ∷ xs) q h = go (cases_of (x == o)) (λ k. Includes-witho
     go (inl e) rec = there (rec (subst (λ (ys : List ℕ). Includes ys q) (without-cons_yes o x xs e) h))
     go (inr e) rec = here e rec (subst (λ (ys : List ℕ). Includes ys q) (without-cons_no o x xs e) h)
 
--- What a list has from a cursor on.
+-- The list from a cursor on.
 abbrev pub ahead : Option ℕ → List ℕ → List ℕ
 ahead None xs = []
 ahead (Some o) [] = []
 ahead (Some o) (x ∷ xs) = cond (x == o) (x ∷ xs) (ahead (Some o) xs)
 
--- A cursor stands at the head of the second part.
+-- A cursor is at the head of the second part.
 pub record IsAt (xs : List ℕ) (cursor : Option ℕ) (front back : List ℕ) : Type 0 where
   pub parts : xs ≡ front ++ back
   pub at : cursor ≡ head_of back
@@ -110,7 +110,7 @@ ahead_past (x ∷ front) back o h = go (cases_of (x == o)) (ahead_past front bac
         let none : occurrences o (x ∷ front) ≡ 0 + occurrences o front = occurrences-cons o x front ∙ ap (λ b. cond b 1 0 + occurrences o front) e in
         ap (λ b. cond b (x ∷ (front ++ o ∷ back)) (ahead (Some o) (front ++ o ∷ back))) e ∙ rec (omega arith)
 
--- in a list that has each element once, the part before an element does not have it
+-- without duplicates, an element is not in the part before it
 pub once_before : (xs front back : List ℕ) (o : ℕ) → occurrences o xs ≤ 1 → xs ≡ front ++ o ∷ back → (occurrences o front ≡ 0) × (occurrences o back ≡ 0)
 once_before xs front back o once parts =
     let e : occurrences o xs ≡ occurrences o front + occurrences o (o ∷ back) = ap (occurrences o) parts ∙ occurrences-append o front (o ∷ back) in
@@ -124,7 +124,7 @@ ahead_is xs cursor front (o ∷ back) once at =
     ∙ ap (ahead (Some o)) at.parts
     ∙ ahead_past front back o (once_before xs front back o (once o) at.parts).0
 
--- what two lists with the same sums have
+-- the lists have equal sums of every function
 abbrev pub HasSameSums : List ℕ → List ℕ → Type 0
 HasSameSums xs ys = (f : ℕ → ℕ) → sum_by f xs ≡ sum_by f ys
 
@@ -165,7 +165,7 @@ Includes-without_in o (x ∷ xs) q h k = go (cases_of (x == o)) h (λ i. Include
     go (inr e) (inl i) rec = subst (λ (ys : List ℕ). Includes ys q) (sym (without-cons_no o x xs e)) (inl i)
     go (inr e) (inr i) rec = subst (λ (ys : List ℕ). Includes ys q) (sym (without-cons_no o x xs e)) (inr (rec i))
 
--- a sum over some is at most the sum over all
+-- a sum over some elements is at most the sum over all
 pub sum_by-some : (f : ℕ → ℕ) (some all : List ℕ) → ((o : ℕ) → occurrences o some ≤ 1) → ((o : ℕ) → Includes some o → Includes all o) → sum_by f some ≤ sum_by f all
 sum_by-some f [] all once within = omega arith
 sum_by-some f (m ∷ some) all once within =

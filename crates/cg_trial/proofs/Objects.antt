@@ -1,5 +1,5 @@
--- The objects of a place, as its list has them and as the objects of the store that stand there: the same serials, so the
--- same holdings, edges, entries and paths.
+-- The objects of a place, by its list and by the store's objects in that place: the same serials, hence the same
+-- holdings, edges, entries and paths.
 use Rattle.std.proofs.Common.{◌≡◌, ◌≢◌, refl, sym, ◌∙◌, ap, subst, ℕ, ◌+◌, ◌≤◌, ◌⊎◌, inl, inr, Bool, true, false, cond, not, List, [], ◌∷◌, length, map, Option, Some, None, arith}
 use Rattle.std.specs.Prelude.{◌↔◌, sum_by, filter, is_some}
 use Rattle.std.specs.Ordering.{nat_cmp, eq_by_cmp}
@@ -31,7 +31,7 @@ use Rattle.cg_trial.proofs.Counted.{occurrences-held_by}
 use Rattle.cg_trial.proofs.Placed.{once_at, where_is, is_there}
 use Rattle.cg_trial.proofs.Splits.{arrow, edges_in, edges_out, holdings_of}
 
--- the entries of a map have each key once
+-- the entries of a map have distinct keys
 abbrev keys : {X : Type 0} → List (ℕ × X) → List ℕ
 keys es = map (λ e. e.0) es
 
@@ -121,7 +121,7 @@ same_itself Legacy = refl
 same_itself Pend = refl
 same_itself (Gen i) = eq-eqb i i refl
 
--- two lists with the same members, each once, have the same sums
+-- lists without duplicates and with the same members have the same sums
 same_sums : (xs ys : List ℕ) → ((o : ℕ) → occurrences o xs ≤ 1) → ((o : ℕ) → occurrences o ys ≤ 1) → ((o : ℕ) → Includes xs o ↔ Includes ys o) → (f : ℕ → ℕ) → sum_by f xs ≡ sum_by f ys
 same_sums xs ys once twice same f = omega (arith, sum_by-some f xs ys once (λ o h. (same o).0 h), sum_by-some f ys xs twice (λ o h. (same o).1 h))
 
@@ -153,7 +153,7 @@ module _ (store : Store) (listed : IsListed store) (p : Place) (is : IsSplitPlac
   abbrev there : List Object
   there = objects_at (objects_of store) p
 
-  -- an object that stands there is that of a node
+  -- an object in the place comes from a node
   pub node_of : (x : Object) → Includes there x → IsLive store x.serial × (place_of store x.serial ≡ p) × (x.entries ≡ entries_of store x.serial)
   node_of x h =
       let (member, at) = Includes-filter_cases (is_at p) (objects_of store) x h in
@@ -171,7 +171,7 @@ module _ (store : Store) (listed : IsListed store) (p : Place) (is : IsSplitPlac
   known None h = absurd (cc)
   known (Some n) h = (n, refl)
 
-  -- and one that stands in the list is such an object
+  -- and an element of the list is such an object
   pub object_of : (o : ℕ) → Includes (list_at store p) o → (x : Object) × Includes there x × (x.serial ≡ o)
   object_of o h =
       let (live, at) = where_is store listed p o h in
@@ -193,7 +193,7 @@ module _ (store : Store) (listed : IsListed store) (p : Place) (is : IsSplitPlac
         subst (Includes (list_at store p)) serial (is_there store listed p x.serial live at),
   )
 
-  -- each stands there once
+  -- each is there once
   abbrev made_of : List (ℕ × Node) → List Object
   made_of es = filter (is_at p) (map (λ (e : ℕ × Node). object_from store.rows e.0 e.1) es)
 
@@ -208,7 +208,7 @@ module _ (store : Store) (listed : IsListed store) (p : Place) (is : IsSplitPlac
   once_there : (o : ℕ) → occurrences o (serials there) ≤ 1
   once_there o = omega (arith, some_keys o (fin.entries store.nodes), once_key store.nodes o)
 
-  -- sums over the entries of all of them
+  -- sums over all their entries
   sum_there : (f : List Entry → ℕ) (objects : List Object) → ((x : Object) → Includes objects x → x.entries ≡ entries_of store x.serial) → sum_by (λ (x : Object). f x.entries) objects ≡ sum_by (λ o. f (entries_of store o)) (serials objects)
   sum_there f [] same = refl
   sum_there f (x ∷ objects) same =

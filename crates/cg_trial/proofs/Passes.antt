@@ -34,7 +34,7 @@ but_numbers_more a b = record { same = same_more a.same b.same; places = b.place
 pub but_numbers_itself : (v : View) → IsSameButNumbers v v
 but_numbers_itself v = record { same = same_itself v; places = refl }
 
--- One turn of a walk: where the object stands, and the cursor after it.
+-- One step of a walk: the object's position, and the cursor after it.
 pub turn_of : (v : View) (xs : List ℕ) (o : ℕ) (cursor : Option ℕ) (front back : List ℕ) → v.listed Cand ≡ xs → IsAt xs (Some o) front back → IsNext v o cursor
     → (rest : List ℕ) × (back ≡ o ∷ rest) × (xs ≡ front ++ o ∷ rest) × IsAt xs cursor (front ++ o ∷ []) rest
 turn_of v xs o cursor front back same at next =
@@ -47,7 +47,7 @@ pub turn_shorter : (xs : List ℕ) (o : ℕ) (cursor : Option ℕ) (front back r
 turn_shorter xs o cursor front back rest once at is then =
     rw (ahead_is xs (Some o) front back once at, ahead_is xs cursor (front ++ o ∷ []) rest once then, is) (omega arith)
 
--- Copying has come to the cursor: the numbers before it are the counts.
+-- Copying has reached the cursor: the numbers before it are the counts.
 pub record Copying (old now : View) (cursor : Option ℕ) : Type 0 where
   pub front : List ℕ
   pub back : List ℕ
@@ -86,19 +86,19 @@ copying_more old mid new o n cursor so is numbered next =
     go p (inr e) (inr (inl i)) = at_object p (sym i)
     go p (inr e) (inr (inr k)) = absurd k
 
--- A turn takes the cursor on by one.
+-- A step moves the cursor on by one.
 pub cursor_shorter : (old mid new : View) (o : ℕ) (was cursor : Option ℕ) (front back : List ℕ) → IsReadyView old → IsAt (old.listed Cand) (Some o) front back → was ≡ Some o
     → IsSameButNumbers old mid → IsSameButNumbers old new → IsNext new o cursor → length (ahead cursor (new.listed Cand)) < length (ahead was (mid.listed Cand))
 cursor_shorter old mid new o was cursor front back ready at is before after next =
     let turn = turn_of new (old.listed Cand) o cursor front back (cand_same after) at next in
     rw (cand_same after, cand_same before, is) (turn_shorter (old.listed Cand) o cursor front back turn.0 ready.once at turn.1 turn.3)
 
--- At the end nothing is left.
+-- at the end nothing remains
 pub at_end : (xs : List ℕ) (front back : List ℕ) → IsAt xs None front back → xs ≡ front
 at_end xs front [] at = at.parts ∙ append-nil front
 at_end xs front (x ∷ back) at = absurd (let e : None ≡ Some x = at.at in cc)
 
--- the object at the cursor is a candidate, and lives
+-- the object at the cursor is a live candidate
 pub stands : (xs : List ℕ) (o : ℕ) (front back : List ℕ) → IsAt xs (Some o) front back → Includes xs o
 stands xs o front back at =
     let head = head_is back o at.at in

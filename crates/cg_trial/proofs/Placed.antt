@@ -1,4 +1,4 @@
--- Where the objects of a heap stand: each in the list of its place, once, and in no other list.
+-- Where the objects of a heap are: each once in the list of its place, and in no other list.
 use Rattle.std.proofs.Common.{◌≡◌, ◌≢◌, refl, sym, ◌∙◌, ap, subst, ℕ, ◌+◌, ◌-◌, ◌≤◌, ◌⊎◌, inl, inr, List, [], ◌∷◌, ◌++◌, Bool, true, false, cond, Option, Some, None, IsSome, arith}
 use Rattle.std.specs.Prelude.{◌==◌, if◌then◌else◌, option_map, slice_get}
 use Rattle.std.specs.FinMap as fin
@@ -44,7 +44,7 @@ decode-number (Gen i) =
 pub one_place : (p q : Place) → place_number p ≡ place_number q → p ≡ q
 one_place p q e = sym (decode-number p) ∙ ap decode e ∙ decode-number q
 
--- how often something with a place stands in a list
+-- how often an optional node is in the list of a place
 abbrev place_at : Option Node → Option Place
 place_at x = option_map (λ n. n.place) x
 
@@ -68,7 +68,7 @@ counts : (k : ℕ) (x : Option Node) → IsSome x → place_number (place_in x) 
 counts k None h e = absurd (cc)
 counts k (Some n) h e = ap (λ b. if b then 1 else 0) (eq-eqb (place_number n.place) k e)
 
--- what comes after an object in a list
+-- the successor of an object in a list
 after_front : (o : ℕ) (front back : List ℕ) → occurrences o front ≡ 0 → following o (front ++ o ∷ back) ≡ slice_get back 0
 after_front o [] back h = ap (λ b. if b then slice_get back 0 else following o back) (eq-eqb o o refl)
 after_front o (x ∷ front) back h =
@@ -77,7 +77,7 @@ after_front o (x ∷ front) back h =
     ∙ after_front o front back (omega (arith, h, occurrences-cons o x front))
 
 module _ (store : Store) (listed : IsListed store) where
-  -- how often a serial stands in the list of a place
+  -- how often a serial is in the list of a place
   pub stands : (p : Place) (s : ℕ) → occurrences s (list_at store p) ≡ count_in_list (place_number p) (place_at (fin.get store.nodes s))
   stands p s = go (none_or_some (10 - place_number p))
     where
@@ -108,7 +108,7 @@ module _ (store : Store) (listed : IsListed store) where
       go (inl e) = e
       go (inr e) = absurd (differ (sym (where_is p s h).1 ∙ (where_is q s (occurs_in (list_at store q) s e)).1))
 
-  -- what comes after an object of its own list
+  -- the successor of an object in its own list
   pub next_is : (o : ℕ) (result : Option ℕ) → result ≡ following o (list_at store (place_of store o)) → IsNext (view_of store) o result
   next_is o result is place front back parts =
       let here : Includes (list_at store place) o = subst (λ (xs : List ℕ). Includes xs o) (sym parts) (Includes-append_right front (o ∷ back) o (inl refl)) in

@@ -1,4 +1,5 @@
--- The walk: what it has passed has a number, what was set aside has none, and whatever it passed leads to has a number.
+-- The walk: each object passed has a number, each set aside has none, and whatever a passed object leads to has a
+-- number.
 use Rattle.std.proofs.Common.{◌≡◌, ◌≢◌, refl, sym, ◌∙◌, ap, subst, ℕ, ◌+◌, ◌<◌, ◌≤◌, Bool, cond, ◌⊎◌, inl, inr, List, [], ◌∷◌, ◌++◌, length, Option, Some, None, IsTrue, arith, append_assoc, length-append}
 use Rattle.std.proofs.lemmas.Bool.{eq-eqb}
 use Rattle.std.proofs.lemmas.List.Sums.{sum_by_push, sum_by-append, sum_by-cons}
@@ -25,7 +26,7 @@ in_lists xs ys zs q sum h = either (none_or_some (occurrences q ys)) (λ e. inr 
 pub from_first : (xs ys zs : List ℕ) (q : ℕ) → occurrences q xs + occurrences q ys ≡ occurrences q zs → Includes xs q → Includes zs q
 from_first xs ys zs q sum h = occurs_in zs q (let k = occurs xs q h in omega arith)
 
--- a list without the one that stands between two parts of it
+-- a list without the element between two parts of it
 pub without_middle : (xs front rest : List ℕ) (o : ℕ) → occurrences o xs ≤ 1 → xs ≡ front ++ o ∷ rest → without_serial o xs ≡ front ++ rest
 without_middle xs front rest o once parts =
     let none = once_before xs front rest o once parts in
@@ -34,7 +35,7 @@ without_middle xs front rest o once parts =
     ∙ ap (λ (ys : List ℕ). ys ++ without_serial o (o ∷ rest)) (without-absent o front none.0)
     ∙ ap (λ (ys : List ℕ). front ++ ys) (without-cons_yes o o rest (eq-eqb o o refl) ∙ without-absent o rest none.1)
 
--- The walk has come to the cursor. Each candidate is in one of three: passed, ahead, or set aside.
+-- The walk has reached the cursor. Each candidate is passed, ahead, or set aside.
 pub record Sifting (old now : View) (cursor : Option ℕ) (before steps : ℕ) : Type 0 where
   pub front : List ℕ
   pub back : List ℕ
@@ -43,7 +44,7 @@ pub record Sifting (old now : View) (cursor : Option ℕ) (before steps : ℕ) :
   pub asleep : (q : ℕ) → Includes (now.listed Back) q → now.number q ≡ 0
   pub same : IsSame old now
   pub others : AreOthersSame old now
-  -- each candidate stands in one of the two lists, as often as before
+  -- each candidate is in one of the two lists, as often as before
   pub sums : (f : ℕ → ℕ) → both f now ≡ sum_by f (old.listed Cand)
   pub marked : (q : ℕ) → Includes (old.listed Cand) q → now.number q ≢ 0 → Walk old (old.listed Cand) q
   pub stays : (q : ℕ) → old.number q ≢ 0 → now.number q ≢ 0
@@ -73,7 +74,7 @@ sifting_first v cursor steps empty is = record {
 }
 
 module _ (old now : View) (cursor : Option ℕ) (before steps : ℕ) (so : Sifting old now cursor before steps) where
-  -- how often one stands in the two lists
+  -- how often an object is in the two lists
   pub where_now : (q : ℕ) → occurrences q (now.listed Cand) + occurrences q (now.listed Back) ≡ occurrences q (old.listed Cand)
   where_now q = so.sums (λ x. cond (x == q) 1 0)
 
@@ -95,11 +96,11 @@ module _ (old now : View) (cursor : Option ℕ) (before steps : ℕ) (so : Sifti
 pub sifting_live : (old now : View) (o before steps : ℕ) → IsReadyView old → Sifting old now (Some o) before steps → IsTrue (now.live o)
 sifting_live old now o before steps ready so = (sifting_ready old now (Some o) before steps so ready).alive o (stands (now.listed Cand) o so.front so.back so.at)
 
--- those with the number 0, and what is ahead
+-- the number of those with number 0 and of those ahead
 abbrev pub weight : View → Option ℕ → ℕ
 weight v cursor = zeros v + length (ahead cursor (v.listed Cand))
 
--- An object with the number 0 is set aside.
+-- An object with number 0 is set aside.
 module _ (old now new : View) (o : ℕ) (cursor : Option ℕ) (before steps : ℕ) (ready : IsReadyView old) (so : Sifting old now (Some o) before steps) (is : now.number o ≡ 0) (next : IsNext now o cursor) (moved : Moved o Back now new) where
   abbrev turn : (rest : List ℕ) × (so.back ≡ o ∷ rest) × (now.listed Cand ≡ so.front ++ o ∷ rest) × IsAt (now.listed Cand) cursor (so.front ++ o ∷ []) rest
   turn = turn_of now (now.listed Cand) o cursor so.front so.back refl so.at next
@@ -156,7 +157,7 @@ module _ (old now new : View) (o : ℕ) (cursor : Option ℕ) (before steps : �
       let b : length (ahead cursor (new.listed Cand)) ≡ length turn.0 = ap length (ahead_is (new.listed Cand) cursor so.front turn.0 once_new (record { parts = cand_left; at = turn.3.at })) in
       omega (arith, aside_zeros, a, b)
 
--- An object with a number is passed, once what it refers to is taken back.
+-- An object with a number is passed, after what it refers to is taken back.
 module _ (old now mid : View) (o : ℕ) (cursor : Option ℕ) (before steps later : ℕ) (ready : IsReadyView old) (so : Sifting old now (Some o) before steps) (has : now.number o ≢ 0)
     (woken : Woken (references (now.entries o)) now mid) (next : IsNext mid o cursor) (gone_on : steps ≤ later) (looked : later ≤ steps + length (now.entries o)) where
   abbrev rest : List ℕ
@@ -215,7 +216,7 @@ module _ (old now mid : View) (o : ℕ) (cursor : Option ℕ) (before steps late
 pub sifting_alive : (old now mid : View) (o before steps : ℕ) (r : List ℕ) → IsReadyView old → Sifting old now (Some o) before steps → Woken r now mid → IsTrue (mid.live o)
 sifting_alive old now mid o before steps r ready so woken = live_same now mid o woken.same (sifting_live old now o before steps ready so)
 
--- At the end all that stays was passed, so it has a number, and so has what it leads to.
+-- At the end every remaining candidate was passed, so it and all it leads to have numbers.
 module _ (old now : View) (before steps : ℕ) (so : Sifting old now None before steps) where
   all_passed : now.listed Cand ≡ so.front
   all_passed = at_end (now.listed Cand) so.front so.back so.at
@@ -244,7 +245,7 @@ module _ (old now : View) (before steps : ℕ) (so : Sifting old now None before
 pub sifting_done : (old now : View) (cursor : Option ℕ) (before steps : ℕ) → Sifting old now cursor before steps → cursor ≡ None → Sifting old now None before steps
 sifting_done old now cursor before steps so is = subst (λ (k : Option ℕ). Sifting old now k before steps) is so
 
--- Where none has the number 0 any more, all that were reached stay, whatever is still ahead.
+-- If none has number 0 any more, all reached objects stay, whatever is still ahead.
 module _ (old now : View) (cursor : Option ℕ) (before steps : ℕ) (so : Sifting old now cursor before steps) (none : zeros now ≡ 0) where
   numbered_now : (q : ℕ) → Includes (now.listed Cand) q → now.number q ≢ 0
   numbered_now q h = all_awake now none q (inl h)
@@ -270,13 +271,13 @@ module _ (old now : View) (cursor : Option ℕ) (before steps : ℕ) (so : Sifti
     all_reached = all_stay;
   }
 
--- what was passed is a part of the candidates
+-- the passed objects are some of the candidates
 pub looks_within : (old now : View) (cursor : Option ℕ) (before steps : ℕ) → Sifting old now cursor before steps → steps ≤ before + entries_in old (old.listed Cand)
 looks_within old now cursor before steps so =
     let f : ℕ → ℕ = λ q. length (old.entries q) in
     omega (arith, so.looks, so.sums f, ap (sum_by f) so.at.parts, sum_by-append f so.front so.back)
 
--- So many of the candidates before the cursor have the number 0.
+-- This many of the candidates before the cursor have number 0.
 pub record Counting (v : View) (cursor : Option ℕ) (count : ℕ) : Type 0 where
   pub front : List ℕ
   pub back : List ℕ
@@ -292,7 +293,7 @@ counting_at v cursor o count so is = subst (λ (k : Option ℕ). Counting v k co
 pub counting_live : (v : View) (o count : ℕ) → IsReadyView v → Counting v (Some o) count → IsTrue (v.live o)
 counting_live v o count ready so = ready.alive o (stands (v.listed Cand) o so.front so.back so.at)
 
--- fewer are counted than there are
+-- the count is at most the number of candidates
 pub counting_few : (v : View) (o count : ℕ) → Counting v (Some o) count → count + 1 ≤ length (v.listed Cand)
 counting_few v o count so =
     let head = head_is so.back o so.at.at in

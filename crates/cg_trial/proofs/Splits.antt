@@ -52,7 +52,7 @@ walk_member : (v : View) (members : List ℕ) (o : ℕ) → Walk v members o →
 walk_member v members o (starts n h) = h
 walk_member v members o (goes w r h) = h
 
--- The counts were copied from v to a, then lowered from a to b, and then the walk went from b to c.
+-- The counts were copied from v to a, then lowered from a to b; then the walk went from b to c.
 module _ (v a b c : View) (copied : IsSameButNumbers v a) (counts : (o : ℕ) → Includes (v.listed Cand) o → a.number o ≡ v.degree o)
     (lowered : Lowered (held_by a (a.listed Cand)) a b) where
   same_b : IsSameButNumbers v b
@@ -99,7 +99,7 @@ apart_same v b rest alone = λ q o h i.
 pub empty_same : (kept : Place) (v b : View) → IsSameButNumbers v b → v.listed kept ≡ [] → b.listed kept ≡ []
 empty_same kept v b rest empty = ap (λ (l : Place → List ℕ). l kept) rest.places ∙ empty
 
--- Paths are the same where entries and counts are.
+-- Equal entries and counts give the same paths.
 pub reached_same : (v m : View) (members : List ℕ) (o : ℕ) → IsSame v m → Reached m members o → Reached v members o
 reached_same v m members o same r =
     subst (λ (es : ℕ → List Entry). Reach (λ q. occurrences q (entry_holdings (map (λ p. (p, es p)) members)) < v.degree q) (Includes members) (edges (map (λ p. (p, es p)) members)) o) same.hold

@@ -1,4 +1,4 @@
--- What the calls of a heap change of what the search sees of it.
+-- The effect of a heap's calls on what the search sees of it.
 use Rattle.std.proofs.Common.{◌≡◌, ◌≢◌, refl, sym, ◌∙◌, ap, subst, ℕ, ◌+◌, ◌-◌, ◌<◌, inl, inr, List, [], ◌∷◌, ◌++◌, Bool, true, false, cond, set, Option, Some, None, IsSome, arith}
 use Rattle.std.specs.Prelude.{◌==◌, if◌then◌else◌, is_some, option_map, IfSome}
 use Rattle.std.specs.FinMap as fin
@@ -20,7 +20,7 @@ use Rattle.cg_trial.specs.View.{view_of, IsSame, Numbered, Moved, Merged, Lowere
 use Rattle.cg_trial.proofs.Lists.{without-absent}
 use Rattle.cg_trial.proofs.Placed.{one_place, apart, is_there, where_is}
 
--- a change of nodes that leaves all but places and numbers
+-- a change of nodes that keeps everything but places and numbers
 module _ (store new : Store) (g : ℕ → Node → Node) (nodes : new.nodes ≡ mapped g store.nodes) (names : new.names ≡ store.names) (last : new.last ≡ store.last) (rows : new.rows ≡ store.rows)
     (bare : (s : ℕ) (n : Node) → bare_node (g s n) ≡ bare_node n) where
   node_at : (s : ℕ) → fin.get new.nodes s ≡ option_map (g s) (fin.get store.nodes s)
@@ -99,7 +99,7 @@ numbered store new o k is live = subst (λ (s : Store). Numbered o k (view_of st
     known None h = absurd (cc)
     known (Some n) h = refl
 
--- a place changed, no number is
+-- changing a place keeps the numbers
 number_placed : (store : Store) (o : ℕ) (p : Place) (q : ℕ) → number_in (fin.get (changed (with_place p) o store.nodes) q) ≡ number_in (fin.get store.nodes q)
 number_placed store o p q = ap number_in (get-mapped (λ s x. if s == o then with_place p x else x) store.nodes q) ∙ known (q == o) (fin.get store.nodes q)
   where
@@ -108,7 +108,7 @@ number_placed store o p q = ap number_in (get-mapped (λ s x. if s == o then wit
     known true (Some n) = refl
     known false (Some n) = refl
 
--- one object stands last in a place
+-- one object moves to the end of a place
 module _ (store : Store) (listed : IsListed store) (o : ℕ) (live : IsLive store o) (p : Place) (is_place : IsPlace p) where
   abbrev here : ℕ
   here = place_number (place_of store o)
@@ -153,7 +153,7 @@ module _ (store : Store) (listed : IsListed store) (o : ℕ) (live : IsLive stor
     others = other_list;
   })
 
--- all objects of a place stand after those of another
+-- all objects of one place move to the end of another
 module _ (store : Store) (listed : IsListed store) (p q : Place) (differ : p ≢ q) (below_p : IsPlace p) (below_q : IsPlace q) where
   bare_merged : (s : ℕ) (n : Node) → bare_node (place_merged p q n) ≡ bare_node n
   bare_merged s n = go (place_number n.place == place_number p)
@@ -192,7 +192,7 @@ module _ (store : Store) (listed : IsListed store) (p q : Place) (differ : p ≢
         ∙ get_or-set_other store.lists (place_number q) (place_number r) (list_at store q ++ list_at store p) [] (λ e. k (one_place r q e));
   })
 
--- the number that the heap tells
+-- the number that the heap returns
 pub number_told : (store : Store) (o k : ℕ) → IsLive store o → IfSome (fin.get store.nodes o) (λ n. k ≡ n.number) → k ≡ number_in (fin.get store.nodes o)
 number_told store o k live told = known (fin.get store.nodes o) live told
   where
@@ -200,7 +200,7 @@ number_told store o k live told = known (fin.get store.nodes o) live told
     known None h t = absurd (cc)
     known (Some n) h t = t
 
--- the number of a candidate, one lower
+-- the number of a candidate, lowered by one
 pub lowered_view : (store new : Store) (o : ℕ) → IsListed store → new ≡ with_node lowered o store → (Includes (list_at store Cand) o → 0 < number_in (fin.get store.nodes o)) → Lowered (o ∷ []) (view_of store) (view_of new)
 lowered_view store new o listed is room = subst (λ (s : Store). Lowered (o ∷ []) (view_of store) (view_of s)) (sym is) (record {
   rest = record {

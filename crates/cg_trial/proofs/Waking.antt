@@ -1,4 +1,4 @@
--- Taking back: a target with the number 0 gets one, and where it was set aside the last place in the list.
+-- Taking back: a target with number 0 gets one and, if it was set aside, moves to the end of the list.
 use Rattle.std.proofs.Common.{◌≡◌, ◌≢◌, refl, sym, ◌∙◌, ap, subst, replicate, ℕ, ◌+◌, ◌*◌, ◌≤◌, true, false, cond, ◌⊎◌, inl, inr, List, [], ◌∷◌, ◌++◌, length, take, drop, get_or, arith, append_assoc, length-append, ◌<◌}
 use Rattle.std.proofs.lemmas.Bool.{eqb-true, eq-eqb}
 use Rattle.std.proofs.Math.Seq.{take-length, take-add}
@@ -21,7 +21,7 @@ use Rattle.cg_kind.specs.Calls.{next_entries}
 use Rattle.cg_kind.proofs.References.{next_within, references_next, references-append}
 use Rattle.cg_trial.proofs.Entries.{next_same}
 
--- A list with the same sums as two others has what these have.
+-- A list whose sums are those of two others together has their members.
 pub member_of : (v : View) (q : ℕ) → 1 ≤ both (λ x. cond (x == q) 1 0) v → IsMember v q
 member_of v q some = either (none_or_some (occurrences q (v.listed Cand)))
     (λ none. inr (occurs_in (v.listed Back) q (omega (arith, some, none))))
@@ -31,20 +31,20 @@ pub member_counts : (v : View) (q : ℕ) → IsMember v q → 1 ≤ both (λ x. 
 member_counts v q (inl h) = omega (arith, occurs (v.listed Cand) q h)
 member_counts v q (inr h) = omega (arith, occurs (v.listed Back) q h)
 
--- where the two lists have the sums that the candidates had, each member was one of these
+-- if the two lists have the candidates' sums, each member was a candidate
 pub member_within : (a b : View) → ((f : ℕ → ℕ) → both f b ≡ sum_by f (a.listed Cand)) → (q : ℕ) → IsMember b q → Includes (a.listed Cand) q
 member_within a b sums q h = occurs_in (a.listed Cand) q (omega (arith, sums (λ x. cond (x == q) 1 0), member_counts b q h))
 
 pub member_kept : (a b : View) → ((f : ℕ → ℕ) → both f b ≡ both f a) → (q : ℕ) → IsMember a q → IsMember b q
 member_kept a b sums q h = member_of b q (omega (arith, sums (λ x. cond (x == q) 1 0), member_counts a q h))
 
--- with one that has the number 0 there is one at least
+-- a member with number 0 makes the count at least 1
 pub zero_counts : (v : View) (xs : List ℕ) (q : ℕ) → Includes xs q → v.number q ≡ 0 → 1 ≤ sum_by (is_zero v) xs
 zero_counts v xs q here is =
     let one : occurrences q xs * is_zero v q ≡ occurrences q xs * 1 = ap (λ n. occurrences q xs * cond (n == 0) 1 0) is in
     omega (arith, sum_by-without (is_zero v) q xs, occurs xs q here, one)
 
--- where none has the number 0, each member has another
+-- if none has number 0, every member has a number above 0
 pub all_awake : (v : View) → zeros v ≡ 0 → (q : ℕ) → IsMember v q → v.number q ≢ 0
 all_awake v none q (inl h) is = absurd (omega (arith, none, zero_counts v (v.listed Cand) q h is))
 all_awake v none q (inr h) is = absurd (omega (arith, none, zero_counts v (v.listed Back) q h is))
@@ -52,7 +52,7 @@ all_awake v none q (inr h) is = absurd (omega (arith, none, zero_counts v (v.lis
 pub few_zeros : (v : View) (xs : List ℕ) → sum_by (is_zero v) xs ≤ length xs
 few_zeros v xs = count_by-le-length (λ q. v.number q == 0) xs
 
--- where as many have the number 0 as there are, all have it
+-- if the count of number 0 is the length, all have it
 pub all_zero : (v : View) (xs : List ℕ) → length xs ≤ sum_by (is_zero v) xs → (q : ℕ) → Includes xs q → v.number q ≡ 0
 all_zero v [] full q h = absurd h
 all_zero v (x ∷ xs) full q h = go (cases_of (v.number x == 0)) h (λ more k. all_zero v xs more q k)
@@ -94,7 +94,7 @@ woken_more r s a b c first then = record {
   lighter = omega (arith, first.lighter, then.lighter, length-append first.more then.more);
 }
 
--- those that have numbers, and one more that has one
+-- those with numbers, and one more
 pub awake_next : (v : View) (xs : List ℕ) (at : ℕ) → at < length xs → v.number (get_or xs at 0) ≢ 0 → ((p : ℕ) → Includes (take at xs) p → v.number p ≢ 0)
     → (p : ℕ) → Includes (take (at + 1) xs) p → v.number p ≢ 0
 awake_next v xs at within awake before p h =
@@ -102,7 +102,7 @@ awake_next v xs at within awake before p h =
     (λ i. before p i)
     (λ i. subst (λ q. v.number q ≢ 0) (always_that 1 (get_or xs at 0) p i) awake)
 
--- those that have numbers, and the one behind them
+-- those with numbers, and the next one
 pub woken_next : (xs : List ℕ) (from at : ℕ) (a b c : View) → Woken (take from xs) a b → IsFirstZero b (drop from xs) at → Woken (get_or xs (from + at) 0 ∷ []) b c → Woken (take (from + (at + 1)) xs) a c
 woken_next xs from at a b c so first more =
     let rest = drop from xs in
@@ -114,7 +114,7 @@ woken_next xs from at a b c so first more =
 pub woken_rest : (xs : List ℕ) (from : ℕ) (a b : View) → Woken (take from xs) a b → ((p : ℕ) → Includes (drop from xs) p → b.number p ≢ 0) → Woken xs a b
 woken_rest xs from a b so awake = subst (λ (l : List ℕ). Woken l a b) (take-append-drop from xs) (woken_more _ _ a b b so (woken_awake (drop from xs) b awake))
 
--- where none has the number 0 any more, the others are taken back too
+-- if none has number 0 any more, the others count as taken back too
 pub woken_over : (r s : List ℕ) (a b : View) → Woken r a b → zeros b ≡ 0 → ((p : ℕ) → Includes r p → Includes s p) → Woken s a b
 woken_over r s a b so none within = record {
   same = so.same;
@@ -150,7 +150,7 @@ module _ (p : ℕ) (a c : View) (zero_was : a.number p ≡ 0) (numbers : (q : �
   only_woken : (q : ℕ) → c.number q ≢ 0 → (a.number q ≢ 0) ⊎ Includes (p ∷ []) q
   only_woken q h = either (cases_of (q == p)) (λ e. inr (inl (sym (eqb-true q p e)))) (λ e. inl (λ k. h (number_there q e ∙ k)))
 
-  -- one of those with the number 0 is none any more
+  -- an object with number 0 no longer has it
   term : (q : ℕ) → is_zero c q + cond (q == p) 1 0 ≡ is_zero a q
   term q = go (cases_of (q == p))
     where
@@ -171,7 +171,7 @@ module _ (p : ℕ) (a c : View) (zero_was : a.number p ≡ 0) (numbers : (q : �
 sums_there : (p : ℕ) (a c : View) → Numbered p 1 a c → (f : ℕ → ℕ) → both f c ≡ both f a
 sums_there p a c numbered f = ap (λ (l : Place → List ℕ). sum_by f (l Cand) + sum_by f (l Back)) numbered.rest.places
 
--- One that is not set aside.
+-- A target that is not set aside.
 pub woken_there : (p : ℕ) (a c : View) → a.number p ≡ 0 → occurrences p (a.listed Back) ≡ 0 → Numbered p 1 a c → Woken (p ∷ []) a c
 woken_there p a c zero_was only_there numbered = record {
   same = numbered.rest.same;
@@ -192,7 +192,7 @@ woken_there p a c zero_was only_there numbered = record {
     places : (q : Place) → c.listed q ≡ a.listed q
     places q = ap (λ (l : Place → List ℕ). l q) numbered.rest.places
 
--- One that was set aside: it stands last before its number becomes 1.
+-- A target that was set aside: it moves to the end before its number becomes 1.
 module _ (p : ℕ) (a m c : View) (zero_was : a.number p ≡ 0) (once : occurrences p (a.listed Back) ≡ 1) (alone : (q : Place) → q ≢ Back → occurrences p (a.listed q) ≡ 0) (moved : Moved p Cand a m) (numbered : Numbered p 1 m c) where
   numbers_then : (q : ℕ) → c.number q ≡ cond (q == p) 1 (a.number q)
   numbers_then q = numbered.numbers q ∙ ap (λ (n : ℕ → ℕ). cond (q == p) 1 (n q)) moved.numbers
@@ -232,7 +232,7 @@ module _ (p : ℕ) (a m c : View) (zero_was : a.number p ≡ 0) (once : occurren
 pub there_fewer : (p : ℕ) (a c : View) → a.number p ≡ 0 → Includes (a.listed Cand) p → Numbered p 1 a c → zeros c + 1 ≤ zeros a
 there_fewer p a c zero_was here numbered = one_fewer p a c zero_was numbered.numbers (inl here) (sums_there p a c numbered)
 
--- Taking back has come to the entry `from`.
+-- Taking back has reached entry `from`.
 pub record Waking (o : ℕ) (old now : View) (from : ℕ) : Type 0 where
   pub within : from ≤ length (old.entries o)
   pub woken : Woken (references (take from (old.entries o))) old now
@@ -254,7 +254,7 @@ waking_more o old mid new from next so is more =
 pub waking_all : (o : ℕ) (old now : View) (i : ℕ) → i ≡ length (old.entries o) → Waking o old now i → Woken (references (old.entries o)) old now
 waking_all o old now i is so = subst (λ (es : List Entry). Woken (references es) old now) (ap (λ n. take n (old.entries o)) is ∙ take-length (old.entries o)) so.woken
 
--- with none left to be taken back, all are
+-- if none is left to take back, all are
 pub waking_over : (o : ℕ) (old now : View) (i : ℕ) → zeros now ≡ 0 → Waking o old now i → Woken (references (old.entries o)) old now
 waking_over o old now i none so = woken_over (references (take i (old.entries o))) (references (old.entries o)) old now so.woken none
     (λ p h. subst (λ (xs : List ℕ). Includes xs p) (sym (references-append (take i (old.entries o)) (drop i (old.entries o))) ∙ ap references (take-append-drop i (old.entries o)))

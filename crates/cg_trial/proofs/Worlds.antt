@@ -1,4 +1,4 @@
--- What is reachable in a heap is what is reachable in the world that it stands for.
+-- Reachability in a heap is reachability in the world that it represents.
 use Rattle.std.proofs.Common.{◌≡◌, ℕ, List, [], ◌∷◌, ◌++◌, Option, arith}
 use Rattle.cg_value.specs.declared.Val.{Val}
 use Rattle.cg_graph.specs.Object.{Object}

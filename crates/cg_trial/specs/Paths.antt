@@ -1,4 +1,4 @@
--- Paths among some objects of a heap, in the words of `Reach`. (Developer guide, "identifying reference cycles".)
+-- Paths among some objects of a heap, in terms of `Reach`. (Developer guide, "identifying reference cycles".)
 use Rattle.std.specs.Prelude.{ℕ, ◌<◌, List, map, length, sum_by}
 use Rattle.cg_graph.specs.Member.{Includes}
 use Rattle.cg_graph.specs.Holdings.{Graph, occurrences, entry_holdings}
@@ -9,7 +9,7 @@ use Rattle.cg_trial.specs.View.{View}
 abbrev pub graph_in : View → List ℕ → Graph
 graph_in v members = map (λ o. (o, v.entries o)) members
 
--- one is held more often than the entries of all of them hold it
+-- an object with more holds than their entries give it
 abbrev pub IsHeldBeyond : View → List ℕ → ℕ → Type 0
 IsHeldBeyond v members o = occurrences o (entry_holdings (graph_in v members)) < v.degree o
 

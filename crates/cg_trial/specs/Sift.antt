@@ -1,5 +1,5 @@
--- What the walk over the candidates changes: those that look unreachable are set aside, and taken back where a reference to
--- them is found. (Developer guide, "Identifying reference cycles".)
+-- The effect of the walk over the candidates: those that look unreachable are set aside, and taken back if a reference
+-- to them is found. (Developer guide, "Identifying reference cycles".)
 use Rattle.std.specs.Prelude.{◌≡◌, ◌≢◌, ℕ, ◌+◌, ◌≤◌, ◌⊎◌, List, ◌++◌, ◌==◌, ◌<◌, cond, length, take, slice_index, sum_by, IsTrue}
 use Rattle.cg_value.specs.declared.Place.{Place}
 use Rattle.cg_value.specs.declared.Place.TheVariants.{Cand, Back}
@@ -17,19 +17,19 @@ IsMember v o = Includes (v.listed Cand) o ⊎ Includes (v.listed Back) o
 abbrev pub both : (ℕ → ℕ) → View → ℕ
 both f v = sum_by f (v.listed Cand) + sum_by f (v.listed Back)
 
--- 1 for an object with the number 0
+-- 1 for an object with number 0, else 0
 abbrev pub is_zero : View → ℕ → ℕ
 is_zero v o = cond (v.number o == 0) 1 0
 
--- how many have the number 0
+-- how many have number 0
 abbrev pub zeros : View → ℕ
 zeros v = both (is_zero v) v
 
--- no other list than those two changes
+-- only those two lists change
 abbrev pub AreOthersSame : View → View → Type 0
 AreOthersSame old new = (q : Place) → q ≢ Cand → q ≢ Back → new.listed q ≡ old.listed q
 
--- The references among the candidates have a number now, and those that were set aside stand last.
+-- The references among the candidates now have a number, and those that were set aside are last.
 pub record Woken (refs : List ℕ) (old new : View) : Type 0 where
   pub same : IsSame old new
   pub others : AreOthersSame old new
@@ -42,7 +42,7 @@ pub record Woken (refs : List ℕ) (old new : View) : Type 0 where
   pub longer : new.listed Cand ≡ old.listed Cand ++ more
   pub lighter : zeros new + length more ≤ zeros old
 
--- The first of some objects that has the number 0 stands here.
+-- The first of some objects with number 0 is at this position.
 pub record IsFirstZero (v : View) (objects : List ℕ) (at : ℕ) : Type 0 where
   pub within : at < length objects
   pub zero : v.number (slice_index objects at) ≡ 0
@@ -53,7 +53,7 @@ pub data Walk (v : View) (members : List ℕ) : ℕ → Type 0 where
   starts : {o : ℕ} → v.number o ≢ 0 → Includes members o → Walk v members o
   goes : {o p : ℕ} → Walk v members o → Includes (references (v.entries o)) p → Includes members p → Walk v members p
 
--- What a walk reaches stays, with a number, and the other candidates are set aside.
+-- What a walk reaches stays, with a number; the other candidates are set aside.
 pub record IsParted (old new : View) : Type 0 where
   pub same : IsSame old new
   pub others : AreOthersSame old new
@@ -63,11 +63,11 @@ pub record IsParted (old new : View) : Type 0 where
   pub reached : (o : ℕ) → Includes (new.listed Cand) o → Walk old (old.listed Cand) o
   pub all_reached : (o : ℕ) → Walk old (old.listed Cand) o → Includes (new.listed Cand) o
 
--- A candidate stands in no other list.
+-- A candidate is in no other list.
 abbrev pub IsNowhereElse : View → Type 0
 IsNowhereElse v = (q : Place) (o : ℕ) → q ≢ Cand → Includes (v.listed Cand) o → occurrences o (v.listed q) ≡ 0
 
--- Each candidate, set aside or not, lives and stands in its list alone, and its number tells which that is.
+-- Each candidate, set aside or not, lives, is only in its list, and its number says which list that is.
 pub record IsTwofold (v : View) : Type 0 where
   pub alive : (o : ℕ) → IsMember v o → IsTrue (v.live o)
   pub once : (o : ℕ) → occurrences o (v.listed Cand) + occurrences o (v.listed Back) ≤ 1
@@ -75,7 +75,7 @@ pub record IsTwofold (v : View) : Type 0 where
   pub numbered : (o : ℕ) → Includes (v.listed Cand) o → v.number o ≢ 0
   pub asleep : (o : ℕ) → Includes (v.listed Back) o → v.number o ≡ 0
 
--- The candidates and those that were set aside change their places.
+-- The candidates and those set aside exchange places.
 pub record IsExchanged (old new : View) : Type 0 where
   pub same : IsSame old new
   pub others : AreOthersSame old new
@@ -90,7 +90,7 @@ pub record IsSifted (kept : Place) (old new : View) : Type 0 where
   pub reached : (o : ℕ) → Includes (new.listed kept) o → Walk old (old.listed Cand) o
   pub all_reached : (o : ℕ) → Walk old (old.listed Cand) o → Includes (new.listed kept) o
 
--- The same, by paths from outside.
+-- The same, in terms of paths from outside.
 pub record IsSieved (kept : Place) (old new : View) : Type 0 where
   pub same : IsSame old new
   pub others : (q : Place) → q ≢ Cand → q ≢ kept → new.listed q ≡ old.listed q

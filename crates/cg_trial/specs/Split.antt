@@ -1,5 +1,5 @@
--- What `split` asks for, and what it leaves. (Developer guide, "identifying reference cycles": the unreachable objects are
--- set aside in a list of their own, and the reachable ones stay.)
+-- What `split` requires, and its effect. (Developer guide, "identifying reference cycles": the unreachable objects are
+-- moved to a list of their own, and the reachable ones stay.)
 use Rattle.std.specs.Prelude.{◌≡◌, ℕ, ◌≤◌, Option, Some, None, length, sum_by}
 use Rattle.std.specs.FinMap as fin
 use Rattle.cg_value.specs.declared.Place.{Place}
@@ -13,7 +13,7 @@ IsSplitPlace (Gen i) = i ≤ 2
 IsSplitPlace Cand = Unit {0}
 IsSplitPlace place = ⊥
 
--- where the reachable objects stand in the end
+-- the final place of the reachable objects
 abbrev pub kept_place : Place → Place
 kept_place Cand = Back
 kept_place place = place
@@ -22,13 +22,13 @@ kept_place place = place
 abbrev pub entry_number_at : Store → Place → ℕ
 entry_number_at store p = sum_by (λ x. length x.entries) (objects_at (objects_of store) p)
 
--- one object stays, but for its place and the collector's number
+-- a node is unchanged except for its place and the collector's number
 abbrev pub IsSameNode : Option Node → Option Node → Type 0
 IsSameNode None None = Unit {0}
 IsSameNode (Some n) (Some m) = m ≡ record n { place = m.place; number = m.number }
 IsSameNode n m = ⊥
 
--- Objects stay but for places and the collector's numbers, and so do names, the last serial and rows.
+-- Objects are unchanged except for places and the collector's numbers; names, the last serial and rows are unchanged.
 pub record IsSameButPlaces (old new : Store) : Type 0 where
   pub nodes : (s : ℕ) → IsSameNode (fin.get old.nodes s) (fin.get new.nodes s)
   pub last : new.last ≡ old.last

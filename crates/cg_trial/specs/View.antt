@@ -1,4 +1,4 @@
--- What trial subtraction sees of a heap, and what the calls that it makes change of that. (Ours.)
+-- What trial subtraction sees of a heap, and how its calls change that. (Ours.)
 use Rattle.std.specs.Prelude.{◌≡◌, ◌≢◌, ℕ, ◌+◌, ◌≤◌, Bool, IsTrue, List, [], ◌∷◌, ◌++◌, ◌==◌, cond, Option, Some, None, is_some, option_map, option_to_list, flat_map, slice_get}
 use Rattle.std.specs.FinMap as fin
 use Rattle.cg_value.specs.declared.Val.{Val}
@@ -12,7 +12,7 @@ use Rattle.cg_graph.specs.Places.{without_serial}
 use Rattle.cg_graph.specs.Rows.{Row}
 use Rattle.cg_graph.specs.Store.{Store, Node, list_at, entries_of, count_of}
 
--- what a heap has beside objects and lists
+-- what a heap has besides objects and lists
 pub record Beside : Type 0 where
   pub last : ℕ
   pub names : List (Option Val)
@@ -27,15 +27,15 @@ pub record View : Type 0 where
   pub degree : ℕ → ℕ
   -- the collector's number
   pub number : ℕ → ℕ
-  -- an object, its place and number aside
+  -- an object without its place and number
   pub bare : ℕ → Option Node
   pub beside : Beside
 
--- a node, its place and number aside
+-- a node without its place and number
 abbrev pub bare_node : Node → Node
 bare_node n = record n { place = Untracked; number = 0 }
 
--- the number of a node that may be there
+-- the number of an optional node
 abbrev pub number_in : Option Node → ℕ
 number_in None = 0
 number_in (Some n) = n.number
@@ -51,7 +51,7 @@ view_of store = record {
   beside = record { last = store.last; names = store.names; rows = store.rows };
 }
 
--- Objects stay but for places and numbers, and each is held as often as before.
+-- Objects are unchanged except for places and numbers, and each is held as often as before.
 pub record IsSame (old new : View) : Type 0 where
   pub lives : new.live ≡ old.live
   pub hold : new.entries ≡ old.entries
@@ -68,14 +68,14 @@ pub record Numbered (object n : ℕ) (old new : View) : Type 0 where
   pub rest : IsSameButNumbers old new
   pub numbers : (p : ℕ) → new.number p ≡ cond (p == object) n (old.number p)
 
--- one object stands last in a place
+-- one object is last in a place
 pub record Moved (object : ℕ) (place : Place) (old new : View) : Type 0 where
   pub same : IsSame old new
   pub numbers : new.number ≡ old.number
   pub last : new.listed place ≡ without_serial object (old.listed place) ++ object ∷ []
   pub others : (q : Place) → q ≢ place → new.listed q ≡ without_serial object (old.listed q)
 
--- all objects of one place stand after those of another
+-- all objects of one place come after those of another
 pub record Merged (from to : Place) (old new : View) : Type 0 where
   pub same : IsSame old new
   pub numbers : new.number ≡ old.number
@@ -87,7 +87,7 @@ pub record Merged (from to : Place) (old new : View) : Type 0 where
 abbrev pub head_of : List ℕ → Option ℕ
 head_of xs = slice_get xs 0
 
--- what comes after an object in a list where it stands
+-- the successor of an object in its list
 abbrev pub IsNext : View → ℕ → Option ℕ → Type 0
 IsNext v o result = (place : Place) (front back : List ℕ) → v.listed place ≡ front ++ o ∷ back → result ≡ head_of back
 
@@ -99,13 +99,13 @@ targets value = option_to_list (reference_in value)
 abbrev pub held_by : View → List ℕ → List ℕ
 held_by v members = flat_map (λ o. references (v.entries o)) members
 
--- Each candidate stands in the list once, and references lead to live objects.
+-- Each candidate is in the list once, and references lead to live objects.
 pub record IsReadyView (v : View) : Type 0 where
   pub once : (o : ℕ) → occurrences o (v.listed Cand) ≤ 1
   pub alive : (o : ℕ) → Includes (v.listed Cand) o → IsTrue (v.live o)
   pub closed : (o p : ℕ) → IsTrue (v.live o) → Includes (references (v.entries o)) p → IsTrue (v.live p)
 
--- Each candidate's number is lower by how often it stands among the references.
+-- Each candidate's number falls by its occurrences among the references.
 pub record Lowered (refs : List ℕ) (old new : View) : Type 0 where
   pub rest : IsSameButNumbers old new
   pub lower : (o : ℕ) → Includes (old.listed Cand) o → new.number o + occurrences o refs ≡ old.number o

@@ -1,11 +1,11 @@
--- When a heap stands for objects, names and what a stack holds, as it stands for a world of the machine. (Ours.)
+-- When a heap represents the objects, names and stack holds of a world of the machine. (Ours.)
 use Rattle.std.specs.Prelude.{◌≡◌, ℕ, List, [], ◌∷◌, ◌++◌, Option}
 use Rattle.cg_value.specs.declared.Val.{Val}
 use Rattle.cg_graph.specs.Object.{Object}
 use Rattle.cg_graph.specs.Holdings.{occurrences, name_holdings, entry_holdings, graph_of}
 use Rattle.cg_graph.specs.Store.{Store, objects_of, outside_of}
 
--- The objects and names are the same, and the outside holds of each object are what the stack holds of it.
+-- The objects and names are the same, and each object's outside holds are those of the stack.
 pub record HeapStandsFor (store : Store) (objects : List Object) (names : List (Option Val)) (stack : List ℕ) : Type 0 where
   pub same_objects : objects_of store ≡ objects
   pub same_names : store.names ≡ names

@@ -1,4 +1,4 @@
-//! What the search asks of the heap, over what it sees of it.
+//! The calls that the search makes on the heap, in terms of what it sees.
 ghost use Rattle.std.specs.Prelude.{◌≡◌, ◌≢◌, ◌↔◌, ◌<◌, ◌≤◌, ◌∷◌, [], replicate, IsTrue};
 ghost use Rattle.cg_graph.specs.Member.{Includes};
 ghost use Rattle.cg_graph.specs.Holdings.{occurrences};
@@ -11,7 +11,7 @@ use cg_heap::Heap;
 use cg_kind::Kind;
 use cg_value::Place;
 
-/// Whether the object, which stands in this place, is a candidate. Then it stands in no other place.
+/// Whether the object, whose place this is, is a candidate. If so it is in no other place.
 #[inline(always)]
 pub fn is_candidate<B: Kind>(heap: &Heap<B>, object: u64, place: Place) -> bool
     requires live { IsTrue ((view_of heap.now).live object) }
@@ -23,7 +23,7 @@ pub fn is_candidate<B: Kind>(heap: &Heap<B>, object: u64, place: Place) -> bool
     matches!(place, Place::Cand)
 }
 
-/// Whether the object, which stands in this place, is set aside. Then it stands there once, and in no other place.
+/// Whether the object, whose place this is, is set aside. If so it is there once, and in no other place.
 #[inline(always)]
 pub fn is_set_aside<B: Kind>(heap: &Heap<B>, object: u64, place: Place) -> bool
     requires live { IsTrue ((view_of heap.now).live object) }
@@ -36,7 +36,7 @@ pub fn is_set_aside<B: Kind>(heap: &Heap<B>, object: u64, place: Place) -> bool
     matches!(place, Place::Back)
 }
 
-/// The object after this one, which is near, in the list of its place, and where that is.
+/// The successor of an object in the list of its place, and its slot; takes a hint of the object's slot.
 #[inline(always)]
 pub fn following<B: Kind>(heap: &Heap<B>, object: u64, near: &mut Near) -> Option<u64>
     requires { IsTrue ((view_of heap.now).live object) }
@@ -46,7 +46,7 @@ pub fn following<B: Kind>(heap: &Heap<B>, object: u64, near: &mut Near) -> Optio
     heap.next_near(object, near)
 }
 
-/// Gives a candidate another number.
+/// Sets the number of a candidate.
 #[inline(always)]
 pub fn set_number<B: Kind>(heap: &mut Heap<B>, object: u64, number: u32)
     requires live { IsTrue ((view_of heap.old).live object) }
@@ -57,7 +57,7 @@ pub fn set_number<B: Kind>(heap: &mut Heap<B>, object: u64, number: u32)
     heap.set_gc(object, number);
 }
 
-/// The number of a candidate that is near becomes its in-degree.
+/// Sets the number of a candidate to its in-degree; takes a hint of its slot.
 #[inline(always)]
 pub fn number_by_degree<B: Kind>(heap: &mut Heap<B>, object: u64, near: Near)
     requires live { IsTrue ((view_of heap.old).live object) }
@@ -68,7 +68,7 @@ pub fn number_by_degree<B: Kind>(heap: &mut Heap<B>, object: u64, near: Near)
     heap.set_gc_to_refs(object, near);
 }
 
-/// The number of the object, if it is a candidate, is one lower.
+/// Lowers the number of the object by one, if it is a candidate.
 #[inline(always)]
 pub fn lower_number<B: Kind>(heap: &mut Heap<B>, object: u64)
     requires live { IsTrue ((view_of heap.old).live object) }
@@ -79,7 +79,7 @@ pub fn lower_number<B: Kind>(heap: &mut Heap<B>, object: u64)
     heap.lower(object);
 }
 
-/// The number of the object, if it is a candidate, is lower by this.
+/// Lowers the number of the object by `times`, if it is a candidate.
 #[inline(never)]
 pub fn lower_number_by<B: Kind>(heap: &mut Heap<B>, object: u64, times: usize)
     requires live { IsTrue ((view_of heap.old).live object) }
@@ -92,7 +92,7 @@ pub fn lower_number_by<B: Kind>(heap: &mut Heap<B>, object: u64, times: usize)
     }
 }
 
-/// The object, which may be near, goes to the end of the list of a place.
+/// Moves the object to the end of the list of a place; takes a hint of its slot.
 pub fn move_last<B: Kind>(heap: &mut Heap<B>, object: u64, near: Near, place: Place)
     requires live { IsTrue ((view_of heap.old).live object) }
     requires place { IsPlace place }
@@ -102,7 +102,7 @@ pub fn move_last<B: Kind>(heap: &mut Heap<B>, object: u64, near: Near, place: Pl
     heap.move_near(object, near, place);
 }
 
-/// All objects of one place go to the end of the list of another.
+/// Moves all objects of one place to the end of the list of another.
 pub fn move_all<B: Kind>(heap: &mut Heap<B>, from: Place, to: Place)
     requires from { IsPlace from }
     requires to { IsPlace to }

@@ -1,4 +1,4 @@
-//! A law on what is reachable.
+//! A law on reachability.
 ghost use Rattle.std.specs.Prelude.{◌↔◌, ℕ, List, Option};
 ghost use Rattle.cg_value.specs.declared.Val.{Val};
 ghost use Rattle.cg_value.specs.declared.Place.{Place};
@@ -10,8 +10,8 @@ ghost use Rattle.cg_graph.specs.Reachable.{IsReachable, IsUnreachable};
 ghost use Rattle.cg_graph.specs.Store.{Store};
 ghost use Rattle.cg_trial.specs.Worlds.{HeapStandsFor, all_holdings};
 
-/// Where a heap stands for objects, names and what a stack holds, what is reachable among the objects of a place of the
-/// heap is what is reachable among these objects, in the words in which the machine says what survives a collection.
+/// If a heap represents some objects, names and stack holds, then the objects reachable within a place of the heap are
+/// those reachable among these objects, as the machine defines what survives a collection.
 pub fn reachable_in_a_heap_survives_in_its_world()
     ensures reachable { (store : Store) (objects : List Object) (names : List (Option Val)) (stack : List ℕ) →
         HeapStandsFor store objects names stack → (p : Place) (o : ℕ) →

@@ -1,11 +1,11 @@
-//! Trial subtraction: which objects of a place no path from outside reaches.
+//! Trial subtraction: finds the objects of a place that no path from outside reaches.
 //!
-//! It is the heart of the collector. (Developer guide, "Identifying reference cycles".) The layer above uses `split`
-//! alone: afterwards the unreachable objects of a place are the candidates, and the others stay in their place.
+//! It is the core of the collector. (Developer guide, "Identifying reference cycles".) The layer above uses only
+//! `split`: afterwards the unreachable objects of a place are the candidates, and the others stay in their place.
 //!
-//! - `candidates`: what the search asks of the heap.
+//! - `candidates`: the calls that the search makes on the heap.
 //! - `subtraction`: the two passes.
-//! - `laws`: what is reachable in a heap is what survives in the world that it stands for.
+//! - `laws`: reachability in a heap is survival in the world that it represents.
 #![tactic(auto)]
 
 mod candidates;

@@ -1,4 +1,4 @@
-//! Trial subtraction, and the walk that takes out what is reached.
+//! Trial subtraction, and the walk that takes out the reached objects.
 ghost use Rattle.std.specs.Prelude.{◌≡◌, ◌≢◌, ◌↔◌, ℕ, ◌+◌, ◌-◌, ◌*◌, ◌≤◌, ◌∷◌, ◌++◌, [], replicate, ◌<◌, false, length, slice_index, take, IsTrue, IfSome, None};
 ghost use Rattle.cg_graph.specs.Member.{Includes};
 ghost use Rattle.cg_graph.specs.Value.{references};
@@ -22,7 +22,7 @@ use cg_kind::{AT_ONCE, Kind, ROOM};
 use cg_value::Place;
 use std::sync::ledger::Ledger;
 
-/// Each candidate's number becomes its count.
+/// Sets each candidate's number to its count.
 fn copy<B: Kind>(heap: &mut Heap<B>)
     requires ready { IsReadyView (view_of heap.old) }
     ensures same { IsSameButNumbers (view_of heap.old) (view_of heap.new) }
@@ -36,7 +36,7 @@ fn copy<B: Kind>(heap: &mut Heap<B>)
     }
 }
 
-/// Where the objects end that are in a row the same as the one at `from`, as in a list that holds one object many times.
+/// The end of the run of objects equal to the one at `from`, as in a list that holds one object many times.
 #[inline(never)]
 fn end_of_run(objects: &[u64], from: usize) -> usize
     requires { from < length objects.now }
@@ -52,8 +52,8 @@ fn end_of_run(objects: &[u64], from: usize) -> usize
     end
 }
 
-/// Each of these objects that is a candidate gets a number that is lower by one, as often as it is among them. One that comes
-/// several times in a row is sought for all of them at once; whether it does is seen by the object at `next`.
+/// Lowers the number of each candidate among these objects by its number of occurrences. A run of one object is looked
+/// up once; the object at `next` shows whether there is a run.
 #[inline(always)]
 fn lower_each<B: Kind>(heap: &mut Heap<B>, objects: &[u64])
     requires live { (o : ℕ) → Includes objects.now o → IsTrue ((view_of heap.old).live o) }
@@ -77,8 +77,8 @@ fn lower_each<B: Kind>(heap: &mut Heap<B>, objects: &[u64])
     }
 }
 
-/// Each reference of the entries of an object that is near lowers its candidate's number by one. References are written to
-/// `found` on the way.
+/// Lowers the numbers of candidates by one for each reference of an object's entries; takes a hint of its slot.
+/// `found` is a buffer for the references.
 fn lower_all<B: Kind, L: Ledger>(
     heap: &mut Heap<B>,
     object: u64,
@@ -105,7 +105,7 @@ fn lower_all<B: Kind, L: Ledger>(
     }
 }
 
-/// Each reference of the candidates' entries lowers its candidate's number by one.
+/// Lowers the numbers of candidates by one for each reference of the candidates' entries.
 fn subtract<B: Kind, L: Ledger>(heap: &mut Heap<B>, steps: &mut Steps<L>)
     requires ready { IsReadyView (view_of heap.old) }
     requires room { (o : ℕ) → Includes ((view_of heap.old).listed Place.Cand) o → occurrences o (held_by (view_of heap.old) ((view_of heap.old).listed Place.Cand)) ≤ (view_of heap.old).number o }
@@ -121,8 +121,8 @@ fn subtract<B: Kind, L: Ledger>(heap: &mut Heap<B>, steps: &mut Steps<L>)
     }
 }
 
-/// The first of these objects that has the number 0: its position, and its place. Nothing is written on the way, so that
-/// where the heap has its slots is read once for all of them.
+/// The first of these objects with number 0: its position and its place. It writes nothing, so the heap's slot table
+/// is read once for all of them.
 #[inline(always)]
 fn first_to_wake<B: Kind>(heap: &Heap<B>, objects: &[u64]) -> Option<(usize, Place)>
     requires { (o : ℕ) → Includes objects.now o → IsTrue ((view_of heap.now).live o) }
@@ -141,8 +141,8 @@ fn first_to_wake<B: Kind>(heap: &Heap<B>, objects: &[u64]) -> Option<(usize, Pla
     None
 }
 
-/// An object with the number 0 in this place gets the number 1, if it is a candidate, and where it was set aside, the last
-/// place in the list, so that the walk comes to it. One less is then left of those with the number 0.
+/// Gives an object with number 0 in this place the number 1, if it is a candidate; if it was set aside, also moves it
+/// to the end of the list, so that the walk reaches it. `left`, the number of those with number 0, then falls by one.
 #[inline(never)]
 fn wake<B: Kind>(heap: &mut Heap<B>, object: u64, place: Place, left: &mut u64)
     requires live { IsTrue ((view_of heap.old).live object) }
@@ -162,7 +162,7 @@ fn wake<B: Kind>(heap: &mut Heap<B>, object: u64, place: Place, left: &mut u64)
     }
 }
 
-/// Each of these objects is taken back.
+/// Takes back each of these objects.
 #[inline(always)]
 fn take_back_each<B: Kind>(heap: &mut Heap<B>, objects: &[u64], left: &mut u64)
     requires live { (o : ℕ) → Includes objects.now o → IsTrue ((view_of heap.old).live o) }
@@ -177,8 +177,8 @@ fn take_back_each<B: Kind>(heap: &mut Heap<B>, objects: &[u64], left: &mut u64)
     }
 }
 
-/// What the entries of an object that is near refer to is taken back, as far as something is left to be taken back. References
-/// are written to `found` on the way.
+/// Takes back what an object's entries refer to, while any are left to take back; takes a hint of its slot. `found` is
+/// a buffer for the references.
 fn take_back_all<B: Kind, L: Ledger>(
     heap: &mut Heap<B>,
     object: u64,
@@ -208,13 +208,13 @@ fn take_back_all<B: Kind, L: Ledger>(
     }
 }
 
-/// How many candidates have the number 0, while none is set aside.
+/// The number of candidates with number 0, while none is set aside.
 fn count_zeros<B: Kind>(heap: &Heap<B>) -> u64
     requires ready { IsReadyView (view_of heap.now) }
     requires none { (view_of heap.now).listed Place.Back ≡ [] }
     ensures { result ≡ zeros (view_of heap.now) }
 {
-    // They are no more than this, so that their number has 64 bits at most.
+    // Bounds the count, so that it fits in 64 bits.
     let _all = heap.size(Place::Cand);
     let mut zeros = 0;
     let mut near = Near::default();
@@ -228,8 +228,8 @@ fn count_zeros<B: Kind>(heap: &Heap<B>) -> u64
     zeros
 }
 
-/// The candidates that have a number, and what they lead to, stay; the others are set aside. No more than `left` have the number
-/// 0: once none is left, all have been reached, and no more references are looked at.
+/// The candidates with a number and what they lead to stay; the others are set aside. At most `left` have number 0: at
+/// 0 all have been reached, and no more references are looked at.
 fn set_aside<B: Kind, L: Ledger>(heap: &mut Heap<B>, left: u64, steps: &mut Steps<L>)
     requires ready { IsReadyView (view_of heap.old) }
     requires alone { IsNowhereElse (view_of heap.old) }
@@ -256,7 +256,7 @@ fn set_aside<B: Kind, L: Ledger>(heap: &mut Heap<B>, left: u64, steps: &mut Step
     }
 }
 
-/// The candidates, which have numbers, and those that were set aside, which have none, change their places.
+/// Exchanges the candidates, which have numbers, with those set aside, which have none.
 fn exchange<B: Kind>(heap: &mut Heap<B>)
     requires { IsTwofold (view_of heap.old) }
     ensures { IsExchanged (view_of heap.old) (view_of heap.new) }
@@ -273,7 +273,7 @@ fn exchange<B: Kind>(heap: &mut Heap<B>)
     }
 }
 
-/// The candidates that have a number, and what they lead to, go to the kept place.
+/// Moves the candidates with a number, and what they lead to, to the kept place.
 fn take_out<B: Kind, L: Ledger>(heap: &mut Heap<B>, kept: Place, steps: &mut Steps<L>)
     requires ready { IsReadyView (view_of heap.old) }
     requires place { IsPlace kept }
@@ -298,7 +298,7 @@ fn take_out<B: Kind, L: Ledger>(heap: &mut Heap<B>, kept: Place, steps: &mut Ste
     }
 }
 
-/// The candidates that nothing outside leads to stay, and the others go to the kept place.
+/// The candidates that nothing outside leads to stay; the others go to the kept place.
 fn sift<B: Kind, L: Ledger>(heap: &mut Heap<B>, kept: Place, steps: &mut Steps<L>)
     requires place { IsPlace kept }
     requires apart { kept ≢ Place.Cand }
@@ -316,15 +316,15 @@ fn sift<B: Kind, L: Ledger>(heap: &mut Heap<B>, kept: Place, steps: &mut Steps<L
     heap.sound();
 }
 
-/// Afterwards the unreachable objects of a place are the candidates; the reachable ones stand in that place, or in
-/// `Back` where they were candidates. The order in both lists is free.
+/// Makes the unreachable objects of a place the candidates; the reachable ones stay in that place, or go to `Back` if
+/// they were candidates. The order in both lists is unspecified.
 ///
-/// An object of the place is reachable where a path of objects of the place leads to it from one that is held more often
-/// than entries of objects of the place hold it: by a name, by an object of another place, or from outside. (Developer
+/// An object of the place is reachable if a path of objects of the place leads to it from one that is held more often
+/// than entries of the place's objects hold it: by a name, by an object of another place, or from outside. (Developer
 /// guide, "Identifying reference cycles".)
 ///
-/// The place is a generation, 0 to 2, and then there is no candidate, or `Cand`; and none stands in `Back`. The counter
-/// rises by the number of entries of these objects, or more, and by twice that number at most. No memory is taken.
+/// The place is a generation, 0 to 2, with no candidates present, or `Cand`; `Back` is empty. The counter rises by at
+/// least the number of entries of these objects, and by at most twice that number. It does not allocate.
 pub fn split<B: Kind, L: Ledger>(heap: &mut Heap<B>, from: Place, steps: &mut Steps<L>)
     requires from { IsSplitPlace from }
     requires back { list_at heap.old Place.Back ≡ [] }
@@ -333,7 +333,7 @@ pub fn split<B: Kind, L: Ledger>(heap: &mut Heap<B>, from: Place, steps: &mut St
     ensures unreachable { (o : ℕ) → Includes (list_at heap.new Place.Cand) o ↔ IsUnreachable heap.old from o }
     ensures reachable { (o : ℕ) → Includes (list_at heap.new (kept_place from)) o ↔ IsReachable heap.old from o }
 
-    // Nothing else changes but the collector's numbers.
+    // Nothing else changes except the collector's numbers.
     ensures others { (p : Place) → p ≢ Place.Cand → p ≢ kept_place from → list_at heap.new p ≡ list_at heap.old p }
     ensures same { IsSameButPlaces heap.old heap.new }
     ensures listed { IsListed heap.new }

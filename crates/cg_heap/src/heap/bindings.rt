@@ -1,4 +1,4 @@
-//! Names, and the values that they are bound to.
+//! Names and their values.
 ghost use Rattle.std.specs.Prelude.{◌≡◌, ◌<◌, Some, None, length, slice_get};
 ghost use Rattle.cg_graph.specs.Value.{references_of_value};
 ghost use Rattle.cg_graph.specs.Changes.{held, named};
@@ -11,9 +11,9 @@ use cg_kind::Kind;
 use cg_value::Val;
 
 impl<B: Kind> Heap<B> {
-    /// Gives a name a value, and answers the one that it had, `None` where it was unbound.
+    /// Binds a name to a value, and returns the old value, `None` if it was unbound.
     ///
-    /// The reference of the old value is now an outside hold, so that it may be given up after the new one stands.
+    /// The old value's reference becomes an outside hold, so that it can be released after the new one is bound.
     #[inline(always)]
     pub fn bind(&mut self, name: u32, val: Val) -> Option<Val>
         requires name { name < length self.old.names }
@@ -26,7 +26,7 @@ impl<B: Kind> Heap<B> {
         self.names.replace(name as usize, Some(val), near)
     }
 
-    /// Takes the value of a name, `None` where it was unbound. Its reference is now an outside hold.
+    /// Unbinds a name and returns its value, `None` if it was unbound. Its reference becomes an outside hold.
     #[inline(always)]
     pub fn unbind(&mut self, name: u32) -> Option<Val>
         requires name { name < length self.old.names }
@@ -37,8 +37,8 @@ impl<B: Kind> Heap<B> {
         self.names.replace(name as usize, None, Near::default())
     }
 
-    /// The bound name with the greatest number, `None` exactly where no name is bound. It skips each unbound
-    /// name once, unless a name above it is bound again.
+    /// The bound name with the greatest number, `None` exactly if no name is bound. It skips each unbound name once,
+    /// unless a name above it is bound again.
     pub fn greatest_name(&mut self) -> Option<u32>
         ensures same { self.new ≡ self.old }
         ensures greatest { IsGreatestBound self.old.names result }

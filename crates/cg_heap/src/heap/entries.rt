@@ -1,4 +1,4 @@
-//! Entries that come and go.
+//! Adding and removing entries.
 ghost use Rattle.std.specs.Prelude.{◌≡◌, ◌≢◌, ◌<◌, ◌≤◌, ◌+◌, ◌++◌, ◌∷◌, ◌↔◌, ◌&&◌, ◌||◌, [], IsTrue, IsOk, IsNone, IsSome, IfOk, IfSome, IfNone, OnSome, OnOk, OnErr, Ok, Err, Some, None, length, remove, slice_get};
 ghost use Rattle.std.specs.FinMap as fin;
 ghost use Rattle.cg_value.specs.declared.KindCode.TheVariants as code;
@@ -22,8 +22,8 @@ use cg_kind::Kind;
 use cg_value::{Entry, KindCode, Place, Val};
 
 impl<B: Kind> Heap<B> {
-    /// Takes the entry at a position below the length out of a list, a dictionary or an instance; those after it move
-    /// down by one. The references of the entry are now outside holds.
+    /// Removes the entry at a position below the length from a list, dictionary or instance; later ones move down. The
+    /// entry's references become outside holds.
     #[inline(always)]
     pub fn take(&mut self, object: u64, i: usize) -> Entry
         requires can { CanTake self.old object }
@@ -36,7 +36,7 @@ impl<B: Kind> Heap<B> {
         self.take_near(object, Near::default(), i)
     }
 
-    /// `take`, where the object is near.
+    /// `take`, with a hint of the object's slot.
     #[inline(always)]
     pub fn take_near(&mut self, object: u64, near: Near, i: usize) -> Entry
         requires can { CanTake self.old object }
@@ -52,8 +52,8 @@ impl<B: Kind> Heap<B> {
         entry
     }
 
-    /// Takes the entry under a key out of a list, a dictionary or an instance; those after it move down by one. `None` comes
-    /// exactly where no entry has the key. The references of the entry are now outside holds.
+    /// Removes the entry under a key from a list, dictionary or instance; later ones move down. `None` exactly if no
+    /// entry has the key. The entry's references become outside holds.
     #[inline(always)]
     pub fn take_key(&mut self, object: u64, key: Val) -> Option<Entry>
         requires can { CanTake self.old object }
@@ -69,8 +69,8 @@ impl<B: Kind> Heap<B> {
         }
     }
 
-    /// `take_key`, where the object is near and of this kind. `None` comes exactly where it is of another, and nothing has
-    /// changed then.
+    /// `take_key`, with a hint of the object's slot, if the object is of this kind. `None` exactly if it is of
+    /// another; then nothing has changed.
     #[inline(always)]
     pub fn take_key_if(
         &mut self,
@@ -100,8 +100,8 @@ impl<B: Kind> Heap<B> {
         Some(taken)
     }
 
-    /// Takes the last entry off, whatever the kind. `None` comes exactly where there is none. The references of the
-    /// entry are now outside holds.
+    /// Removes the last entry, whatever the kind. `None` exactly if there is none. The entry's references become
+    /// outside holds.
     pub fn detach(&mut self, object: u64) -> Option<Entry>
         requires live { IsLive self.old object }
         requires few { HasFewHolds self.old }
@@ -124,7 +124,7 @@ impl<B: Kind> Heap<B> {
 
     /// Appends an item to a list other than the garbage list.
     ///
-    /// `EntryLimit` comes exactly where 4,000,000 entries stand, and `OutOfMemory` only where memory runs out. A refusal
+    /// `EntryLimit` comes exactly if there are 4,000,000 entries, and `OutOfMemory` only if memory runs out. An error
     /// changes nothing.
     #[inline(always)]
     pub fn append(&mut self, list: u64, val: Val) -> Result<(), HeapFault>
@@ -140,7 +140,7 @@ impl<B: Kind> Heap<B> {
         self.append_near(list, Near::default(), val)
     }
 
-    /// `append`, where the list is near.
+    /// `append`, with a hint of the list's slot.
     #[inline(always)]
     pub fn append_near(&mut self, list: u64, near: Near, val: Val) -> Result<(), HeapFault>
         requires list { HasCode self.old list code.List }
@@ -166,15 +166,15 @@ impl<B: Kind> Heap<B> {
         }
     }
 
-    /// Puts a value at an index of a list, or under a key of a dictionary or an instance, and answers the value that it
-    /// replaces, whose reference is now an outside hold. The object is not the garbage list. `Ok(None)` comes exactly for
+    /// Puts a value at an index of a list, or under a key of a dictionary or instance, and returns the value that it
+    /// replaces, whose reference becomes an outside hold. The object is not the garbage list. `Ok(None)` means exactly
     /// a new key.
     ///
-    /// An untracked dictionary that is given a key or a value that may be tracked goes to the end of generation 0. (`gc`
+    /// An untracked dictionary that gets a key or value that may be tracked moves to the end of generation 0. (`gc`
     /// manual, `gc.is_tracked`.)
     ///
-    /// A present key, and a list, refuse nothing. For a new key `EntryLimit` comes exactly where 4,000,000 entries stand,
-    /// and `OutOfMemory` only where memory runs out. A refusal changes nothing.
+    /// An existing key and a list never fail. For a new key `EntryLimit` comes exactly if there are 4,000,000 entries,
+    /// and `OutOfMemory` only if memory runs out. An error changes nothing.
     #[inline(always)]
     pub fn put(&mut self, object: u64, key: Val, val: Val) -> Result<Option<Val>, HeapFault>
         requires other { object ≢ 1 }
@@ -198,9 +198,9 @@ impl<B: Kind> Heap<B> {
         }
     }
 
-    /// `put`, where the object is near and of this kind, and so is what the value refers to, if it refers to something. `None`
-    /// comes exactly where the object is of another kind, and nothing has changed then. Below the limit of entries the key is
-    /// looked for once, and the node of the object is read once.
+    /// `put`, with hints of the slots of the object and of the value's object, if the object is of this kind. `None`
+    /// exactly if it is of another; then nothing has changed. Below the entry limit the key is searched once, and the
+    /// object's node is read once.
     #[inline(always)]
     pub fn put_if(
         &mut self,
@@ -253,7 +253,7 @@ impl<B: Kind> Heap<B> {
         }
     }
 
-    /// Whether an object of this kind at this place is an untracked dictionary that the key or the value makes tracked.
+    /// Whether the key or value makes an untracked dictionary tracked, by its kind and place.
     #[inline(always)]
     fn makes_tracked(&self, code: KindCode, place: Place, key: Val, val: Val) -> bool
         requires live_key { IsLiveValue self.now key }
@@ -263,7 +263,7 @@ impl<B: Kind> Heap<B> {
         is_untracked_dict(code, place) && (self.may_be_tracked(key) || self.may_be_tracked(val))
     }
 
-    /// Whether a value may be tracked: an object that is no tuple, or a tracked one.
+    /// Whether a value may be tracked: an object that is not a tuple, or a tracked tuple.
     #[inline(always)]
     fn may_be_tracked(&self, val: Val) -> bool
         requires { IsLiveValue self.now val }
@@ -278,7 +278,7 @@ impl<B: Kind> Heap<B> {
         }
     }
 
-    /// Moves an object to the end of generation 0, if it is to be tracked.
+    /// Moves an object to the end of generation 0, if it becomes tracked.
     #[inline(always)]
     fn track_if(&mut self, tracks: bool, object: u64)
         requires { IsLive self.old object }
@@ -290,8 +290,8 @@ impl<B: Kind> Heap<B> {
     }
 }
 
-/// Whether a put under a key would add an entry where there may be no more. The key is looked for at the limit alone, and so
-/// it is handed over by reference: a copy would be made for each put.
+/// Whether a put under a key would exceed the entry limit. The key is only searched at the limit, so it is passed by
+/// reference: by value each put would copy it.
 #[inline(always)]
 fn is_past_limit<B: Kind>(boxes: &Boxes<B>, entries: u64, seat: Seat, key: &Val) -> bool
     requires held { HasBody boxes.now seat.code seat.body }

@@ -8,7 +8,7 @@ use super::Heap;
 use cg_kind::Kind;
 
 impl<B: Kind> Heap<B> {
-    /// One outside hold more.
+    /// Adds an outside hold.
     #[inline(always)]
     pub fn hold(&mut self, object: u64)
         requires live { IsLive self.old object }
@@ -18,8 +18,8 @@ impl<B: Kind> Heap<B> {
         self.arena.inc(object);
     }
 
-    /// One outside hold less, of which there is at least one. It answers whether the in-degree is now 0. (Developer
-    /// guide: an object whose count reaches 0 is deallocated.)
+    /// Releases one of at least one outside holds. Returns whether the in-degree is now 0. (Developer guide: an object
+    /// whose count reaches 0 is deallocated.)
     #[inline(always)]
     pub fn unhold(&mut self, object: u64) -> bool
         requires { 0 < outside_of self.old object }

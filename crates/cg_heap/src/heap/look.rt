@@ -1,4 +1,4 @@
-//! Looks at an entry, or at the row of a weak reference, which are counted.
+//! Counted looks at an entry, or at the row of a weak reference.
 ghost use Rattle.std.specs.Prelude.{◌≡◌, ◌↔◌, ◌+◌, ◌<◌, ◌∷◌, ◌++◌, [], Some, IfSome, IsSome, IfNone, IsNone, length, slice_get};
 ghost use Rattle.cg_graph.specs.Value.{without_last, entry_references};
 ghost use Rattle.cg_graph.specs.Rows.{referent_in, weak_references_in, next_older_in};
@@ -13,7 +13,7 @@ use cg_value::Entry;
 use std::sync::ledger::Ledger;
 
 impl<B: Kind> Heap<B> {
-    /// The entry at a position below the length, as `entry_at`, and the counter rises by 1.
+    /// `entry_at`, raising the counter by 1.
     pub fn look<L: Ledger>(&self, object: u64, i: usize, steps: &mut Steps<L>) -> Entry
         requires live { IsLive self.now object }
         requires within { i < length (entries_of self.now object) }
@@ -24,7 +24,7 @@ impl<B: Kind> Heap<B> {
         self.entry_at(object, i)
     }
 
-    /// Takes the last entry off, as `detach`, and the counter rises by 1 where there is one.
+    /// `detach`, raising the counter by 1 if there is an entry.
     pub fn detach_looking<L: Ledger>(&mut self, object: u64, steps: &mut Steps<L>) -> Option<Entry>
         requires live { IsLive self.old object }
         requires few { HasFewHolds self.old }
@@ -46,7 +46,7 @@ impl<B: Kind> Heap<B> {
         }
     }
 
-    /// The referent of a weak reference, as `referent_of`, and the counter rises by 1.
+    /// `referent_of`, raising the counter by 1.
     pub fn referent_looking<L: Ledger>(&self, weak: u64, steps: &mut Steps<L>) -> Option<u64>
         requires { IsLive self.now weak }
         ensures referent { result ≡ referent_in self.now.rows weak }
@@ -56,7 +56,7 @@ impl<B: Kind> Heap<B> {
         self.referent_of(weak)
     }
 
-    /// The newest weak reference to an object, as `newest_of`, and the counter rises by 1.
+    /// `newest_of`, raising the counter by 1.
     pub fn newest_looking<L: Ledger>(&self, object: u64, steps: &mut Steps<L>) -> Option<u64>
         requires { IsLive self.now object }
         ensures newest { result ≡ slice_get (weak_references_in self.now.rows object) 0 }
@@ -66,7 +66,7 @@ impl<B: Kind> Heap<B> {
         self.newest_of(object)
     }
 
-    /// The next older weak reference to the same object, as `older_of`, and the counter rises by 1.
+    /// `older_of`, raising the counter by 1.
     pub fn older_looking<L: Ledger>(&self, weak: u64, steps: &mut Steps<L>) -> Option<u64>
         requires live { IsLive self.now weak }
         requires refers { IsSome (referent_in self.now.rows weak) }

@@ -1,4 +1,4 @@
-//! Walks over a list, and the objects that stand there: `Near` says where an object's node may lie, and saves the look-up.
+//! Walks over a list and its objects: `Near` is a hint of a node's slot that saves the look-up.
 ghost use Rattle.std.specs.Prelude.{◌≡◌, ◌+◌, ◌<◌, ◌≤◌, IfSome, Some, length, slice_get, take};
 ghost use Rattle.std.specs.FinMap as fin;
 ghost use Rattle.cg_graph.specs.Value.{references};
@@ -17,7 +17,7 @@ use cg_value::{Entry, KindCode, Place, Val};
 use std::sync::ledger::Ledger;
 
 impl<B: Kind> Heap<B> {
-    /// `first`, and where it is.
+    /// `first`, with its slot.
     #[inline(always)]
     pub fn first_near(&self, place: Place, near: &mut Near) -> Option<u64>
         requires { IsPlace place }
@@ -26,7 +26,7 @@ impl<B: Kind> Heap<B> {
         self.arena.first_near(place, near)
     }
 
-    /// `next` of an object that is near, and where that is. So a walk over a list looks nothing up.
+    /// `next`, with a hint of the object's slot, and the slot of the result. So a walk over a list needs no look-ups.
     #[inline(always)]
     pub fn next_near(&self, object: u64, near: &mut Near) -> Option<u64>
         requires { IsLive self.now object }
@@ -35,7 +35,7 @@ impl<B: Kind> Heap<B> {
         self.arena.next_near(object, near)
     }
 
-    /// The kind, and where the object is, for what is asked of it next. Nothing is looked up where it is near already.
+    /// The kind, and the object's slot for later calls. A right hint saves the look-up.
     #[inline(always)]
     pub fn locate(&self, object: u64, near: &mut Near) -> KindCode
         requires { IsLive self.now object }
@@ -44,7 +44,7 @@ impl<B: Kind> Heap<B> {
         self.arena.locate(object, near)
     }
 
-    /// The value of a name, and where the object is to which it refers, if it refers to one.
+    /// The value of a name, and the slot of the object that it refers to, if any.
     #[inline(always)]
     pub fn name_near(&self, name: u32, near: &mut Near) -> Option<Val>
         requires { name < length self.now.names }
@@ -53,7 +53,7 @@ impl<B: Kind> Heap<B> {
         self.names.get_near(name as usize, near)
     }
 
-    /// `head_of`, where the object is near.
+    /// `head_of`, with a hint of the object's slot.
     #[inline(always)]
     pub fn head_near(&self, object: u64, near: Near) -> Head
         requires { IsLive self.now object }
@@ -64,7 +64,7 @@ impl<B: Kind> Heap<B> {
         self.arena.head_near(object, near)
     }
 
-    /// `len`, where the object is near.
+    /// `len`, with a hint of the object's slot.
     #[inline(always)]
     pub fn len_near(&self, object: u64, near: Near) -> usize
         requires { IsLive self.now object }
@@ -74,7 +74,7 @@ impl<B: Kind> Heap<B> {
         self.boxes.len(seat)
     }
 
-    /// `entry_at`, where the object is near.
+    /// `entry_at`, with a hint of the object's slot.
     #[inline(always)]
     pub fn entry_near(&self, object: u64, i: usize, near: Near) -> Entry
         requires live { IsLive self.now object }
@@ -85,7 +85,7 @@ impl<B: Kind> Heap<B> {
         self.boxes.entry_at(seat, i)
     }
 
-    /// `entry_near`, and the counter rises by 1.
+    /// `entry_near`, raising the counter by 1.
     #[inline(always)]
     pub fn look_near<L: Ledger>(
         &self,
@@ -103,7 +103,7 @@ impl<B: Kind> Heap<B> {
         self.entry_near(object, i, near)
     }
 
-    /// The entry at a position of an object that is near, `None` exactly where that is the length or more.
+    /// The entry at a position, `None` exactly if that is the length or more; with a hint of the object's slot.
     #[inline(always)]
     pub fn get_near(&self, object: u64, i: usize, near: Near) -> Option<Entry>
         requires { IsLive self.now object }
@@ -113,9 +113,9 @@ impl<B: Kind> Heap<B> {
         self.boxes.get(seat, i)
     }
 
-    /// Looks at the entries of an object that is near from a position on, `cg_kind::AT_ONCE` of them or as many as there
-    /// are, and writes the references that they have to the front of `found`, which has `cg_kind::ROOM` at least: of each
-    /// entry its value's and then its key's. The counter rises by the number of these entries.
+    /// Looks at the entries from a position on, at most `cg_kind::AT_ONCE`, and writes their references to the front
+    /// of `found`, which has length `cg_kind::ROOM` or more: for each entry its value's, then its key's. Takes a hint
+    /// of the object's slot. The counter rises by the number of these entries.
     #[inline(always)]
     pub fn note_near<L: Ledger>(
         &self,
@@ -141,8 +141,8 @@ impl<B: Kind> Heap<B> {
         noted
     }
 
-    /// The collector's number of an object that is near, which stands in a generation or among the candidates, becomes its
-    /// in-degree. (Developer guide, "Identifying reference cycles": `gc_refs` is set to the reference count.)
+    /// Sets the collector's number of an object in a generation or among the candidates to its in-degree; takes a hint
+    /// of its slot. (Developer guide, "Identifying reference cycles": `gc_refs` is set to the reference count.)
     #[inline(always)]
     pub fn set_gc_to_refs(&mut self, object: u64, near: Near)
         requires live { IsLive self.old object }
@@ -152,7 +152,7 @@ impl<B: Kind> Heap<B> {
         self.arena.set_gc_to_count(object, near);
     }
 
-    /// `move_to`, where the object is near.
+    /// `move_to`, with a hint of the object's slot.
     pub fn move_near(&mut self, object: u64, near: Near, place: Place)
         requires live { IsLive self.old object }
         requires place { IsPlace place }

@@ -1,4 +1,4 @@
-//! Objects that come and go.
+//! Making, saving and freeing objects.
 ghost use Rattle.std.specs.List.{All};
 ghost use Rattle.std.specs.Prelude.{◌≡◌, ◌≢◌, ◌<◌, ◌≤◌, ◌+◌, ◌++◌, ◌∷◌, ◌↔◌, [], ℕ, IfOk, IfSome, IsSome, OnOk, OnErr, Err, length};
 ghost use Rattle.cg_kind.specs.Calls.{IsParts};
@@ -23,14 +23,15 @@ use cg_weak::WeakTable;
 use std::alloc::AllocError;
 
 impl<B: Kind> Heap<B> {
-    /// Makes an object of these entries, held once from outside, and answers its serial, which is one above the last.
+    /// Makes an object from these entries, held once from outside, and returns its serial, which is one above the
+    /// last.
     ///
-    /// `class` is the class of an instance or the procedure of a function; other objects have none. `referent` is that of
-    /// a weak reference, whose row goes last; other objects have none. Each object stands last in the list of generation
-    /// 0, but a dictionary, which is untracked. (`gc` manual, `gc.is_tracked`.)
+    /// `class` is the class of an instance or the procedure of a function; other objects have none. `referent` is that
+    /// of a weak reference, whose row goes last; other objects have none. The object goes to the end of generation 0,
+    /// except a dictionary, which starts untracked. (`gc` manual, `gc.is_tracked`.)
     ///
-    /// `ObjectLimit` comes exactly where 1,000,000 objects are live, else `EntryLimit` exactly where entries and parts
-    /// pass 4,000,000, and `OutOfMemory` only where memory runs out. A refusal changes nothing.
+    /// `ObjectLimit` comes exactly if 1,000,000 objects are live, else `EntryLimit` exactly if entries and parts
+    /// exceed 4,000,000, and `OutOfMemory` only if memory runs out. An error changes nothing.
     pub fn make(
         &mut self,
         code: KindCode,
@@ -65,7 +66,7 @@ impl<B: Kind> Heap<B> {
         }
     }
 
-    // `make`, below the limits. All room is made before anything changes.
+    // `make`, below the limits. All allocation happens before any change.
     fn make_within(
         &mut self,
         code: KindCode,
@@ -89,7 +90,7 @@ impl<B: Kind> Heap<B> {
     {
         self.arena.reserve()?;
         reserve_row(&mut self.weak, referent)?;
-        // Each live object that the garbage list does not name is to have room there.
+        // The garbage list needs room for each live object that it does not name.
         let garbage = self.arena.body_of(1);
         self.boxes
             .reserve_total(garbage, self.objects as usize + 1)?;
@@ -103,7 +104,8 @@ impl<B: Kind> Heap<B> {
         Ok(serial)
     }
 
-    /// Appends an object to the garbage list, which does not name it yet. It takes no memory. (`gc` manual, `gc.garbage`.)
+    /// Appends an object to the garbage list, which does not name it yet. It does not allocate. (`gc` manual,
+    /// `gc.garbage`.)
     pub fn save(&mut self, object: u64)
         requires live { IsLive self.old object }
         requires other { object ≢ 1 }
@@ -115,7 +117,7 @@ impl<B: Kind> Heap<B> {
         self.arena.inc(object);
     }
 
-    /// Lets an object go that nothing holds, that has no entries, and that is in no row.
+    /// Frees an object that nothing holds, that has no entries, and that is in no row.
     pub fn free(&mut self, object: u64)
         requires live { IsLive self.old object }
         requires unheld { count_of self.old object ≡ 0 }
@@ -129,7 +131,7 @@ impl<B: Kind> Heap<B> {
     }
 }
 
-/// Makes room for the row of an object, if it is to have one.
+/// Reserves the row of an object, if it will have one.
 fn reserve_row(weak: &mut WeakTable, referent: Option<u64>) -> Result<(), AllocError>
     ensures ok { OnOk result (IsSome referent → 0 < weak.new.room) }
     ensures rows { weak.new.rows ≡ weak.old.rows }
@@ -140,7 +142,7 @@ fn reserve_row(weak: &mut WeakTable, referent: Option<u64>) -> Result<(), AllocE
     }
 }
 
-/// The row of a new object, if it has one. There is room for it.
+/// Adds the row of a new object, if it has one; there is room for it.
 fn add_row(weak: &mut WeakTable, serial: u64, referent: Option<u64>)
     requires newest { All (λ r. r.weak < serial) weak.old.rows }
     requires room { IsSome referent → 0 < weak.old.room }

@@ -11,7 +11,7 @@ use cg_kind::Kind;
 use cg_value::Place;
 
 impl<B: Kind> Heap<B> {
-    /// The object goes to the end of the list of a place, which may be its own. (Ours; CPython's `gc_list_move`.)
+    /// Moves the object to the end of the list of a place, which may be its own. (Ours; CPython's `gc_list_move`.)
     pub fn move_to(&mut self, object: u64, place: Place)
         requires live { IsLive self.old object }
         requires place { IsPlace place }
@@ -20,7 +20,7 @@ impl<B: Kind> Heap<B> {
         self.arena.move_to(object, place);
     }
 
-    /// All objects of one place go to the end of the list of another, in their order. (Developer guide, "Optimization:
+    /// Moves all objects of one place to the end of the list of another, in order. (Developer guide, "Optimization:
     /// generations": the survivors are merged into the next generation.)
     pub fn merge(&mut self, from: Place, to: Place)
         requires from { IsPlace from }
@@ -39,7 +39,7 @@ impl<B: Kind> Heap<B> {
         self.arena.set_finalized(object);
     }
 
-    /// Gives the object, which stands in a generation or among the candidates, another collector's number.
+    /// Sets the collector's number of an object in a generation or among the candidates.
     #[inline(always)]
     pub fn set_gc(&mut self, object: u64, number: u32)
         requires live { IsLive self.old object }
@@ -49,7 +49,7 @@ impl<B: Kind> Heap<B> {
         self.arena.set_gc(object, number);
     }
 
-    /// The collector's number of a candidate falls by 1, if it is above 0; any other object stays as it is.
+    /// Lowers the collector's number of a candidate by 1, if it is above 0; any other object is unchanged.
     #[inline(always)]
     pub fn lower(&mut self, object: u64)
         requires { IsLive self.old object }

@@ -1,4 +1,4 @@
-//! Weak references: which has which referent, and which wait for their callback with the one that they had.
+//! Weak references: each one's referent, and which wait for their callback with their former referent.
 ghost use Rattle.std.specs.Prelude.{◌≡◌, ◌↔◌, [], IsTrue, IsSome, slice_get};
 ghost use Rattle.cg_graph.specs.Rows.{referent_in, waited_in, weak_references_in, waiting_in, next_older_in};
 ghost use Rattle.cg_graph.specs.Store.{IsLive};
@@ -8,7 +8,7 @@ use super::Heap;
 use cg_kind::Kind;
 
 impl<B: Kind> Heap<B> {
-    /// Whether no weak reference has a referent, and none waits for its callback. (Ours.)
+    /// Whether no weak reference has a referent or waits for its callback. (Ours.)
     #[inline(always)]
     pub fn is_unreferred(&self) -> bool
         ensures { IsTrue result ↔ (self.now.rows ≡ []) }
@@ -16,8 +16,8 @@ impl<B: Kind> Heap<B> {
         self.weak.is_empty()
     }
 
-    /// The referent of a weak reference. `None` comes exactly where the object has no row or waits. (`weakref` manual: a
-    /// reference object that is called gives its referent, or None once that is no longer alive.)
+    /// The referent of a weak reference. `None` exactly if the object has no row or waits. (`weakref` manual: calling
+    /// a reference object gives its referent, or None if that is no longer alive.)
     pub fn referent_of(&self, weak: u64) -> Option<u64>
         requires { IsLive self.now weak }
         ensures { result ≡ referent_in self.now.rows weak }
@@ -25,7 +25,7 @@ impl<B: Kind> Heap<B> {
         self.weak.referent_of(weak)
     }
 
-    /// The newest weak reference to an object, `None` exactly where it has none that does not wait. (`weakref` manual:
+    /// The newest weak reference to an object that is not waiting, `None` exactly if there is none. (`weakref` manual:
     /// the most recently registered callback is called first.)
     pub fn newest_of(&self, object: u64) -> Option<u64>
         requires { IsLive self.now object }
@@ -34,7 +34,7 @@ impl<B: Kind> Heap<B> {
         self.weak.newest_of(object)
     }
 
-    /// The newest weak reference that waits with an object, `None` exactly where none does. (Ours.)
+    /// The newest weak reference that waits with an object, `None` exactly if none does. (Ours.)
     pub fn newest_waiting(&self, object: u64) -> Option<u64>
         requires { IsLive self.now object }
         ensures { result ≡ slice_get (waiting_in self.now.rows object) 0 }
@@ -42,7 +42,7 @@ impl<B: Kind> Heap<B> {
         self.weak.newest_waiting(object)
     }
 
-    /// The next older weak reference to the same object, `None` exactly where there is none that does not wait. (Ours.)
+    /// The next older weak reference to the same object that is not waiting, `None` exactly if there is none. (Ours.)
     pub fn older_of(&self, weak: u64) -> Option<u64>
         requires live { IsLive self.now weak }
         requires refers { IsSome (referent_in self.now.rows weak) }
@@ -51,7 +51,7 @@ impl<B: Kind> Heap<B> {
         self.weak.older_of(weak)
     }
 
-    /// A weak reference loses its referent: its row waits with it from now on, or is gone. It takes no memory.
+    /// Clears a weak reference's referent: its row now waits with the referent, or is removed. It does not allocate.
     pub fn clear_weak(&mut self, weak: u64, wait: bool)
         requires live { IsLive self.old weak }
         requires refers { IsSome (referent_in self.old.rows weak) }
@@ -60,7 +60,7 @@ impl<B: Kind> Heap<B> {
         self.weak.clear(weak, wait);
     }
 
-    /// A weak reference that waits does so no longer: its row is gone. It takes no memory. (Ours.)
+    /// Removes the row of a weak reference that waits. It does not allocate. (Ours.)
     pub fn forget_weak(&mut self, weak: u64)
         requires live { IsLive self.old weak }
         requires waits { IsSome (waited_in self.old.rows weak) }

@@ -27,7 +27,7 @@ returns-in-Some-clause-put c =
     ap (slice_set c.args.pairs.now.items c.in-Some.at) c.set_val.ensures
     ∙ found_put c.args.key c.args.pairs.now.items c.in-Some.at f _ c.args.val (c.index_mut-pair.ensures.value ∙ found_entry c.args.key c.args.pairs.now.items c.in-Some.at f _)
 
--- where it was not
+-- the key was not found
 none : (c : goal.In-None) → position_from (has_key c.args.key) 0 c.args.pairs.now.items ≡ None
 none c = ap (position_from (has_key c.args.key) 0) (sym c.as_slice.ensures.value) ∙ sym c.place_in.ensures ∙ c.in-None.is
 

@@ -20,7 +20,7 @@ missing : (r : Option Entry) → is_some r ≡ false → r ≡ None
 missing (Some e) none = absurd (cc)
 missing None none = refl
 
--- what is said of an entry that is there, and of none
+-- a fact about a present entry, and about a missing one
 of_entry : {P : Type 0} (r : Option Entry) (e : Entry) → r ≡ Some e → OnSome r P → P
 of_entry (Some x) e is p = p
 of_entry None e is p = absurd (cc)

@@ -14,7 +14,7 @@ push-requires t c =
     let all : sum c.deref_mut.result.now ≡ sum c.args.self.now = ap sum c.deref_mut.ensures.value ∙ all_parts numbers c.in-Some.parts.value above ∙ ap sum c.self.view_is in
     (omega (arith, c.decreases, above.fewer, ap length c.deref_mut.ensures.value, ap length c.self.view_is), omega (arith, all, c.requires))
 
--- what stands once the 0 is there, where the sums above were made ready for it
+-- the state after the 0 is appended and the sums above were prepared for it
 finish : (t : _) (c : goal.In_ok-push t) (now : Inside) → c.match-self.self-inside ≡ now → AreAbove (now.numbers.items ++ 0 ∷ []) (unboxed now.above) → AreAbove c.push-2.new.self.items (unboxed c.match-self.self-inside.above)
 finish t c now is are =
     subst (λ l. AreAbove l (unboxed c.match-self.self-inside.above)) (sym c.in_ok-push.ensures.items)

@@ -10,7 +10,7 @@ use Rattle.cg_kinds.proofs.TableLemmas.{StandsIn, ordered_none, ordered_stands, 
 use Rattle.cg_kinds.proofs.table.Table.take_key.Goals as goal
 use Rattle.cg_kinds.proofs.table.Table.take_key.Goals.{After-self-in-Some-1, After-from_residual}
 
--- in an order the entry stands at the place of the map's index
+-- in an order the entry is at the place of the map's index
 stands : (c : After-self-in-Some-1) → StandsIn (pairs_of c.self.inside.map.entries) c.deref_mut.result.now c.args.key c.in_ok-index-in-Some.index
 stands c =
     let pairs = c.self.inside.map.entries in
