@@ -82,7 +82,6 @@ module _ (s new : Slab Slot) (ends : List Ends) (rows : List (ℕ × ℕ)) (soun
         let size : e.size ≡ (ends_at ends p).size - 1 = ap (λ (d : Ends). d.size) ends_are in
         omega (arith, sizes-set ends sound.ten p below e, size, size_there)
 
--- the node is removed
 module _ (s mid new : Slab Slot) (ends : List Ends) (x y : SlotIndex) (kept : IsKept s x ends) (spare : ℕ) (v : Nodes) (view_is : value_of s ends (rows_of s) spare ≡ v) (t k : ℕ) (c : Slot) (row_is : row_of (rows_of s) t ≡ Some k) (slot_is : get s k ≡ Some c) (p : ℕ) (p_is : p ≡ place_number c.place) (below : p < 10) (tied_is : mid ≡ tied c.word.before (after_of c) s) (e : Ends) (ends_are : e ≡ ends_without c.word.before (after_of c) (ends_at ends p)) (updates : Updates mid new k None) (len : slab_len new + 1 ≡ slab_len mid) (removed : IsIndex (λ j. if j == k then None else serial_in (get s j)) y) where
   abbrev rows : List (ℕ × ℕ)
   rows = rows_of s

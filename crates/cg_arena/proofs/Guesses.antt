@@ -26,7 +26,7 @@ module _ (h : Hints) (i slot : ℕ) where
       ap (λ n. get_or (told h i slot).guesses.items n 0) (index-told h i slot q)
       ∙ get_or-set_other h.guesses.items i (guess_index h q) slot 0 differs
 
-  -- a guess for a slot may be lost
+  -- setting a guess changes only guesses equal to the overwritten value
   pub guess-lost : (was q : ℕ) → get_or h.guesses.items i 0 ≡ was → (guess_at (told h i slot) q ≡ guess_at h q) ⊎ (guess_at h q ≡ was)
   guess-lost was q is = elim (cases_eq (guess_index h q) i) [
     | inl same ↦ inr (ap (λ n. get_or h.guesses.items n 0) same ∙ is)

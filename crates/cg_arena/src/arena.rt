@@ -329,7 +329,6 @@ impl Arena {
         self.index.has(&self.slots, serial)
     }
 
-    /// The node of a serial, in its slot.
     #[inline(always)]
     fn node(&self, serial: u64) -> Slot
         requires { HasNode self.now serial }

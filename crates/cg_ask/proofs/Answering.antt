@@ -55,7 +55,7 @@ referrers_told ms object holds old mid new h is put = record {
   appended = put ∙ ap (λ n. mid ++ line (codes "outside") (n ∷ [])) is ∙ ap (λ t. t ++ line (codes "outside") (outside_at ms object ∷ [])) h.text ∙ append_assoc old (rows_text (codes "referrer") h.rows) (line (codes "outside") (outside_at ms object ∷ []));
 }
 
--- the rows of what would die, then the totals
+-- the rows of what would go, then the totals
 pub gone_told : (ms : List Member) (places : List ℕ) (gone dead : List Bool) (old mid new : List ℕ) (t : Totals) → MarkJust (length ms) (IsGone ms places) gone → MarkJust (length ms) (Dies ms (Includes places)) dead → AppendsGone ms gone dead old mid t
     → new ≡ mid ++ line (codes "total") (t.members ∷ t.bytes ∷ t.dead ∷ t.dead_bytes ∷ []) → AppendsTold (TellsGone ms places) (codes "gone") (λ rows. line (codes "total") (totals_of ms rows)) old new
 gone_told ms places gone dead old mid new t g d h put = record {

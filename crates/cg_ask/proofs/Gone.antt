@@ -1,4 +1,4 @@
--- What would die: its members, their totals, and that what dies by count and was reached is let go.
+-- What would go: its members, their totals, and that what dies by count and was reached is let go.
 use Rattle.std.proofs.Common.{◌≡◌, refl, sym, ◌∙◌, ap, subst, ℕ, zero, suc, ◌+◌, ◌*◌, ◌<◌, ◌≤◌, ◌^◌, Bool, true, false, cond, ◌⊎◌, inl, inr, List, [], ◌∷◌, ◌++◌, length, map, Option, Some, arith, get_or, set, replicate, append-nil, length-append}
 use Rattle.std.specs.Prelude.{◌==◌, slice_get, codes}
 use Rattle.std.specs.List.{concat, AllByRecursion}
@@ -114,7 +114,7 @@ dead_not_reached ms dropped o right members dies r =
         within : (y : ℕ) → 0 < degree_at ms y → y < length ms
         within y h = either (cases_lt y (length ms)) (λ l. l) (λ g. absurd (omega (arith, h, no_degree ms y g)))
 
--- the members that would die, by marks
+-- the members that would go, by marks
 pub gone_just : (ms : List Member) (places : List ℕ) (dead before after let_go gone : List Bool) → MarkJust (length ms) (Dies ms (Includes places)) dead → MarkJust (length ms) (IsReached ms) before → MarkJust (length ms) (Reach (IsHeld ms) (IsOther ms places) (edges ms)) after
     → MarkJust (length before) (λ i. Marks before i × ¬ Marks after i) let_go → MarkJust (length dead) (λ i. Marks dead i ⊎ Marks let_go i) gone → MarkJust (length ms) (IsGone ms places) gone
 gone_just ms places dead before after let_go gone d b a l g = record {

@@ -55,7 +55,7 @@ pub record TellsLost (ms : List Member) (m : ℕ) (ns : List ℕ) : Type 0 where
   pub lost : IsLost ms m
   pub stuck : IsFlag (IsStuck ms m) ns
 
--- a member that would die, and whether it dies by count
+-- a member that would go, and whether it dies by count
 pub record TellsGone (ms : List Member) (dropped : List ℕ) (m : ℕ) (ns : List ℕ) : Type 0 where
   pub gone : IsGone ms dropped m
   pub by_count : IsFlag (Dies ms (Includes dropped) m) ns

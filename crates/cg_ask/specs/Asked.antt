@@ -133,6 +133,6 @@ pub record IsKeptByWords (ms : List Member) (o : ℕ) : Type 0 where
   pub lost_with : IsLost (all_told ms) o
   pub reached : ¬ IsLost ms o
 
--- what would die if all references to these were dropped
+-- what would go if all references to these were dropped
 abbrev pub IsGone : List Member → List ℕ → ℕ → Type 0
 IsGone ms dropped o = Dies ms (Includes dropped) o ⊎ IsLetGo ms dropped o

@@ -1,4 +1,4 @@
--- Rows of members that would die were appended and counted. (Ours.)
+-- Rows of members that would go were appended and counted. (Ours.)
 use Rattle.std.specs.Prelude.{◌≡◌, ℕ, Bool, List, [], ◌∷◌, ◌++◌, codes}
 use Rattle.cg_search.specs.Places.{Marks}
 use Rattle.cg_snapshot.specs.declared.heap.Member.{Member}

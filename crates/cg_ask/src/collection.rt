@@ -11,14 +11,12 @@ use cg_search::{count_targets, reached};
 use cg_snapshot::Member;
 use std::alloc::{AllocError, Global};
 
-/// Which members are tracked.
 fn tracked(alloc: Global, members: &[Member]) -> Result<Vec<bool>, AllocError>
     ensures { IfOk result (λ marks. marks.items ≡ tracked_of members.now) }
 {
     members.iter().map(|member| member.tracked).collect(alloc)
 }
 
-/// Which members have a legacy finalizer.
 fn legacy(alloc: Global, members: &[Member]) -> Result<Vec<bool>, AllocError>
     ensures { IfOk result (λ marks. marks.items ≡ legacy_of members.now) }
 {

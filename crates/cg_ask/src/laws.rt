@@ -1,4 +1,4 @@
-//! Laws on paths and on what dies, each the contract of a function with an empty body.
+//! Laws on paths and on what goes, each the contract of a function with an empty body.
 ghost use Rattle.std.specs.Prelude.{◌↔◌, ◌<◌, [], ℕ, List, false, length};
 ghost use Rattle.cg_graph.specs.Member.{Includes};
 ghost use Rattle.cg_graph.specs.Reach.{Reach};

@@ -1,4 +1,4 @@
-//! Questions about a recorded heap, and their answers: why a member is alive, and what would die with it.
+//! Questions about a recorded heap, and their answers: why a member is alive, and what would go with it.
 //!
 //! The layer above rests on one contract: the output is the text of the answers (`specs/Answers`, `specs/Asked`). The
 //! recorder of the heap need not be trusted, but the answers are about what was recorded.

@@ -12,7 +12,6 @@ use cg_search::reached;
 use cg_snapshot::Member;
 use std::alloc::{AllocError, Global};
 
-/// Which of these numbers are above 0.
 fn above_zero(alloc: Global, numbers: &[u64]) -> Result<Vec<bool>, AllocError>
     ensures { IfOk result (λ marks. marks.items ≡ map (λ n. nat_lt 0 n) numbers.now) }
 {

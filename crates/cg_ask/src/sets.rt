@@ -1,4 +1,4 @@
-//! Sets of members: what is lost, what would die, and what untold words keep.
+//! Sets of members: what is lost, what would go, and what untold words keep.
 ghost use Rattle.std.specs.Prelude.{false, ◌≡◌, ◌≤◌, ◌<◌, ◌+◌, ◌^◌, ℕ, length, map, codes, cond, IfOk, OnOk};
 ghost use Rattle.std.specs.List.{AllByRecursion};
 ghost use Rattle.cg_graph.specs.Member.{Includes};
@@ -40,7 +40,7 @@ pub(crate) fn put_lost(
     Ok(())
 }
 
-/// What would die.
+/// What would go.
 #[derive(Drop)]
 struct Gone {
     /// All of it.
@@ -49,7 +49,7 @@ struct Gone {
     dead: Vec<bool>,
 }
 
-/// What would die if all references to these members were dropped.
+/// What would go if all references to these members were dropped.
 fn gone_of(
     alloc: Global,
     members: &[Member],
@@ -71,7 +71,7 @@ fn gone_of(
     Ok(Gone { gone, dead })
 }
 
-/// The number of members that would die and their bytes, and the same of those that die by count.
+/// The number of members that would go and their bytes, and the same of those that die by count.
 #[derive(Clone, Copy, Drop)]
 struct Totals {
     members: u64,
@@ -96,7 +96,7 @@ fn add_gone(totals: Totals, size: u64, by_count: bool) -> Totals
     }
 }
 
-/// Appends a row for each member that would die, and counts them.
+/// Appends a row for each member that would go, and counts them.
 fn put_gone(out: &mut Vec<u8>, members: &[Member], gone: &Gone) -> Result<Totals, AllocError>
     requires gone { length gone.now.gone.items ≡ length members.now }
     requires dead { length gone.now.dead.items ≡ length members.now }

@@ -43,7 +43,6 @@ fn put_rest(out: &mut Vec<u8>, path: &[usize]) -> Result<(), AllocError>
     Ok(())
 }
 
-/// Appends the lines of a path.
 fn put_path(
     out: &mut Vec<u8>,
     members: &[Member],

@@ -96,7 +96,6 @@ no_fault p code h (too_low a f) = f h.degrees
 no_fault p code h (loses a b f) = f h.lost
 no_fault p code h (sets_aside a b c d f) = f (h.set_aside d)
 
--- a graph has one least code
 one_code : (p : Part) (c d : ℕ) → HasFault p c → HasFault p d → c ≡ d
 one_code p c d (misnamed f) (misnamed g) = refl
 one_code p c d (misnamed f) (too_low n g) = absurd (f n)
@@ -115,7 +114,6 @@ one_code p c d (sets_aside n o q r f) (too_low m g) = absurd (g o)
 one_code p c d (sets_aside n o q r f) (loses m s g) = absurd (g q)
 one_code p c d (sets_aside n o q r f) (sets_aside m s t u g) = refl
 
--- each of some graphs is right
 each_right : (ps : List Part) → All IsRight ps → (p : Part) → Includes ps p → IsRight p
 each_right [] h p m = absurd m
 each_right (q ∷ ps) h p (inl e) = subst IsRight e (h 0 p (omega arith))

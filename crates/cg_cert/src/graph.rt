@@ -55,7 +55,6 @@ fn opposite(alloc: Global, marks: &[bool]) -> Result<Vec<bool>, AllocError>
     marks.iter().map(|mark| !*mark).collect(alloc)
 }
 
-/// Whether the same positions are marked.
 fn are_same(marks: &[bool], others: &[bool]) -> bool
     ensures { (result ≡ true) ↔ (marks.now ≡ others.now) }
 {

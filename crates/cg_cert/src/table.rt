@@ -17,7 +17,6 @@ pub(crate) enum Places {
     Listed(BTreeMap<u64, usize>),
 }
 
-/// Whether the serials of members ascend.
 fn ascend(members: &[Member]) -> bool
     ensures { result ≡ true → IsStrictlyIncreasing (serials_of members.now) }
 {

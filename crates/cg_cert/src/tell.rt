@@ -36,7 +36,6 @@ pub(crate) fn tell_large<K: Sink>(sink: &mut K) -> CheckStatus
     }
 }
 
-/// Appends a number.
 fn push_number(text: &mut ArrayString<100>, number: u64)
     requires { length text.old.bytes + 40 ≤ 100 }
     ensures appended { text.new.bytes ≡ text.old.bytes ++ decimal number }
@@ -46,7 +45,6 @@ fn push_number(text: &mut ArrayString<100>, number: u64)
     text.push_str(buffer.format(number));
 }
 
-/// The line of a verdict.
 fn verdict_line(verdict: Verdict) -> ArrayString<100>
     ensures { result.bytes ≡ verdict_text verdict }
 {
@@ -67,7 +65,6 @@ fn verdict_line(verdict: Verdict) -> ArrayString<100>
     text
 }
 
-/// The status of a verdict.
 fn status_for(verdict: Verdict) -> CheckStatus
     ensures { result ≡ status_of verdict }
 {

@@ -3,7 +3,6 @@ use std::alloc::Global;
 use std::io::ErrorKind;
 use std::{env, io};
 
-/// The words after the program's name.
 fn words_after_name(rt: &HostRuntime) -> io::Result<Vec<String>> {
     let mut words = Vec::new(rt.alloc());
     for word in env::args(rt)?.skip(1) {

@@ -252,7 +252,6 @@ module _ {all : List Bodies} {v : Nodes} {names : List (Option Val)} {last : ℕ
           some_place : {q r : Place} → Some q ≡ Some r → q ≡ r
           some_place e = cc
 
-  -- the garbage list is a list
   root_kind : HasCode was 1 ListKind
   root_kind = known (fin.get v.nodes 1) (fin.get was.nodes 1) h.keeps.0.root.seat (h.keeps.0.shape.alike 1) refl
     where

@@ -57,7 +57,6 @@ references-le s es i =
 abbrev one_of : Val → ℕ → ℕ
 one_of v s = occurrences s (references_of_value (Some v))
 
--- a value refers to a serial
 refers : (v : Val) (s : ℕ) → v ≡ val.Ref s → 0 < one_of v s
 refers v s e =
     let is : one_of v s ≡ one_of (val.Ref s) s = ap (λ w. one_of w s) e in

@@ -91,7 +91,6 @@ module _ (all : List Bodies) (v : Nodes) (objects number : ℕ) (store : Store) 
   where-same : (p : ℕ) → p ≡ serial → seat_in (fin.get added.nodes p) ≡ Some (code, body)
   where-same p same = ap seat_in (get-insert_same v.nodes serial p _ same)
 
-  -- no other node has this body
   no-other : {Y : Type 0} (p : ℕ) (b : KindCode × ℕ) → seat_in (fin.get v.nodes p) ≡ Some b → b ≡ (code, body) → Y
   no-other {Y} p b e is = known (fin.get v.nodes p) (fin.get store.nodes p) (ok.shape.alike p) e
     where

@@ -46,7 +46,6 @@ module _ {all : List Bodies} {v : Nodes} {names : List (Option Val)} {last : ℕ
     abbrev there : (n : ArenaNode) × (fin.get v.nodes o ≡ Some n) × (n.code ≡ code) × (n.body ≡ body)
     there = node_seated (fin.get v.nodes o) code body seat
 
-    -- its object
     object_there : (x : Node) × (fin.get old.nodes o ≡ Some x) × (x.code ≡ code) × (x.entries ≡ entries_in_box all code body) × HasBody all code body
     object_there =
         let (x, at, is, has) = object-of all v.nodes was.nodes o there.0 (h.keeps.0.shape.alike o) there.1 in (

@@ -156,7 +156,7 @@ stuck_is ms right c =
     let l = all_lost_just ms c.reaches in
     stuck_just ms (lost ms) (cleared ms) (dead_by_collection ms) (stuck ms) l k d (just_only (lost ms) (dead_by_collection ms) (stuck ms) (l.len ∙ sym d.len) refl)
 
--- what would die
+-- what would go
 abbrev pub these : List Member → List ℕ → List Bool
 these ms places = marks_to (length ms) (λ i. includes places i)
 

@@ -98,7 +98,6 @@ module _ (slots : List (Option ℕ)) (homes : List ℕ) (are : AreHomes slots ho
   pub one_slot : (index slot other : ℕ) → get_or slots slot None ≡ Some index → get_or slots other None ≡ Some index → other ≡ slot
   one_slot index slot other here there = sym (are.at_home other index there) ∙ are.at_home slot index here
 
-  -- a slot holds one index
   one_index : (slot index other : ℕ) → get_or slots slot None ≡ Some index → get_or slots slot None ≡ Some other → index ≡ other
   one_index slot index other here there = some_is index other (sym here ∙ there)
 

@@ -129,7 +129,7 @@ module _ (slots : List (Option ℕ)) (counts : List ℕ) (are : AreCounts slots 
       (here, pair_there slots (block * 16 + k) next)
 
   module _ (slot index : ℕ) (pair : get_or slots slot None ≡ Some index) where
-    -- without the slot's pair, no more pairs are before its block than after it
+    -- without the slot's pair, at most as many pairs are before its block as before the next one
     block_grows : pairs_before (set slots slot None) (16 * (slot / 16)) ≤ pairs_before (set slots slot None) (16 * (slot / 16) + 16)
     block_grows = before_grows (set slots slot None) (16 * (slot / 16)) (16 * (slot / 16) + 16) (omega arith)
 

@@ -195,7 +195,6 @@ picked_all es count long =
     ∙ ap (λ n. get_or es n nothing) (get_or-range_with_len 0 count j 0 low ∙ (omega arith))
     ∙ get_or_default es j nothing d (omega (arith, low, long)))
 
--- the keys of a map are distinct
 distinct_pairs : (pairs : List (Val × Val)) → IsDistinct equal (keys_of pairs) → (key : Val) (i j : ℕ) → i < j → j < length pairs → has_key key (get_or (pairs_of pairs) i nothing) ≡ true → has_key key (get_or (pairs_of pairs) j nothing) ≡ true → ⊥
 distinct_pairs [] distinct key i j below within here there = absurd (omega (arith, within))
 distinct_pairs (p ∷ pairs) distinct key i zero below within here there = absurd (omega (arith, below))

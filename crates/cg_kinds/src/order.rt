@@ -83,7 +83,6 @@ fn take_slot(
     empty_slot(slots.as_mut_slice(), homes, slot)
 }
 
-/// Closes the gaps between slots.
 fn close_gaps(slots: &mut Vec<IndexOrGap>)
     ensures items { slots.new.items ≡ map (λ index. Some index) (indexes slots.old.items) }
     ensures capacity { vec_capacity slots.new ≡ vec_capacity slots.old }
@@ -162,7 +161,6 @@ fn grow_slots(slots: &mut Vec<IndexOrGap>, counts: &mut Sums) -> Result<(), Allo
     slots.reserve_exact(more)
 }
 
-/// Closes the gaps.
 #[inline(never)]
 fn close(slots: &mut Vec<IndexOrGap>, homes: &mut Vec<u32>, counts: &mut Sums)
     requires homes { AreHomes slots.old.items homes.old.items }

@@ -7,7 +7,6 @@ use crate::sums::{PART, Sums};
 use arrayvec::ArrayVec;
 use cg_kind::AT_ONCE;
 
-/// The number of pairs in slots.
 #[tactic(auto, using(crate::proofs::SlotLemmas::before_more, crate::proofs::SlotLemmas::before_all, crate::proofs::SlotLemmas::few_before))]
 fn count_pairs(slots: &[IndexOrGap]) -> usize
     ensures { result ≡ length (indexes slots.now) }
@@ -31,7 +30,7 @@ pub fn pairs_before(slots: &[IndexOrGap], counts: &Sums, slot: usize) -> usize
     counts.before(block) + count_pairs(&slots[block * PART..slot])
 }
 
-/// The first slot from `first` on with `count` pairs between `first` and it.
+/// The slot of the pair that has exactly `count` pairs between `first` and itself.
 fn slot_from(slots: &[IndexOrGap], first: usize, count: usize) -> usize
     requires within { before slots.now first + count < length (indexes slots.now) }
     ensures before { before slots.now result ≡ before slots.now first + count }

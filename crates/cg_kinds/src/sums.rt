@@ -36,7 +36,6 @@ impl Model for Sums {
     ghost size_decreases = { λ a h. Prim.grind (arith) };
 }
 
-/// The sum of numbers.
 fn sum_of(numbers: &[u32]) -> usize
     requires { sum numbers.now < 2 ^ 32 }
     ensures { result ≡ sum numbers.now }

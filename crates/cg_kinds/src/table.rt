@@ -52,7 +52,7 @@ impl Model for Table {
     ghost invariant = { λ t. IsOrderOf (length t.map.entries) (unboxed t.order) };
 }
 
-/// If at most this many pairs stand from a removed one on, itself included, the later ones shift down. An order for
+/// If at most this many pairs remain from a removed one on, itself included, the later ones shift down. An order for
 /// fewer would not fit in 300 bytes plus 64 a pair, since the map doubles its index at the 37th.
 const CLOSE: usize = 44;
 
@@ -67,7 +67,6 @@ fn entry_of(key: &Nine, val: &Nine) -> Entry
     }
 }
 
-/// The pair at an index of a map.
 #[inline(always)]
 fn pair_at(map: &Map, index: usize) -> Entry
     requires { index < length map.now.entries }

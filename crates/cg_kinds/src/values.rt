@@ -167,7 +167,7 @@ fn close_gap(sorts: &mut Vec<u8>, numbers: &mut Vec<u64>, first: &mut usize)
 }
 
 /// Makes a free place at the end of both columns for one more value: closes the gap once a column is full. If the room
-/// exceeds the gap, there is a place.
+/// exceeds the gap, there is a place already.
 #[inline(always)]
 fn have_place(sorts: &mut Vec<u8>, numbers: &mut Vec<u64>, first: &mut usize, room: usize)
     requires columns { AreColumns sorts.old.items numbers.old.items first.old room (vec_capacity sorts.old) (vec_capacity numbers.old) }
@@ -306,7 +306,6 @@ impl Values {
         val
     }
 
-    /// Removes the first value.
     #[inline(always)]
     fn skip_first(&mut self)
         requires { 0 < length self.old.items }
@@ -317,7 +316,6 @@ impl Values {
         self.room += 1;
     }
 
-    /// Closes the front gap.
     fn close(&mut self)
         ensures { self.new ≡ self.old }
     {

@@ -11,7 +11,6 @@ use Rattle.std.proofs.lemmas.Str.Parse.{IsNumeralModel, numerals_by_fold, tells_
 use Rattle.std.proofs.lemmas.Fmt.{decimal_nonempty, first_decimal, decimal_injective, decimal-digits_value, digits_decimal, digits_value-decimal, decimal_digit}
 use Rattle.cg_records.specs.Number.{is_plain}
 
--- each byte is a digit
 abbrev pub AreDigits : List ℕ → Type 0
 AreDigits ds = (i : ℕ) → i < length ds → IsInRange 48 57 (get_or ds i 0)
 

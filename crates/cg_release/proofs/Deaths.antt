@@ -135,7 +135,6 @@ module _ (script : Script) (w : World) (given : List ℕ) (below : List Activity
       dies_on Detaching h b = detaches (weak_references_if (has_finalizers script) u.objects o) b
       dies_on Emptying h b = empties (last_entry (entries_of u.objects o)) refl b
 
-    -- a release
     releases : (refs : List ℕ) → Between w given below gone (Releasing refs ∷ tops) done u.names u.objects u.stack → (let t : Transition = released refs (tops ++ below) u in R t.0 t.1)
     releases [] b = λ quiet. inl (gone, tops, goes w given below gone (Releasing [] ∷ tops) tops done [] u.names u.objects u.objects u.stack (lets_same gone u.objects) (λ a m. b.bare a (inr m)) (λ p m. inl m) (λ p k. k) none_freed b)
     releases (o ∷ refs) b = go (not (is_dying now o) && (in_degree now o == 0)) refl

@@ -106,7 +106,6 @@ mark_last : (set : ℕ → Bool) (objects : List Object) → Marks (marks_of set
 mark_last set [] = refl
 mark_last set (x ∷ objects) = mark_last set objects
 
--- marks are those of a set
 marks_are : (set : ℕ → Bool) (objects : List Object) (marks : List Bool) → length marks ≡ length objects + 1 → ((i : ℕ) (x : Object) → slice_get objects i ≡ Some x → is_marked marks i ≡ set x.serial)
     → is_marked marks (length objects) ≡ true → marks ≡ marks_of set objects
 marks_are set [] [] long h last = absurd (omega (arith, long))

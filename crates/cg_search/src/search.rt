@@ -43,7 +43,6 @@ fn visit_row(
     Ok(())
 }
 
-/// Visits each start.
 fn visit_starts(
     starts: &[bool],
     allowed: &[bool],

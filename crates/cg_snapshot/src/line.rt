@@ -58,7 +58,6 @@ fn bare(numbers: &Places, line: Line) -> Option<Line>
     if numbers.is_empty() { Some(line) } else { None }
 }
 
-/// The line of a member with these numbers.
 fn member_line(alloc: Global, numbers: &[usize]) -> Result<Option<Line>, AllocError>
     ensures { IfOk result (λ read. read ≡ meant_member numbers.now) }
 {
@@ -127,7 +126,6 @@ fn but_line(kind: Kind, numbers: &[usize], but: Places) -> Option<Line>
     }
 }
 
-/// The line of these words.
 fn line_of(alloc: Global, row: Row) -> Result<Option<Line>, AllocError>
     ensures { IfOk result (λ read. read ≡ meant row) }
 {

@@ -16,7 +16,7 @@ pub enum Question {
     Hidden,
     /// Which members no path from outside reaches.
     Lost,
-    /// What would die if all references to these members were dropped.
+    /// What would go if all references to these members were dropped.
     Dropped(Places),
     /// Which members would be lost if untold words were references.
     Untold,

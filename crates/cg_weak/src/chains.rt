@@ -52,7 +52,6 @@ impl Ends {
 }
 
 impl Chains {
-    /// No row in either chain.
     fn none() -> Chains
         ensures { result ≡ no_chains }
     {
@@ -66,7 +65,6 @@ impl Chains {
         }
     }
 
-    /// Whether both chains are empty.
     fn is_empty(&self) -> bool
         ensures { IsTrue result ↔ (self.now ≡ no_chains) }
     {

@@ -303,7 +303,6 @@ fn is_past_limit<B: Kind>(boxes: &Boxes<B>, entries: u64, seat: Seat, key: &Val)
     entries >= MOST_ENTRIES && !boxes.has_value(seat, *key)
 }
 
-/// Whether a place is that of untracked objects.
 #[inline(always)]
 fn is_untracked(place: Place) -> bool
     ensures { result ≡ same_place place where_it_is.Untracked }
