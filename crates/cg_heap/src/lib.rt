@@ -9,7 +9,7 @@
 //! - `counts`: the counts of the nodes.
 //! - `names`: the values of the names, and which bound name is the greatest.
 //! - `heap`: the type and its queries; `heap/holds`, `heap/bindings`, `heap/entries`, `heap/places`, `heap/objects`,
-//! `heap/weak`, `heap/look` and `heap/near`: its other calls.
+//!   `heap/weak`, `heap/look` and `heap/near`: its other calls.
 //! - `steps`: the counter of looks at entries and at weak references.
 #![tactic(auto)]
 

@@ -9,11 +9,11 @@
 //! - `items`: shared by lists, tuples, functions and weak references; `list`, `tuple`, `func` and `weak`: these four.
 //! - `kept`: entries stored in a slice, in one form or another, and their references.
 //! - `listed`: the values of a list, few `packed` in one vector, or any number as `values`, in a column of sorts and
-//! one of numbers.
+//!   one of numbers.
 //! - `pairs`: dictionaries and instances; `held`: their pairs, `few` in a list or any number in a table.
 //! - `table`: pairs in a map, in insertion order, each key and value as `nine` bytes; `order`: that order, once the
-//! map's own differs; `slots`: its slots and gaps; `sums`: the number of pairs in each block of slots; `gap`: the
-//! contents of one slot, in four bytes.
+//!   map's own differs; `slots`: its slots and gaps; `sums`: the number of pairs in each block of slots; `gap`: the
+//!   contents of one slot, in four bytes.
 #![tactic(auto)]
 
 mod body_slab;

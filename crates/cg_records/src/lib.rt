@@ -6,7 +6,7 @@
 //! - `serials`: serials in order; `graph`: members, graphs, records of collections.
 //! - `writing`: the text of records.
 //! - `number`, `line`: a number or a line at the front of bytes; `draft`: what was read so far, and which lines may
-//! follow; `reading`: the loop over the lines.
+//!   follow; `reading`: the loop over the lines.
 //! - `laws`: no two lists of records share a text.
 #![tactic(auto)]
 

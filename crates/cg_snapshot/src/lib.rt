@@ -5,7 +5,7 @@
 //!
 //! - `places`: places of members in order; `heap`: members; `question`: what is asked about them.
 //! - `number`, `row`: a number, and the words of a line; `line`: what a line says; `draft`: what was read so far, and
-//! which lines may follow; `reading`: the loop over the lines.
+//!   which lines may follow; `reading`: the loop over the lines.
 //! - `writing`: the line of a question.
 //! - `laws`: no two snapshots share a text.
 #![tactic(auto)]

@@ -48,7 +48,7 @@ pub enum KindCode {
 /// Where the collector keeps an object. Each object is in exactly one place.
 ///
 /// The generations and the permanent generation are CPython's (`gc` manual). The sets of a running collection are this
-/// project's names for parts of what the developer guide calls the unreachable list.
+/// project's names for what the developer guide calls the unreachable list, and for its parts.
 #[derive(Clone, Copy, Debug, PartialEq, Eq, Drop)]
 pub enum Place {
     /// Not tracked by the collector.
