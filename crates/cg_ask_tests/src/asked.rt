@@ -1,11 +1,11 @@
-//! A call, and what is wanted of it.
+//! A call, and its expected result.
 use cg_ask::{AskStatus, ask_run};
 use cg_io::{MemSink, MemSource};
 use std::alloc::{AllocError, Global};
 use std::process::Abort;
 
-/// Wants this status and this text of these words and this text, with a source and a sink of which the calls with these numbers
-/// fail, the sink's each after its first two bytes.
+/// Expects this status and this text for these arguments and this input. The reads and writes with these numbers fail, each
+/// write after its first two bytes.
 pub(crate) fn ask_call(
     rt: &impl Abort,
     alloc: Global,
@@ -23,7 +23,7 @@ pub(crate) fn ask_call(
     Ok(())
 }
 
-/// Wants this status and this text, where nothing fails and there are no words.
+/// Expects this status and this text, without failures and arguments.
 pub(crate) fn ask(
     rt: &impl Abort,
     alloc: Global,

@@ -1,4 +1,4 @@
-//! Words, and reads and writes that fail.
+//! Arguments, and failing reads and writes.
 use crate::asked::ask_call;
 use cg_ask::AskStatus;
 use std::test::Fail;

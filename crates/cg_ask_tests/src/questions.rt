@@ -1,4 +1,4 @@
-//! Questions on heaps drawn by hand. Each answer is worked out from the definitions of `docs/HEAPS.md`.
+//! Questions about heaps drawn by hand. Each answer is worked out from the definitions in `docs/HEAPS.md`.
 use crate::asked::ask;
 use cg_ask::AskStatus;
 use std::alloc::{AllocError, Global};
@@ -14,26 +14,27 @@ static WHY: Worked = (
     b"why 2\nheld 0 1\nvia 2\ndone\nwhy 0\nheld 0 1\ndone\nwhy 2 but 1\nheld 0 1\nvia 2\ndone\nwhy 2 but 0\nnone\ndone\nwhy 3\nnone\ndone\n",
 );
 
-/// Member 0 is held from outside, and holds 1 twice; 1 is held from outside besides.
+/// Member 0 is held from outside, and holds 1 twice; 1 is also held from outside.
 static REFERRERS: Worked = (
     b"heap\nm 1 8 1 0 1 1\nm 3 8 1 0\nend\nreferrers 1\nreferrers 0\n",
     b"referrers 1\nreferrer 0 2\noutside 1\ndone\nreferrers 0\noutside 1\ndone\n",
 );
 
-/// An untold word explains the one reference to member 0, and one of the two to member 1; member 2 is held by itself alone.
+/// An untold word explains the only reference to member 0, and one of the two to member 1; only member 2 itself holds
+/// member 2.
 static HIDDEN: Worked = (
     b"heap\nm 1 8 1 0\nu 0\nm 2 8 1 0\nu 1\nm 1 8 1 0 2\nend\nhidden\nuntold\n",
     b"hidden\nhidden 0 1 0\nhidden 1 2 1\ndone\nuntold\nkept 0\ndone\n",
 );
 
-/// Two words of one member are the address of another: both are taken off.
+/// Two words of one member are the address of another: both are subtracted.
 static TWO_WORDS: Worked = (
     b"heap\nm 1 8 1 0\nu 1 1\nm 3 8 1 0\nend\nhidden\n",
     b"hidden\nhidden 0 1 1\nhidden 1 3 1\ndone\n",
 );
 
 /// A ring of 0 and 1, which holds a legacy finalizer, 2; an untracked member that holds itself, 3; and a ring of an untracked
-/// member and a tracked one, 4 and 5. The collection clears the first ring alone.
+/// member and a tracked one, 4 and 5. The collection clears only the first ring.
 static LOST: Worked = (
     b"heap\nm 1 8 1 0 1\nm 1 8 1 0 0 2\nm 2 8 1 1 2\nm 1 8 0 0 3\nm 1 8 0 0 5\nm 1 8 1 0 4\nend\nlost\n",
     b"lost\nlost 0 0\nlost 1 0\nlost 2 1\nlost 3 1\nlost 4 1\nlost 5 1\ndone\n",
@@ -45,13 +46,13 @@ static DROPPED: Worked = (
     b"drop 0\ngone 0 1\ngone 1 0\ngone 2 0\ntotal 3 112 1 16\ndone\ndrop 1\ngone 1 1\ngone 2 1\ntotal 2 96 2 96\ndone\ndrop 2 0\ngone 0 1\ngone 1 1\ngone 2 1\ntotal 3 112 3 112\ndone\n",
 );
 
-/// The bytes of three members of the largest size, and members that are not gone in between.
+/// The bytes of three members of the largest size, with other live members between them.
 static BYTES: Worked = (
     b"heap\nm 1 68719476735 1 0 2 4\nm 1 5 1 0\nm 1 68719476735 1 0\nm 1 7 1 0\nm 1 68719476735 1 0\nend\ndrop 0\n",
     b"drop 0\ngone 0 1\ngone 2 1\ngone 4 1\ntotal 3 206158430205 3 206158430205\ndone\n",
 );
 
-/// No members, and no questions.
+/// No members and no questions.
 static EMPTY: Worked = (b"heap\nend\n", b"");
 
 /// No members, and each question that needs none.
@@ -60,7 +61,7 @@ static NOTHING: Worked = (
     b"hidden\ndone\nlost\ndone\nuntold\ndone\n",
 );
 
-/// Wants the answers of each.
+/// Expects the answers of each.
 fn answer_all(rt: &impl Abort, alloc: Global, all: &[&Worked]) -> Result<(), AllocError> {
     for worked in all {
         ask(rt, alloc, worked.0, AskStatus::Answered, worked.1)?;
@@ -75,7 +76,7 @@ fn members_are_held_by_shortest_paths(rt: HostRuntime) -> Result<(), Fail> {
 }
 
 #[test]
-fn untold_words_are_taken_off(rt: HostRuntime) -> Result<(), Fail> {
+fn untold_words_are_subtracted(rt: HostRuntime) -> Result<(), Fail> {
     answer_all(&rt, rt.alloc(), &[&HIDDEN, &TWO_WORDS])?;
     Ok(())
 }

@@ -1,4 +1,5 @@
--- What each job that reads its source answers: of the bytes in hand it is the answer to the source that told them.
+-- What each job that reads its source answers: the answer for the bytes in hand is the answer for the source that
+-- reports them.
 use Rattle.std.proofs.Common.{◌≡◌, ◌⊎◌, inl, inr, ◌<◌, ℕ, ◌≤◌, List, length, Option, None, Some, IfSome, codes, arith}
 use Rattle.std.specs.Io.KnownBytes.{Appends, Keeps, IsAtEnd}
 use Rattle.cg_io.specs.Causes.{AppendsFront, Rose}
@@ -19,7 +20,8 @@ use Rattle.cg_cli.proofs.RecordFacts.{told_recorded, told_recorded_some, told_re
 use Rattle.cg_cli.proofs.ExpandFacts.{told_expansion, told_first_bad, told_expand_front, told_expand_answers, many_expand_front, many_expand_answers}
 use Rattle.cg_cli.proofs.KeptLines.{told_kept, front_kept}
 
--- the statuses that come once the bytes are in hand, and those that come before; memory and the sink may fail at any time
+-- the statuses that come after the bytes are in hand, and those that come before; memory and the sink may fail at any
+-- time
 abbrev pub IsOfBytes : Status → Type 0
 IsOfBytes s = (s ≡ Done) ⊎ (s ≡ Budget) ⊎ (s ≡ BadScript) ⊎ (s ≡ WriteFault) ⊎ (s ≡ OutOfMemory)
 
@@ -69,7 +71,7 @@ module _ (s : Status) (was is : Outside) where
     words = λ e. apart _ s of (inr (inr e));
   }
 
-  -- only memory cuts a job short where nothing fails
+  -- if nothing fails, only memory cuts a job short
   completed : (Answer : List ℕ → Type 0) → ReadsSource s was is → IsCutShort s ⊎ IfSome was.left Answer → ComesWithoutFaults s was is Answer
   completed Answer reads answers = complete s (Rose was.read_faults is.read_faults) (Rose was.write_faults is.write_faults) (IfSome was.left Answer) reads.read_cause reads.write_cause answers
 
@@ -139,7 +141,7 @@ module _ (s : Status) (was is : Outside) where
           complete = completed (λ bs. AnswersExpand bs s) reads answers;
         }
 
-  -- A source that failed, that gave too many bytes, or for which there was no memory.
+  -- A source that failed, gave too many bytes, or was refused memory.
   module _ (only : IsCutShort s ⊎ (s ≡ TooLarge)) (too_large : s ≡ TooLarge → Appends was.written is.written (codes "too large\n")) (taken : s ≡ TooLarge → TookTooMany was.left is.left)
       (read_cause : s ≡ ReadFault → Rose was.read_faults is.read_faults) (read : s ≡ ReadFault → Keeps was.written is.written) (write_cause : s ≡ WriteFault → Rose was.write_faults is.write_faults)
       (write : s ≡ WriteFault → AppendsFront was.written is.written (codes "too large\n")) (memory : s ≡ OutOfMemory → Keeps was.written is.written)

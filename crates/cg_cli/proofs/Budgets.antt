@@ -1,4 +1,4 @@
--- Budgets: in the lines of a script, and in a word.
+-- Budgets: in the lines of a script, and in an argument.
 use Rattle.std.proofs.Common.{◌≡◌, ℕ, ◌≤◌, List, [], ◌∷◌, length, Option, None, Some, IfSome, sym, subst, arith}
 use Rattle.std.specs.Prelude.{unwrap_or}
 use Rattle.std.specs.List.{All}
@@ -10,7 +10,7 @@ use Rattle.cg_script.specs.Spelled.{IsSpelled, IsSpelledItem}
 use Rattle.cg_script.specs.Items.{declared_budget}
 use Rattle.cg_cli.specs.Statuses.{budget_of}
 
--- what a script declares is small
+-- the declared budget of a script is small
 set_at_most : (names : ℕ) (lines : List Item) → All (IsSpelledItem names) lines → IfSome (declared_budget lines) (λ n. n ≤ 100000)
 set_at_most names [] all = tt
 set_at_most names (Budget n ∷ later) all = All-head (IsSpelledItem names) (Budget n) later all

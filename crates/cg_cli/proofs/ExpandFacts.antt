@@ -1,4 +1,4 @@
--- Facts of an expand job where the source tells its bytes.
+-- Facts of an expand job whose source reports its bytes.
 use Rattle.std.proofs.Common.{◌≡◌, ◌<◌, ◌≤◌, ℕ, List, length, Option, IfSome, arith, codes}
 use Rattle.cg_io.specs.Causes.{AppendsFront}
 use Rattle.cg_weakcoll.specs.Expansion.{first_bad}

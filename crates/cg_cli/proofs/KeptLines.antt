@@ -1,4 +1,4 @@
--- The lines of a run that was written keep the promises of every run.
+-- The lines of a written run keep the promises of every run.
 use Rattle.std.proofs.Common.{◌≡◌, sym, ◌∙◌, subst, ℕ, List, Option, None, Some, IfSome, arith}
 use Rattle.cg_io.specs.Causes.{AppendsFront}
 use Rattle.cg_script.specs.Reading.{spells}
@@ -22,12 +22,12 @@ module _ (one : OneFinalizerEach) (none_dead : NoDeadLines) where
     written = ran.wrote.written;
   }
 
-  -- where the source tells its bytes
+  -- where the source reports its bytes
   pub told_kept : (given : Option ℕ) (outcome : Outcome) (left before now : Option (List ℕ)) → IfSome left (λ bytes. RanWhole given outcome bytes before now) → IfSome left (λ bytes. RanKept bytes before now)
   told_kept given outcome None before now ran = tt
   told_kept given outcome (Some bytes) before now ran = ran_kept given outcome bytes before now ran
 
-  -- of the three texts that a run job writes, bytes that spell a script have the first
+  -- of the three texts that a run job may write, bytes that spell a script get the first
   row_kept : (given : Option ℕ) (bytes text : List ℕ) (before now : Option (List ℕ)) → RowText given bytes text → AppendsFront before now text → FrontKept bytes before now
   row_kept given bytes text before now (run_text ran outcome steps few spelled whole) wrote small script spells_it =
       let read : spells ran.names ran.items ≡ spells script.names script.items = sym spelled ∙ spells_it in
@@ -43,7 +43,7 @@ module _ (one : OneFinalizerEach) (none_dead : NoDeadLines) where
   row_kept given bytes text before now (bad_text number code few fault) wrote small script spells_it = absurd (let no = sym fault ∙ spells_it in cc)
   row_kept given bytes text before now (large_text large) wrote small script spells_it = absurd (omega (arith, large, small))
 
-  -- where the sink failed
+  -- if the sink failed
   pub front_kept : (given : Option ℕ) (left before now : Option (List ℕ)) → IfSome left (λ bytes. WroteFront given bytes before now) → IfSome left (λ bytes. FrontKept bytes before now)
   front_kept given None before now front = tt
   front_kept given (Some bytes) before now front = row_kept given bytes front.text before now front.row front.wrote

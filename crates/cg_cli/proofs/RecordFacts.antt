@@ -1,4 +1,4 @@
--- Facts of a job to record a run where the source tells its bytes.
+-- Facts of a record job whose source reports its bytes.
 use Rattle.std.proofs.Common.{◌≡◌, ◌⊎◌, inl, inr, ◌≤◌, ℕ, List, length, Option, IfSome, codes}
 use Rattle.std.specs.Io.KnownBytes.{Keeps}
 use Rattle.cg_io.specs.Causes.{AppendsFront}
@@ -11,7 +11,7 @@ module _ (left : Option (List ℕ)) (bytes : List ℕ) (all : IfSome left (λ t.
   pub told_recorded : (outcome : Outcome) (before now : Option (List ℕ)) → RecordedWhole outcome bytes before now → IfSome left (λ bs. RecordedWhole outcome bs before now)
   told_recorded outcome before now wrote = told left bytes all (λ bs. RecordedWhole outcome bs before now) wrote
 
-  -- nothing, or a front of the records
+  -- nothing, or a prefix of the records
   pub told_recorded_some : (before now : Option (List ℕ)) → RecordedSome bytes before now → Keeps before now ⊎ IfSome left (λ bs. RecordedPart bs before now)
   told_recorded_some before now (inl kept) = inl kept
   told_recorded_some before now (inr part) = inr (told left bytes all (λ bs. RecordedPart bs before now) part)

@@ -1,4 +1,4 @@
--- In a text without a line that begins with `refused ` no command was refused.
+-- If no line of a text begins with `refused `, no command was refused.
 use Rattle.std.proofs.Common.{◌≡◌, ℕ, ◌==◌, ◌||◌, Bool, true, false, if◌then◌else◌, List, [], ◌∷◌, ◌++◌, append_assoc, codes, refl, sym, ap, ◌∙◌}
 use Rattle.std.specs.Prelude.{decimal}
 use Rattle.std.specs.List.{list_any, flat_map}
@@ -11,7 +11,7 @@ use Rattle.cg_machine.specs.Lines.{words_of, line}
 use Rattle.cg_generator.specs.Tallies.{is_refusal, has_refusal}
 use Rattle.cg_cli.specs.Summaries.{is_refused}
 
--- there is a line before a line feed
+-- some line comes before a line feed
 first_line : (front back : List ℕ) → (first : List ℕ) × (others : List (List ℕ)) × (lines_of (front ++ 10 ∷ back) ≡ first ∷ others)
 first_line [] back = ([], lines_of back, refl)
 first_line (b ∷ bs) back = by (b == 10) (lines_of (bs ++ 10 ∷ back)) (first_line bs back)
@@ -24,7 +24,7 @@ first_line (b ∷ bs) back = by (b == 10) (lines_of (bs ++ 10 ∷ back)) (first_
 onto_first : (b : ℕ) (lines more : List (List ℕ)) (first : List ℕ) (others : List (List ℕ)) → lines ≡ first ∷ others → onto b (lines ++ more) ≡ onto b lines ++ more
 onto_first b lines more first others e = rw e refl
 
--- what follows a line feed is lines of its own
+-- what follows a line feed are separate lines
 behind_line_feed : (front back : List ℕ) → lines_of (front ++ 10 ∷ back) ≡ lines_of (front ++ 10 ∷ []) ++ lines_of back
 behind_line_feed [] back = refl
 behind_line_feed (b ∷ bs) back = by (b == 10) (behind_line_feed bs back) (first_line bs [])
@@ -41,7 +41,7 @@ second_false false b e = e
 both_false : (a b : Bool) → a ≡ false → b ≡ false → (a || b) ≡ false
 both_false a b e f = rw (e, f) refl
 
--- the lines behind another one
+-- the lines after another one
 later_lines : (words later : List ℕ) → has_refusal ((words ++ 10 ∷ []) ++ later) ≡ false → has_refusal later ≡ false
 later_lines words later e =
     second_false (list_any is_refusal (lines_of (words ++ 10 ∷ []))) (has_refusal later)
@@ -88,7 +88,6 @@ told names BudgetSpent later h = refl
 told names (Left n) later h = refl
 told names End later h = refl
 
--- the text of some events
 pub none_refused : (names : List (List ℕ)) (events : List Event) → has_refusal (flat_map (line names) events) ≡ false → list_any is_refused events ≡ false
 none_refused names [] h = refl
 none_refused names (e ∷ es) h =

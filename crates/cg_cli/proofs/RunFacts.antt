@@ -1,4 +1,4 @@
--- Facts of a run job where the source tells its bytes.
+-- Facts of a run job whose source reports its bytes.
 use Rattle.std.proofs.Common.{◌≡◌, ◌⊎◌, inl, inr, ◌<◌, ℕ, ◌≤◌, List, length, Option, None, Some, IfSome, sym, subst, arith, codes}
 use Rattle.cg_io.specs.Causes.{AppendsFront}
 use Rattle.cg_script.specs.Reading.{reading}
@@ -8,12 +8,12 @@ use Rattle.cg_cli.specs.declared.input.TheConstants.{LIMIT}
 use Rattle.cg_cli.specs.declared.status.Status.{Status}
 use Rattle.cg_cli.specs.declared.status.Status.TheVariants as status
 
--- What holds of the bytes that were read holds of those that the source told.
+-- A property of the bytes that were read holds of those that the source reported.
 pub told : (left : Option (List ℕ)) (bytes : List ℕ) → IfSome left (λ t. t ≡ bytes) → (P : List ℕ → Type 0) → P bytes → IfSome left P
 told None bytes all P here = tt
 told (Some t) bytes all P here = subst P (sym all) here
 
--- So does what holds of any bytes that are too many, where it told those.
+-- So does a property of any too many bytes, if it reported those.
 pub told_many : (left : Option (List ℕ)) → IfSome left (λ t. LIMIT ≤ length t) → (P : List ℕ → Type 0) → ((t : List ℕ) → LIMIT ≤ length t → P t) → IfSome left P
 told_many None many P each = tt
 told_many (Some t) many P each = each t many
@@ -38,7 +38,7 @@ module _ (left : Option (List ℕ)) (many : IfSome left (λ t. LIMIT ≤ length 
   pub many_answers : (answer : Status) → answer ≡ status.TooLarge → IfSome left (λ bs. AnswersScript bs answer)
   many_answers answer is = told_many left many (λ bs. AnswersScript bs answer) (λ t large. (λ few. absurd (omega (arith, few, large)), λ many. is))
 
--- where neither source nor sink failed, only memory cuts a job short
+-- if neither source nor sink failed, only memory cuts a job short
 pub complete : (answer : Status) (SourceRose SinkRose Told : Type 0) → (answer ≡ status.ReadFault → SourceRose) → (answer ≡ status.WriteFault → SinkRose) → IsCutShort answer ⊎ Told
     → ¬ SourceRose → ¬ SinkRose → (answer ≡ status.OutOfMemory) ⊎ Told
 complete answer SourceRose SinkRose Told read write (inr told) no_source no_sink = inr told

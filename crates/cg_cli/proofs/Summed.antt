@@ -13,7 +13,7 @@ use Rattle.cg_generator.specs.declared.counts.Tally.{Tally}
 use Rattle.cg_cli.specs.Summaries.{HasTally, WroteSummary, WroteSummaryFront}
 use Rattle.cg_cli.proofs.Refusals.{none_refused}
 
--- the tally of a sink to which a whole run was written, with no refusal
+-- the tally of a sink that received a whole run without a refusal
 pub tallied : (blocks : ℕ) (script : Script) (old now : Tallied) (tally : Tally) (refusal : Bool) → script ≡ generated blocks → old ≡ record { text = []; faults = 0 } → WroteRun script 10000 Ended (Some old.text) (Some now.text)
     → tally ≡ tally_of now.text → refusal ≡ has_refusal now.text → refusal ≡ false → HasTally blocks tally
 tallied blocks script old now tally refusal is opens ran counted tells none =

@@ -1,4 +1,4 @@
--- What a call does for each job that words may ask for: what each status means, what a fault leaves, which status comes. (Ours.)
+-- What a call does for each job: what each status means, what a fault leaves, which status comes. (Ours.)
 use Rattle.std.specs.Prelude.{◌≡◌, ◌≢◌, ◌⊎◌, ℕ, List, codes, Option, IfSome}
 use Rattle.std.specs.Io.KnownBytes.{Appends, Keeps, IsAtEnd}
 use Rattle.cg_io.specs.Causes.{AppendsFront, Rose}
@@ -12,8 +12,8 @@ use Rattle.cg_cli.specs.Recordings.{RecordedWhole, RecordedPart, RecordedFront}
 use Rattle.cg_cli.specs.declared.status.Status.{Status}
 use Rattle.cg_cli.specs.declared.status.Status.TheVariants.{Done, BadScript, BadWords, ReadFault, WriteFault, OutOfMemory, Budget, TooLarge}
 
--- What is outside a call: the bytes that its source has left, those that its sink has got, where they tell them, and how often
--- either has failed.
+-- The state outside a call: the bytes that its source has left, those that its sink has received, as far as they report them,
+-- and how often each has failed.
 pub record Outside : Type 0 where
   pub left : Option (List ℕ)
   pub read_faults : ℕ
@@ -32,24 +32,25 @@ pub record ReadsSource (status : Status) (was is : Outside) : Type 0 where
   pub write_cause : status ≡ WriteFault → Rose was.write_faults is.write_faults
   pub words : status ≢ BadWords
 
--- Where neither source nor sink fails, this answer comes unless memory runs out.
+-- If neither source nor sink fails, this answer comes unless memory runs out.
 abbrev pub ComesWithoutFaults : Status → Outside → Outside → (List ℕ → Type 0) → Type 0
 ComesWithoutFaults status was is Answer = ¬ (Rose was.read_faults is.read_faults) → ¬ (Rose was.write_faults is.write_faults)
     → (status ≡ OutOfMemory) ⊎ IfSome was.left Answer
 
--- A job to run a script, with the budget that the words give.
+-- A job to run a script, with the budget from the arguments.
 pub record RunAnswers (given : Option ℕ) (status : Status) (was is : Outside) : Type 0 where
-  -- The bytes spell a script, and what was written is the text of a whole run of the machine on it, which ended so.
+  -- The bytes spell a script, and what was written is the text of a whole run of the machine on it that ended with
+  -- this status.
   pub done : status ≡ Done → IfSome was.left (λ bytes. RanWhole given Ended bytes was.written is.written)
   pub spent : status ≡ Budget → IfSome was.left (λ bytes. RanWhole given BudgetIsSpent bytes was.written is.written)
-  -- Its lines begin the finalizer of one object at most once (PEP 442), and name no object that an earlier line frees.
+  -- Its lines begin the finalizer of an object at most once (PEP 442), and name no object that an earlier line frees.
   pub promises : (status ≡ Done) ⊎ (status ≡ Budget) → IfSome was.left (λ bytes. RanKept bytes was.written is.written)
-  -- The same holds of the lines that a failed sink got.
+  -- The same holds of the lines that a failed sink received.
   pub promises_in_part : status ≡ WriteFault → IfSome was.left (λ bytes. FrontKept bytes was.written is.written)
   pub bad_script : status ≡ BadScript → IfSome was.left (λ bytes. RanBad bytes was.written is.written)
   pub read_to_end : (status ≡ Done) ⊎ (status ≡ Budget) ⊎ (status ≡ BadScript) → IsAtEnd is.left
   pub reads : ReadsSource status was is
-  -- What a failed sink got, and what was written where memory was refused.
+  -- What a failed sink received, and what was written if memory was refused.
   pub write : status ≡ WriteFault → IfSome was.left (λ bytes. WroteFront given bytes was.written is.written)
   pub memory : status ≡ OutOfMemory → Keeps was.written is.written
   -- Except for faults, memory and how the run ended, the bytes alone decide the answer.
@@ -58,7 +59,7 @@ pub record RunAnswers (given : Option ℕ) (status : Status) (was is : Outside) 
 
 -- A job that runs the script of `blocks` blocks and writes the summary of its text.
 pub record GenerateAnswers (blocks : ℕ) (status : Status) (before now : Option (List ℕ)) (faults_before faults_now : ℕ) : Type 0 where
-  -- A summary was written of the text of a whole run of that script, in which no command was refused.
+  -- What was written is the summary of the text of a whole run of that script without a refused command.
   pub done : status ≡ Done → WroteSummary blocks before now
   pub write : status ≡ WriteFault → WroteSummaryFront blocks before now
   pub write_cause : status ≡ WriteFault → Rose faults_before faults_now
@@ -81,20 +82,20 @@ pub record ExpandAnswers (status : Status) (was is : Outside) : Type 0 where
 
 -- A job to run a script with its own budget, and to write the records of its collections.
 pub record RecordAnswers (status : Status) (was is : Outside) : Type 0 where
-  -- The bytes spell a script, and what was written is the text of the records of a whole run of it, which ended so, and in which
-  -- no command was refused since memory ran out.
+  -- The bytes spell a script, and what was written is the text of the records of a whole run of it that ended with this status,
+  -- and in which no command was refused for memory.
   pub done : status ≡ Done → IfSome was.left (λ bytes. RecordedWhole Ended bytes was.written is.written)
   pub spent : status ≡ Budget → IfSome was.left (λ bytes. RecordedWhole BudgetIsSpent bytes was.written is.written)
   pub bad_script : status ≡ BadScript → IfSome was.left (λ bytes. RanBad bytes was.written is.written)
   pub read_to_end : (status ≡ Done) ⊎ (status ≡ Budget) ⊎ (status ≡ BadScript) → IsAtEnd is.left
   pub reads : ReadsSource status was is
   pub write : status ≡ WriteFault → IfSome was.left (λ bytes. RecordedFront bytes was.written is.written)
-  -- Memory may be refused to a command too: then a front of the records was written.
+  -- Memory may be refused to a command too; then a prefix of the records was written.
   pub memory : status ≡ OutOfMemory → Keeps was.written is.written ⊎ IfSome was.left (λ bytes. RecordedPart bytes was.written is.written)
   pub answers : IsCutShort status ⊎ IfSome was.left (λ bytes. AnswersScript bytes status)
   pub complete : ComesWithoutFaults status was is (λ bytes. AnswersScript bytes status)
 
--- Words that ask for no job.
+-- Arguments that ask for no job.
 pub record NoJobAnswers (status : Status) (before now : Option (List ℕ)) (faults_before faults_now : ℕ) : Type 0 where
   pub bad_words : status ≡ BadWords → Appends before now (codes "bad words\n")
   pub write : status ≡ WriteFault → AppendsFront before now (codes "bad words\n")
@@ -102,6 +103,6 @@ pub record NoJobAnswers (status : Status) (before now : Option (List ℕ)) (faul
   pub memory : status ≡ OutOfMemory → Keeps before now
   pub answers : (status ≡ BadWords) ⊎ (status ≡ WriteFault) ⊎ (status ≡ OutOfMemory)
 
--- The words ask for no job, or for one that does not read the source.
+-- The arguments ask for no job, or for one that does not read the source.
 abbrev pub ReadNothing : List (List ℕ) → Type 0
 ReadNothing words = ((blocks : ℕ) × AsksFor words (Generate blocks)) ⊎ ¬ (Ask words)

@@ -15,7 +15,7 @@ use Rattle.cg_cli.specs.declared.status.Status.{Status}
 use Rattle.cg_cli.specs.declared.status.Status.TheVariants.{Done, BadScript, TooLarge, ReadFault, WriteFault, OutOfMemory, Budget}
 use Rattle.cg_cli.specs.declared.input.TheConstants.{LIMIT}
 
--- the budget of a run: the one given with the words, else that of the script, else 10,000
+-- the budget of a run: the one in the arguments, else that of the script, else 10,000
 abbrev pub budget_of : Option ℕ → Script → ℕ
 budget_of given script = unwrap_or given (unwrap_or (declared_budget script.items) 10000)
 
@@ -23,7 +23,7 @@ budget_of given script = unwrap_or given (unwrap_or (declared_budget script.item
 abbrev pub Spells : List ℕ → Script → Type 0
 Spells bytes script = reading bytes ≡ spells script.names script.items
 
--- The bytes spell a script, and the text of a whole run of it was written, which ended so.
+-- The bytes spell a script, and the text of a whole run of it that ended with this status was written.
 pub record RanWhole (given : Option ℕ) (outcome : Outcome) (bytes : List ℕ) (before now : Option (List ℕ)) : Type 0 where
   pub few : length bytes < LIMIT
   pub script : Script
@@ -50,38 +50,38 @@ pub record RanBad (bytes : List ℕ) (before now : Option (List ℕ)) : Type 0 w
   pub fault : reading bytes ≡ faulty number code
   pub wrote : Appends before now (bad_script_text number code)
 
--- One byte more than a script may have was taken, and no further one.
+-- One byte more than a script may have was read, and no further one.
 pub record TookTooMany (left after : Option (List ℕ)) : Type 0 where
   pub bytes : List ℕ
   pub number : length bytes ≡ LIMIT
   pub taken : Consumes left after bytes
 
--- What a run job writes on these bytes: the text of a whole run, or the first bad line, or that they are too many.
+-- What a run job writes for these bytes: the text of a whole run, or the first bad line, or that they are too many.
 pub data RowText (given : Option ℕ) (bytes : List ℕ) : List ℕ → Type 0 where
   run_text : (script : Script) (outcome : Outcome) (steps : List StepTaken) → length bytes < LIMIT → Spells bytes script → IsWholeRun script (budget_of given script) outcome steps → RowText given bytes (text_of script steps)
   bad_text : (number code : ℕ) → length bytes < LIMIT → reading bytes ≡ faulty number code → RowText given bytes (bad_script_text number code)
   large_text : LIMIT ≤ length bytes → RowText given bytes (codes "too large\n")
 
--- A front of that was written.
+-- A prefix of that was written.
 pub record WroteFront (given : Option ℕ) (bytes : List ℕ) (before now : Option (List ℕ)) : Type 0 where
   pub text : List ℕ
   pub row : RowText given bytes text
   pub wrote : AppendsFront before now text
 
--- Where the bytes are not too many and spell a script, a prefix of lines that keep the promises of every run was written.
+-- If the bytes are not too many and spell a script, a prefix of lines that keep the promises of every run was written.
 abbrev pub FrontKept : List ℕ → Option (List ℕ) → Option (List ℕ) → Type 0
 FrontKept bytes before now = length bytes < LIMIT → (script : Script) → Spells bytes script → WroteKept script.names before now
 
--- The answer to what bytes are read as, where neither source nor sink failed and memory was there: `Done` or `Budget` to a
+-- The answer to parsed bytes, if neither source nor sink failed and memory did not run out: `Done` or `Budget` for a
 -- script, as its run ended.
 abbrev pub AnswersReading : Reading → Status → Type 0
 AnswersReading (spells names lines) status = (status ≡ Done) ⊎ (status ≡ Budget)
 AnswersReading (faulty number code) status = status ≡ BadScript
 
--- up to the limit, the answer to what the bytes are read as; beyond it, that they are too many
+-- up to the limit, the answer to the parsed bytes; beyond it, that there are too many
 abbrev pub AnswersScript : List ℕ → Status → Type 0
 AnswersScript bytes status = (length bytes < LIMIT → AnswersReading (reading bytes) status) × (LIMIT ≤ length bytes → status ≡ TooLarge)
 
--- a fault of the source or of the sink, or lack of memory
+-- a fault of the source or of the sink, or out of memory
 abbrev pub IsCutShort : Status → Type 0
 IsCutShort status = (status ≡ ReadFault) ⊎ (status ≡ WriteFault) ⊎ (status ≡ OutOfMemory)

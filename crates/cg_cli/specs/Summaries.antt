@@ -12,12 +12,12 @@ use Rattle.cg_generator.specs.Generated.{generated}
 use Rattle.cg_generator.specs.Tallies.{tally_of, summary_of}
 use Rattle.cg_generator.specs.declared.counts.Tally.{Tally}
 
--- an event tells that a command was refused
+-- an event reports a refused command
 abbrev pub is_refused : Event → Bool
 is_refused (Refused reason) = true
 is_refused event = false
 
--- A whole run of the script of `blocks` blocks with the usual budget that ended by `end` and in which no command was refused.
+-- A whole run of the script of `blocks` blocks with the usual budget that ended by `end`, without a refused command.
 pub record RanGenerated (blocks : ℕ) (steps : List StepTaken) : Type 0 where
   pub whole : IsWholeRun (generated blocks) 10000 Ended steps
   pub unrefused : list_any is_refused (events_of steps) ≡ false
@@ -34,7 +34,7 @@ pub record WroteSummary (blocks : ℕ) (before now : Option (List ℕ)) : Type 0
   pub ran : RanGenerated blocks steps
   pub wrote : Appends before now (summary_of (tally_of (text_of (generated blocks) steps)))
 
--- A front of it was written.
+-- A prefix of it was written.
 pub record WroteSummaryFront (blocks : ℕ) (before now : Option (List ℕ)) : Type 0 where
   pub steps : List StepTaken
   pub ran : RanGenerated blocks steps

@@ -1,4 +1,4 @@
-//! An expand job: a source is read, and the expansion of its bytes is written.
+//! An expand job: reads a source, and writes the expansion of its bytes.
 ghost use Rattle.std.specs.Prelude.{◌≡◌, ◌<◌, ◌⊎◌, length};
 ghost use Rattle.std.specs.Io.KnownBytes.{Appends, Keeps};
 ghost use Rattle.cg_io.specs.Causes.{AppendsFront, Rose};
@@ -44,7 +44,7 @@ fn expand_in_hand<K: Sink>(alloc: Global, bytes: &[u8], sink: &mut K) -> Status
     }
 }
 
-/// Reads a source to its end, and writes the expansion of what it gave.
+/// Reads a source to its end, and writes the expansion of its bytes.
 pub fn expand_job<S: Source, K: Sink>(alloc: Global, source: &mut S, sink: &mut K) -> Status
     ensures { ExpandAnswers result
         (outside (S.left source.old) (S.faults source.old) (K.written sink.old) (K.faults sink.old))

@@ -1,4 +1,4 @@
-//! A large script from a number: it is run, and the summary of its text is written.
+//! A large script from a number: runs it, and writes the summary of its text.
 ghost use Rattle.std.specs.Prelude.{◌≡◌, ◌≤◌, map, replicate, IfSome};
 ghost use Rattle.std.specs.FinMap as fin;
 ghost use Rattle.cg_heap.specs.Boxes.{six_kinds};
@@ -15,8 +15,8 @@ use cg_io::Sink;
 use cg_kind::Kind;
 use std::alloc::Global;
 
-/// The tally of a whole run of the script of `blocks` blocks, or none where memory was refused: to the script, its heap, its
-/// run, or a command of it. The script starts no frame, so its run is not ended because the budget is spent.
+/// The tally of a whole run of the script of `blocks` blocks. `None` if memory was refused to the script, its heap, its run,
+/// or a command of it. The script starts no frame, so its run never ends because the budget is spent.
 fn tally_of_run<B: Kind>(alloc: Global, blocks: u32, kinds: Vec<B>) -> Option<Tally>
     requires few { blocks ≤ 10000 }
     requires kinds { map B.kind kinds.items ≡ six_kinds }
@@ -36,8 +36,8 @@ fn tally_of_run<B: Kind>(alloc: Global, blocks: u32, kinds: Vec<B>) -> Option<Ta
     }
 }
 
-/// Runs the script of `blocks` blocks with the usual budget, and writes the summary of its text. It answers `Done` where no
-/// command of it was refused, and else `OutOfMemory`, with nothing written.
+/// Runs the script of `blocks` blocks with the usual budget, and writes the summary of its text. Answers `Done` if no
+/// command of it was refused, else `OutOfMemory` with nothing written.
 pub fn generate_job<K: Sink, B: Kind>(
     alloc: Global,
     blocks: u32,

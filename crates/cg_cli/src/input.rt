@@ -1,4 +1,4 @@
-//! What a source gives, up to a limit, and the script that it spells.
+//! The bytes of a source, up to a limit, and the script that they spell.
 ghost use Rattle.std.specs.Prelude.{◌≡◌, ◌≤◌, ◌<◌, ◌⊎◌, length, IfOk, IfErr, IfSome, Err, codes};
 ghost use Rattle.std.specs.Io.KnownBytes.{Appends, Keeps, IsAtEnd};
 ghost use Rattle.cg_io.specs.Causes.{AppendsFront, Rose};
@@ -14,11 +14,11 @@ use cg_io::{InputFault, Sink, Source, read_up_to};
 use cg_script::{Script, ScriptFault, parse};
 use std::alloc::Global;
 
-/// One more byte than a script may have.
+/// One byte more than a script may have.
 pub const LIMIT: usize = 16_777_217;
 
-/// Reads a source to its end, and answers what it gave; or the status with which the program ends, where it gives too many
-/// bytes, which is told, where it fails, or where memory is refused.
+/// Reads a source to its end and answers its bytes. Else answers the status that the program ends with: the source gives
+/// too many bytes, which is reported, or fails, or memory is refused.
 pub fn read_whole<S: Source, K: Sink>(
     alloc: Global,
     source: &mut S,
@@ -51,8 +51,8 @@ pub fn read_whole<S: Source, K: Sink>(
     }
 }
 
-/// The script that some bytes spell, or what is wrong with them. The bytes are given back: nothing looks at them again, and a run
-/// may take long.
+/// The script that some bytes spell, or what is wrong with them. Takes the bytes: nothing needs them again, and a run may take
+/// long.
 pub fn script_of(alloc: Global, bytes: Vec<u8>) -> Result<Script, ScriptFault>
     ensures ok { IfOk result (λ script. Spells bytes.items script) }
     ensures fault { IfErr result (λ fault. IsFault fault (reading bytes.items)) }

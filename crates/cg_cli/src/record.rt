@@ -1,5 +1,4 @@
-//! A record job: a source is read, its bytes are read as a script, the script is run on a heap over the kinds, and the records of
-//! the run are written.
+//! A record job: reads a source as a script, runs it on a heap over the kinds, and writes the records of the run.
 ghost use Rattle.std.specs.Prelude.{◌≡◌, ◌<◌, ◌⊎◌, None, length, map, replicate};
 ghost use Rattle.std.specs.FinMap as fin;
 ghost use Rattle.std.specs.Io.KnownBytes.{Keeps};
@@ -25,7 +24,7 @@ use cg_kind::Kind;
 use cg_script::{Script, ScriptFault};
 use std::alloc::Global;
 
-/// Runs a script that was read, with its budget, and writes the records of the run.
+/// Runs a parsed script with its budget, and writes the records of the run.
 fn record_parsed<K: Sink, B: Kind>(
     alloc: Global,
     script: &Script,
@@ -56,7 +55,7 @@ fn record_parsed<K: Sink, B: Kind>(
     }
 }
 
-/// Records a run of what some bytes spell.
+/// Records a run of the script that some bytes spell.
 fn record_in_hand<K: Sink, B: Kind>(
     alloc: Global,
     bytes: Vec<u8>,
@@ -81,7 +80,7 @@ fn record_in_hand<K: Sink, B: Kind>(
     }
 }
 
-/// Reads a source to its end, and writes the records of a run of what it gave.
+/// Reads a source to its end, and writes the records of a run of its script.
 pub fn record_job<S: Source, K: Sink, B: Kind>(
     alloc: Global,
     source: &mut S,

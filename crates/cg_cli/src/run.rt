@@ -1,4 +1,4 @@
-//! A run job: a source is read, its bytes are read as a script, and the script is run on a heap over the kinds.
+//! A run job: reads a source as a script, and runs it on a heap over the kinds.
 ghost use Rattle.std.specs.Prelude.{◌≡◌, ◌≤◌, ◌<◌, ◌⊎◌, length, map, replicate, IfSome};
 ghost use Rattle.std.specs.FinMap as fin;
 ghost use Rattle.std.specs.Io.KnownBytes.{Keeps};
@@ -25,7 +25,7 @@ use cg_promises::{no_dead_lines, one_finalizer_each};
 use cg_script::{Script, ScriptFault};
 use std::alloc::Global;
 
-/// Runs a script that was read.
+/// Runs a parsed script.
 fn run_parsed<K: Sink, B: Kind>(
     alloc: Global,
     given: Option<u32>,
@@ -57,7 +57,7 @@ fn run_parsed<K: Sink, B: Kind>(
     }
 }
 
-/// Runs what some bytes spell.
+/// Runs the script that some bytes spell.
 fn run_in_hand<K: Sink, B: Kind>(
     alloc: Global,
     given: Option<u32>,
@@ -84,7 +84,7 @@ fn run_in_hand<K: Sink, B: Kind>(
     }
 }
 
-/// Reads a source to its end, and runs what it gave.
+/// Reads a source to its end, and runs its script.
 pub fn run_job<S: Source, K: Sink, B: Kind>(
     alloc: Global,
     given: Option<u32>,

@@ -7,7 +7,7 @@ pub enum Status {
     Done = 0,
     /// A line of the script is bad.
     BadScript = 1,
-    /// The words ask for nothing that the program does.
+    /// The arguments ask for nothing that the program does.
     BadWords = 2,
     /// The source of the script failed.
     ReadFault = 3,
@@ -15,7 +15,7 @@ pub enum Status {
     WriteFault = 4,
     /// Memory was refused before anything was written.
     OutOfMemory = 5,
-    /// The run ended where a frame was to start and the budget was spent.
+    /// The run ended because a frame was to start and the budget was spent.
     Budget = 6,
     /// The script has more than 16,777,216 bytes.
     TooLarge = 7,

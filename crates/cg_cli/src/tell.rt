@@ -11,7 +11,7 @@ use cg_generator::{Tally, summary_line};
 use cg_io::{Sink, WriteFailed};
 use itoa::Buffer;
 
-/// Says that the words ask for nothing.
+/// Reports that the arguments ask for nothing.
 pub fn tell_bad_words<K: Sink>(sink: &mut K) -> Status
     ensures bad_words { result ≡ Status.BadWords → Appends (K.written sink.old) (K.written sink.new) (codes "bad words\n") }
     ensures write { result ≡ Status.WriteFault → AppendsFront (K.written sink.old) (K.written sink.new) (codes "bad words\n") }
@@ -24,7 +24,7 @@ pub fn tell_bad_words<K: Sink>(sink: &mut K) -> Status
     }
 }
 
-/// Says that the source has too many bytes.
+/// Reports that the source has too many bytes.
 pub fn tell_large<K: Sink>(sink: &mut K) -> Status
     ensures large { result ≡ Status.TooLarge → Appends (K.written sink.old) (K.written sink.new) (codes "too large\n") }
     ensures write { result ≡ Status.WriteFault → AppendsFront (K.written sink.old) (K.written sink.new) (codes "too large\n") }
@@ -37,7 +37,7 @@ pub fn tell_large<K: Sink>(sink: &mut K) -> Status
     }
 }
 
-/// Says which line is the first bad one, and its code.
+/// Reports the first bad line and its code.
 pub fn tell_bad_script<K: Sink>(line: u32, code: u8, sink: &mut K) -> Status
     ensures bad { result ≡ Status.BadScript → Appends (K.written sink.old) (K.written sink.new) (bad_script_text line code) }
     ensures write { result ≡ Status.WriteFault → AppendsFront (K.written sink.old) (K.written sink.new) (bad_script_text line code) }
@@ -76,7 +76,6 @@ fn bad_script_line(line: u32, code: u8) -> ArrayString<100>
     text
 }
 
-/// Appends a number.
 fn push_number(text: &mut ArrayString<100>, number: u64)
     requires { length text.old.bytes + 40 ≤ 100 }
     ensures appended { text.new.bytes ≡ text.old.bytes ++ decimal number }

@@ -1,4 +1,4 @@
-//! The top call: what the program does for its words, its source and its sink.
+//! The top call: what the program does with its arguments, its source and its sink.
 ghost use Rattle.std.specs.Prelude.{◌≡◌, ℕ, Option, map, replicate, string_bytes};
 ghost use Rattle.std.specs.FinMap as fin;
 ghost use Rattle.cg_heap.specs.Boxes.{six_kinds};
@@ -16,7 +16,7 @@ use cg_kind::Kind;
 use cg_words::{Job, read_words};
 use std::alloc::{AllocError, Global};
 
-/// `gc_run` over kinds of any one type, for callers that need no boxes: it has the same clauses.
+/// `gc_run` over kinds of any one type, for callers that need no boxes; it has the same clauses.
 pub fn gc_over<S: Source, K: Sink, B: Kind>(
     alloc: Global,
     words: &[String],
@@ -27,8 +27,7 @@ pub fn gc_over<S: Source, K: Sink, B: Kind>(
     requires kinds { map B.kind kinds.items ≡ six_kinds }
     requires empty { map B.bodies kinds.items ≡ replicate 6 fin.empty }
 
-    // Each job that words may ask for, and words that ask for nothing: what each answer means, what a fault leaves, which answer
-    // comes.
+    // Each job, and no job: what each answer means, what a fault leaves, which answer comes.
     ensures run { (given : Option ℕ) → AsksFor (map string_bytes words.now) (Job.Run given) → RunAnswers given result
         (outside (S.left source.old) (S.faults source.old) (K.written sink.old) (K.faults sink.old))
         (outside (S.left source.new) (S.faults source.new) (K.written sink.new) (K.faults sink.new)) }
@@ -42,7 +41,7 @@ pub fn gc_over<S: Source, K: Sink, B: Kind>(
         (outside (S.left source.new) (S.faults source.new) (K.written sink.new) (K.faults sink.new)) }
     ensures no_job { ¬ (Ask (map string_bytes words.now)) → NoJobAnswers result (K.written sink.old) (K.written sink.new) (K.faults sink.old) (K.faults sink.new) }
 
-    // The source is read by a job that has use for it, and else left as it was.
+    // A job that needs no source leaves it unread.
     ensures unread { ReadNothing (map string_bytes words.now) → source.new ≡ source.old }
 {
     match read_words(alloc, words) {
@@ -55,21 +54,21 @@ pub fn gc_over<S: Source, K: Sink, B: Kind>(
     }
 }
 
-/// Does what the words ask for, and answers how it ended.
+/// Does what the arguments ask for, and answers how it ended.
 ///
 /// | words | what is done |
 /// |---|---|
-/// | `run`, `run --budget N` | a script is read from the source and run; the text of the run is written, one `write` a line |
-/// | `generate N` | the script of N blocks is run, and the summary of its text is written |
-/// | `expand` | an extended script is read, and its expansion is written |
-/// | `record` | a script is read and run, and the records of its collections are written |
+/// | `run`, `run --budget N` | reads a script from the source and runs it; writes the text of the run, one `write` a line |
+/// | `generate N` | runs the script of N blocks, and writes the summary of its text |
+/// | `expand` | reads an extended script, and writes its expansion |
+/// | `record` | reads and runs a script, and writes the records of its collections |
 ///
-/// The kinds stand in the order of `KindCode`, and have no objects. The budget is that of the words, else that of the script, else
-/// 10,000. `Done`: the run ended by `end`, or the text was written. `Budget`: the run ended by `budget spent`. `BadWords`,
-/// `BadScript` and `TooLarge`: the words, a line of the script or its size is wrong, and that was written. `ReadFault` and
+/// The kinds are in the order of `KindCode`, and have no objects. The budget is that of the arguments, else that of the script,
+/// else 10,000. `Done`: the run ended by `end`, or the text was written. `Budget`: the run ended by `budget spent`. `BadWords`,
+/// `BadScript` and `TooLarge`: the arguments, a line of the script or its size is wrong, and that was written. `ReadFault` and
 /// `WriteFault`: the source or the sink failed. `OutOfMemory`: memory was refused before anything was written; under `generate`
-/// and `record` also to a command, and `record` has then written a prefix of the records. The clauses speak of what the source
-/// tells of its bytes and the sink of what was written. (Ours.)
+/// and `record` also to a command, and `record` has then written a prefix of the records. The clauses speak of the bytes that the
+/// source reports and of what the sink received. (Ours.)
 pub fn gc_run<S: Source, K: Sink>(
     alloc: Global,
     words: &[String],
@@ -80,8 +79,7 @@ pub fn gc_run<S: Source, K: Sink>(
     requires kinds { map (λ b. kind b) kinds.items ≡ six_kinds }
     requires empty { map (λ b. bodies b) kinds.items ≡ replicate 6 fin.empty }
 
-    // Each job that words may ask for, and words that ask for nothing: what each answer means, what a fault leaves, which answer
-    // comes.
+    // Each job, and no job: what each answer means, what a fault leaves, which answer comes.
     ensures run { (given : Option ℕ) → AsksFor (map string_bytes words.now) (Job.Run given) → RunAnswers given result
         (outside (S.left source.old) (S.faults source.old) (K.written sink.old) (K.faults sink.old))
         (outside (S.left source.new) (S.faults source.new) (K.written sink.new) (K.faults sink.new)) }
@@ -95,7 +93,7 @@ pub fn gc_run<S: Source, K: Sink>(
         (outside (S.left source.new) (S.faults source.new) (K.written sink.new) (K.faults sink.new)) }
     ensures no_job { ¬ (Ask (map string_bytes words.now)) → NoJobAnswers result (K.written sink.old) (K.written sink.new) (K.faults sink.old) (K.faults sink.new) }
 
-    // The source is read by a job that has use for it, and else left as it was.
+    // A job that needs no source leaves it unread.
     ensures unread { ReadNothing (map string_bytes words.now) → source.new ≡ source.old }
 {
     gc_over(alloc, words, source, sink, kinds)

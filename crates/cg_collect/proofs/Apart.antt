@@ -1,4 +1,5 @@
--- What the start leaves of the heap: who was unreachable is set apart, and the garbage list names none of it.
+-- What the start leaves of the heap: the unreachable objects are partitioned, and the garbage list names none of
+-- them.
 use Rattle.std.proofs.Common.{◌≡◌, ◌≢◌, refl, sym, ◌∙◌, ap, subst, ℕ, suc, ◌+◌, ◌<◌, ◌≤◌, ◌⊎◌, inl, inr, Bool, true, false, cond, List, [], ◌∷◌, ◌++◌, length, map, Option, Some, None, arith}
 use Rattle.std.specs.Prelude.{if◌then◌else◌, nat_le, filter, sum_by}
 use Rattle.std.specs.FinMap as fin
@@ -28,7 +29,7 @@ use Rattle.cg_machine.proofs.Places.{place_differs}
 use Rattle.cg_collect.proofs.Standing.{object_there, list_length, empty_at, nobody_at, lives_at, entries_on}
 use Rattle.cg_collect.proofs.Traces.{Trace, SplitsOff, at_or_not, same16, both_or, last_step, last_older, candidate_last, unmoved, unreachable_there}
 
--- what the objects of a place hold, and another one
+-- what the objects of a place hold, and another object
 module _ (p : Place) (o : ℕ) where
   abbrev held_among : List Object → ℕ
   held_among objects = occurrences o (entry_holdings (graph_of objects))
@@ -56,7 +57,7 @@ module _ (p : Place) (o : ℕ) where
       go true h = omega (arith, h, held_cons y (filter (is_at p) objects), held_cons y objects)
       go false h = omega (arith, h, held_cons y objects)
 
--- a reference of an object of another place is one from outside
+-- a reference of an object in another place comes from outside
 pub held_from_outside : (store : Store) (p : Place) (q o : ℕ) → place_of store q ≢ p → Includes (references (entries_of store q)) o → IsHeldFromOutside store p o
 held_from_outside store p q o away refers = known (fin.get store.nodes q) refl away refers
   where
@@ -90,7 +91,7 @@ list_few store listed few p =
     let number = length_one (fin.entries store.nodes) in
     omega (arith, is, all, number, few)
 
--- the merge changes generations alone
+-- the merge changes only generations
 merged_other : (g : ℕ) (p q : Place) → ((i : ℕ) → q ≢ Gen i) → merged_place g p ≡ q → p ≡ q
 merged_other g (Gen i) q other e = absurd (gens (nat_le i g) e)
   where
@@ -114,7 +115,7 @@ pub empty_merged : (g : ℕ) (old new : Store) → MergesYounger g old new → I
 empty_merged g old new merges listed listed_new q tracked other empty = empty_at new listed_new q (λ o live. nobody_merged g old new merges listed q tracked other empty o)
 
 module _ (script : Script) (g : ℕ) (s0 s1 s2 s4 s5 s6 : Store) (t : Trace script g s0 s1 s2 s4 s5 s6) (listed0 : IsListed s0) (listed6 : IsListed s6) (clear : IsClear s0) where
-  -- where the objects of the generation end
+  -- where the objects of the generation end up
   ends : (o : ℕ) (q : Place) → place_of s1 o ≡ Gen g → place_of s6 o ≡ q → Untracked ≢ q → Gen (older g) ≢ q → Cand ≢ q → Legacy ≢ q → ⊥
   ends o q at is not_u not_g not_c not_l = either (t.splits.either_way o at)
       (λ kept. either (both_or script g s0 s1 s2 s4 s5 s6 t o)
@@ -130,7 +131,6 @@ module _ (script : Script) (g : ℕ) (s0 s1 s2 s4 s5 s6 : Store) (t : Trace scri
   pub nobody_waits : IsEmptyAt s6 Pend
   nobody_waits = still_empty Pend (λ e. cc) (λ i e. cc) (λ e. cc) (λ e. cc) clear.pending
 
-  -- the garbage list
   garbage1 : place_of s1 1 ≡ Untracked
   garbage1 = t.merges.places 1 ∙ ap (merged_place g) clear.garbage
 
@@ -159,7 +159,7 @@ module _ (script : Script) (g : ℕ) (s0 s1 s2 s4 s5 s6 : Store) (t : Trace scri
     empty_seen,
   )
 
--- no one is set aside before those are that legacy finalizers lead to
+-- no object is uncollectable before the search from legacy finalizers
 untracked_or : (g : ℕ) (old new : Store) → UntracksSurvivors g old new → (o : ℕ) → (place_of new o ≡ place_of old o) ⊎ (place_of new o ≡ Untracked)
 untracked_or g old new u o = go (u.tuples.at_most o) dictionaries
   where

@@ -1,4 +1,4 @@
--- What is set aside because of its legacy finalizer, and what that leads to.
+-- What is uncollectable because of its legacy finalizer, and what is reachable from that.
 use Rattle.std.proofs.Common.{◌≡◌, ◌≢◌, refl, sym, ◌∙◌, ap, subst, ℕ, ◌+◌, ◌<◌, ◌≤◌, ◌⊎◌, inl, inr, true, false, List, [], ◌∷◌, ◌++◌, length, length-append, take, Option, Some, None, arith, append_assoc}
 use Rattle.std.specs.Prelude.{option_map, option_and_then, is_some, slice_get, sum_by}
 use Rattle.std.specs.FinMap as fin
@@ -34,7 +34,6 @@ use Rattle.cg_collect.proofs.Sums.{sum_alike}
 use Rattle.cg_collect.proofs.Standing.{same_itself, same_more, entries_on, lives_at, stands_at, stood_at, edge_at, edge_back, nobody_at}
 use Rattle.cg_collect.proofs.Moving.{one-shorter, standing_at, walk_at, walk_over, walk_first, walk_passes, comes_next, live_where, left_is, moved_same, moved_there, moved_not, moved_last, moved_from, moved_once, walk_leaves}
 
--- No reference, one, and more of them.
 pub aside_none : (store : Store) → SetsReferencesAside [] store store
 aside_none store = record { same = same_itself store; more = []; behind = sym (nothing (list_at store Legacy)); fewer = omega arith; aside = λ o h. absurd h; others = λ o. inl refl }
   where
@@ -105,7 +104,7 @@ pub record SettingLooked (o : ℕ) (old now : Store) (i before looks : ℕ) : Ty
   pub setting : Setting o old now i
   pub looked : looks ≡ before + i
 
--- The walk over what is set aside: what it passed leads to no candidate any more.
+-- The walk over the uncollectable objects: none that it passed refers to a candidate any more.
 pub record Closing (old now : Store) (cursor : Option ℕ) : Type 0 where
   pub front : List ℕ
   pub back : List ℕ
@@ -124,7 +123,7 @@ closing_first store cursor is = record {
   others = λ o. inl refl;
 }
 
--- Each entry of those that it passed was looked at once.
+-- It looked once at each entry of those that it passed.
 pub record ClosingLooked (old now : Store) (cursor : Option ℕ) (before looks : ℕ) : Type 0 where
   pub walk : Closing old now cursor
   pub looked : looks ≡ before + sum_by (λ q. length (entries_of old q)) walk.front
@@ -300,14 +299,13 @@ module _ (script : Script) (old now : Store) (cursor : Option ℕ) (o : ℕ) (li
           let parts : length so.back ≡ length (o ∷ leaves.0) = ap length leaves.1 in
           omega (arith, before, after, parts)
 
-      -- the same of the heap that the move leaves
+      -- the same for the heap after the move
       pub finding_moved : (new : Store) → new ≡ moved o Legacy now → Finding script old new then
       finding_moved new is = subst (λ (s : Store). Finding script old s then) (sym is) finding_aside
 
       pub moved_shorter : (new : Store) → new ≡ moved o Legacy now → length (ahead then (list_at new Cand)) < length (ahead cursor (list_at now Cand))
       moved_shorter new is = subst (λ (s : Store). length (ahead then (list_at s Cand)) < length (ahead cursor (list_at now Cand))) (sym is) aside_shorter
 
-    -- one without
     module _ (none : has_legacy_in script now o ≡ false) where
       passes : (rest : List ℕ) × (so.back ≡ o ∷ rest) × IsAt (list_at now Cand) then (so.front ++ o ∷ []) rest
       passes = walk_passes (list_at now Cand) o then so.front so.back found_at (comes_next now listed Cand o then comes)
@@ -340,12 +338,12 @@ finding_done script old now cursor listed so is = record {
   others = so.others;
 }
 
--- Both passes: exactly what legacy finalizers lead to is set aside.
+-- Both passes: exactly what is reachable from legacy finalizers is set aside.
 module _ (script : Script) (old mid new : Store) (listed : IsListed old) (empty : list_at old Legacy ≡ []) (some : SetsFinalizedAside script old mid) (all : Closes mid new) where
   was_candidate : (o : ℕ) → place_of mid o ≡ Cand → place_of old o ≡ Cand
   was_candidate o at = either (some.others o) (λ s. sym s ∙ at) (λ went. went.0)
 
-  -- what is set aside at first has a legacy finalizer
+  -- what is set aside first has a legacy finalizer
   first_led : (q : ℕ) → place_of mid q ≡ Legacy → (place_of old q ≡ Cand) × IsLedByLegacy script old q
   first_led q at = either (some.others q)
       (λ s. absurd (nobody_at old listed Legacy empty q (lives_at old q Legacy (sym s ∙ at) (λ e. cc)) (sym s ∙ at)))

@@ -1,4 +1,4 @@
--- What a heap does at the start is the step of the machine.
+-- At the start, the heap does the machine's step.
 use Rattle.std.proofs.Common.{◌≡◌, refl, sym, ◌∙◌, ap, subst, ℕ, ◌+◌, ◌<◌, ◌≤◌, Bool, true, false, List, [], ◌∷◌, ◌++◌, length, map, Option, Some, None, arith}
 use Rattle.std.specs.Prelude.{◌==◌, ◌^◌, if◌then◌else◌, unwrap_or}
 use Rattle.cg_value.specs.declared.Place.{Place}
@@ -41,7 +41,7 @@ use Rattle.cg_collect.proofs.Sorts.{chosen, places, sorts, objects_sorted, survi
 use Rattle.cg_collect.proofs.Keeping.{keeps-same}
 use Rattle.cg_collect.proofs.Worlds.{steps_at, with_same_rows, represents_on}
 
--- the phases after the start stand for the weak phase of the machine
+-- the phases after the start represent the machine's weak phase
 shows_start : (asked : Bool) (facts : Facts) (s b : Bool) (old store : Store) (policy : Policy) (after : World) (below : List Activity)
     → Represents store after → policy.numbers ≡ after.numbers → policy.running ≡ true
     → after.stack ≡ Collecting (collection_of asked (collection_at facts phase_of.Start None) (machine.WeakClearing (list_at store Pend))) ∷ below
@@ -50,7 +50,7 @@ shows_start asked facts true b old store policy after below r n run top = record
 shows_start asked facts false true old store policy after below r n run top = record { represents = r; numbers = n; running = run; top = top }
 shows_start asked facts false false old store policy after below r n run top = record { represents = r; numbers = n; running = run; top = top }
 
--- the lines that are left after the first
+-- the lines after the first
 lines_start : (script : Script) (asked : Bool) (facts : Facts) (s b : Bool) (old store : Store) (sizes : Event) → sizes ≡ Gens (length (list_at old (Gen 0))) (length (list_at old (Gen 1))) (length (list_at old (Gen 2))) (length (list_at old Frozen))
     → b ≡ has_flag (bits_of facts.flags) collectable
     → lines_if s (sizes ∷ []) ++ lines_if b (map GcCollectable (list_at store Cand)) ≡ lines_left script asked (collection_at facts (told_start s b old store) None) (told_start s b old store) store
@@ -69,7 +69,7 @@ few_start : (n : ℕ) (s b : Bool) (old store : Store) → n ≡ 0 → HasFewCol
 few_start n true b old store e = e
 few_start n false b old store e = few_told n b store e
 
--- no detection is to come next
+-- no reachability pass comes next
 pub apart_start : (s b : Bool) (old store : Store) → detection_at (unwrap_or (if s then Some (told_sizes old) else None) (told_if b store)) ≡ None
 apart_start true b old store = refl
 apart_start false true old store = refl
@@ -80,7 +80,7 @@ onward_start true b old store = (omega arith, refl)
 onward_start false true old store = (omega arith, refl)
 onward_start false false old store = (omega arith, refl)
 
--- what the code tells first
+-- what the code prints first
 told_start-is : (s b : Bool) (old store : Store) → unwrap_or (if s then Some (told_sizes old) else None) (told_if b store) ≡ told_start s b old store
 told_start-is true b old store = refl
 told_start-is false b old store = refl
@@ -104,7 +104,6 @@ still_bounded g n numbers below few = record {
     left true = omega (arith, few)
     left false = omega (arith, below.total)
 
--- with other numbers
 renumbered : (store : Store) (w : World) (numbers : Numbers) → Represents store w → Represents store (record w { numbers = numbers })
 renumbered store w numbers r = record { objects = r.objects; next_serial = r.next_serial; names = r.names; outside = r.outside; deaths = r.deaths; no_others = r.no_others; collection = r.collection }
 
@@ -137,7 +136,6 @@ module _ (script : Script) (facts : Facts) (s0 s1 s2 s4 s5 s6 : Store) (t : Trac
     r : Represents s0 w
     r = s.shows.represents
 
-    -- the merge
     merged_objects : objects_of s1 ≡ (merged g w).objects
     merged_objects =
         objects_on s0 s1 t.merges.same

@@ -1,5 +1,5 @@
--- A collection comes to its start once at most, to its second detection once, and to each of its three walks over weak references once,
--- which it goes to the end of without another between.
+-- A collection makes its start, its second reachability pass and each of its three walks over weak references at most once, and
+-- ends each walk before the next begins.
 use Rattle.std.proofs.Common.{◌≡◌, refl, sym, ap, subst, ℕ, ◌+◌, ◌≤◌, List, [], ◌∷◌, Option, arith}
 use Rattle.cg_graph.specs.Store.{Store, entries_of}
 use Rattle.cg_collect.specs.declared.phase.Phase.{Phase}
@@ -9,7 +9,7 @@ use Rattle.cg_collect.specs.Turns.{pass_of, passes_on}
 use Rattle.cg_collect.specs.Looks.{looks_left, most_looks, one_of}
 use Rattle.cg_collect.specs.WholeCollections.{SteppedPhase, IsStep, FindsHeap, AreSteps, looks_after, looks_at_start, looks_at_clearing, looks_at_split, looks_at_detaching, looks_at_unlinking, looks_in_turns, LooksAreBounded}
 
--- what a step says, from the phase, the counter and the heap that are known before it
+-- what a step says, from the phase, the counter and the heap known before it
 found_at : (g : ℕ) (step : SteppedPhase) (phase : Phase) (looks : ℕ) (store : Store) → step.phase ≡ phase → step.looks ≡ looks → step.store ≡ store → IsStep g step
     → step.looks_now + looks_left phase step.phase_now step.store_now ≤ looks + most_looks g phase store
 found_at g step phase looks store at counted found is =
@@ -20,7 +20,7 @@ found_at g step phase looks store at counted found is =
 passed : (step : SteppedPhase) (phase : Phase) → step.phase ≡ phase → pass_of step.phase + passes_on step.phase ≤ pass_of step.phase_now → pass_of phase + passes_on phase ≤ pass_of step.phase_now
 passed step phase at onward = subst (λ (p : Phase). pass_of p + passes_on p ≤ pass_of step.phase_now) at onward
 
--- Past the third walk only turns look at any.
+-- After the third walk, only turns look at anything.
 past_unlinking : (g : ℕ) (phase : Phase) (looks : ℕ) (steps : List SteppedPhase) → 10 ≤ pass_of phase → AreSteps g phase looks steps → looks_after looks steps ≤ looks + looks_in_turns steps
 past_unlinking g phase looks [] late are = omega arith
 past_unlinking g phase looks (step ∷ steps) late are =
@@ -44,7 +44,7 @@ past_unlinking g phase looks (step ∷ steps) late are =
     by (phase_of.Unlinking m v) h l o rest = absurd (omega (arith, h))
     by _ h l o rest = omega (arith, rest (omega (arith, h, o)), l)
 
--- The third walk, after a step of it.
+-- The third walk, after one of its steps.
 after_unlinking : (g : ℕ) (member weak : Option ℕ) (phase_now : Phase) (looks : ℕ) (store : Store) (most : ℕ) (steps : List SteppedPhase) → looks + looks_left (phase_of.Unlinking member weak) phase_now store ≤ most → 9 ≤ pass_of phase_now
     → (¬ MayRun phase_now → FindsHeap store steps) → AreSteps g phase_now looks steps → looks_after looks steps ≤ most + looks_in_turns steps
 after_unlinking g member weak phase_now looks store most [] few late finds are = omega (arith, few)
@@ -67,7 +67,7 @@ after_unlinking g member weak (phase_of.Unlinking later older) looks store most 
     omega (arith, few, later)
 after_unlinking g member weak phase_now looks store most (step ∷ steps) few late finds are = omega (arith, few, past_unlinking g phase_now looks (step ∷ steps) (omega (arith, late)) are)
 
--- Past the second walk that one does besides.
+-- After the second walk, also the third.
 past_detaching : (g : ℕ) (phase : Phase) (looks : ℕ) (steps : List SteppedPhase) → 9 ≤ pass_of phase → AreSteps g phase looks steps → looks_after looks steps ≤ looks + looks_at_unlinking g steps + looks_in_turns steps
 past_detaching g phase looks [] late are = omega arith
 past_detaching g phase looks (step ∷ steps) late are =
@@ -91,7 +91,7 @@ past_detaching g phase looks (step ∷ steps) late are =
     by (phase_of.Unlinking member weak) h l o rest = omega (arith, after_unlinking g member weak step.phase_now step.looks_now step.store_now (looks + most_looks g (phase_of.Unlinking member weak) step.store) steps l (omega (arith, o)) are.3 are.4)
     by _ h l o rest = omega (arith, rest (omega (arith, h, o)), l)
 
--- The second walk, after a step of it.
+-- The second walk, after one of its steps.
 after_detaching : (g : ℕ) (next : Option ℕ) (phase_now : Phase) (looks : ℕ) (store : Store) (most : ℕ) (steps : List SteppedPhase) → looks + looks_left (phase_of.Detaching next) phase_now store ≤ most → 8 ≤ pass_of phase_now
     → (¬ MayRun phase_now → FindsHeap store steps) → AreSteps g phase_now looks steps → looks_after looks steps ≤ most + looks_at_unlinking g steps + looks_in_turns steps
 after_detaching g next phase_now looks store most [] few late finds are = omega (arith, few)
@@ -114,7 +114,7 @@ after_detaching g next (phase_of.Detaching later) looks store most (step ∷ ste
     omega (arith, few, later, same_unlinking)
 after_detaching g next phase_now looks store most (step ∷ steps) few late finds are = omega (arith, few, past_detaching g phase_now looks (step ∷ steps) (omega (arith, late)) are)
 
--- Past the second detection both do besides.
+-- After the second reachability pass, both of them.
 past_split : (g : ℕ) (phase : Phase) (looks : ℕ) (steps : List SteppedPhase) → 7 ≤ pass_of phase → AreSteps g phase looks steps → looks_after looks steps ≤ looks + looks_at_detaching g steps + looks_at_unlinking g steps + looks_in_turns steps
 past_split g phase looks [] late are = omega arith
 past_split g phase looks (step ∷ steps) late are =
@@ -137,7 +137,7 @@ past_split g phase looks (step ∷ steps) late are =
     by (phase_of.Detaching next) h l o rest = omega (arith, after_detaching g next step.phase_now step.looks_now step.store_now (looks + most_looks g (phase_of.Detaching next) step.store) steps l (omega (arith, o)) are.3 are.4)
     by _ h l o rest = omega (arith, rest (omega (arith, h, o)), l)
 
--- Past the first walk the second detection does besides, and calls of callbacks.
+-- After the first walk, also the second pass and callbacks.
 past_clearing : (g : ℕ) (phase : Phase) (looks : ℕ) (steps : List SteppedPhase) → 4 ≤ pass_of phase → AreSteps g phase looks steps → looks_after looks steps ≤ looks + looks_at_split g steps + looks_at_detaching g steps + looks_at_unlinking g steps + looks_in_turns steps
 past_clearing g phase looks [] late are = omega arith
 past_clearing g phase looks (step ∷ steps) late are =
@@ -155,7 +155,7 @@ past_clearing g phase looks (step ∷ steps) late are =
     by phase_of.Split h l o rest = omega (arith, past_split g step.phase_now step.looks_now steps (omega (arith, o)) are.4, l)
     by _ h l o rest = omega (arith, rest (omega (arith, h, o)), l)
 
--- The first walk, after a step of it.
+-- The first walk, after one of its steps.
 after_clearing : (g : ℕ) (member weak : Option ℕ) (phase_now : Phase) (looks : ℕ) (store : Store) (most : ℕ) (steps : List SteppedPhase) → looks + looks_left (phase_of.WeakClearing member weak) phase_now store ≤ most → 3 ≤ pass_of phase_now
     → (¬ MayRun phase_now → FindsHeap store steps) → AreSteps g phase_now looks steps → looks_after looks steps ≤ most + looks_at_split g steps + looks_at_detaching g steps + looks_at_unlinking g steps + looks_in_turns steps
 after_clearing g member weak phase_now looks store most [] few late finds are = omega (arith, few)
@@ -172,7 +172,7 @@ after_clearing g member weak (phase_of.WeakClearing later older) looks store mos
     omega (arith, few, later, same_split, same_detaching, same_unlinking)
 after_clearing g member weak phase_now looks store most (step ∷ steps) few late finds are = omega (arith, few, past_clearing g phase_now looks (step ∷ steps) (omega (arith, late)) are)
 
--- Past the start the first walk does besides.
+-- After the start, also the first walk.
 past_start : (g : ℕ) (phase : Phase) (looks : ℕ) (steps : List SteppedPhase) → 1 ≤ pass_of phase → AreSteps g phase looks steps → looks_after looks steps ≤ looks + looks_at_clearing g steps + looks_at_split g steps + looks_at_detaching g steps + looks_at_unlinking g steps + looks_in_turns steps
 past_start g phase looks [] late are = omega arith
 past_start g phase looks (step ∷ steps) late are =

@@ -1,5 +1,5 @@
--- The second detection: what a heap does there is the step of the machine; its lines are told by the calls that follow,
--- while weak references to the final set lose it.
+-- The second reachability pass: the heap does the machine's step. The following calls print its lines, as weak
+-- references to the final set are cleared.
 use Rattle.std.proofs.Common.{◌≡◌, ◌≢◌, refl, sym, ◌∙◌, ap, subst, ℕ, ◌+◌, ◌≤◌, Bool, true, false, cond, not, inl, inr, List, [], ◌∷◌, ◌++◌, length, map, Option, Some, None, IsSome, arith}
 use Rattle.std.specs.Prelude.{◌⊎◌, ◌↔◌, ◌==◌, ◌&&◌, ◌||◌, if◌then◌else◌, filter, flat_map, sum_by, option_map, unwrap_or, slice_get}
 use Rattle.std.specs.FinMap as fin
@@ -56,7 +56,6 @@ use Rattle.cg_collect.proofs.FinalRows.{AreAlive, lose_first, lose_members, wait
 use Rattle.cg_collect.proofs.Looking.{still_unsaved}
 use Rattle.cg_collect.proofs.Worlds.{steps_at, only_tells, LeavesRest, pending_is, represents_on}
 
--- survivors are told
 module _ (script : Script) (facts : Facts) (store : Store) (policy : Policy) where
   abbrev old_ones : List ℕ
   old_ones = list_at store (Gen (older facts.generation))
@@ -79,7 +78,7 @@ module _ (script : Script) (facts : Facts) (store : Store) (policy : Policy) whe
       (λ asked w below s. record { represents = s.represents; numbers = s.numbers; running = s.running; top = s.top })
       (λ asked. ap (λ l. cleared_lines store.rows l ++ member_lines store) (sym (ap (λ c. from_on c candidates) is ∙ from_first candidates)))
 
-  -- a member that no weak reference has is passed
+  -- a member without weak references is passed
   pub turn-passed : (o : ℕ) (after : Option ℕ) → from_on (Some o) candidates ≡ o ∷ from_on after candidates → weak_references_in store.rows o ≡ []
       → CollectSteps script (collection_at facts (phase_of.Detaching (Some o)) None) store policy (collection_at facts (phase_of.Detaching after) None) store policy answer_of.Continue
   turn-passed o after left none =
@@ -87,7 +86,7 @@ module _ (script : Script) (facts : Facts) (store : Store) (policy : Policy) whe
       (λ asked w below s. record { represents = s.represents; numbers = s.numbers; running = s.running; top = s.top })
       (λ asked. ap (λ l. cleared_lines store.rows l ++ member_lines store) left ∙ ap (λ ws. (map Cleared ws ++ cleared_lines store.rows (from_on after candidates)) ++ member_lines store) none)
 
-  -- all have lost the final set, and members lose their own referents
+  -- all are cleared, and members that are weak references follow
   pub turn-detached : ((o : ℕ) → Includes candidates o → weak_references_in store.rows o ≡ []) → (first : Option ℕ) → first ≡ slice_get candidates 0
       → CollectSteps script (collection_at facts (phase_of.Detaching None) None) store policy (collection_at facts (phase_of.Unlinking first None) None) store policy answer_of.Continue
   turn-detached none first is =
@@ -95,7 +94,7 @@ module _ (script : Script) (facts : Facts) (store : Store) (policy : Policy) whe
       (λ asked w below s. record { represents = s.represents; numbers = s.numbers; running = s.running; top = s.top })
       (λ asked. λ i. map Cleared (members_losing candidates (sym (ap (λ c. from_on c candidates) is ∙ from_first candidates) i) ((none_to_lose candidates store.rows none ∙ sym (without_rows-nil store.rows)) i)))
 
--- The newest weak reference to a member loses it.
+-- The newest weak reference to a member is cleared.
 module _ (store : Store) (rise : IsRising store.rows) (o : ℕ) (ws : List ℕ) (r : Row) (inside : Includes store.rows r) (passes : refers_to o r ≡ true) (is : weak_references_in store.rows o ≡ r.weak ∷ ws) where
   abbrev lost : Store
   lost = record store { rows = without_row r.weak store.rows }
@@ -142,7 +141,7 @@ module _ (store : Store) (rise : IsRising store.rows) (o : ℕ) (ws : List ℕ) 
   pub lost_refers : referent_in store.rows r.weak ≡ Some o
   lost_refers = refers store.rows rise o r inside passes
 
--- what is left of a walk that stands at a member
+-- what is left of a walk at a member
 pub from_here : (store : Store) → IsListed store → (p : Place) (o : ℕ) → Includes (list_at store p) o → (rest : List ℕ) × (from_on (Some o) (list_at store p) ≡ o ∷ rest) × ((q : ℕ) → Includes rest q → q ≢ o)
 from_here store listed p o m =
     let (front, back, parts) = split_at (list_at store p) o m in (
@@ -203,7 +202,7 @@ module _ (store : Store) (listed : IsListed store) where
       known None e h = absurd (let f : false ≡ true = h in cc)
       known (Some n) e h = is_there store listed Cand o (subst IsSome (sym e) refl) (ap place_in e ∙ place_is n.place Cand h)
 
-  -- a weak reference to a candidate, or one that is a candidate, loses its referent
+  -- a weak reference to a candidate, or one that is a candidate, is cleared
   pub loses_it : (rows : List Row) (weak : ℕ) (n : Node) (o : ℕ) → fin.get store.nodes weak ≡ Some n → referent_in rows weak ≡ Some o → Includes (list_at store Cand) o ⊎ Includes (list_at store Cand) weak
       → loses_at_split (objects_of store) (object_from rows weak n) ≡ true
   loses_it rows weak n o got refers which =
@@ -228,7 +227,7 @@ module _ (store : Store) (listed : IsListed store) where
       known None e k = absurd (let f : false ≡ true = k in cc)
       known (Some o) e k = (o, e, either (true_or (test (object_at (objects_of store) o)) (is_at Cand x) k) (λ a. inl (passes_test o a)) (λ b. inr (candidate b)))
 
--- The candidates are split, and survivors get older.
+-- The candidates are split, and survivors move to the older generation.
 module _ (g : ℕ) (store half : Store) (listed : IsListed store) (root : IsLive store 1) (apart : IsApartUnseen store) (half_listed : IsListed half) (same : IsSameButPlaces store half)
     (unreachable : (o : ℕ) → Includes (list_at half Cand) o ↔ IsUnreachable store Cand o) (reachable : (o : ℕ) → Includes (list_at half Back) o ↔ IsReachable store Cand o)
     (others : (p : Place) → p ≢ Cand → p ≢ Back → list_at half p ≡ list_at store p) where
@@ -269,7 +268,7 @@ module _ (g : ℕ) (store half : Store) (listed : IsListed store) (root : IsLive
       is_there store listed Cand o stands.0 stands.1
 
   module _ (parted_listed : IsListed parted) where
-    -- where each object stands then
+    -- where each object then is
     alive_at : (o : ℕ) → Includes alive o → place_of parted o ≡ p
     alive_at o m = (where_is parted parted_listed p o (subst (λ l. Includes l o) (sym joined) (Includes-append_right (list_at half p) alive o m))).1
 
@@ -306,7 +305,7 @@ module _ (g : ℕ) (store half : Store) (listed : IsListed store) (root : IsLive
             (λ yes'. ap (λ q. object_placed q x) (alive_at x.serial (Includes-of alive x.serial yes')) ∙ sym (ap (λ b. if b then object_placed p x else x) yes'))
             (λ dead. ap (λ q. object_placed q x) (stays_at x.serial (live_there store x m) (λ k. let yes' : true ≡ false = sym (includes-of alive x.serial k) ∙ dead in cc) ∙ place_there store x m) ∙ sym (ap (λ b. if b then object_placed p x else x) dead))
 
-    -- what is set apart
+    -- what is partitioned
     pub apart_parted : IsApartUnseen parted
     apart_parted = (
       record {
@@ -330,14 +329,14 @@ module _ (g : ℕ) (store half : Store) (listed : IsListed store) (root : IsLive
         abbrev final : List ℕ
         final = list_at parted Cand
 
-        -- the rows that are left once no weak reference has a member
+        -- the remaining rows, after no weak reference refers to a member
         abbrev unreferred : List Row
         unreferred = without_referents final parted.rows
 
         abbrev cleared : List ℕ
         cleared = flat_map (weak_references_in parted.rows) final ++ members_losing final final unreferred
 
-        -- the heap once the lines are told
+        -- the heap after the lines are printed
         abbrev told : Store
         told = without_rows_of final parted
 

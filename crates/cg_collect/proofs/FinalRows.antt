@@ -1,5 +1,5 @@
--- The rows of weak references to the members of the final set, and then those of members, go one by one: each is the newest
--- to its referent.
+-- The rows of weak references to the members of the final set, and then those of members, are removed one by one: each is
+-- the newest to its referent.
 use Rattle.std.proofs.Common.{◌≡◌, ◌≢◌, refl, sym, ◌∙◌, ap, subst, ℕ, ◌≤◌, Bool, true, false, cond, not, ◌&&◌, ◌||◌, inl, inr, List, [], ◌∷◌, ◌++◌, append_assoc, map, reverse, Option, Some, None, arith}
 use Rattle.std.specs.Prelude.{◌==◌, ◌⊎◌, filter, flat_map}
 use Rattle.std.specs.FinMap as fin
@@ -18,7 +18,7 @@ use Rattle.cg_collect.specs.Phases.{references_in, refers_to_any, without_refere
 use Rattle.cg_collect.proofs.Standing.{node_of_live, node_there, object_there}
 use Rattle.cg_collect.proofs.RowFilters.{rising-filter, filter_all, filter_same, filter_twice, flat_map_alike, filter_filter, eqb-sym, filter-newest, without_rows-newest, without_rows-nil, filter-without, objects_without, highest, newest_left, refers, row_listed}
 
--- Where no row refers to a member, and no member has one, none is lost.
+-- If no row refers to a member and no member has a referent, nothing is cleared.
 pub none_lost : (final : List ℕ) (rows : List Row) → IsRising rows → ((r : Row) → Includes rows r → r.waits ≡ false → ¬ Includes final r.referent) → ((o : ℕ) → Includes final o → referent_in rows o ≡ None)
     → filter (λ r. not (is_lost_with final r)) rows ≡ rows
 none_lost final rows rise unreferred none = filter_all (λ r. not (is_lost_with final r)) rows each
@@ -34,7 +34,7 @@ none_lost final rows rise unreferred none = filter_all (λ r. not (is_lost_with 
             (λ e. unreferred r inside there (Includes-of final r.referent e))
             (λ e. let f : None ≡ Some r.referent = sym (none r.weak (Includes-of final r.weak e)) ∙ referent-is rows r (split_at rows r rise inside) there in cc)
 
--- the rows stand by rising weak reference, and each of these lives
+-- the rows rise by weak reference, and each of these lives
 pub record AreAlive (store : Store) (rows : List Row) : Type 0 where
   pub rise : IsRising rows
   pub live : (r : Row) → Includes rows r → IsLive store r.weak
@@ -42,7 +42,7 @@ pub record AreAlive (store : Store) (rows : List Row) : Type 0 where
 alive-filter : (store : Store) (test : Row → Bool) (rows : List Row) → AreAlive store rows → AreAlive store (filter test rows)
 alive-filter store test rows are = record { rise = rising-filter test rows are.rise; live = λ r m. are.live r (Includes-filter_cases test rows r m).0 }
 
--- The rows that pass a test are all that are to lose an object.
+-- The rows that pass a test are all those that are to lose an object.
 record IsGroup (final : List ℕ) (q : ℕ) (test : Row → Bool) (rows : List Row) : Type 0 where
   to : (r : Row) → test r ≡ true → refers_to q r ≡ true
   lost : (r : Row) → test r ≡ true → Includes final q ⊎ Includes final r.weak
@@ -60,7 +60,7 @@ module _ (store : Store) (final : List ℕ) (wanted : Object → Bool)
   abbrev Lose : List Row → List ℕ → List Row → Type 0
   Lose rows weaks after = AllLose wanted (objects_of (at rows)) weaks (objects_of (at after))
 
-  -- The newest of a group may lose its referent next.
+  -- The newest of a group may be cleared next.
   may_lose : (q : ℕ) (test : Row → Bool) (rows : List Row) → IsGroup final q test rows → AreAlive store rows → (ws : List ℕ) (r : Row) → Includes rows r → test r ≡ true → newest_first test rows ≡ r.weak ∷ ws
       → MayLoseNext wanted (objects_of (at rows)) r.weak
   may_lose q test rows group are ws r inside passes is =
@@ -81,7 +81,7 @@ module _ (store : Store) (final : List ℕ) (wanted : Object → Bool)
             highest test rows are.rise ws r inside passes is y.serial (subst (Includes (newest_first test rows)) weak_p (one_of_row test rows p inside_p (group.all p inside_p passes_p which_p)));
       }
 
-  -- All of a group lose theirs, the newest first, and then others.
+  -- All of a group are cleared, newest first, and then others.
   lose_group : (q : ℕ) (test : Row → Bool) (ws : List ℕ) (rows : List Row) (more : List ℕ) (after : List Row) → newest_first test rows ≡ ws → IsGroup final q test rows → AreAlive store rows
       → Lose (filter (λ r. not (test r)) rows) more after → Lose rows (ws ++ more) after
   lose_group q test [] rows more after is group are others = subst (λ (l : List Row). Lose l more after) (filter_all (λ r. not (test r)) rows none) others
@@ -100,7 +100,7 @@ module _ (store : Store) (final : List ℕ) (wanted : Object → Bool)
       subst (λ v. Lose rows (v ∷ (ws ++ more)) after) same
       (may_lose q test rows group are ws r inside passes here, subst (λ (os : List Object). AllLose wanted os (ws ++ more) (objects_of (at after))) (objects_without rows are.rise r inside store) rest)
 
-  -- The weak references to members lose them, member by member, and then others.
+  -- The weak references to members are cleared, member by member, and then others.
   pub lose_first : (members : List ℕ) → ((o : ℕ) → Includes members o → Includes final o) → ((o : ℕ) → occurrences o members ≤ 1) → (rows : List Row) → AreAlive store rows → (more : List ℕ) (after : List Row)
       → Lose (without_referents members rows) more after → Lose rows (flat_map (weak_references_in rows) members ++ more) after
   lose_first [] within once rows are more after others = subst (λ (l : List Row). Lose l more after) (filter_all (λ r. not (refers_to_any [] r)) rows (λ r m. refl)) others
@@ -140,11 +140,11 @@ module _ (store : Store) (final : List ℕ) (wanted : Object → Bool)
           neither true false false = refl
           neither false b c = refl
 
-  -- the members that have an object as referent, the newest first
+  -- the members that refer to an object, newest first
   abbrev among : List Row → Option ℕ → List ℕ
   among rows k = filter (includes final) (references_in rows k)
 
-  -- Where a member has a referent, and no row refers to a member.
+  -- A member has a referent, and no row refers to a member.
   module _ (rows : List Row) (are : AreAlive store rows) (unreferred : (r : Row) → Includes rows r → r.waits ≡ false → ¬ Includes final r.referent) (o t : ℕ) (has : referent_in rows o ≡ Some t) where
     -- whether a row is that of a member with this referent
     abbrev goes_with : Row → Bool
@@ -159,7 +159,7 @@ module _ (store : Store) (final : List ℕ) (wanted : Object → Bool)
     left_is : without_rows (among rows (Some t)) rows ≡ left
     left_is = ap (λ ws. without_rows ws rows) weaks_are ∙ without_rows-newest goes_with rows are.rise
 
-    -- those that are left had their referents, and are not of these
+    -- the remaining ones had their referents, and are not among these
     left_has : (q p : ℕ) → referent_in left q ≡ Some p → (referent_in rows q ≡ Some p) × ((t ≡ p) × Includes final q → ⊥)
     left_has q p has_p =
         let (r, inside, passes, same) = row_there left q p has_p in
@@ -206,7 +206,7 @@ module _ (store : Store) (final : List ℕ) (wanted : Object → Bool)
         }) are
         (subst (λ (l : List Row). Lose left (more l) (lost_rows rows)) (sym left_is) (subst (λ (l : List Row). Lose left (more left) l) same_end others))
 
-  -- When none has a referent, none is left.
+  -- If none has a referent, none is left.
   lose_none : (rows : List Row) → AreAlive store rows → ((r : Row) → Includes rows r → r.waits ≡ false → ¬ Includes final r.referent) → ((o : ℕ) → Includes final o → referent_in rows o ≡ None) → Lose rows [] (lost_rows rows)
   lose_none rows are unreferred none = (none_left, ap (λ (l : List Row). objects_of (at l)) (none_lost final rows are.rise unreferred none))
     where
@@ -224,7 +224,7 @@ module _ (store : Store) (final : List ℕ) (wanted : Object → Bool)
       none_left : NoneLeft wanted (objects_of (at rows))
       none_left x m = either (cases_of (wanted x)) (λ h. absurd (no x m h)) (λ e. e)
 
-  -- members, of those that are left, lose their referents in order
+  -- the remaining members are cleared in order
   abbrev LoseInOrder : List ℕ → Type 0
   LoseInOrder members = (rows : List Row) → AreAlive store rows → ((r : Row) → Includes rows r → r.waits ≡ false → ¬ Includes final r.referent) → ((o : ℕ) → Includes final o → Includes members o ⊎ (referent_in rows o ≡ None))
       → Lose rows (members_losing final members rows) (lost_rows rows)
@@ -247,12 +247,12 @@ module _ (store : Store) (final : List ℕ) (wanted : Object → Bool)
           (λ r inside. unreferred r (Includes-filter_cases (λ x. not (refers_to t x && includes final x.weak)) rows r inside).0)
           (λ q m. either (behind_o q m) (λ same. inr (left_none rows are unreferred o t e q m (inl same))) (λ k. either k (λ l. inl l) (λ none. inr (left_none rows are unreferred o t e q m (inr none)))))))
 
-  -- Then members lose their own referents, with each all that have the same.
+  -- Then members are cleared, for each all with the same referent.
   pub lose_members : (members : List ℕ) → LoseInOrder members
   lose_members [] = λ rows are unreferred behind. lose_none rows are unreferred (λ o m. either (behind o m) (λ k. absurd k) (λ e. e))
   lose_members (o ∷ members) = lose_next o members (lose_members members)
 
--- What waits, waits on.
+-- Waiting ones still wait.
 pub waiting-rest : (members : List ℕ) (rows : List Row) (o : ℕ) → waiting_in (filter (λ r. not (is_lost_with members r)) rows) o ≡ waiting_in rows o
 waiting-rest members rows o =
     ap (λ (l : List Row). reverse (map (λ (r : Row). r.weak) l))
@@ -263,7 +263,7 @@ waiting-rest members rows o =
     nothing true = refl
     nothing false = refl
 
--- no row refers to a member where none has a weak reference
+-- no row refers to a member without weak references
 pub none_referring : (members : List ℕ) (rows : List Row) → ((o : ℕ) → Includes members o → weak_references_in rows o ≡ []) → (r : Row) → Includes rows r → r.waits ≡ false → ¬ Includes members r.referent
 none_referring members rows none r inside there m = absurd (subst (λ l. Includes l r.weak) (none r.referent m) (row_listed rows r inside there))
 
@@ -275,7 +275,7 @@ none_to_lose members rows none = filter_all (λ r. not (refers_to_any members r)
         (λ yes'. let parts = true_and (includes members r.referent) (not r.waits) yes' in absurd (none_referring members rows none r inside (not-true r.waits parts.1) (Includes-of members r.referent parts.0)))
         (λ no. ap not no)
 
--- one that is lost leaves the others to be lost
+-- clearing one leaves the others
 pub same_without : (members : List ℕ) (store : Store) (rise : IsRising store.rows) (r : Row) (inside : Includes store.rows r) → is_lost_with members r ≡ true
     → without_rows_of members (record store { rows = without_row r.weak store.rows }) ≡ without_rows_of members store
 same_without members store rise r inside lost = λ i. record store { rows = filter-without store.rows rise r inside (λ x. not (is_lost_with members x)) (ap not lost) i }

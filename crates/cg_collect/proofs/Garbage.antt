@@ -1,4 +1,4 @@
--- The garbage list stays untracked while other objects change places.
+-- The garbage list stays untracked while other objects move.
 use Rattle.std.proofs.Common.{◌≡◌, ◌≢◌, sym, ◌∙◌, ap, ℕ, false, Option, Some, None}
 use Rattle.std.specs.Prelude.{◌==◌, if◌then◌else◌, option_map}
 use Rattle.std.specs.FinMap as fin

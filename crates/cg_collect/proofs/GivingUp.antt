@@ -49,7 +49,7 @@ goes_on_with c release (death_answer.Frame spec) died gone = (refl, refl)
 goes_on_with c release (death_answer.Died o) died gone = absurd (died o refl)
 goes_on_with c release death_answer.Gone died gone = absurd (gone refl)
 
--- What a phase that gives something up shows: no line is left, and it stands on the stack of the machine.
+-- A phase that gives something up: no line is left, and it is on the machine's stack.
 record GivesUpAt (p : Phase) : Type 0 where
   lines : (script : Script) (asked : Bool) (c : Collection) (store : Store) → lines_left script asked c p store ≡ []
   heap : (store : Store) → store_after p store ≡ store
@@ -80,12 +80,12 @@ gives_up_at (phase_of.Saved next number) may = absurd may
 gives_up_at (phase_of.Stopping number) may = absurd may
 gives_up_at (phase_of.Over number) may = absurd may
 
--- A release leaves the lists, the entries, the places and the kinds of a heap.
+-- A release leaves the lists, the entries, the places and the kinds of a heap alone.
 lists-released : (refs : List ℕ) (store : Store) → (once_released refs store).lists ≡ store.lists
 lists-released [] store = refl
 lists-released (o ∷ refs) store = refl
 
--- The answer of a release is that of the collection.
+-- The collection answers as the release does.
 module _ (script : Script) (asked : Bool) (c : Collection) (store now : Store) (policy : Policy) (w : World) (below : List Activity) (after : Release) (may : MayGiveUp c.phase) (lists : now.lists ≡ store.lists)
     (numbers : policy.numbers ≡ w.numbers) (running : policy.running ≡ true) where
   at : GivesUpAt c.phase
@@ -94,7 +94,7 @@ module _ (script : Script) (asked : Bool) (c : Collection) (store now : Store) (
   abbrev under : List Activity
   under = collecting asked c (machine_phase c.phase (list_at store Pend)) ++ below
 
-  -- what it shows then
+  -- what it represents then
   shows_at : (r : Option Release) (v : World) → Represents now v → v.numbers ≡ w.numbers
       → v.stack ≡ released_over r (collecting asked c (machine_phase c.phase (list_at store Pend))) ++ below → CollectionShows asked (record c { release = r }) now policy v below
   shows_at r v rep numbers_now top = record {
@@ -140,7 +140,7 @@ module _ (script : Script) (asked : Bool) (c : Collection) (store now : Store) (
 may_give_up : (p : Phase) (r : Option Release) (release : Release) → r ≡ Some release → GivesUpIn p r → MayGiveUp p
 may_give_up p r release is may = subst (GivesUpIn p) is may
 
--- A reference that is given up is a step of the machine.
+-- Giving up a reference is a step of the machine.
 gives_up-steps : (script : Script) (policy : Policy) (c : Collection) (store : Store) (new : Collection) (now : Store) (answer : CollectStep) → GivesUpIn c.phase c.release → GivesUpNext c store new now answer → CollectSteps script c store policy new now policy answer
 gives_up-steps script policy c store new now answer gives g asked w below s =
     let may = may_give_up c.phase c.release g.before g.had gives in
@@ -191,7 +191,7 @@ module _ (refs : List ℕ) (store : Store) where
   others-unheld : (weak : ℕ) → OthersHaveCallbacks store weak → OthersHaveCallbacks let_off weak
   others-unheld weak have u m differs = let has = have u m differs in (kinds-unheld refs store u Weak has.0, subst IsSome (sym (callback-at let_off u ∙ ap callback_in (entries_of-unheld u) ∙ sym (callback-at store u))) has.1)
 
-  -- the phases that give something up are ready as before
+  -- the phases that give something up are still ready
   ready-unheld : (g : ℕ) (p : Phase) → MayGiveUp p → IsReadyForCollectionAt store g p → IsReadyForCollectionAt let_off g p
   ready-unheld g (phase_of.AfterRelease weak) may r = ((apart-unheld r.0.0, r.0.1), others-unheld weak r.1, r.2)
   ready-unheld g phase_of.Finalizing may r = apart-unheld r
@@ -269,7 +269,7 @@ module _ (refs : List ℕ) (store : Store) where
   left-unheld (phase_of.Stopping number) may = absurd may
   left-unheld (phase_of.Over number) may = absurd may
 
--- What lasts of a phase that gives something up: deaths run in it, it comes after the start, and it spares the garbage list.
+-- What lasts in a phase that gives something up: deaths run in it, it comes after the start, and it spares the garbage list.
 record Lasts (p : Phase) : Type 0 where
   runs : MayRun p
   begun : IsBegun p
@@ -301,7 +301,6 @@ lasts_at (phase_of.Saved next number) may = absurd may
 lasts_at (phase_of.Stopping number) may = absurd may
 lasts_at (phase_of.Over number) may = absurd may
 
--- all this of a step of a release
 record Unchanged (store now : Store) (p : Phase) : Type 0 where
   ready : (g : ℕ) → IsReadyForCollectionAt store g p → IsReadyForCollectionAt now g p
   few : (n : ℕ) → HasFewCollected n p store → HasFewCollected n p now
@@ -343,7 +342,7 @@ module _ (c : Collection) (store : Store) (new : Collection) (now : Store) (answ
       )
       known death_answer.Gone = record { generation = ready.generation; phase = same.ready c.generation ready.phase; walk = (lasts_at c.phase may).walk (profile_of script.items) now; collected = same.few c.collected ready.collected; gives_up = tt }
 
-  -- generation and phase stay, and what was detected
+  -- generation, phase and the last pass stay
   gives_up-stays : (new.generation ≡ c.generation) × (new.phase ≡ c.phase) × (new.detected ≡ c.detected)
   gives_up-stays = subst (λ (n : Collection). (n.generation ≡ c.generation) × (n.phase ≡ c.phase) × (n.detected ≡ c.detected)) (sym g.collection) (known (release_answer (references_left g.before) now))
     where
@@ -354,7 +353,6 @@ module _ (c : Collection) (store : Store) (new : Collection) (now : Store) (answ
       known (death_answer.Died o) = (refl, refl, refl)
       known death_answer.Gone = (refl, refl, refl)
 
-  -- and less is left
   gives_up-falls : answer ≡ answer_of.Continue → CollectFalls c store new now
   gives_up-falls went =
       subst (λ (n : Collection). CollectFalls c store n now) (sym g.collection)
@@ -385,7 +383,7 @@ module _ (c : Collection) (store : Store) (new : Collection) (now : Store) (answ
       known (death_answer.Died o) is e = absurd (cc)
       known death_answer.Gone is e = inr (refl, omega (arith, same.left))
 
-  -- a step that gives up does not end the collection
+  -- a step that gives something up does not end the collection
   goes_on : (a : DeathStep) → CollectionEndsWith c (give_up_answer a)
   goes_on (death_answer.Died o) = tt
   goes_on a = tt
@@ -404,7 +402,7 @@ module _ (c : Collection) (store : Store) (new : Collection) (now : Store) (answ
         begun = begun;
         onward = onward;
         detected = gives_up-stays.2 ∙ is;
-        -- that of a step without a detection
+        -- the stage of a step without a reachability pass
         stage = leaves_stage c.phase new.phase new.detected (gives_up-stays.2 ∙ is) begun (λ start. absurd (subst MayGiveUp start may)) onward;
         meets = subst (λ d. MeetsStage c.phase (stage_at new.phase d) new.phase) (sym (gives_up-stays.2 ∙ is))
             (subst (λ p. MeetsStage c.phase (stage_at p (detection_at c.phase)) p) (sym gives_up-stays.1) (lasts_at c.phase may).meets);

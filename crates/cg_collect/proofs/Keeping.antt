@@ -40,11 +40,10 @@ keeps-cleared weak wait store = record { objects = none-cleared weak wait store;
 pub keeps-merged : (p q : Place) (store : Store) → KeepsObjects store (merged p q store)
 keeps-merged p q store = record { objects = none-mapped store (merged p q store) (λ s n. place_merged p q n) refl refl; names = (refl, refl) }
 
--- the frame of a finalizer
 pub keeps-own_frame : (f : Node → Node) (o : ℕ) (p : Place) (store : Store) → KeepsObjects store (held (o ∷ []) (with_node f o (moved o p store)))
 keeps-own_frame f o p store = record { objects = none-own_frame f o p store; names = (refl, refl) }
 
--- a weak reference that loses its referent, and may wait
+-- a weak reference is cleared, and may wait
 pub keeps-lost : (b : Bool) (weak : ℕ) (store : Store) → KeepsObjects store (if b then moved weak Pend (held (weak ∷ []) (cleared_weak weak false store)) else cleared_weak weak false store)
 keeps-lost true weak store =
     keeps_then store (cleared_weak weak false store) (moved weak Pend (held (weak ∷ []) (cleared_weak weak false store))) (keeps-cleared weak false store)
@@ -52,16 +51,15 @@ keeps-lost true weak store =
     (keeps-held (weak ∷ []) (cleared_weak weak false store)) (keeps-moved weak Pend (held (weak ∷ []) (cleared_weak weak false store))))
 keeps-lost false weak store = keeps-cleared weak false store
 
--- one that is saved, and moved
+-- one is saved, and moves
 pub keeps-saved : (o : ℕ) (p : Place) (es : List Entry) (store : Store) → KeepsObjects store (moved o p (rewritten 1 es store))
 keeps-saved o p es store = keeps_then store (rewritten 1 es store) (moved o p (rewritten 1 es store)) (keeps-rewritten 1 es store) (keeps-moved o p (rewritten 1 es store))
 
--- a step of a release
 pub keeps-released : (refs : List ℕ) (store : Store) → KeepsObjects store (once_released refs store)
 keeps-released [] store = keeps_all store
 keeps-released (o ∷ refs) store = record { objects = none-unheld (o ∷ []) store; names = (refl, refl) }
 
--- objects that stay but for their places
+-- objects that stay except for their places
 pub keeps-same : (old new : Store) → IsSameButPlaces old new → KeepsObjects old new
 keeps-same old new same = record { objects = none-mapped old new (λ s n. unwrap_or (fin.get new.nodes s) n) nodes same.names; names = (same.names, same.last) }
   where

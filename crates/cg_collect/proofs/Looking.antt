@@ -1,4 +1,4 @@
--- The finalizer phase: what a heap does there is the step of the machine.
+-- The finalizer phase: the heap does the machine's step.
 use Rattle.std.proofs.Common.{◌≡◌, ◌≢◌, refl, sym, ◌∙◌, ap, subst, ℕ, ◌+◌, ◌*◌, ◌<◌, Bool, true, false, List, [], ◌∷◌, ◌++◌, length, map, set, Option, Some, None, inl, inr, arith}
 use Rattle.std.specs.Prelude.{◌==◌, if◌then◌else◌, option_map, option_and_then, slice_get}
 use Rattle.std.specs.FinMap as fin
@@ -50,11 +50,11 @@ use Rattle.cg_collect.proofs.Moving.{one-shorter, moved_same, moved_last, moved_
 use Rattle.cg_collect.proofs.Garbage.{garbage-moved, garbage-merged}
 use Rattle.cg_collect.proofs.Worlds.{steps_at, with_same_rows, pending_is, represents_on, represents_giving_up}
 
--- the garbage list names none of a place, where it names what it named
+-- the garbage list names none of a place, if its names stay
 pub still_unsaved : (old new : Store) (p : Place) → entries_of new 1 ≡ entries_of old 1 → ((q : ℕ) → Includes (list_at new p) q → ¬ Includes (references (entries_of old 1)) q) → IsUnsaved new p
 still_unsaved old new p same unsaved q m saved = unsaved q m (subst (λ (es : List Entry). Includes (references es) q) same saved)
 
--- the place of those that were looked at, by its number
+-- the place of visited objects, by its number
 seen_number : (p : Place) → (place_number p == 3) ≡ same_place p Seen
 seen_number Untracked = refl
 seen_number (Gen i) = ne_eqb (7 + i) 3 (λ e. absurd (omega (arith, e)))
@@ -65,7 +65,7 @@ seen_number Back = refl
 seen_number Legacy = refl
 seen_number Pend = refl
 
--- nobody stands at a place whose list is empty
+-- a place with an empty list has no object
 pub nobody_stands : (store : Store) → IsListed store → (p : Place) → list_at store p ≡ [] → serials_at (objects_of store) p ≡ []
 nobody_stands store listed p empty = known (serials_at (objects_of store) p) (sym (list_length store listed p) ∙ ap length empty)
   where
@@ -98,7 +98,7 @@ module _ (script : Script) (facts : Facts) (store : Store) (policy : Policy) whe
         keeps = record { budget = refl; outcome = refl };
       })
 
--- A condemned object goes to those that were looked at.
+-- A condemned object moves to the visited ones.
 module _ (store : Store) (listed : IsListed store) (o : ℕ) (first : slice_get (list_at store Cand) 0 ≡ Some o) where
   abbrev looked : Store
   looked = moved o Seen store
@@ -106,11 +106,9 @@ module _ (store : Store) (listed : IsListed store) (o : ℕ) (first : slice_get 
   pub condemned : IsLive store o × (place_of store o ≡ Cand)
   condemned = where_is store listed Cand o (head_in (list_at store Cand) o first)
 
-  -- it stands there in the world
   is_member : (w : World) → objects_of store ≡ w.objects → IsMemberOf w Cand o
   is_member w same = subst (λ (os : List Object). Includes (serials_at os Cand) o) same (stands_at store Cand o condemned.0 condemned.1)
 
-  -- none waits
   none_pending : list_at store Pend ≡ [] → list_at looked Pend ≡ []
   none_pending none = either (moved-cases store o Seen (λ e. absurd (omega (arith, e)))) (λ e. e ∙ none) (λ e. e ∙ ap (without_serial o) none)
 
@@ -154,7 +152,6 @@ module _ (store : Store) (listed : IsListed store) (o : ℕ) (first : slice_get 
   ready_live : IsLive ready o
   ready_live = lives_on looked ready (kinds-with_node marked (λ n. refl) o looked) o (lives_on store looked (kinds-moved o Seen store) o condemned.0)
 
-  -- its finalizer runs
   pub turn-runs : (script : Script) (facts : Facts) (policy : Policy) (p : ℕ) → option_and_then (finalizer_to_run script) (object_at (objects_of store) o) ≡ Some p
       → CollectSteps script (collection_at facts phase_of.Finalizing None) store policy (collection_at facts (phase_of.AfterFinalizing o) None) (held (o ∷ []) ready) policy (answer_of.Frame (record { sort = Del; proc = p; subject = o; func = None }))
   turn-runs script facts policy p due =
@@ -201,7 +198,7 @@ module _ (store : Store) (listed : IsListed store) (o : ℕ) (first : slice_get 
   left : (p : Place) → p ≢ Seen → list_at looked p ≡ without_serial o (list_at store p)
   left = moved_from store listed o condemned.0 Seen seen_place
 
-  -- nothing of what is set apart is saved then
+  -- then no partitioned object is saved
   pub apart_looked : IsHeapApart store → IsHeapApart looked
   apart_looked apart = record {
     garbage = garbage-moved store o Cand Seen apart.garbage condemned.1 (λ e. cc);
@@ -220,7 +217,7 @@ module _ (store : Store) (listed : IsListed store) (o : ℕ) (first : slice_get 
       ap (λ l. length l + 1) (left Cand (λ e. cc)) ∙ one-shorter o (list_at store Cand) (omega (arith, once_at store listed Cand o, occurs (list_at store Cand) o (head_in (list_at store Cand) o first))) in
       omega (arith, shorter)
 
--- When all were looked at they are condemned as before.
+-- After all were visited, they are condemned again.
 module _ (store : Store) (listed : IsListed store) (none : slice_get (list_at store Cand) 0 ≡ None) where
   abbrev condemned_again : Store
   condemned_again = merged Seen Cand store
@@ -232,7 +229,6 @@ module _ (store : Store) (listed : IsListed store) (none : slice_get (list_at st
       one true s n = refl
       one false s n = refl
 
-  -- the lists
   kept : (p : ℕ) → p ≢ 2 → p ≢ 3 → list_of condemned_again.lists p ≡ list_of store.lists p
   kept p not_cand not_seen =
       get_or-set_other (set store.lists 2 (list_of store.lists 2 ++ list_of store.lists 3)) 3 p [] [] not_seen

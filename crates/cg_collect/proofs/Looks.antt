@@ -1,4 +1,4 @@
--- The entries that a turn looks at, and those that the first detection does, which are counted before the merge.
+-- The entries that a turn looks at, and those of the first reachability pass, counted before the merge.
 use Rattle.std.proofs.Common.{◌≡◌, refl, ◌∙◌, ap, ℕ, Bool, true, false, cond, List, [], ◌∷◌, ◌++◌, length, map, arith}
 use Rattle.std.specs.Prelude.{sum_by}
 use Rattle.std.proofs.lemmas.List.Sums.{sum_by-cons}
@@ -12,12 +12,10 @@ use Rattle.cg_collect.specs.Starting.{MergesYounger}
 use Rattle.cg_collect.specs.Looks.{one_of, collected_from, entry_number_from}
 use Rattle.cg_collect.proofs.Standing.{map_alike, objects_on, place_there}
 
--- the last of some entries is one
 pub one_there : (es front : List Entry) (e : Entry) → es ≡ front ++ e ∷ [] → one_of es ≡ 1
 one_there es [] e is = ap one_of is
 one_there es (x ∷ front) e is = ap one_of is
 
--- the entries of some objects
 abbrev entries_among : List Object → ℕ
 entries_among objects = sum_by (λ x. length x.entries) objects
 
@@ -25,7 +23,7 @@ module _ (g : ℕ) where
   abbrev moved_by : Object → Object
   moved_by x = with_place (merged_place g x.place) x
 
-  -- an object has its entries wherever it stands
+  -- an object has its entries wherever it is
   counted_before : (objects : List Object) → entries_among (objects_at (map moved_by objects) (Gen g)) ≡ entries_among (collected_from g objects)
   counted_before [] = refl
   counted_before (x ∷ objects) = go (is_at (Gen g) (moved_by x)) (counted_before objects)

@@ -1,4 +1,4 @@
--- A weak reference loses its referent in the weak phase: what the heap does is the step of the machine.
+-- When the weak phase clears a weak reference, the heap does the machine's step.
 use Rattle.std.proofs.Common.{◌≡◌, ◌≢◌, refl, sym, ◌∙◌, ap, subst, ℕ, ◌<◌, Bool, true, false, not, List, [], ◌∷◌, ◌++◌, length, Option, Some, None, IsSome, inl, inr, arith}
 use Rattle.std.specs.Prelude.{◌==◌, ◌||◌, if◌then◌else◌, option_map, is_some}
 use Rattle.std.specs.FinMap as fin
@@ -78,7 +78,7 @@ entries_of-moved o q store s = ap entries_in (get-mapped (λ k n. if k == o then
     known None = refl
     known (Some n) = one (s == o) n
 
--- what is set apart, where lists and entries are the same
+-- what is partitioned, if lists and entries are the same
 pub apart_alike : (old new : Store) → place_of new 1 ≡ place_of old 1 → entries_of new 1 ≡ entries_of old 1 → ((p : Place) → list_at new p ≡ list_at old p) → IsApartUnseen old → IsApartUnseen new
 apart_alike old new place entries same apart = (
   record {
@@ -95,7 +95,6 @@ is_there_some : (x : Option ℕ) → is_some x ≡ true → IsSome x
 is_there_some None e = absurd (let f : false ≡ true = e in cc)
 is_there_some (Some f) e = refl
 
--- The weak reference of a row.
 module _ (profile : ℕ) (store : Store) (sound : IsSound store) (r : Row) (inside : Includes store.rows r) (stays : r.waits ≡ false) (member : Option ℕ) (walk : IsWalk profile store member (Some r.weak)) (loses : loses_at profile store r.weak ≡ true) where
   weak_lives : HasCode store r.weak Weak × IsLive store r.referent
   weak_lives = refers_live store sound.rows r.weak r.referent (refers store sound.rows r inside stays)
@@ -107,7 +106,6 @@ module _ (profile : ℕ) (store : Store) (sound : IsSound store) (r : Row) (insi
   abbrev lost : Store
   lost = record store { rows = without_row r.weak store.rows }
 
-  -- and waits
   abbrev held_now : Store
   held_now = held (r.weak ∷ []) lost
 
@@ -133,7 +131,7 @@ module _ (profile : ℕ) (store : Store) (sound : IsSound store) (r : Row) (insi
   rest_put : LeavesRest store put_by
   rest_put = record { last = refl; names = refl; waiting = rest_lost.waiting; no_more = rest_lost.no_more }
 
-  -- the lists are those of a heap that the weak reference has moved in
+  -- the lists are those of a heap in which the weak reference has moved
   pend_place : IsPlace Pend
   pend_place = omega arith
 
@@ -191,7 +189,7 @@ module _ (profile : ℕ) (store : Store) (sound : IsSound store) (r : Row) (insi
           keeps = record { budget = refl; outcome = refl };
         })
 
-    -- it waits from then on
+    -- it then waits
     pub turn-waits : waits (objects_of store) r.weak ≡ true
         → CollectSteps script (collection_at facts (phase_of.WeakClearing member (Some r.weak)) None) store policy (collection_at facts (phase_of.WeakClearing member (next_older_in store.rows r.weak)) None) put_by policy (answer_of.Emit (Cleared r.weak))
     turn-waits always =
@@ -229,7 +227,7 @@ module _ (profile : ℕ) (store : Store) (sound : IsSound store) (r : Row) (insi
           keeps = record { budget = refl; outcome = refl };
         })
 
-  -- what the walk has then
+  -- the invariant of the walk afterwards
   pub is_lost : IsLost store lost r.weak
   is_lost = record {
     rows = refl;
@@ -325,7 +323,7 @@ module _ (profile : ℕ) (store : Store) (sound : IsSound store) (r : Row) (insi
   pub callbacks_lost : HaveCallbacks store → HaveCallbacks lost
   callbacks_lost have u m = let has = have u m in (has.0, subst IsSome (sym (callback-at lost u ∙ sym (callback-at store u))) has.1)
 
--- What follows when a weak reference loses its referent.
+-- What follows when a weak reference is cleared.
 pub record LosesThen (profile : ℕ) (store new : Store) (weak : ℕ) (member : Option ℕ) : Type 0 where
   pub steps : (script : Script) → profile_of script.items ≡ profile → (facts : Facts) (policy : Policy)
       → CollectSteps script (collection_at facts (phase_of.WeakClearing member (Some weak)) None) store policy (collection_at facts (phase_of.WeakClearing member (next_older_in store.rows weak)) None) new policy (answer_of.Emit (Cleared weak))
@@ -360,7 +358,7 @@ at_row profile store sound r inside stays member walk loses new is = elim (cases
   })
 ]
 
--- the same by its number
+-- the same by its serial
 pub loses_then : (profile : ℕ) (store new : Store) (sound : IsSound store) (weak : ℕ) (member : Option ℕ) → IsWalk profile store member (Some weak) → loses_at profile store weak ≡ true → new ≡ lost_by (waits (objects_of store) weak) weak store → LosesThen profile store new weak member
 loses_then profile store new sound weak member walk loses is =
     let (o, refers) = walk.weak_live weak refl in
@@ -369,7 +367,7 @@ loses_then profile store new sound weak member walk loses is =
     let P : ℕ → Type 0 = λ w. IsWalk profile store member (Some w) → loses_at profile store w ≡ true → new ≡ lost_by (waits (objects_of store) w) w store → LosesThen profile store new w member in
     subst P same (λ walk_at loses_now is_now. at_row profile store sound r inside stays member walk_at loses_now new is_now) walk loses is
 
--- One that does not lose it is passed by: less is to be looked at.
+-- One that is not cleared is passed: less is left to visit.
 pub passes_then : (profile : ℕ) (store : Store) → AreRows store → (weak : ℕ) (member : Option ℕ) → IsWalk profile store member (Some weak) → loses_at profile store weak ≡ false
     → IsWalk profile store member (next_older_in store.rows weak) × (length (to_look_at store (next_older_in store.rows weak)) < length (to_look_at store (Some weak)))
 passes_then profile store ok weak member walk keeps =

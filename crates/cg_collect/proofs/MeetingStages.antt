@@ -1,4 +1,4 @@
--- A collection that ends comes to all stages that were ahead, one after the other.
+-- A collection that ends meets all remaining stages, in order.
 use Rattle.std.proofs.Common.{◌≡◌, refl, sym, ◌∙◌, ap, ℕ, List, [], ◌∷◌, ◌++◌, Option, None, Some, flat_map}
 use Rattle.cg_collect.specs.declared.phase.Phase.{Phase}
 use Rattle.cg_collect.specs.declared.phase.Phase.TheVariants as phase_of
@@ -13,7 +13,7 @@ all_met : (c : Collection) (later : List Collection) (number : ℕ) → MeetStag
 all_met c [] number meets over = sym (ap stages_ahead over)
 all_met c (next ∷ later) number meets over = ap (λ (rest : List Stage). met (stage_of next) ++ rest) (all_met next later number meets.1 over) ∙ sym meets.0
 
--- no detection was made before
+-- no pass was made before
 none_after : (detected : Option Detection) → stage_after detected ≡ stage.BeforeFirst → ⊥
 none_after None e = cc
 none_after (Some First) e = cc

@@ -16,7 +16,7 @@ use Rattle.cg_trial.specs.Split.{IsSameButPlaces, IsSameNode}
 use Rattle.cg_collect.specs.Starting.{MergesYounger, GetOlder}
 use Rattle.cg_collect.proofs.Standing.{same_itself, same_more}
 
--- where an object stands once a generation went to another
+-- where an object is after a generation moved to another
 abbrev went_to : ℕ → ℕ → Place → Place
 went_to i j (Gen k) = if k == i then Gen j else Gen k
 went_to i j p = p
@@ -68,7 +68,6 @@ module _ (i j : ℕ) (store : Store) where
       known None = tt
       known (Some n) = go (place_number n.place == 7 + i) n
 
--- the younger generations
 zero_merges : (p : Place) → p ≡ merged_place 0 p
 zero_merges (Gen k) = grind (arith, nat_tests)
 zero_merges Untracked = refl
@@ -117,7 +116,6 @@ merges_two store = record {
   places = λ o. place-merged 1 2 (merged (Gen 0) (Gen 2) store) o ∙ ap (went_to 1 2) (place-merged 0 2 store o) ∙ two_merge (place_of store o);
 }
 
--- survivors
 went_from : (i j : ℕ) (p : Place) → p ≡ Gen i → went_to i j p ≡ Gen j
 went_from i j p e = ap (went_to i j) e ∙ ap (λ b. if b then Gen j else Gen i) (eq-eqb i i refl)
 

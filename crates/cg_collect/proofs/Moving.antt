@@ -1,4 +1,4 @@
--- One object goes to another place while a walk over its list has come to it.
+-- One object moves to another place while a walk over its list is at it.
 use Rattle.std.proofs.Common.{◌≡◌, ◌≢◌, refl, sym, ◌∙◌, ap, subst, ℕ, ◌+◌, ◌<◌, ◌≤◌, inl, inr, cond, not, List, [], ◌∷◌, ◌++◌, length, Option, Some, None, IsSome, arith, append_assoc}
 use Rattle.std.specs.Prelude.{◌==◌, nat_eq, option_map, slice_get}
 use Rattle.std.specs.FinMap as fin
@@ -26,7 +26,7 @@ use Rattle.cg_trial.proofs.Ends.{same_but_places}
 use Rattle.cg_trial.proofs.Placed.{once_at, next_is, where_is}
 use Rattle.cg_trial.proofs.Views.{moved_view}
 
--- a list without a serial that stands in it once
+-- a list without a serial that it contains once
 pub one-shorter : (o : ℕ) (xs : List ℕ) → occurrences o xs ≡ 1 → length (without_serial o xs) + 1 ≡ length xs
 one-shorter o xs one =
     let both = length-filter_both (λ x. x == o) (λ x. not (nat_eq o x)) (λ x. ap not (turned x)) xs in
@@ -39,7 +39,7 @@ one-shorter o xs one =
       | inr differs ↦ ne_eqb o x differs ∙ sym (ne_eqb x o (λ e. differs (sym e)))
     ]
 
--- a walk stands at an object: what is left, and what comes after it
+-- a walk is at an object: what is left, and what comes after it
 pub record Standing (xs : List ℕ) (o : ℕ) (front back : List ℕ) : Type 0 where
   pub rest : List ℕ
   pub ahead : back ≡ o ∷ rest
@@ -105,13 +105,13 @@ module _ (store : Store) (listed : IsListed store) where
     pub moved_from : (q : Place) → q ≢ p → list_at (moved o p store) q ≡ without_serial o (list_at store q)
     moved_from q differ = view.others q differ
 
-    -- what is left there stands there once
+    -- what is left there occurs once
     pub moved_once : (q : Place) → q ≢ p → (s : ℕ) → occurrences s (list_at (moved o p store) q) ≤ 1
     moved_once q differ s =
         let is : occurrences s (list_at (moved o p store) q) ≡ occurrences s (without_serial o (list_at store q)) = ap (occurrences s) (moved_from q differ) in
         omega (arith, is, sum_by-without (λ x. cond (x == s) 1 0) o (list_at store q), once_at store listed q s)
 
-    -- a walk over its list goes on with the next one
+    -- a walk over its list goes on with the next object
     pub walk_leaves : (q : Place) (next : Option ℕ) (front back : List ℕ) → q ≢ p → IsAt (list_at store q) (Some o) front back → next ≡ following o (list_at store (place_of store o))
         → (rest : List ℕ) × (back ≡ o ∷ rest) × IsAt (list_at (moved o p store) q) next front rest
     walk_leaves q next front back differ at is =

@@ -1,4 +1,4 @@
--- The weak references that wait: their callbacks are called one after the other, and then each is given up.
+-- The waiting weak references: their callbacks are called in order, and then each weak reference is given up.
 use Rattle.std.proofs.Common.{◌≡◌, ◌≢◌, refl, sym, ◌∙◌, ap, subst, ℕ, ◌+◌, ◌<◌, ◌≤◌, true, false, cond, not, List, [], ◌∷◌, ◌++◌, length, Option, Some, None, IsSome, inr, arith}
 use Rattle.std.specs.Prelude.{◌==◌, if◌then◌else◌, filter, drop, option_map, option_and_then, slice_get, unwrap_or, is_some}
 use Rattle.std.specs.FinMap as fin
@@ -52,7 +52,7 @@ use Rattle.cg_collect.proofs.Moving.{moved_same, moved_not, moved_from, value_li
 use Rattle.cg_collect.proofs.Worlds.{steps_at, with_same_rows, represents_on, represents_same, represents_giving_up}
 use Rattle.cg_collect.proofs.Looking.{still_unsaved}
 
--- a list without a serial, by the test of the machine
+-- a list without a serial, by the machine's test
 pub without_serial-is : (o : ℕ) (xs : List ℕ) → without_serial o xs ≡ filter (λ q. not (q == o)) xs
 without_serial-is o [] = refl
 without_serial-is o (x ∷ xs) =
@@ -72,7 +72,6 @@ rest_is (y ∷ xs) x e none =
     let same : y ≡ x = cc in
     ap (λ b. cond (not b) (y ∷ filter (λ q. not (q == x)) xs) (filter (λ q. not (q == x)) xs)) (eq-eqb y x same) ∙ sym (without_serial-is x xs) ∙ without-absent x xs none
 
--- without the first it is shorter
 pub first_left : (xs : List ℕ) (x : ℕ) → slice_get xs 0 ≡ Some x → length (filter (λ q. not (q == x)) xs) + 1 ≤ length xs
 first_left [] x e = absurd (cc)
 first_left (y ∷ xs) x e =
@@ -89,7 +88,7 @@ module _ (store : Store) (listed : IsListed store) (weak : ℕ) (dead : ¬ IsLiv
   pub all_have_callbacks : OthersHaveCallbacks store weak → HaveCallbacks store
   all_have_callbacks have w m = have w m (λ e. dead (subst (IsLive store) e (where_is store listed Pend w m).0))
 
--- An object leaves the weak references that wait, or becomes one: what is set apart stays so.
+-- An object leaves or joins the waiting weak references: the partition stays.
 module _ (store : Store) (listed : IsListed store) (o : ℕ) (live : IsLive store o) (q : Place) (place : IsPlace q) where
   abbrev away : Store
   away = moved o q store
@@ -156,7 +155,7 @@ dead_none (Some n) h = absurd (h refl)
 pub older_place : (g : ℕ) → g ≤ 2 → IsPlace (Gen (older g))
 older_place g small = omega arith
 
--- Once one of them got older the others wait.
+-- After one moved to the older generation, the others wait.
 module _ (store : Store) (weak : ℕ) (listed : IsListed store) (live : IsLive store weak) (g : ℕ) (small : g ≤ 2) where
   left_there : list_at (moved weak (Gen (older g)) store) Pend ≡ without_serial weak (list_at store Pend)
   left_there = moved_from store listed weak live (Gen (older g)) (older_place g small) Pend (λ e. cc)
@@ -170,7 +169,7 @@ module _ (store : Store) (weak : ℕ) (listed : IsListed store) (live : IsLive s
       omega (arith, fewer, length-without weak (list_at store Pend))
 
 module _ (script : Script) (facts : Facts) (store : Store) (policy : Policy) where
-  -- the first that waits is called back
+  -- the first waiting one is called back
   pub turn-called : (weak : ℕ) → slice_get (list_at store Pend) 0 ≡ Some weak → (spec : FrameSpec)
       → spec ≡ (let f = unwrap_or (callback_of (objects_of store) weak) 0 in record { sort = Callback; proc = unwrap_or (option_and_then (λ x. x.class) (object_at (objects_of store) f)) 0; subject = weak; func = Some f })
       → CollectSteps script (collection_at facts phase_of.WeakCalling None) store policy (collection_at facts (phase_of.AfterCallback weak) None) store policy (answer_of.Frame spec)
@@ -201,7 +200,6 @@ module _ (script : Script) (facts : Facts) (store : Store) (policy : Policy) whe
         },
       ))
 
-  -- none waits any more
   pub turn-all_called : slice_get (list_at store Pend) 0 ≡ None → CollectSteps script (collection_at facts phase_of.WeakCalling None) store policy (collection_at facts phase_of.Finalizing None) store policy answer_of.Continue
   turn-all_called none =
       steps_at script (collection_at facts phase_of.WeakCalling None) store policy (collection_at facts phase_of.Finalizing None) store policy answer_of.Continue
@@ -256,7 +254,7 @@ module _ (script : Script) (facts : Facts) (store : Store) (policy : Policy) whe
         keeps = record { budget = refl; outcome = refl };
       })
 
-  -- one that died when it was given up is counted
+  -- one freed by giving it up is counted
   pub turn-died : (weak : ℕ) → IsListed store → ¬ IsLive store weak
       → CollectSteps script (collection_at facts (phase_of.AfterRelease weak) None) store policy (record (collection_at facts phase_of.WeakCalling None) { collected = facts.collected + 1 }) store policy answer_of.Continue
   turn-died weak listed dead =
@@ -286,7 +284,7 @@ module _ (script : Script) (facts : Facts) (store : Store) (policy : Policy) whe
         keeps = record { budget = refl; outcome = refl };
       })
 
-  -- another gets older
+  -- another moves to the older generation
   module _ (weak : ℕ) (listed : IsListed store) (live : IsLive store weak) (g : ℕ) (small : g ≤ 2) where
     abbrev aged : Store
     aged = moved weak (Gen (older g)) store

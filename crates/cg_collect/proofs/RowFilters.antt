@@ -1,4 +1,4 @@
--- Rows that are filtered, the newest of those that pass a test, and the rows once that one is gone.
+-- Filtered rows, the newest of those that pass a test, and the rows without that one.
 use Rattle.std.proofs.Common.{◌≡◌, ◌≢◌, refl, sym, ◌∙◌, ap, subst, ℕ, ◌<◌, ◌≤◌, Bool, true, false, cond, not, ◌&&◌, ◌||◌, inl, inr, List, [], ◌∷◌, ◌++◌, drop, Some, None, arith}
 use Rattle.std.specs.Prelude.{◌==◌, if◌then◌else◌, filter, flat_map, slice_get}
 use Rattle.std.specs.List.{All}
@@ -15,7 +15,7 @@ use Rattle.cg_death.proofs.Worlds.{append_none}
 use Rattle.cg_collect.specs.Phases.{without_rows}
 use Rattle.cg_collect.proofs.RowWalks.{head_highest}
 
--- lists that are filtered
+-- filtered lists
 all_of : {X : Type 0} (P : X → Type 0) (xs : List X) → ((x : X) → Includes xs x → P x) → All P xs
 all_of P [] each = All-nil P
 all_of P (x ∷ xs) each = All-cons P x xs (each x (inl refl)) (all_of P xs (λ y m. each y (inr m)))
@@ -63,11 +63,11 @@ both_ways true b there back = sym (there refl)
 both_ways false true there back = back refl
 both_ways false false there back = refl
 
--- numbers are the same either way round
+-- equality of numbers is symmetric
 pub eqb-sym : (m n : ℕ) → (m == n) ≡ (n == m)
 eqb-sym m n = both_ways (m == n) (n == m) (λ e. eq-eqb n m (sym (eqb-true m n e))) (λ e. eq-eqb m n (sym (eqb-true n m e)))
 
--- rows of one weak reference are one
+-- rows of one weak reference are equal
 pub same_row : (rows : List Row) → IsRising rows → (r q : Row) → Includes rows r → Includes rows q → q.weak ≡ r.weak → q ≡ r
 same_row rows rise r q inside here e =
     let s = split_at rows r rise inside in
@@ -75,7 +75,7 @@ same_row rows rise r q inside here e =
     (λ k. let low = s.lower q k in absurd (omega (arith, low, e)))
     (λ k. either k (λ same. sym same) (λ n. let high = s.higher q n in absurd (omega (arith, high, e))))
 
--- whether one of the newest is that of a row
+-- one of the newest is that of a row
 pub includes-newest : (test : Row → Bool) (rows : List Row) → IsRising rows → (r : Row) → Includes rows r → includes (newest_first test rows) r.weak ≡ test r
 includes-newest test rows rise r inside = both_ways (includes (newest_first test rows) r.weak) (test r)
     (λ e. let (q, here, passes, same) = row_of_one test rows r.weak (Includes-of (newest_first test rows) r.weak e) in ap test (sym (same_row rows rise r q inside here same)) ∙ passes)
@@ -120,7 +120,6 @@ without_rows-cons weak weaks rows =
 pub without_rows-nil : (rows : List Row) → without_rows [] rows ≡ rows
 without_rows-nil rows = filter_all (λ r. not (includes [] r.weak)) rows (λ r m. refl)
 
--- The row of one is gone.
 module _ (rows : List Row) (rise : IsRising rows) (r : Row) (inside : Includes rows r) where
   abbrev at_row : Split rows r
   at_row = split_at rows r rise inside
@@ -146,7 +145,7 @@ module _ (rows : List Row) (rise : IsRising rows) (r : Row) (inside : Includes r
   pub referent_gone : referent_in (without_row r.weak rows) r.weak ≡ None
   referent_gone = referent-without rows r at_row r.weak ∙ ap (λ b. if b then None else referent_in rows r.weak) (eq-eqb r.weak r.weak refl)
 
-  -- what no row referred to, none does
+  -- an object without a row still has none
   pub unreferred_left : (o : ℕ) → weak_references_in rows o ≡ [] → weak_references_in (without_row r.weak rows) o ≡ []
   unreferred_left o none = nothing (weak_references_in (without_row r.weak rows) o) (λ x m. m)
     where
@@ -180,11 +179,10 @@ module _ (test : Row → Bool) (rows : List Row) (rise : IsRising rows) (ws : Li
   older_is : older ≡ ws
   older_is = ap (drop 1) (sym (ap (λ l. l ++ r.weak ∷ older) none_newer) ∙ sym spelled ∙ is)
 
-  -- none is newer
   pub highest : (x : ℕ) → Includes (newest_first test rows) x → x ≤ r.weak
   highest x m = head_highest test rows rise r.weak (ap (λ l. slice_get l 0) is) x m
 
-  -- the others, once it is gone
+  -- the others, without it
   pub newest_left : newest_first test (without_row r.weak rows) ≡ ws
   newest_left = ap (newest_first test) (without-is rows r s) ∙ newest_first-append test s.front s.back ∙ ap (λ l. l ++ older) none_newer ∙ older_is
 
@@ -206,6 +204,6 @@ module _ (rows : List Row) (rise : IsRising rows) (o : ℕ) (r : Row) (inside : 
       ∙ sym (newest_first-skip (refers_to q) s.front r s.back (ap (λ b. b && not r.waits) (ne_eqb r.referent q (λ e. differs (sym e ∙ referent_is)))))
       ∙ ap (newest_first (refers_to q)) (sym s.is)
 
--- a row that does not wait is that of a weak reference to its referent
+-- a row that does not wait is of a weak reference to its referent
 pub row_listed : (rows : List Row) (r : Row) → Includes rows r → r.waits ≡ false → Includes (weak_references_in rows r.referent) r.weak
 row_listed rows r inside stays = one_of_row (refers_to r.referent) rows r inside (λ i. eq-eqb r.referent r.referent refl i && not (stays i))

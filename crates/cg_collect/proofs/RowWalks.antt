@@ -1,4 +1,4 @@
--- A walk over the weak references to one object, from the newest on, by the rows of a heap.
+-- A walk over the weak references to one object, newest first, by the rows of a heap.
 use Rattle.std.proofs.Common.{◌≡◌, ◌≢◌, refl, sym, ◌∙◌, ap, subst, ℕ, ◌<◌, ◌≤◌, Bool, false, cond, not, List, [], ◌∷◌, ◌++◌, length, map, append_assoc, Option, Some, None, inl, inr, arith}
 use Rattle.std.specs.Prelude.{◌==◌, ◌&&◌, if◌then◌else◌, filter, find, nat_lt, option_and_then, slice_get}
 use Rattle.std.specs.List.{All}
@@ -16,18 +16,18 @@ use Rattle.cg_death.proofs.WeakObjects.{row_there}
 use Rattle.cg_death.proofs.Clearing.{none_first}
 use Rattle.cg_collect.specs.Phases.{from_on, references_in, to_look_at}
 
--- what a list has from one on that stands behind others
+-- the tail of a list from a member after others
 pub from_on-past : (front back : List ℕ) (o : ℕ) → ((x : ℕ) → Includes front x → x ≢ o) → from_on (Some o) (front ++ o ∷ back) ≡ o ∷ back
 from_on-past [] back o other = ap (λ b. if b then o ∷ back else from_on (Some o) back) (eq-eqb o o refl)
 from_on-past (x ∷ front) back o other = ap (λ b. if b then x ∷ (front ++ o ∷ back) else from_on (Some o) (front ++ o ∷ back)) (ne_eqb x o (other x (inl refl))) ∙ from_on-past front back o (λ y m. other y (inr m))
 
--- from the first on it has all
+-- starting with the first, it is the whole list
 pub from_on-first : (xs : List ℕ) (c : Option ℕ) → c ≡ slice_get xs 0 → from_on c xs ≡ xs
 from_on-first xs None e = sym (none_first xs (sym e))
 from_on-first [] (Some o) e = absurd (cc)
 from_on-first (x ∷ xs) (Some o) e = let same : o ≡ x = cc in ap (λ b. if b then x ∷ xs else from_on (Some o) xs) (eq-eqb x o (sym same))
 
--- a search for one below passes over those that are not
+-- a search for a smaller one skips those that are not
 find-past : (v : ℕ) (front back : List ℕ) → ((x : ℕ) → Includes front x → v ≤ x) → find (λ x. nat_lt x v) (front ++ back) ≡ find (λ x. nat_lt x v) back
 find-past v [] back above = refl
 find-past v (x ∷ front) back above = ap (λ b. cond b (Some x) (find (λ y. nat_lt y v) (front ++ back))) (le-ltb x v (above x (inl refl))) ∙ find-past v front back (λ y m. above y (inr m))
@@ -66,7 +66,7 @@ head_highest test rows rise w first x m =
     below : (r : Row) (s : Split rows r) (y : ℕ) → Includes (newest_first test s.front) y → y < r.weak
     below r s y k = let named = row_of_one test s.front y k in let low = s.lower named.0 named.1 in omega (arith, low, named.3)
 
--- the weak references to an object are those that have it as referent
+-- the weak references to an object are those that refer to it
 pub referent-listed : (rows : List Row) → IsRising rows → (o w : ℕ) → Includes (weak_references_in rows o) w → referent_in rows w ≡ Some o
 referent-listed rows rise o w m =
     let found = row_of_one (refers_to o) rows w m in
@@ -82,7 +82,7 @@ references-le rows o =
     let few : length (weak_references_in rows o) ≡ length (filter (refers_to o) rows) = length-reverse (map (λ (r : Row). r.weak) (filter (refers_to o) rows)) ∙ length-map (filter (refers_to o) rows) (λ (r : Row). r.weak) in
     omega (arith, few, length-filter (refers_to o) rows, count_by-le-length (refers_to o) rows)
 
--- The walk stands at the weak reference of a row.
+-- The walk is at the weak reference of a row.
 module _ (store : Store) (ok : AreRows store) (r : Row) (inside : Includes store.rows r) (stays : r.waits ≡ false) where
   abbrev split : Split store.rows r
   split = split_at store.rows r ok.rise inside
@@ -106,7 +106,7 @@ module _ (store : Store) (ok : AreRows store) (r : Row) (inside : Includes store
   pub older_below : (x : ℕ) → Includes older_ones x → x < r.weak
   older_below x m = let named = row_of_one (refers_to r.referent) split.front x m in let low = split.lower named.0 named.1 in omega (arith, low, named.3)
 
-  -- it and the older ones are to be looked at
+  -- it and the older ones are still to be visited
   pub looks_here : to_look_at store (Some r.weak) ≡ r.weak ∷ older_ones
   looks_here =
       ap (λ k. from_on (Some r.weak) (references_in store.rows k)) refers
@@ -120,7 +120,7 @@ module _ (store : Store) (ok : AreRows store) (r : Row) (inside : Includes store
       ∙ find-past r.weak (newer ++ r.weak ∷ []) older_ones (λ x m. either (Includes-append_cases newer (r.weak ∷ []) x m) (λ k. let high = newer_above x k in omega (arith, high)) (λ k. either k (λ e. omega (arith, e)) (λ n. absurd n)))
       ∙ find-first r.weak older_ones older_below
 
-  -- in a heap whose rows still have the older ones, these are to be looked at next
+  -- in a heap whose rows still have the older ones, these come next
   looks_next : (new : Store) (others : List ℕ) → weak_references_in new.rows r.referent ≡ others ++ older_ones → ((x : ℕ) → Includes others x → r.weak ≤ x)
       → IsRising new.rows → to_look_at new (next_older_in store.rows r.weak) ≡ older_ones
   looks_next new others are above rise = ap (to_look_at new) next_is ∙ known older_ones refl
@@ -138,7 +138,7 @@ module _ (store : Store) (ok : AreRows store) (r : Row) (inside : Includes store
   looks_on = looks_next store (newer ++ r.weak ∷ []) (all_are ∙ sym (append_assoc newer (r.weak ∷ []) older_ones))
       (λ x m. either (Includes-append_cases newer (r.weak ∷ []) x m) (λ k. let high = newer_above x k in omega (arith, high)) (λ k. either k (λ e. omega (arith, e)) (λ n. absurd n))) ok.rise
 
-  -- also where it has lost its row
+  -- also after its row is gone
   pub looks_on_without : (new : Store) → new.rows ≡ without_row r.weak store.rows → IsRising new.rows → to_look_at new (next_older_in store.rows r.weak) ≡ older_ones
   looks_on_without new rows rise =
       looks_next new newer (ap (λ l. weak_references_in l r.referent) (rows ∙ without-is store.rows r split) ∙ newest_first-append (refers_to r.referent) split.front split.back)
@@ -151,7 +151,7 @@ module _ (store : Store) (ok : AreRows store) (r : Row) (inside : Includes store
   pub next_highest : (w : ℕ) → next_older_in store.rows r.weak ≡ Some w → (x : ℕ) → Includes older_ones x → x ≤ w
   next_highest w e x m = head_highest (refers_to r.referent) split.front (rising_front split.front (r ∷ split.back) (subst IsRising split.is ok.rise)) w (sym next_is ∙ e) x m
 
-  -- they refer to the same object, and all that do and are older are among them
+  -- they refer to the same object, and all older ones that do are among them
   pub older_refers : (x : ℕ) → Includes older_ones x → referent_in store.rows x ≡ Some r.referent
   older_refers x m = referent-listed store.rows ok.rise r.referent x (subst (λ l. Includes l x) (sym all_are) (Includes-append_right newer (r.weak ∷ older_ones) x (inr m)))
 

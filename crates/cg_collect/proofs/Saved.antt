@@ -1,4 +1,4 @@
--- What the garbage list has once objects that were set aside are saved, and the walk that saves them.
+-- The garbage list after uncollectable objects are saved, and the walk that saves them.
 use Rattle.std.proofs.Common.{◌≡◌, ◌≢◌, refl, sym, ◌∙◌, ap, subst, ℕ, ◌+◌, ◌<◌, ◌≤◌, Bool, true, false, cond, ◌||◌, inl, inr, List, [], ◌∷◌, ◌++◌, length, map, Option, Some, None, is_some, append_assoc, arith}
 use Rattle.std.specs.Prelude.{◌==◌, if◌then◌else◌, filter, option_map, option_and_then, slice_get}
 use Rattle.std.specs.FinMap as fin
@@ -37,7 +37,7 @@ use Rattle.cg_collect.proofs.Sums.{place-rewritten, objects-saved}
 abbrev items : List ℕ → List Entry
 items keeps = map (λ o. item (Ref o)) keeps
 
--- what they name
+-- what the new entries name
 references-items : (q : ℕ) (keeps : List ℕ) → occurrences q (references (items keeps)) ≡ occurrences q keeps
 references-items q [] = refl
 references-items q (k ∷ keeps) = occurrences-cons q k (references (items keeps)) ∙ ap (λ n. cond (k == q) 1 0 + n) (references-items q keeps) ∙ sym (occurrences-cons q k keeps)
@@ -102,7 +102,6 @@ with_saved-append store root keeps more =
     ∙ rewritten-rewritten 1 (entries_of store 1 ++ items keeps) ((entries_of store 1 ++ items keeps) ++ items more) store
     ∙ ap (λ es. rewritten 1 es store) (append_assoc (entries_of store 1) (items keeps) (items more) ∙ ap (λ l. entries_of store 1 ++ l) (sym (map-append (λ o. item (Ref o)) keeps more)))
 
--- the same in the world
 pub objects-all_saved : (keeps : List ℕ) (store : Store) → IsLive store 1 → objects_of (with_saved keeps store) ≡ all_saved keeps (objects_of store)
 objects-all_saved [] store root = ap objects_of (with_saved-none store)
 objects-all_saved (o ∷ keeps) store root =
@@ -110,7 +109,7 @@ objects-all_saved (o ∷ keeps) store root =
     ∙ objects-all_saved keeps (with_saved (o ∷ []) store) (live_saved store (o ∷ []) 1 root)
     ∙ ap (all_saved keeps) (objects-saved store o)
 
--- Whether an object is saved depends on its class alone.
+-- Whether an object is saved depends only on its class.
 pub saved-alike : (script : Script) (flags : ℕ) (store new : Store) (f : ℕ → Node → Node) → ((s : ℕ) (n : Node) → (f s n).code ≡ n.code) → ((s : ℕ) (n : Node) → (f s n).class ≡ n.class) → new.nodes ≡ mapped f store.nodes
     → (o : ℕ) → is_saved_at script flags new o ≡ is_saved_at script flags store o
 saved-alike script flags store new f code class is o =
@@ -135,7 +134,7 @@ saved-rewritten script flags store es o =
     class true n = refl
     class false n = refl
 
--- The walk over what was set aside: those that it passed are saved where they are to be.
+-- The walk over the uncollectable objects: those that it passed are saved if they are to be.
 pub record Saving (script : Script) (flags : ℕ) (old now : Store) (cursor : Option ℕ) : Type 0 where
   pub front : List ℕ
   pub back : List ℕ
@@ -178,7 +177,6 @@ module _ (script : Script) (flags : ℕ) (old now : Store) (cursor : Option ℕ)
         walk_passes (list_at old Legacy) o next so.front so.back here
         (comes_next old listed Legacy o next (comes ∙ ap (λ (s : Store). following o (list_at s (place_of s o))) so.is ∙ ap (λ (p : Place). following o (list_at old p)) (place-rewritten old 1 (entries_of old 1 ++ items kept) o)))
 
-    -- the list is as it was
     same_list : list_at now Legacy ≡ list_at old Legacy
     same_list = ap (λ (s : Store). list_at s Legacy) so.is
 

@@ -1,5 +1,5 @@
--- The places of the objects after the start are those that the machine allows: survivors are untracked or get older, garbage is
--- set aside or condemned.
+-- After the start, the machine allows the places of the objects: survivors are untracked or move to the older generation,
+-- garbage is set aside or condemned.
 use Rattle.std.proofs.Common.{◌≡◌, refl, sym, ◌∙◌, ap, subst, ℕ, ◌+◌, inl, inr, Bool, true, false, cond, not, ◌&&◌, ◌||◌, List, [], ◌∷◌, map, length, suc, Option, Some, None}
 use Rattle.std.specs.Prelude.{◌==◌, ◌↔◌, if◌then◌else◌, option_map, unwrap_or, flat_map, count_by}
 use Rattle.std.specs.List.{list_any}
@@ -36,11 +36,11 @@ use Rattle.cg_collect.proofs.Aside.{legacy_alike}
 use Rattle.cg_collect.proofs.Untracked.{trackable, any_alike, has_tracked_alike}
 use Rattle.cg_collect.proofs.Traces.{Trace, at_or_not, s3, same13, same14, same15, same16, candidate_on, candidate_back, unmoved, unmoved3, unmoved4, survivor_test, dict_untracked, dict_stays, tuple_untracked, split_alike, tuple_or}
 
--- whether an object of some may be tracked
+-- one of some objects may be tracked
 abbrev may : List Object → ℕ → Bool
 may objects o = unwrap_or (option_map may_be_tracked (object_at objects o)) false
 
--- as nodes have it
+-- as the nodes have it
 may-node : (code : KindCode) (place : Place) (x : Object) → x.code ≡ code → x.place ≡ place → may_be_tracked x ≡ code_may_be_tracked code place
 may-node Tuple place x e f = ap (λ c. if elim c [ ListKind ↦ false | Tuple ↦ true | Dict ↦ false | Inst ↦ false | Func ↦ false | Weak ↦ false ] then is_tracked x else true) e ∙ ap (λ p. not (same_place p Untracked)) f
 may-node ListKind place x e f = ap (λ c. if elim c [ ListKind ↦ false | Tuple ↦ true | Dict ↦ false | Inst ↦ false | Func ↦ false | Weak ↦ false ] then is_tracked x else true) e
@@ -56,7 +56,7 @@ may-store store p = ap (λ x. unwrap_or (option_map may_be_tracked x) false) (ob
     known None = refl
     known (Some n) = may-node n.code n.place (object_from store.rows p n) refl refl
 
--- maps after which the same may be tracked
+-- maps that leave the same tracked
 may-map : (f h : Object → Object) (xs : List Object) → ((x : Object) → Includes xs x → ((f x).serial ≡ x.serial) × ((h x).serial ≡ x.serial) × (may_be_tracked (f x) ≡ may_be_tracked (h x))) → (p : ℕ) → may (map f xs) p ≡ may (map h xs) p
 may-map f h [] same p = refl
 may-map f h (x ∷ xs) same p =
@@ -121,7 +121,7 @@ module _ (script : Script) (g : ℕ) (s0 s1 s2 s4 s5 s6 : Store) (t : Trace scri
   abbrev objects : List Object
   objects = objects_of s1
 
-  -- the tuples that the pass untracked, and the places after all
+  -- the tuples that the pass untracked, and the places at the end
   abbrev pub chosen : Object → Bool
   chosen x = same_place (place_of middle x.serial) Untracked
 
@@ -159,7 +159,7 @@ module _ (script : Script) (g : ℕ) (s0 s1 s2 s4 s5 s6 : Store) (t : Trace scri
   here_at : (x : Object) → Includes (objects_at objects (Gen g)) x → Includes objects x × (place_of s1 x.serial ≡ Gen g)
   here_at x m = let (there, at) = Includes-filter_cases (is_at (Gen g)) objects x m in (there, place_there s1 x there ∙ place_is x.place (Gen g) at)
 
-  -- whether a survivor that stayed tracked is a dictionary to be untracked
+  -- a survivor that stayed tracked is a dictionary to be untracked
   abbrev goes_untracked : Object → Bool
   goes_untracked x = (g == 2) && is_dict x && has_none_tracked (untrack g chosen objects) x
 
@@ -193,7 +193,6 @@ module _ (script : Script) (g : ℕ) (s0 s1 s2 s4 s5 s6 : Store) (t : Trace scri
           ∙ sym (tracked (sym (place_there s1 x m) ∙ at) (goes_untracked x) refl)
           ∙ sym (ap (λ b. survivor_place g (untrack g chosen objects) (untracked_if b x)) (place_differs (place_of middle x.serial) Untracked (λ e. let k : Gen g ≡ Untracked = sym third ∙ e in cc)))
 
-  -- the world with these objects
   module _ (v : World) (names : s1.names ≡ v.names) (outside : (o : ℕ) → outside_of s1 o ≡ occurrences o (flat_map holds v.stack)) where
     abbrev pub merged_world : World
     merged_world = with_objects objects v
@@ -207,7 +206,7 @@ module _ (script : Script) (g : ℕ) (s0 s1 s2 s4 s5 s6 : Store) (t : Trace scri
     garbage : (o : ℕ) → IsUnreachable s1 (Gen g) o ↔ IsGarbage merged_world (Gen g) o
     garbage o = unreachable_alike s1 (holdings merged_world) (Gen g) counts objects refl o
 
-    -- what is set aside
+    -- what is uncollectable
     candidate : (o : ℕ) → IsGarbage merged_world (Gen g) o → place_of s5 o ≡ Cand
     candidate o k = candidate_on script g s0 s1 s2 s4 s5 s6 t o (t.splits.off o ((garbage o).1 k))
 
@@ -278,7 +277,7 @@ module _ (script : Script) (g : ℕ) (s0 s1 s2 s4 s5 s6 : Store) (t : Trace scri
   pub objects_sorted : objects_of s6 ≡ sorted g places objects
   objects_sorted = objects_on s1 s6 (same16 script g s0 s1 s2 s4 s5 s6 t) ∙ map_alike (λ x. with_place (places x) x) (λ x. if is_at (Gen g) x then with_place (places x) x else x) objects place_after
 
-  -- and how many got older
+  -- how many moved to the older generation
   count_alike : (p q : Object → Bool) (xs : List Object) → ((x : Object) → Includes xs x → p x ≡ q x) → count_by p xs ≡ count_by q xs
   count_alike p q [] same = refl
   count_alike p q (x ∷ xs) same =

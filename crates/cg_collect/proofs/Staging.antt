@@ -1,4 +1,4 @@
--- The detection that the last step of a collection made is seen in its stage alone, and in no answer.
+-- Only the stage shows which reachability pass the last step made; no answer depends on it.
 use Rattle.std.proofs.Common.{◌≡◌, refl, sym, subst, ◌+◌, ◌≤◌, ◌⊎◌, inl, inr, List, Bool, Option, None, Some, arith}
 use Rattle.cg_script.specs.declared.Script.{Script}
 use Rattle.cg_graph.specs.Store.{Store}
@@ -19,7 +19,7 @@ use Rattle.cg_collect.specs.Answers.{CollectionShows, CollectionStands, CollectA
 use Rattle.cg_collect.specs.Turns.{pass_of, passes_on, KeepsObjects}
 use Rattle.cg_collect.specs.Collections.{IsReadyForCollection, KeepsReady, CollectFalls, CollectionEndsWith, DiesUnheld}
 
--- What a collection has of the world, with another detection.
+-- What a collection knows of the world, with another last pass.
 module _ (detected : Option Detection) (asked : Bool) (c : Collection) (store : Store) (policy : Policy) (w : World) (below : List Activity) where
   pub also-shows : CollectionShows asked c store policy w below → CollectionShows asked (record c { detected = detected }) store policy w below
   also-shows s = record { represents = s.represents; numbers = s.numbers; running = s.running; top = s.top }
@@ -27,7 +27,7 @@ module _ (detected : Option Detection) (asked : Bool) (c : Collection) (store : 
   pub also-stands : CollectionStands asked c store policy w below → CollectionStands asked (record c { detected = detected }) store policy w below
   also-stands s = record { shows = also-shows s.shows; running = s.running; orderly = s.orderly; unheld = s.unheld; once = s.once; alone = s.alone }
 
--- what a step needs of the heap
+-- what a step requires of the heap
 pub also-ready : (detected : Option Detection) (script : Script) (c : Collection) (store : Store) → IsReadyForCollection script c store → IsReadyForCollection script (record c { detected = detected }) store
 also-ready detected script c store r = record { generation = r.generation; phase = r.phase; walk = r.walk; collected = r.collected; gives_up = r.gives_up }
 
@@ -44,19 +44,19 @@ also-answers detected script asked w below left c store policy (answer_of.Died o
     let (none, left_none, gave) = a in (none, left_none, record { before = gave.before; goes = gave.goes; shows = also-shows detected asked c store policy gave.before below gave.shows; keeps = gave.keeps })
 also-answers detected script asked w below left c store policy (answer_of.Finished collected set_aside) a = a
 
--- A step is one whatever the collection detected before it and is said to have detected after it.
+-- A step is one whatever pass the collection records before and after it.
 pub also-steps : (was now : Option Detection) (script : Script) (old : Collection) (store : Store) (policy : Policy) (new : Collection) (store_now : Store) (policy_now : Policy) (answer : CollectStep)
     → CollectSteps script old store policy new store_now policy_now answer → CollectSteps script (record old { detected = was }) store policy (record new { detected = now }) store_now policy_now answer
 also-steps was now script old store policy new store_now policy_now answer steps asked w below s =
     also-answers now script asked w below _ new store_now policy_now answer (steps asked w below (also-stands old.detected asked (record old { detected = was }) store policy w below s))
 
--- at a phase whose step makes no detection the last step decides
+-- at a phase whose step makes no pass, the last step decides
 at_none : (phase : Phase) (detected : Option Detection) → detection_at phase ≡ None → stage_at phase detected ≡ stage_after detected
 at_none phase_of.Start detected none = absurd (cc)
 at_none phase_of.Split detected none = absurd (cc)
 at_none phase detected none = refl
 
--- past the second detection there is none
+-- after the second pass there is none
 none_late : (phase : Phase) → 7 ≤ pass_of phase → detection_at phase ≡ None
 none_late phase_of.Start late = absurd (omega (arith, late))
 none_late phase_of.Split late = absurd (omega (arith, late))
@@ -68,7 +68,7 @@ without phase_of.Start begun = absurd begun
 without phase_of.Split begun = inl refl
 without phase begun = inr refl
 
--- The stage after a step, by the phase that the step was of and the phase that it left.
+-- The stage after a step, by the phases before and after it.
 left_at : (old new : Phase) → IsBegun new → (old ≡ phase_of.Start → detection_at new ≡ None) → pass_of old + passes_on old ≤ pass_of new → LeavesStage old (stage_at new (detection_at old))
 left_at phase_of.Start new begun apart onward = at_none new (Some First) (apart refl)
 left_at phase_of.Split new begun apart onward = at_none new (Some Second) (none_late new (omega (arith, onward)))
@@ -78,7 +78,7 @@ pub leaves_stage : (old new : Phase) (detected : Option Detection) → detected 
     → LeavesStage old (stage_at new detected)
 leaves_stage old new detected is begun apart onward = subst (λ d. LeavesStage old (stage_at new d)) (sym is) (left_at old new begun apart onward)
 
--- What a step of a collection does, as its contract says it.
+-- What a step of a collection does, as its contract says.
 pub record TakesStep (script : Script) (old : Collection) (store : Store) (policy : Policy) (new : Collection) (now : Store) (policy_now : Policy) (answer : CollectStep) : Type 0 where
   pub steps : CollectSteps script old store policy new now policy_now answer
   pub ready : KeepsReady script new now answer

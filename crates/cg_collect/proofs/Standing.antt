@@ -1,4 +1,4 @@
--- Where the objects of a heap stand, as nodes, as lists and as objects, and what stays of a heap whose objects change places.
+-- Where the objects of a heap are, as nodes, as lists and as objects; and what stays of a heap whose objects move.
 use Rattle.std.proofs.Common.{◌≡◌, ◌≢◌, refl, sym, ◌∙◌, ap, subst, ℕ, ◌≤◌, ◌⊎◌, inl, inr, Bool, true, false, cond, List, [], ◌∷◌, length, map, Option, Some, None, IsSome, arith}
 use Rattle.std.specs.Prelude.{◌↔◌, filter, option_map}
 use Rattle.std.specs.FinMap as fin
@@ -40,7 +40,7 @@ pub map_itself : {X : Type 0} (xs : List X) → map (λ x. x) xs ≡ xs
 map_itself [] = refl
 map_itself (x ∷ xs) = ap (λ l. x ∷ l) (map_itself xs)
 
--- lists with the same members, each once
+-- lists without repetition that have the same members
 pub same_times : (xs ys : List ℕ) → ((o : ℕ) → occurrences o xs ≤ 1) → ((o : ℕ) → occurrences o ys ≤ 1) → ((o : ℕ) → Includes xs o ↔ Includes ys o) → SameMembers xs ys
 same_times xs ys once twice same o = go (none_or_some (occurrences o xs)) (none_or_some (occurrences o ys))
   where
@@ -53,7 +53,7 @@ same_times xs ys once twice same o = go (none_or_some (occurrences o xs)) (none_
 pub same_length : (xs ys : List ℕ) → SameMembers xs ys → length xs ≡ length ys
 same_length xs ys same = omega (arith, no_longer xs ys same, no_longer ys xs (λ o. sym (same o)))
 
--- an object that stands at a place lives, but at that of the untracked
+-- an object in a place lives, except perhaps in that of the untracked
 pub lives_at : (store : Store) (o : ℕ) (p : Place) → place_of store o ≡ p → Untracked ≢ p → IsLive store o
 lives_at store o p at tracked = known (fin.get store.nodes o) at
   where
@@ -93,7 +93,7 @@ module _ (store : Store) where
   pub object_there : (o : ℕ) (n : Node) → fin.get store.nodes o ≡ Some n → Includes (objects_of store) (object_from store.rows o n)
   object_there o n got = Includes-map (λ (e : ℕ × Node). object_from store.rows e.0 e.1) (fin.entries store.nodes) (o, n) (finds (fin.entries store.nodes) o n (sym (fin.get-entries store.nodes o) ∙ got))
 
-  -- who stands at a place
+  -- the objects of a place
   pub stands_at : (p : Place) (o : ℕ) → IsLive store o → place_of store o ≡ p → StandsAt store p o
   stands_at p o live at =
       let (n, got) = node_of_live store o live in
@@ -107,7 +107,7 @@ module _ (store : Store) where
       let (there, at) = Includes-filter_cases (is_at p) (objects_of store) x member in
       (subst (IsLive store) serial (live_there x there), ap (place_of store) (sym serial) ∙ place_there x there ∙ place_is x.place p at)
 
-  -- edges are the references of those who stand there
+  -- edges are the references of those objects
   pub edge_at : (p : Place) (o q : ℕ) → IsLive store o → place_of store o ≡ p → Includes (references (entries_of store o)) q → Includes (edges (graph_at store p)) (arrow o q)
   edge_at p o q live at refers =
       let (n, got) = node_of_live store o live in
@@ -147,7 +147,7 @@ module _ (store : Store) where
   once_there p o = once_among (is_at p) o
 
   module _ (listed : IsListed store) where
-    -- the list of a place has the objects that stand there
+    -- the list of a place has the objects that are there
     pub list_has : (p : Place) → SameMembers (list_at store p) (serials_at (objects_of store) p)
     list_has p =
         same_times (list_at store p) (serials_at (objects_of store) p) (once_at store listed p) (once_there p)
@@ -156,7 +156,7 @@ module _ (store : Store) where
     pub list_length : (p : Place) → length (list_at store p) ≡ length (serials_at (objects_of store) p)
     list_length p = same_length (list_at store p) (serials_at (objects_of store) p) (list_has p)
 
-    -- a list is empty where nobody stands
+    -- a list is empty if no object is there
     pub empty_at : (p : Place) → ((o : ℕ) → IsLive store o → place_of store o ≢ p) → list_at store p ≡ []
     empty_at p nobody = known (list_at store p) refl
       where
@@ -167,7 +167,7 @@ module _ (store : Store) where
     pub nobody_at : (p : Place) → list_at store p ≡ [] → (o : ℕ) → IsLive store o → place_of store o ≢ p
     nobody_at p empty o live at = subst (λ l. Includes l o) empty (is_there store listed p o live at)
 
--- places and numbers change, and nothing else
+-- only places and numbers change
 same_node_more : (a b c : Option Node) → IsSameNode a b → IsSameNode b c → IsSameNode a c
 same_node_more None None None p q = tt
 same_node_more None None (Some k) p q = absurd q
@@ -251,7 +251,6 @@ module _ (old new : Store) (same : IsSameButPlaces old new) where
   nodes_are : new.nodes ≡ mapped replaced old.nodes
   nodes_are = same_map new.nodes (mapped replaced old.nodes) (λ q. node_on q ∙ sym (get-mapped replaced old.nodes q))
 
-  -- the objects, each at its new place
   pub objects_on : objects_of new ≡ map (λ x. with_place (place_of new x.serial) x) (objects_of old)
   objects_on =
       (λ i. map (λ (e : ℕ × Node). object_from (same.rows i) e.0 e.1) (fin.entries (nodes_are i)))

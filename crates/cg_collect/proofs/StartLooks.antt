@@ -1,4 +1,5 @@
--- How many entries the parts of the start look at: survivors and what is set aside are among its candidates, and no object is both.
+-- How many entries the parts of the start look at: survivors and uncollectable objects are among its candidates, and no object is
+-- both.
 use Rattle.std.proofs.Common.{◌≡◌, ◌≢◌, sym, ◌∙◌, ap, ℕ, ◌+◌, ◌≤◌, ◌⊎◌, inl, inr, List, ◌++◌, length, arith}
 use Rattle.std.specs.Prelude.{sum_by}
 use Rattle.std.proofs.lemmas.List.Sums.{sum_by-append}
@@ -23,7 +24,7 @@ use Rattle.cg_collect.proofs.Standing.{entries_on, live_back, nobody_at, stood_a
 use Rattle.cg_collect.proofs.Sums.{sum_alike, sum-inside}
 use Rattle.cg_collect.proofs.Traces.{Trace, at_or_not, same16, candidate_back}
 
--- A pass that untracks leaves no more entries in its generation.
+-- A pass that untracks adds no entries to its generation.
 pub untracked_fewer : (g : ℕ) (kind : KindCode) (old new : Store) → IsListed old → IsListed new → Untracks g kind old new → entries_listed new (Gen g) ≤ entries_listed old (Gen g)
 untracked_fewer g kind old new listed listed_new untracks =
     let f : ℕ → ℕ = λ q. length (entries_of old q) in
@@ -37,14 +38,13 @@ untracked_fewer g kind old new listed listed_new untracks =
         (either (untracks.at_most o) (λ stays. sym stays ∙ at.1) (λ went. absurd (let e : Untracked ≡ Gen g = sym went.stands ∙ at.1 in cc)))
 
 module _ (script : Script) (g : ℕ) (s0 s1 s2 s4 s5 s6 : Store) (t : Trace script g s0 s1 s2 s4 s5 s6) (few : g ≤ 2) (listed1 : IsListed s1) (listed2 : IsListed s2) (listed5 : IsListed s5) (listed6 : IsListed s6) (empty : IsEmptyAt s5 Legacy) where
-  -- a survivor
   survived : (o : ℕ) → Includes (list_at s2 (Gen g)) o → Includes (list_at s1 (Gen g)) o
   survived o m =
       let at = where_is s2 listed2 (Gen g) o m in
       is_there s1 listed1 (Gen g) o (live_back s1 s2 t.splits.same o at.0)
       (either (at_or_not (place_of s1 o) (Gen g)) (λ e. e) (λ differ. sym (t.splits.others o differ) ∙ at.1))
 
-  -- one that is set aside was condemned before
+  -- an uncollectable object was condemned before
   was_candidate : (o : ℕ) → IsLive s6 o → place_of s6 o ≡ Legacy → place_of s2 o ≡ Cand
   was_candidate o live at =
       candidate_back script g s0 s1 s2 s4 s5 s6 t o

@@ -20,7 +20,7 @@ use Rattle.cg_collect.specs.Stages.{detection_at, stage_at, MeetsStage}
 use Rattle.cg_collect.specs.Collections.{IsReadyForCollection, KeepsReady, CollectFalls, CollectionEndsWith, DiesUnheld, facts_of, given_up_by, own_holds_at, held_by}
 use Rattle.cg_collect.proofs.Staging.{TakesStep, also-steps, leaves_stage}
 
--- what is held of a collection: what it gives up, and what its phase holds
+-- what a collection holds: what it is giving up, and what its phase holds
 pub given_up_held : (c : Collection) (store : Store) → HasHolds store (held_by c) → HasHolds store (given_up_by c.release)
 given_up_held c store held s = let all = held s in omega (arith, all, occurrences-append s (given_up_by c.release) (own_holds_at c.phase))
 
@@ -81,7 +81,7 @@ begun_onward phase_of.Start phase_of.Start onward = absurd (omega (arith, onward
 begun_onward old phase_of.Start onward = absurd (omega (arith, onward))
 begun_onward old next onward = tt
 
--- A turn of its phase, where nothing is given up.
+-- A turn of its phase, if nothing is given up.
 module _ (script : Script) (old : Collection) (store : Store) (policy : Policy) (now : Store) (policy_now : Policy) (turn : Turn) (none : old.release ≡ None) (ready : IsReadyForCollection script old store)
     (detected : old.detected ≡ detection_at old.phase) (takes : TakesTurn script (facts_of old) old.phase store policy now policy_now turn) (apart : old.phase ≡ phase_of.Start → detection_at turn.phase ≡ None) where
   abbrev after : Collection
@@ -133,7 +133,7 @@ module _ (script : Script) (old : Collection) (store : Store) (policy : Policy) 
     keeps = takes.keeps;
   }
 
--- Nothing was given up, and all is as before.
+-- Nothing was given up, and nothing changed.
 module _ (old mid : Collection) (store between : Store) (same : (mid ≡ old) × (between ≡ store) × (old.release ≡ None)) where
   -- a fact on collection and heap stays one
   stays : (P : Collection → Store → Type 0) → P old store → P mid between

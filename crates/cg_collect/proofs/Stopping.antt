@@ -1,4 +1,4 @@
--- The end: what a heap does there is the step of the machine; its lines are told by the calls that follow.
+-- The end: the heap does the machine's step, and the following calls print its lines.
 use Rattle.std.proofs.Common.{◌≡◌, refl, sym, ◌∙◌, ap, subst, ℕ, ◌+◌, Bool, true, false, cond, ◌&&◌, ◌||◌, inl, inr, List, [], ◌∷◌, ◌++◌, length, map, Option, Some, None, is_some, arith}
 use Rattle.std.specs.Prelude.{◌==◌, if◌then◌else◌, filter, flat_map, count_by, option_map, option_and_then, slice_get}
 use Rattle.std.proofs.lemmas.Bool.{ne_eqb}
@@ -80,7 +80,6 @@ module _ (store : Store) (listed : IsListed store) (p : Place) (o : ℕ) (here :
       go (Some q) [] at = absurd (let e : Some q ≡ None = at.at in cc)
       go (Some q) (y ∷ rest) at = let same : q ≡ y = let e : Some q ≡ Some y = at.at in cc in subst (λ l. Includes l q) (sym at.parts) (Includes-append_right (parts.0 ++ o ∷ []) (y ∷ rest) q (inl (sym same)))
 
-  -- the walk is shorter then
   pub around_shorter : length (from_on after (list_around store after)) + 1 ≡ length (from_on (Some o) (list_around store (Some o)))
   around_shorter =
       let at : place_of store o ≡ p = (where_is store listed p o here).1 in
@@ -96,7 +95,7 @@ pub at_right : (cursor : Option ℕ) (front back : List ℕ) → IsAt cursor bac
 at_right None front back h = tt
 at_right (Some o) front back h = Includes-append_right front back o h
 
--- Calls that tell a line, or none, of the machine's last step.
+-- Calls that print at most one line of the machine's last step.
 module _ (script : Script) (facts : Facts) (a b : Phase) (store : Store) (policy : Policy) (shows : (asked : Bool) (w : World) (below : List Activity) → CollectionShows asked (collection_at facts a None) store policy w below → CollectionShows asked (collection_at facts b None) store policy w below) where
   pub tells_line : (event : Event) → ((asked : Bool) → lines_left script asked (collection_at facts a None) a store ≡ event ∷ lines_left script asked (collection_at facts b None) b store)
       → CollectSteps script (collection_at facts a None) store policy (collection_at facts b None) store policy (answer_of.Emit event)
@@ -108,7 +107,7 @@ module _ (script : Script) (facts : Facts) (a b : Phase) (store : Store) (policy
   tells_none lines asked w below s =
       only_tells script asked w below (lines_left script asked (collection_at facts a None) a store) [] (collection_at facts b None) store policy (lines asked) (shows asked w below s.shows)
 
--- what was set aside and saved is told
+-- uncollectable and saved objects are printed
 module _ (script : Script) (facts : Facts) (store : Store) (policy : Policy) where
   abbrev old_ones : List ℕ
   old_ones = list_at store (Gen (older facts.generation))
@@ -180,7 +179,7 @@ represents_over old new v below a r alone objects are rest held =
     })
     (λ s. omega (arith, held s, r.outside s, occurrences-append s (collect_holds a.phase) (flat_map holds below)))
 
--- the place of what was set aside, by its number
+-- the place of uncollectable objects, by its number
 legacy_number : (p : Place) → (place_number p == 5) ≡ same_place p Legacy
 legacy_number Untracked = refl
 legacy_number (Gen i) = ne_eqb (7 + i) 5 (λ e. absurd (omega (arith, e)))
@@ -194,7 +193,7 @@ legacy_number Pend = refl
 filter_alike : (f g : ℕ → Bool) (xs : List ℕ) → ((o : ℕ) → f o ≡ g o) → filter f xs ≡ filter g xs
 filter_alike f g xs same = λ i. filter (λ o. same o i) xs
 
--- who is saved, in the world
+-- the saved objects, in the world
 module _ (script : Script) (store : Store) (listed : IsListed store) (c : machine.Collection) where
   abbrev keeps : List ℕ
   keeps = kept_aside script c.flags store
@@ -228,7 +227,7 @@ module _ (script : Script) (store : Store) (listed : IsListed store) (c : machin
       (once_among store (is_saved script c))
       (λ o. (keeps_into o, keeps_back o))
 
--- The objects set aside are saved where they are to be, and get older.
+-- The uncollectable objects are saved if they are to be, and move to the older generation.
 module _ (script : Script) (facts : Facts) (store : Store) (root : IsLive store 1) (listed : IsListed store) where
   abbrev flags : ℕ
   flags = bits_of facts.flags
@@ -296,7 +295,7 @@ module _ (script : Script) (facts : Facts) (store : Store) (root : IsLive store 
       abbrev idle : Policy
       idle = record policy { running = false }
 
-      -- the lines, in the order in which they are told
+      -- the lines, in the order in which they are printed
       abbrev all_lines : Bool → Bool → List Event
       all_lines asked told =
           lines_if told (map GcUncollectable aside) ++ map GcSaved (kept_aside script flags store) ++ GcStop facts.generation facts.collected (length aside) ∷ lines_if asked (Collected (facts.collected + length aside) ∷ [])

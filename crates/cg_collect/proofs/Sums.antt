@@ -1,4 +1,5 @@
--- What the members of the final set have still to do, as one of them goes on or goes; and what the garbage list names.
+-- What the members of the final set still have to do, after one of them goes on or is freed; and what the garbage list
+-- names.
 use Rattle.std.proofs.Common.{◌≡◌, ◌≢◌, refl, sym, ◌∙◌, ap, subst, ℕ, suc, ◌+◌, ◌-◌, ◌*◌, ◌≤◌, Bool, true, false, cond, inl, inr, List, [], ◌∷◌, ◌++◌, length, length-append, Option, Some, None, arith}
 use Rattle.std.specs.Prelude.{◌⊎◌, ◌==◌, sum_by, slice_get, option_map, if◌then◌else◌}
 use Rattle.std.specs.FinMap as fin
@@ -25,13 +26,13 @@ pub sum_alike : (f g : ℕ → ℕ) (xs : List ℕ) → ((q : ℕ) → Includes 
 sum_alike f g [] same = refl
 sum_alike f g (x ∷ xs) same = omega (arith, sum_by-cons f x xs, sum_by-cons g x xs, same x (inl refl), sum_alike f g xs (λ q m. same q (inr m)))
 
--- one that stands in the list once leaves it
+-- a member of the list leaves it
 pub sum-one_less : (f : ℕ → ℕ) (o : ℕ) (xs : List ℕ) → occurrences o xs ≡ 1 → sum_by f (without_serial o xs) + f o ≡ sum_by f xs
 sum-one_less f o xs one =
     let taken : occurrences o xs * f o ≡ 1 * f o = ap (λ n. n * f o) one in
     omega (arith, sum_by-without f o xs, taken)
 
--- the members of a list that has each once
+-- the members of a list without repetition
 pub sum-within : (f : ℕ → ℕ) (ys xs : List ℕ) → ((o : ℕ) → occurrences o xs ≤ 1) → ((o : ℕ) → occurrences o ys ≤ occurrences o xs) → sum_by f ys ≤ sum_by f xs
 sum-within f [] xs once fewer = omega arith
 sum-within f (y ∷ ys) xs once fewer =
@@ -48,7 +49,7 @@ sum-inside f ys xs one once inside = sum-within f ys xs once (λ o. fewer o (non
     fewer o (inl none) = omega (arith, none)
     fewer o (inr some) = omega (arith, one o, occurs xs o (inside o (occurs_in ys o some)))
 
--- one has another number, the others have theirs
+-- one has another number, the others keep theirs
 pub sum-one_other : (f g : ℕ → ℕ) (o : ℕ) (xs : List ℕ) → occurrences o xs ≡ 1 → ((q : ℕ) → q ≢ o → f q ≡ g q) → sum_by f xs + g o ≡ sum_by g xs + f o
 sum-one_other f g o xs one same =
     omega (arith, sum-one_less f o xs one, sum-one_less g o xs one, sum_alike f g (without_serial o xs) (λ q m. same q (Includes-without o xs q m).1))
@@ -64,7 +65,7 @@ last_entry-append (x ∷ xs) e = ap (slice_get (x ∷ xs ++ e ∷ [])) len ∙ a
     shorter : length xs ≡ length (xs ++ e ∷ []) - 1
     shorter = omega (arith, length-append xs (e ∷ []))
 
--- an object saved is named besides what was named
+-- a saved object is named besides the others
 pub saved_names : (es : List Entry) (o q : ℕ) → Includes (references (es ++ item (Ref o) ∷ [])) q → Includes (references es) q ⊎ (q ≡ o)
 saved_names es o q m = elim (cases_eq o q) [
   | inl same ↦ inr (sym same)
@@ -73,7 +74,7 @@ saved_names es o q m = elim (cases_eq o q) [
       inl (occurs_in (references es) q (omega (arith, occurs (references (es ++ item (Ref o) ∷ [])) q m, push-item q es (Ref o), none)))
 ]
 
--- entries that replace others leave places and the entries of other objects
+-- new entries of one object leave places and the entries of other objects
 pub place-rewritten : (store : Store) (o : ℕ) (es : List Entry) (q : ℕ) → place_of (rewritten o es store) q ≡ place_of store q
 place-rewritten store o es q = ap place_in (get-mapped (λ s x. if s == o then with_entries es x else x) store.nodes q) ∙ known (q == o) (fin.get store.nodes q)
   where
@@ -92,11 +93,11 @@ place-held refs store q = ap place_in (get-mapped (λ s n. more (occurrences s r
     known None = refl
     known (Some n) = refl
 
--- what the garbage list has once an object is saved
+-- the garbage list after an object is saved
 abbrev pub saved_entries : Store → ℕ → List Entry
 saved_entries store o = entries_of store 1 ++ item (Ref o) ∷ []
 
--- an object that is saved, in the world and in the heap
+-- a saved object, in the world and in the heap
 pub objects-saved : (store : Store) (o : ℕ) → objects_of (rewritten 1 (entries_of store 1 ++ item (Ref o) ∷ []) store) ≡ saved o (objects_of store)
 objects-saved store o =
     objects-changed store 1 (with_entries (saved_entries store o)) (object_entries (saved_entries store o)) (λ s n. refl)
@@ -109,7 +110,7 @@ objects-saved store o =
         λ i. if x.serial == 1 then object_entries (its i ++ item (Ref o) ∷ []) x else x)
         (λ no. ap (λ b. if b then object_entries (saved_entries store o) x else x) no ∙ sym (ap (λ b. if b then object_entries (x.entries ++ item (Ref o) ∷ []) x else x) no))
 
--- nothing changes where no object has the serial
+-- nothing changes if no object has the serial
 pub change-absent : (store : Store) (f : Object → Object) (o : ℕ) → ¬ IsLive store o → change f o (objects_of store) ≡ objects_of store
 change-absent store f o absent =
     map_alike (λ x. if x.serial == o then f x else x) (λ x. x) (objects_of store)

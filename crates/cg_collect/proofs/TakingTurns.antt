@@ -1,4 +1,4 @@
--- How a turn is put together of what its phase does: it goes on, tells a line, runs a frame, gives something up, or ends.
+-- A turn, composed of what its phase does: it goes on, prints a line, runs a frame, gives something up, or ends.
 use Rattle.std.proofs.Common.{◌≡◌, refl, sym, ◌∙◌, ap, subst, ℕ, ◌+◌, ◌≤◌, Option, Some, None, add-zero, arith}
 use Rattle.cg_script.specs.declared.Script.{Script}
 use Rattle.cg_machine.specs.declared.event.Event.{Event}
@@ -19,7 +19,7 @@ use Rattle.cg_collect.specs.Turns.{collection_at, Advances, StaysReady, ComesNea
 use Rattle.cg_collect.proofs.Keeping.{keeps_all}
 use Rattle.cg_collect.proofs.Worlds.{turn_steps}
 
--- a turn at a phase that is this one, or that leaves this heap or this policy
+-- a turn at a phase equal to this one, or that leaves this heap or this policy
 module _ {script : Script} {facts : Facts} {phase : Phase} {old : Store} {was : Policy} {new : Store} {now : Policy} {turn : Turn} where
   pub at_phase : {p : Phase} → phase ≡ p → TakesTurn script facts p old was new now turn → TakesTurn script facts phase old was new now turn
   at_phase is takes = subst (λ (p : Phase). TakesTurn script facts p old was new now turn) (sym is) takes
@@ -30,11 +30,11 @@ module _ {script : Script} {facts : Facts} {phase : Phase} {old : Store} {was : 
   pub in_policy : {left : Policy} → now ≡ left → TakesTurn script facts phase old was new left turn → TakesTurn script facts phase old was new now turn
   in_policy is takes = subst (λ (p : Policy). TakesTurn script facts phase old was new p turn) (sym is) takes
 
--- what a phase needs, at a phase that is this one
+-- what a phase requires, at an equal phase
 pub ready_at : (store : Store) (g : ℕ) {phase p : Phase} → phase ≡ p → IsReadyForCollectionAt store g phase → IsReadyForCollectionAt store g p
 ready_at store g is ready = subst (IsReadyForCollectionAt store g) is ready
 
--- a turn that leads to a phase that is this one
+-- a turn that leads to an equal phase
 pub leads_to : {turn : Turn} {told next : Phase} {release : Option Release} {answer : CollectStep} → turn ≡ record { phase = told; release = release; collected = 0; answer = answer } → told ≡ next
     → turn ≡ record { phase = next; release = release; collected = 0; answer = answer }
 leads_to {release = release} {answer = answer} is same = is ∙ ap (λ (p : Phase). record { phase = p; release = release; collected = 0; answer = answer }) same
@@ -83,7 +83,7 @@ module _ {script : Script} {facts : Facts} {phase : Phase} {old : Store} {was : 
       → TakesTurn script facts phase old was new now turn
   gives_up {release = release} is steps ready walk nearer may few onward keeps = taken (Some release) answer_of.Continue is steps ready walk (λ went. nearer) may tt few onward keeps
 
--- a collection that is over says so
+-- a finished collection says so
 pub ends : {script : Script} {facts : Facts} {store : Store} {policy : Policy} {number : ℕ} {turn : Turn} → turn ≡ record { phase = phase_of.Over number; release = None; collected = 0; answer = answer_of.Finished facts.collected number }
     → TakesTurn script facts (phase_of.Over number) store policy store policy turn
 ends {facts = facts} {store = store} {number = number} is =

@@ -1,4 +1,4 @@
--- What is told after the start: the sizes, each condemned object, and then the weak phase follows.
+-- What is printed after the start: the sizes, each condemned object; then the weak phase follows.
 use Rattle.std.proofs.Common.{◌≡◌, ◌≢◌, refl, sym, ◌∙◌, ap, subst, ℕ, ◌*◌, ◌<◌, ◌≤◌, inl, inr, Bool, true, false, not, List, [], ◌∷◌, ◌++◌, map, Option, Some, None, arith}
 use Rattle.std.specs.Prelude.{◌==◌, if◌then◌else◌, bit_and, slice_get}
 use Rattle.std.proofs.lemmas.Bool.{cases_eq, eq-eqb, ne_eqb}
@@ -30,7 +30,7 @@ use Rattle.cg_collect.proofs.Moving.{walk_passes, comes_next}
 use Rattle.cg_collect.proofs.Walking.{walk_begins}
 use Rattle.cg_collect.proofs.Worlds.{only_tells}
 
--- a flag is set where its bit is
+-- a flag is set if its bit is
 flag_of : (flags m b : ℕ) → 0 < m → b < 2 → bit_and flags m ≡ b * m → (bit_and flags m == m) ≡ has_flag flags m
 flag_of flags m b some below is = elim (cases_eq b 0) [
   | inl none ↦
@@ -53,7 +53,7 @@ stats_at flags = flag_of flags 1 (bit_at flags 0) (omega arith) (bit_at-lt flags
 pub collectable_at : (flags : ℕ) → (bit_and flags 2 == 2) ≡ has_flag flags collectable
 collectable_at flags = flag_of flags 2 (bit_at flags 1) (omega arith) (bit_at-lt flags 1) (and_pow flags 1)
 
--- a walk from the first of a list on
+-- a walk from the first of a list
 pub from_first : (xs : List ℕ) → from_on (slice_get xs 0) xs ≡ xs
 from_first [] = refl
 from_first (x ∷ xs) = ap (λ b. if b then x ∷ xs else from_on (Some x) xs) (eq-eqb x x refl)
@@ -67,13 +67,13 @@ from_ahead None xs = refl
 from_ahead (Some o) [] = refl
 from_ahead (Some o) (x ∷ xs) = ap (λ l. if x == o then x ∷ xs else l) (from_ahead (Some o) xs)
 
--- a list round one of its members
+-- a list split at one of its members
 pub split_at : (xs : List ℕ) (o : ℕ) → Includes xs o → (front : List ℕ) × (back : List ℕ) × (xs ≡ front ++ o ∷ back)
 split_at [] o h = absurd h
 split_at (x ∷ xs) o (inl e) = ([], xs, ap (λ y. y ∷ xs) e)
 split_at (x ∷ xs) o (inr h) = let rest = split_at xs o h in (x ∷ rest.0, rest.1, ap (λ l. x ∷ l) rest.2)
 
--- one is told, and those after it are left
+-- one is printed, and those after it are left
 module _ (store : Store) (listed : IsListed store) (o : ℕ) (here : Includes (list_at store Cand) o) (after : Option ℕ) (comes : after ≡ following o (list_at store (place_of store o))) where
   abbrev xs : List ℕ
   xs = list_at store Cand
@@ -126,20 +126,19 @@ pub onward_told : (zero one two frozen : ℕ) (b : Bool) (store : Store) → Adv
 onward_told zero one two frozen true store = (omega arith, refl)
 onward_told zero one two frozen false store = (omega arith, refl)
 
--- the lines that are left
+-- the remaining lines
 module _ (script : Script) (asked : Bool) (facts : Facts) (store : Store) where
   pub told_lines : (b : Bool) → lines_left script asked (collection_at facts (told_if b store) None) (told_if b store) store ≡ lines_if b (map GcCollectable (list_at store Cand))
   told_lines true = ap (map GcCollectable) (from_first (list_at store Cand))
   told_lines false = refl
 
-  -- phases that tell stand for the same world
+  -- phases that print represent the same world
   pub shows_told : (b : Bool) (policy : Policy) (w : World) (below : List Activity) (none one two frozen : ℕ) → CollectionShows asked (collection_at facts (phase_of.Sizes none one two frozen) None) store policy w below
       → CollectionShows asked (collection_at facts (told_if b store) None) store policy w below
   shows_told true policy w below none one two frozen s = record { represents = s.represents; numbers = s.numbers; running = s.running; top = s.top }
   shows_told false policy w below none one two frozen s = record { represents = s.represents; numbers = s.numbers; running = s.running; top = s.top }
 
 module _ (script : Script) (facts : Facts) (store : Store) (policy : Policy) where
-  -- the sizes are told
   pub steps_sizes : (none one two frozen : ℕ)
       → CollectSteps script (collection_at facts (phase_of.Sizes none one two frozen) None) store policy (collection_at facts (told_if (has_flag (bits_of facts.flags) collectable) store) None) store policy (answer_of.Emit (Gens none one two frozen))
   steps_sizes none one two frozen asked w below s =
@@ -148,7 +147,6 @@ module _ (script : Script) (facts : Facts) (store : Store) (policy : Policy) whe
       (ap (λ l. Gens none one two frozen ∷ l) (sym (told_lines script asked facts store b)))
       (shows_told script asked facts store b policy w below none one two frozen s.shows)
 
-  -- a condemned object is told
   pub steps_condemned : (o : ℕ) (after : Option ℕ) → from_on (Some o) (list_at store Cand) ≡ o ∷ from_on after (list_at store Cand)
       → CollectSteps script (collection_at facts (phase_of.Telling (Some o)) None) store policy (collection_at facts (phase_of.Telling after) None) store policy (answer_of.Emit (GcCollectable o))
   steps_condemned o after left asked w below s =
@@ -156,7 +154,6 @@ module _ (script : Script) (facts : Facts) (store : Store) (policy : Policy) whe
       (ap (map GcCollectable) left)
       (record { represents = s.shows.represents; numbers = s.shows.numbers; running = s.shows.running; top = s.shows.top })
 
-  -- all are told
   pub steps_told : CollectSteps script (collection_at facts (phase_of.Telling None) None) store policy (collection_at facts (told_weak store) None) store policy answer_of.Continue
   steps_told asked w below s =
       only_tells script asked w below [] [] (collection_at facts (told_weak store) None) store policy refl

@@ -1,4 +1,4 @@
--- Where each object stands through the start.
+-- Where each object is during the start.
 use Rattle.std.proofs.Common.{◌≡◌, ◌≢◌, refl, sym, ◌∙◌, ap, subst, ℕ, ◌⊎◌, inl, inr, true, false, [], Option, Some, None, IsSome}
 use Rattle.std.specs.Prelude.{◌↔◌}
 use Rattle.std.specs.FinMap as fin
@@ -22,7 +22,7 @@ use Rattle.cg_machine.proofs.Places.{place_at_is, place_differs, place_is}
 use Rattle.cg_collect.proofs.Standing.{same_itself, same_more, live_on, live_back, lives_at, nobody_at, stood_at}
 use Rattle.cg_collect.proofs.Untracked.{trackable, trackable_alike, has_tracked_alike}
 
--- an object stands at a place or not
+-- an object is in a place or not
 pub at_or_not : (p q : Place) → (p ≡ q) ⊎ (p ≢ q)
 at_or_not p q = either (cases_of (same_place p q)) (λ e. inl (place_is p q e)) (λ e. inr (λ same. let t : true ≡ false = sym (place_at_is p q same) ∙ e in cc))
 
@@ -100,7 +100,6 @@ module _ (script : Script) (g : ℕ) (s0 s1 s2 s4 s5 s6 : Store) (t : Trace scri
       (λ two. either ((t.untracks.dictionaries two).at_most o) (λ s. inl s) (λ went. inr (two, went)))
       (λ differs. inl (ap (λ s. place_of s o) (t.untracks.younger differs)))
 
-  -- from one heap to the next
   pub tuple_or : (o : ℕ) → (place_of s3 o ≡ place_of s2 o) ⊎ ((place_of s2 o ≡ Gen g) × (place_of s3 o ≡ Untracked))
   tuple_or o = either (t.untracks.tuples.at_most o) (λ s. inl s) (λ went. inr (went.stood, went.stands))
 
@@ -117,7 +116,7 @@ module _ (script : Script) (g : ℕ) (s0 s1 s2 s4 s5 s6 : Store) (t : Trace scri
       go (inr a) (inl b) = inr (a.0, b ∙ a.1)
       go (inr a) (inr b) = absurd (let e : Untracked ≡ Gen g = sym a.1 ∙ b.0 in cc)
 
-  -- what does not stand in the generation stays, and a candidate stays or is set aside
+  -- an object outside the generation stays, and a candidate stays or is set aside
   pub last_step : (o : ℕ) (p : Place) → place_of s4 o ≡ p → p ≢ Gen g → p ≢ Cand → place_of s6 o ≡ p
   last_step o p at not_g not_c =
       let fifth : place_of s5 o ≡ p = t.gets_older.others o (λ e. not_g (sym at ∙ e)) ∙ at in
@@ -128,7 +127,6 @@ module _ (script : Script) (g : ℕ) (s0 s1 s2 s4 s5 s6 : Store) (t : Trace scri
       let fifth : place_of s5 o ≡ Gen (older g) = t.gets_older.moved o at in
       either (t.sets_aside.others o) (λ s. s ∙ fifth) (λ led. absurd (let e : Gen (older g) ≡ Cand = sym fifth ∙ (stood_at s5 Cand o (Reach-inside led)).1 in cc))
 
-  -- a candidate
   pub candidate_on : (o : ℕ) → place_of s2 o ≡ Cand → place_of s5 o ≡ Cand
   candidate_on o at =
       let fourth : place_of s4 o ≡ Cand = either (both_or o) (λ s. s ∙ at) (λ went. absurd (let e : Cand ≡ Gen g = sym at ∙ went.0 in cc)) in
@@ -144,7 +142,7 @@ module _ (script : Script) (g : ℕ) (s0 s1 s2 s4 s5 s6 : Store) (t : Trace scri
   pub candidate_last : (o : ℕ) → place_of s2 o ≡ Cand → (place_of s6 o ≡ Cand) ⊎ (place_of s6 o ≡ Legacy)
   candidate_last o at = either (t.sets_aside.others o) (λ s. inl (s ∙ candidate_on o at)) (λ led. inr (t.sets_aside.aside o led))
 
-  -- an object of another place
+  -- an object in another place
   pub unmoved4 : (o : ℕ) → place_of s1 o ≢ Gen g → place_of s4 o ≡ place_of s1 o
   unmoved4 o differ =
       let second : place_of s2 o ≡ place_of s1 o = t.splits.others o differ in
@@ -158,7 +156,7 @@ module _ (script : Script) (g : ℕ) (s0 s1 s2 s4 s5 s6 : Store) (t : Trace scri
   pub unmoved : (o : ℕ) → place_of s1 o ≢ Gen g → place_of s6 o ≡ place_of s1 o
   unmoved o differ = last_step o (place_of s1 o) (unmoved4 o differ) differ (t.splits.none o)
 
-  -- who is a candidate in the end, or set aside, was unreachable
+  -- a final candidate or uncollectable object was unreachable
   pub unreachable_there : (o : ℕ) → (place_of s6 o ≡ Cand) ⊎ (place_of s6 o ≡ Legacy) → (p : (o : ℕ) → place_of s1 o ≢ Legacy) → IsUnreachable s1 (Gen g) o
   unreachable_there o at no_legacy = either (at_or_not (place_of s1 o) (Gen g))
       (λ e. either (t.splits.either_way o e)
@@ -174,7 +172,7 @@ module _ (script : Script) (g : ℕ) (s0 s1 s2 s4 s5 s6 : Store) (t : Trace scri
           (λ s. neither (Gen (older g)) (last_older o (s ∙ k)) (λ e. cc) (λ e. cc))
           (λ went. neither Untracked (last_step o Untracked went.1 (λ e. cc) (λ e. cc)) (λ e. cc) (λ e. cc))
 
-  -- those that the heap counts as survivors
+  -- the heap's survivors
   pub survivor_test : (o : ℕ) → place_of s1 o ≡ Gen g → same_place (place_of s4 o) (Gen g) ≡ same_place (place_of s6 o) (Gen (older g))
   survivor_test o at = either (at_or_not (place_of s4 o) (Gen g))
       (λ e. place_at_is (place_of s4 o) (Gen g) e ∙ sym (place_at_is (place_of s6 o) (Gen (older g)) (last_older o e)))

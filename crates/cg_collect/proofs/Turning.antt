@@ -1,4 +1,4 @@
--- The clearing: what a heap does in the turn of a member of the final set is the step of the machine.
+-- The clearing: in the turn of a member of the final set, the heap does the machine's step.
 use Rattle.std.proofs.Common.{◌≡◌, ◌≢◌, refl, sym, ◌∙◌, ap, subst, ℕ, ◌+◌, ◌*◌, ◌<◌, Bool, true, false, inl, inr, List, [], ◌∷◌, ◌++◌, length, length-append, Option, Some, None, IsSome, arith}
 use Rattle.std.specs.Prelude.{if◌then◌else◌, slice_get, sum_by, IfSome}
 use Rattle.std.specs.FinMap as fin
@@ -55,7 +55,7 @@ use Rattle.cg_collect.proofs.Sums.{sum_alike, sum-one_less, saved_names, place-r
 use Rattle.cg_collect.proofs.Looking.{still_unsaved, nobody_stands}
 use Rattle.cg_collect.proofs.Worlds.{steps_at, with_same_rows, pending_is, represents_on, represents_giving_up, represents_same}
 
--- the machine's turn of a member, by what it asks
+-- the machine's turn of a member, by its cases
 abbrev chosen : machine.Collection → Object → List Activity → World → Bool → Bool → Transition
 chosen c x below w all tuple =
     if all
@@ -87,7 +87,7 @@ module _ (store : Store) (listed : IsListed store) (none : slice_get (list_at st
         keeps = record { budget = refl; outcome = refl };
       })
 
--- An object that gets older.
+-- An object moves to the older generation.
 module _ (store : Store) (o : ℕ) where
   none_waits : (q : Place) → 6 ≢ place_number q → list_at store Pend ≡ [] → list_at (moved o q store) Pend ≡ []
   none_waits q other none = either (moved-cases store o q other) (λ e. e ∙ none) (λ e. e ∙ ap (without_serial o) none)
@@ -95,7 +95,7 @@ module _ (store : Store) (o : ℕ) where
   older_apart : (g : ℕ) → 6 ≢ 7 + older g
   older_apart g e = absurd (omega (arith, e))
 
-  -- it gets older after its turn
+  -- it does so after its turn
   pub turn-older : (script : Script) (facts : Facts) (policy : Policy)
       → CollectSteps script (collection_at facts (phase_of.AfterTurn o) None) store policy (collection_at facts phase_of.Turns None) (moved o (Gen (older facts.generation)) store) policy answer_of.Continue
   turn-older script facts policy =
@@ -130,7 +130,6 @@ module _ (store : Store) (o : ℕ) (at : place_of store o ≡ Cand) where
     abbrev x : Object
     x = object_from store.rows o n
 
-    -- it stands there in the world
     is_member : (objects : List Object) → objects_of store ≡ objects → Includes (objects_at objects Cand) x
     is_member objects same =
         subst (λ (os : List Object). Includes (objects_at os Cand) x) same
@@ -169,7 +168,7 @@ module _ (store : Store) (o : ℕ) (at : place_of store o ≡ Cand) where
           keeps = record { budget = refl; outcome = refl };
         })
 
-    -- another is held, to be emptied
+    -- any other is held, to be emptied
     pub turn-held : (script : Script) (facts : Facts) (policy : Policy) → has_flag (bits_of facts.flags) save_all ≡ false → is_tuple x ≡ false
         → CollectSteps script (collection_at facts phase_of.Turns None) store policy (collection_at facts (phase_of.Turn o) None) (held (o ∷ []) store) policy answer_of.Continue
     turn-held script facts policy flag tuple =
@@ -239,7 +238,7 @@ module _ (store : Store) (o : ℕ) (at : place_of store o ≡ Cand) where
           keeps = record { budget = refl; outcome = refl };
         })
 
--- its entries are taken out
+-- its entries are removed
 module _ (store : Store) (o : ℕ) where
   -- one that died in its turn
   pub turn-died : ¬ IsLive store o → (script : Script) (facts : Facts) (policy : Policy)
@@ -270,7 +269,6 @@ module _ (store : Store) (o : ℕ) where
         keeps = record { budget = refl; outcome = refl };
       })
 
-  -- none is left
   pub turn-emptied : (release : Release) → references_left release ≡ o ∷ [] → entries_of store o ≡ [] → (script : Script) (facts : Facts) (policy : Policy)
       → CollectSteps script (collection_at facts (phase_of.Turn o) None) store policy (collection_at facts (phase_of.AfterTurn o) (Some release)) store policy answer_of.Continue
   turn-emptied release left empty script facts policy =
@@ -295,7 +293,7 @@ module _ (store : Store) (o : ℕ) where
         keeps = record { budget = refl; outcome = refl };
       })
 
-  -- the last is taken out
+  -- the last is removed
   module _ (sound : (q : ℕ) → 0 < inner store q → IsLive store q) (e : Entry) (last : entries_of store o ≡ without_last (entries_of store o) ++ e ∷ []) where
     abbrev rest : List Entry
     rest = without_last (entries_of store o)
@@ -341,7 +339,7 @@ module _ (store : Store) (o : ℕ) where
           keeps = record { budget = refl; outcome = refl };
         })
 
--- What each of them leaves. One that has its turn may stand anywhere.
+-- What each of them leaves. The one that has its turn may be anywhere.
 module _ (store : Store) (listed : IsListed store) (o : ℕ) (live : IsLive store o) (g : ℕ) where
   abbrev p : Place
   p = Gen (older g)
@@ -352,7 +350,6 @@ module _ (store : Store) (listed : IsListed store) (o : ℕ) (live : IsLive stor
   pub apart_older : 1 ≢ o → IsApartUnseen store → IsApartUnseen (moved o p store)
   apart_older other = apart_away store listed o live p older_place other (λ e. cc) (λ e. cc) (λ e. cc) (λ e. cc)
 
-  -- the others are left
   pub others_left : still_cleared (moved o p store) ≡ others_cleared store o
   others_left =
       ap (sum_by (to_clear (moved o p store))) (moved_from store listed o live p older_place Cand (λ e. cc))
@@ -384,7 +381,7 @@ module _ (store : Store) (listed : IsListed store) (o : ℕ) (live : IsLive stor
   pub as_much_for_others : others_cleared (held (o ∷ []) store) o ≡ others_cleared store o
   as_much_for_others = sum_alike (to_clear (held (o ∷ []) store)) (to_clear store) (without_serial o (list_at store Cand)) (λ q m. ap (λ (es : List Entry). 16 + 4 * length es) (entries-held (o ∷ []) store q))
 
-  -- an entry was taken out
+  -- an entry was removed
   module _ (e : Entry) (last : entries_of store o ≡ without_last (entries_of store o) ++ e ∷ []) where
     abbrev now : Store
     now = held (entry_references e) (rewritten o (without_last (entries_of store o)) store)
@@ -420,7 +417,7 @@ module _ (store : Store) (listed : IsListed store) (o : ℕ) (live : IsLive stor
         sum_alike (to_clear now) (to_clear store) (without_serial o (list_at store Cand)) (λ q m. ap (λ (es : List Entry). 16 + 4 * length es) (others_now q (Includes-without o (list_at store Cand) q m).1)) in
         omega (arith, few, fewer, one_more, others, entry-le e, length-append (without_last (entries_of store o)) (e ∷ []))
 
--- what is left once one was saved, and moved
+-- what is left after one was saved and moved
 module _ (store : Store) (o : ℕ) (root : IsLive store 1) (at : place_of store o ≡ Cand) (g : ℕ) where
   abbrev then_kept : Store
   then_kept = rewritten 1 (entries_of store 1 ++ item (Ref o) ∷ []) store
@@ -454,7 +451,7 @@ module _ (store : Store) (o : ℕ) (root : IsLive store 1) (at : place_of store 
           let (stood, differs) = Includes-without o (list_at store q) r (subst (λ l. Includes l r) (from q other) m) in
           either (saved_names (entries_of store 1) o r (subst (λ (es : List Entry). Includes (references es) r) names named)) (λ k. was r stood k) differs
 
--- By the kind that the heap tells.
+-- By the kind that the heap reports.
 code_is : (x : Option Node) (n : Node) (k : KindCode) → x ≡ Some n → IfSome x (λ m. k ≡ m.code) → k ≡ n.code
 code_is x n k e h = subst (λ y. IfSome y (λ (m : Node). k ≡ m.code)) e h
 

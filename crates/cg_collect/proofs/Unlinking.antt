@@ -1,4 +1,4 @@
--- Members of the final set lose their own referents, once no weak reference has a member.
+-- Members of the final set that are weak references are cleared, after no weak reference refers to a member.
 use Rattle.std.proofs.Common.{◌≡◌, refl, sym, ◌∙◌, ap, subst, ℕ, ◌+◌, ◌*◌, ◌<◌, Bool, true, false, cond, not, inl, inr, List, [], ◌∷◌, ◌++◌, length, map, Option, Some, None, arith}
 use Rattle.std.specs.Prelude.{◌⊎◌, ◌==◌, ◌&&◌, ◌||◌, if◌then◌else◌, filter, option_and_then, slice_get}
 use Rattle.std.proofs.lemmas.Bool.{ne_eqb, not-true}
@@ -37,7 +37,7 @@ use Rattle.cg_collect.proofs.Worlds.{only_tells}
 use Rattle.cg_collect.proofs.RowFilters.{without_rows-cons, without_rows-nil, referent_left, referent_gone, unreferred_left}
 use Rattle.cg_collect.proofs.FinalRows.{none_lost, none_referring, same_without}
 
--- what is set apart stays so, whatever the rows are
+-- the partition stays, whatever the rows
 pub apart_rows : (store : Store) (rows : List Row) → IsApartUnseen store → IsApartUnseen (record store { rows = rows })
 apart_rows store rows (apart, unseen) = (record { garbage = apart.garbage; back = apart.back; candidates = apart.candidates; seen = apart.seen; legacy = apart.legacy }, unseen)
 
@@ -60,7 +60,7 @@ is_final store listed o live = elim (cases_of (same_place (place_of store o) Can
   ]
 ]
 
--- the walk stands at a weak reference that lives
+-- the walk is at a weak reference that lives
 pub looked_lives : (store : Store) → AreRows store → (member : Option ℕ) (weak : ℕ) → IsMemberWalk store member (Some weak) → IsLive store weak
 looked_lives store ok member weak walk = let there = walk.weak_live weak refl in live_of_kind store weak Weak (refers_live store ok weak there.0 there.1).0
 
@@ -69,18 +69,17 @@ module _ (store : Store) (ok : AreRows store) (r : Row) (inside : Includes store
   abbrev final : List ℕ
   final = list_at store Cand
 
-  -- the members among the older ones, and what is told from some on
+  -- the members among the older ones, and what is printed from some on
   abbrev rest : List ℕ
   rest = filter (includes final) (older_ones store ok r inside stays)
 
   abbrev lines_of : List ℕ → List Row → List ℕ
   lines_of ws rows = ws ++ members_losing final (from_on member final) (without_rows ws rows)
 
-  -- what is still to be looked at besides
+  -- what else is still to be visited
   still_looked : (o : ℕ) → Includes (to_look_at store (Some r.weak)) o → (r.weak ≡ o) ⊎ Includes (older_ones store ok r inside stays) o
   still_looked o m = subst (λ l. Includes l o) (looks_here store ok r inside stays) m
 
-  -- less is left
   pub unlink_shorter : length (to_look_at store (next_older_in store.rows r.weak)) < length (to_look_at store (Some r.weak))
   unlink_shorter =
       let less_ones : length (to_look_at store (next_older_in store.rows r.weak)) ≡ length (older_ones store ok r inside stays) = ap length (looks_on store ok r inside stays) in
@@ -121,7 +120,7 @@ module _ (store : Store) (ok : AreRows store) (r : Row) (inside : Includes store
             ∙ ap (λ b. cond b (r.weak ∷ rest) rest) other
             ∙ ap (filter (includes final)) (sym (looks_on store ok r inside stays))
 
-  -- a member loses its referent
+  -- a member is cleared
   module _ (is_member : includes (list_at store Cand) r.weak ≡ true) where
     abbrev lost : Store
     lost = record store { rows = without_row r.weak store.rows }
@@ -171,7 +170,7 @@ module _ (store : Store) (ok : AreRows store) (r : Row) (inside : Includes store
               or_true true = refl
               or_true false = refl
 
--- What follows when a weak reference is passed, and when it loses its referent.
+-- What follows when a weak reference is passed, and when it is cleared.
 pub record Skips (store : Store) (member : Option ℕ) (weak : ℕ) : Type 0 where
   pub steps : (script : Script) (facts : Facts) (policy : Policy)
       → CollectSteps script (collection_at facts (phase_of.Unlinking member (Some weak)) None) store policy (collection_at facts (phase_of.Unlinking member (next_older_in store.rows weak)) None) store policy answer_of.Continue
@@ -184,7 +183,6 @@ pub record Unlinks (store : Store) (member : Option ℕ) (weak : ℕ) : Type 0 w
       → CollectSteps script (collection_at facts (phase_of.Unlinking member (Some weak)) None) store policy (collection_at facts (phase_of.Unlinking member (next_older_in store.rows weak)) None) (record store { rows = without_row weak store.rows }) policy (answer_of.Emit (Cleared weak))
   pub goes_on : IsRising (without_row weak store.rows) → IsMemberWalk (record store { rows = without_row weak store.rows }) member (next_older_in store.rows weak)
 
--- by the row of the weak reference
 by_row : (store : Store) (member : Option ℕ) (weak : ℕ) (P : ℕ → Type 0) → IsMemberWalk store member (Some weak) → ((r : Row) → Includes store.rows r → r.waits ≡ false → r.weak ≡ weak → P r.weak) → P weak
 by_row store member weak P walk each =
     let (o, refers_o) = walk.weak_live weak refl in
@@ -215,7 +213,7 @@ unlinks store ok member weak walk is_one =
       goes_on = λ rise. unlink_loses store ok r inside stays member walk_at one_at rise;
     })
 
--- The next member is looked at.
+-- The next member is visited.
 module _ (store : Store) (listed : IsListed store) (ok : AreRows store) (object : ℕ) (walk : IsMemberWalk store (Some object) None) (next weak : Option ℕ)
     (next_is : next ≡ following object (list_at store (place_of store object))) (weak_is : weak ≡ option_and_then (λ o. slice_get (weak_references_in store.rows o) 0) (referent_in store.rows object)) where
   abbrev members : List ℕ
@@ -271,7 +269,7 @@ module _ (store : Store) (listed : IsListed store) (ok : AreRows store) (object 
       (λ i. map Cleared (members_losing members (ahead i) (without_rows-nil store.rows i)))
       ∙ ap (λ ws. map Cleared (ws ++ members_losing members (from_on next members) (without_rows ws store.rows))) (ap (filter (includes members)) (sym looks)))
 
--- When all were looked at, none is left to be lost.
+-- After all were visited, none is left to clear.
 pub turn-all_unlinked : (store : Store) → IsRising store.rows → IsMemberWalk store None None → (script : Script) (facts : Facts) (policy : Policy)
     → CollectSteps script (collection_at facts (phase_of.Unlinking None None) None) store policy (collection_at facts phase_of.Turns None) store policy answer_of.Continue
 turn-all_unlinked store rise walk script facts policy =

@@ -1,4 +1,4 @@
--- Where no weak reference has a referent, a collection has none to look at.
+-- If no weak reference has a referent, a collection has none to visit.
 use Rattle.std.proofs.Common.{◌≡◌, refl, sym, ◌∙◌, ap, subst, ℕ, List, [], ◌∷◌, ◌++◌, map, Option, None}
 use Rattle.std.specs.Prelude.{filter, not}
 use Rattle.std.proofs.lemmas.Option.{none-some}
@@ -42,7 +42,7 @@ none_losing : (final members : List ℕ) → members_losing final members [] ≡
 none_losing final [] = refl
 none_losing final (o ∷ members) = none_losing final members
 
--- No line is left to be told, and the members have their turns.
+-- No line is left to print, and the turns of the members follow.
 pub turn-unreferred : (script : Script) (facts : Facts) (store : Store) (policy : Policy) (next : Option ℕ) → store.rows ≡ []
     → CollectSteps script (collection_at facts (phase_of.Detaching next) None) store policy (collection_at facts phase_of.Turns None) store policy answer_of.Continue
 turn-unreferred script facts store policy next none =

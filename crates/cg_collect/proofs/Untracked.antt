@@ -1,4 +1,4 @@
--- A pass that untracks objects of which no reference may be tracked.
+-- A pass that untracks objects without a reference that may be tracked.
 use Rattle.std.proofs.Common.{◌≡◌, ◌≢◌, refl, sym, ◌∙◌, ap, subst, ℕ, ◌+◌, ◌<◌, ◌≤◌, ◌⊎◌, inl, inr, Bool, true, false, not, ◌||◌, List, [], ◌∷◌, ◌++◌, length, take, drop, Option, Some, None, IsSome, arith}
 use Rattle.std.specs.Prelude.{IfSome, slice_get, sum_by}
 use Rattle.std.specs.List.{list_any}
@@ -37,7 +37,7 @@ use Rattle.cg_collect.proofs.Moving.{walk_at, walk_over, walk_first, walk_passes
 abbrev pub trackable : Store → ℕ → Bool
 trackable store p = node_may_be_tracked (fin.get store.nodes p)
 
--- none passes where fewer do
+-- none passes a stricter test
 pub none_fewer : (p q : ℕ → Bool) → ((o : ℕ) → q o ≡ true → p o ≡ true) → (xs : List ℕ) → list_any p xs ≡ false → list_any q xs ≡ false
 none_fewer p q fewer [] h = refl
 none_fewer p q fewer (x ∷ xs) h = go (p x) (q x) (fewer x) (none_fewer p q fewer xs) h
@@ -51,7 +51,7 @@ pub any_alike : (p q : ℕ → Bool) → ((o : ℕ) → p o ≡ q o) → (xs : L
 any_alike p q same [] = refl
 any_alike p q same (x ∷ xs) = λ i. same x i || any_alike p q same xs i
 
--- an untracked node may be tracked only where a tracked one may
+-- an untracked node may be tracked only if a tracked one may
 code_fewer : (code : KindCode) (place : Place) → code_may_be_tracked code Untracked ≡ true → code_may_be_tracked code place ≡ true
 code_fewer Tuple place h = absurd (cc)
 code_fewer ListKind place h = refl
@@ -70,7 +70,7 @@ node_fewer (Some n) (Some m) same went h =
     (λ e. (λ i. code_may_be_tracked (sym code i) (sym e i)) ∙ h)
     (λ e. code_fewer n.code n.place ((λ i. code_may_be_tracked (sym code i) (sym e i)) ∙ h))
 
--- Where objects were untracked and nothing else, what may be tracked then could be before.
+-- If objects were only untracked, what may be tracked afterwards could be before.
 pub fewer_tracked : (a b : Store) → IsSameButPlaces a b → ((o : ℕ) → StaysAt a b o ⊎ (place_of b o ≡ Untracked)) → (p : ℕ) → trackable b p ≡ true → trackable a p ≡ true
 fewer_tracked a b same went p h = node_fewer (fin.get a.nodes p) (fin.get b.nodes p) (same.nodes p) (went p) h
 
@@ -78,7 +78,7 @@ pub none_tracked_on : (a b : Store) → IsSameButPlaces a b → ((o : ℕ) → S
 none_tracked_on a b same went o h =
     ap (λ es. list_any (trackable b) (references es)) (entries_on a b same o) ∙ none_fewer (trackable a) (trackable b) (fewer_tracked a b same went) (references (entries_of a o)) h
 
--- What may be tracked stays, where a tuple is untracked after if and only if it was before.
+-- The same may be tracked, if a tuple is untracked afterwards exactly if it was before.
 code_alike : (code : KindCode) (p q : Place) → (same_place q Untracked ≡ same_place p Untracked) ⊎ (code ≢ Tuple) → code_may_be_tracked code q ≡ code_may_be_tracked code p
 code_alike Tuple p q (inl e) = ap not e
 code_alike Tuple p q (inr other) = absurd (other refl)
@@ -102,11 +102,11 @@ trackable_alike a b same p h = node_alike (fin.get a.nodes p) (fin.get b.nodes p
 pub has_tracked_alike : (a b : Store) → IsSameButPlaces a b → ((p : ℕ) → trackable b p ≡ trackable a p) → (o : ℕ) → has_tracked b o ≡ has_tracked a o
 has_tracked_alike a b same alike o = ap (λ es. list_any (trackable b) (references es)) (entries_on a b same o) ∙ any_alike (trackable b) (trackable a) alike (references (entries_of a o))
 
--- Of the first entries of an object none may be tracked.
+-- None of the first entries of an object may be tracked.
 pub record NoneSoFar (store : Store) (o i : ℕ) : Type 0 where
   pub none : list_any (trackable store) (references (take i (entries_of store o))) ≡ false
 
--- Each of them was looked at once.
+-- It looked once at each of them.
 pub record NoneLooked (store : Store) (o i before looks : ℕ) : Type 0 where
   pub so_far : NoneSoFar store o i
   pub looked : looks ≡ before + i
@@ -121,7 +121,6 @@ value_any store (Ref p) = or_none (trackable store p)
     or_none true = refl
     or_none false = refl
 
--- the entries up to one
 some_more : (store : Store) (o i : ℕ) (e : Entry) → slice_get (entries_of store o) i ≡ Some e
     → list_any (trackable store) (references (take (i + 1) (entries_of store o))) ≡ ((list_any (trackable store) (references (take i (entries_of store o))) || may_be_tracked store e.val) || may_be_tracked store e.key)
 some_more store o i e at =
@@ -160,7 +159,7 @@ found_key store o i e at h =
     (some_more store o i e at
     ∙ or_right (list_any (trackable store) (references (take i (entries_of store o))) || may_be_tracked store e.val) (may_be_tracked store e.key) h))
 
--- what the heap tells of a kind
+-- the kind that the heap reports
 pub code_told : (store : Store) (o : ℕ) (told kind : KindCode) → IsLive store o → IfSome (fin.get store.nodes o) (λ n. told ≡ n.code) → told ≡ kind → HasCode store o kind
 code_told store o told kind live tells is = known (fin.get store.nodes o) refl live tells
   where
@@ -190,7 +189,7 @@ untracking_first g kind store cursor is = record {
   others = λ o. inl refl;
 }
 
--- Each entry of those that it passed was looked at once at most: what was looked at, and what is still to be, is no more than this.
+-- It looked at most once at each entry of those that it passed: the looks so far and those still to come are at most this.
 pub record UntrackingLooked (g : ℕ) (kind : KindCode) (old now : Store) (cursor : Option ℕ) (most looks : ℕ) : Type 0 where
   pub walk : Untracking g kind old now cursor
   pub looked : looks + sum_by (λ q. length (entries_of old q)) walk.back ≤ most
@@ -295,12 +294,11 @@ module _ (g : ℕ) (kind : KindCode) (old now : Store) (cursor : Option ℕ) (o 
           let parts : length so.back ≡ length (o ∷ passes.0) = ap length passes.1 in
           omega (arith, before, after, parts)
 
-    -- as the code does it
     pub untracking_more : (new : Store) → UntracksOne o kind now new → Untracking g kind old new then
     untracking_more new (inl (e, of_kind, none)) = subst (λ (s : Store). Untracking g kind old s then) (sym e) (untracking_one of_kind none)
     untracking_more new (inr (e, not_one)) = subst (λ (s : Store). Untracking g kind old s then) (sym e) (untracking_passes not_one)
 
-    -- what is looked at for it are its entries
+    -- for it, the pass looks at its entries
     pub untracking_looks : (new : Store) (most looks looks_now : ℕ) → UntracksOne o kind now new → looks + sum_by (λ q. length (entries_of old q)) so.back ≤ most → looks_now ≤ looks + length (entries_of now o) → UntrackingLooked g kind old new then most looks_now
     unfolding untracking_one untracking_passes
     untracking_looks new most looks looks_now (inl (e, of_kind, none)) few more =

@@ -1,4 +1,4 @@
--- The looks that a walk over weak references has still to take, as it goes on with one of them, or with the next object.
+-- The remaining looks of a walk over weak references, after it goes on with one of them, or with the next object.
 use Rattle.std.proofs.Common.{◌≡◌, refl, sym, ◌∙◌, ap, subst, ℕ, ◌+◌, ◌*◌, ◌≤◌, ◌<◌, Bool, true, false, cond, List, [], ◌∷◌, length, map, Option, Some, None, sum_by, arith}
 use Rattle.std.specs.Prelude.{not, ◌==◌, if◌then◌else◌, filter, unwrap_or}
 use Rattle.std.proofs.lemmas.List.{length-map, length-reverse}
@@ -20,7 +20,7 @@ use Rattle.cg_collect.specs.Ready.{loses_at, looked_at_for}
 use Rattle.cg_collect.specs.Looks.{beside, looks_left, met_for_condemned, met_for_member, met_for_referent, most_looks}
 use Rattle.cg_collect.proofs.RowWalks.{looks_here, looks_on_without, older_ones}
 
--- a phase that is this one
+-- an equal phase
 pub left_at : (phase next now : Phase) (store : Store) (looks most : ℕ) → now ≡ next → looks + looks_left phase next store ≤ most → looks + looks_left phase now store ≤ most
 left_at phase next now store looks most is few = subst (λ (p : Phase). looks + looks_left phase p store ≤ most) (sym is) few
 
@@ -30,7 +30,7 @@ in_store phase now store left looks most is few = subst (λ (st : Store). looks 
 pub phase_is : (turn told : Turn) → turn ≡ told → turn.phase ≡ told.phase
 phase_is turn told is = ap (λ (t : Turn). t.phase) is
 
--- a walk takes some looks and goes on, or is over
+-- a walk looks and goes on, or is over
 pub walk_on : (phase next now : Phase) (new : Store) (looks before few most : ℕ) → now ≡ next → looks ≤ before + few → few + looks_left phase next new ≤ most → looks + looks_left phase now new ≤ before + most
 walk_on phase next now new looks before few most is here less = left_at phase next now new looks (before + most) is (sum_up looks before few (looks_left phase next new) most here less)
   where
@@ -43,7 +43,7 @@ walk_over phase next now new looks most is none = left_at phase next now new loo
     sum_up : (left : ℕ) → left ≡ 0 → looks + left ≤ looks + most
     sum_up left is_none = omega (arith, is_none)
 
--- lists that are filtered once more
+-- lists filtered once more
 filter-fewer : (p t : Row → Bool) (rows : List Row) → length (filter p (filter t rows)) ≤ length (filter p rows)
 filter-fewer p t [] = omega arith
 filter-fewer p t (r ∷ rows) = go (t r) (filter-fewer p t rows)
@@ -67,7 +67,7 @@ sum_le : (f g : ℕ → ℕ) (xs : List ℕ) → ((o : ℕ) → f o ≤ g o) →
 sum_le f g [] each = omega arith
 sum_le f g (x ∷ xs) each = omega (arith, each x, sum_le f g xs each, sum_by-cons f x xs, sum_by-cons g x xs)
 
--- The row of a weak reference is gone: no object has more weak references, nor more beside it.
+-- The row of a weak reference is gone: no object has more weak references, nor more next to it.
 module _ (store : Store) (rise : IsRising store.rows) (r : Row) (inside : Includes store.rows r) (new : Store) (rows : new.rows ≡ without_row r.weak store.rows) where
   pub fewer_to : (o : ℕ) → length (weak_references_in new.rows o) ≤ length (weak_references_in store.rows o)
   fewer_to o =
@@ -86,7 +86,7 @@ module _ (store : Store) (rise : IsRising store.rows) (r : Row) (inside : Includ
       by false None = omega arith
       by false (Some t) = fewer_to t
 
-  -- the sums over what is left of a walk
+  -- the sums over the rest of a walk
   module _ (member : Option ℕ) (same : list_at new Cand ≡ list_at store Cand) where
     pub sum_condemned : sum_by (met_for_condemned new) (from_on member (list_at new Cand)) ≤ sum_by (met_for_condemned store) (from_on member (list_at store Cand))
     sum_condemned =
@@ -113,7 +113,7 @@ by_row store weak o refers P each =
     let (r, inside, passes, same) = row_there store.rows weak o refers in
     subst P same (each r inside (not-true r.waits (true_and (r.referent == o) (not r.waits) passes).1))
 
--- A walk goes on behind a weak reference that has lost its row, and behind one that keeps it.
+-- A walk goes on after a weak reference that was cleared, and after one that was not.
 pub clearing_lost : (store : Store) → AreRows store → (weak o : ℕ) → referent_in store.rows weak ≡ Some o → (new : Store) → new.rows ≡ without_row weak store.rows → list_at new Cand ≡ list_at store Cand → IsRising new.rows
     → (member : Option ℕ) → 4 + most_looks 0 (phase_of.WeakClearing member (next_older_in store.rows weak)) new ≤ most_looks 0 (phase_of.WeakClearing member (Some weak)) store
 clearing_lost store ok weak o refers new rows same rise member =
@@ -146,7 +146,6 @@ pub unlinking_passed : (store : Store) (weak : ℕ) (older member : Option ℕ) 
     → 2 + most_looks 0 (phase_of.Unlinking member older) store ≤ most_looks 0 (phase_of.Unlinking member (Some weak)) store
 unlinking_passed store weak older member shorter = by_two (sum_by (met_for_member store) (from_on member (list_at store Cand))) (length (to_look_at store older)) (sum_by (met_for_member store) (from_on member (list_at store Cand))) (length (to_look_at store (Some weak))) (not_more (sum_by (met_for_member store) (from_on member (list_at store Cand)))) shorter
 
--- A walk goes on with the next object.
 pub clearing_next : (profile : ℕ) (store : Store) (object : ℕ) (next weak : Option ℕ) → from_on (Some object) (list_at store Cand) ≡ object ∷ from_on next (list_at store Cand)
     → to_look_at store weak ≡ weak_references_in store.rows (looked_at_for profile store object)
     → 4 + most_looks 0 (phase_of.WeakClearing next weak) store ≤ most_looks 0 (phase_of.WeakClearing (Some object) None) store
@@ -188,7 +187,7 @@ detaching_next store object next ahead =
     let parts = sum_by-cons (met_for_referent store) object (from_on next (list_at store Cand)) in
     omega (arith, whole, parts)
 
--- A member's newest weak reference has lost it.
+-- The newest weak reference to a member is cleared.
 pub detaching_lost : (store : Store) (rise : IsRising store.rows) (object : ℕ) (r : Row) (inside : Includes store.rows r) (rest older : List ℕ) → from_on (Some object) (list_at store Cand) ≡ object ∷ rest
     → weak_references_in store.rows object ≡ r.weak ∷ older → weak_references_in (without_row r.weak store.rows) object ≡ older
     → 1 + most_looks 0 (phase_of.Detaching (Some object)) (record store { rows = without_row r.weak store.rows }) ≤ most_looks 0 (phase_of.Detaching (Some object)) store

@@ -48,7 +48,7 @@ use Rattle.cg_collect.proofs.Walking.{loses_some, object_found}
 pub less : (a b r l : ℕ) → b ≡ a + 1 → l ≤ r → (a * (r + 1) + l) + 0 < (b * (r + 1) + 0) + 0
 less a b r l is few = let whole : b * (r + 1) ≡ (a + 1) * (r + 1) = ap (λ n. n * (r + 1)) is in omega (arith, whole, few)
 
--- a list around one of it
+-- a list split at a member
 pub record Around (xs : List ℕ) (o : ℕ) : Type 0 where
   pub front : List ℕ
   pub back : List ℕ
@@ -59,7 +59,7 @@ around [] o m = absurd m
 around (x ∷ xs) o (inl e) = record { front = []; back = xs; is = ap (λ y. y ∷ xs) e }
 around (x ∷ xs) o (inr m) = let rest = around xs o m in record { front = x ∷ rest.front; back = rest.back; is = ap (λ l. x ∷ l) rest.is }
 
--- what a list that has each once has from one of it on, and from the next on
+-- the tail of a list without repetition from a member, and from the next one
 module _ (xs : List ℕ) (once : (o : ℕ) → occurrences o xs ≤ 1) (o : ℕ) (front back : List ℕ) (is : xs ≡ front ++ o ∷ back) where
   not_in : (ys : List ℕ) (q : ℕ) → occurrences q ys ≡ 0 → (x : ℕ) → Includes ys x → x ≢ q
   not_in ys q none x m e = let there = occurs ys q (subst (Includes ys) e m) in absurd (omega (arith, there, none))
@@ -83,14 +83,14 @@ module _ (xs : List ℕ) (once : (o : ℕ) → occurrences o xs ≤ 1) (o : ℕ)
       known [] e = tt
       known (y ∷ ys) e = subst (λ l. Includes l y) (sym is) (Includes-append_right front (o ∷ back) y (inr (subst (λ l. Includes l y) (sym e) (inl refl))))
 
--- all weak references to an object are to be looked at, from the newest on
+-- all weak references to an object are to be visited, newest first
 pub looks_all : (store : Store) → IsRising store.rows → (t : ℕ) (c : Option ℕ) → c ≡ slice_get (weak_references_in store.rows t) 0 → to_look_at store c ≡ weak_references_in store.rows t
 looks_all store rise t None e = sym (none_first (weak_references_in store.rows t) (sym e))
 looks_all store rise t (Some w) e =
     ap (λ k. from_on (Some w) (references_in store.rows k)) (referent-listed store.rows rise t w (head_in (weak_references_in store.rows t) w (sym e)))
     ∙ from_on-first (weak_references_in store.rows t) (Some w) e
 
--- The next condemned object is looked at.
+-- The next condemned object is visited.
 module _ (profile : ℕ) (store : Store) (listed : IsListed store) (ok : AreRows store) (object : ℕ) (walk : IsWalk profile store (Some object) None) (next weak : Option ℕ)
     (next_is : next ≡ following object (list_at store (place_of store object))) (weak_is : weak ≡ slice_get (weak_references_in store.rows (looked_at_for profile store object)) 0) where
   abbrev t : ℕ
@@ -117,11 +117,11 @@ module _ (profile : ℕ) (store : Store) (listed : IsListed store) (ok : AreRows
   pub ahead : from_on (Some object) (list_at store Cand) ≡ object ∷ from_on next (list_at store Cand)
   ahead = from_object ∙ ap (λ l. object ∷ l) (sym from_later)
 
-  -- it, or one behind it
+  -- it, or one after it
   one_of : (q : ℕ) → Includes (from_on (Some object) (list_at store Cand)) q → (object ≡ q) ⊎ Includes (from_on next (list_at store Cand)) q
   one_of q m = either (subst (λ l. Includes l q) from_object m) (λ e. inl e) (λ k. inr (subst (λ l. Includes l q) (sym from_later) k))
 
-  -- a weak reference to what is looked for
+  -- a weak reference to the object in question
   looked : (x : Object) → Includes (objects_of store) x → x.referent ≡ Some t → Includes (to_look_at store weak) x.serial
   looked x m refers =
       let (n, got, made) = node_there store x m in
@@ -144,7 +144,7 @@ module _ (profile : ℕ) (store : Store) (listed : IsListed store) (ok : AreRows
     waiting = walk.waiting;
   }
     where
-      -- the condemned object itself is to lose its referent
+      -- the condemned object itself is to be cleared
       itself : (x : Object) → Includes (objects_of store) x → loses_in_weak_phase profile (objects_of store) x ≡ true → object ≡ x.serial → x.referent ≡ Some t
       itself x m loses e =
           let (n, got, made) = node_there store x m in
@@ -166,7 +166,6 @@ module _ (profile : ℕ) (store : Store) (listed : IsListed store) (ok : AreRows
           either_way true = known (referent_in store.rows object) refl
           either_way false = refl
 
-  -- less is left
   pub next_falls : (length (from_on next (list_at store Cand)) * (length store.rows + 1) + length (to_look_at store weak)) + 0 < (length (from_on (Some object) (list_at store Cand)) * (length store.rows + 1) + 0) + 0
   next_falls =
       let longer : length (from_on (Some object) (list_at store Cand)) ≡ length (object ∷ here.back) = ap length from_object in
@@ -175,14 +174,14 @@ module _ (profile : ℕ) (store : Store) (listed : IsListed store) (ok : AreRows
       less (length (from_on next (list_at store Cand))) (length (from_on (Some object) (list_at store Cand))) (length store.rows) (length (to_look_at store weak))
       (omega (arith, longer, shorter)) (omega (arith, references-le store.rows t, same))
 
--- A walk that passes one by tells no line, and stands for the same world.
+-- A walk that passes one prints no line, and represents the same world.
 pub steps_passing : (script : Script) (facts : Facts) (store : Store) (policy : Policy) (member later weak older : Option ℕ)
     → CollectSteps script (collection_at facts (phase_of.WeakClearing member weak) None) store policy (collection_at facts (phase_of.WeakClearing later older) None) store policy answer_of.Continue
 steps_passing script facts store policy member later weak older asked w below s =
     only_tells script asked w below [] [] (collection_at facts (phase_of.WeakClearing later older) None) store policy refl
     (record { represents = s.shows.represents; numbers = s.shows.numbers; running = s.shows.running; top = s.shows.top })
 
--- When all were looked at, none is left that is to lose its referent.
+-- After all were visited, none is left to clear.
 module _ (profile : ℕ) (store : Store) (walk : IsWalk profile store None None) where
   none_left : (w : World) → IsOrderly w → objects_of store ≡ w.objects → NoneLeft (loses_in_weak_phase profile w.objects) w.objects
   none_left w orderly same x m = either (cases_of (loses_in_weak_phase profile w.objects x)) (λ loses. absurd (missed loses)) (λ e. e)
@@ -225,7 +224,7 @@ module _ (profile : ℕ) (store : Store) (walk : IsWalk profile store None None)
         keeps = record { budget = refl; outcome = refl };
       })
 
--- no list of a heap is long
+-- the lists of a heap are short
 pub list_few : (store : Store) → IsSound store → (p : Place) → length (list_at store p) ≤ 1000001
 list_few store sound p =
     let objects : length (objects_of store) ≡ length (fin.entries store.nodes) = length-map (fin.entries store.nodes) (λ (e : ℕ × Node). object_from store.rows e.0 e.1) in

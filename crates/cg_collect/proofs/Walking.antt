@@ -1,4 +1,4 @@
--- The walk of the weak phase: which weak references lose their referents, and what is still to be looked at.
+-- The walk of the weak phase: which weak references are cleared, and which are still to be visited.
 use Rattle.std.proofs.Common.{◌≡◌, ◌≢◌, refl, sym, ◌∙◌, ap, subst, ℕ, ◌<◌, ◌≤◌, Bool, true, false, List, [], ◌∷◌, Option, Some, None, inl, inr, arith}
 use Rattle.std.specs.Prelude.{◌==◌, ◌⊎◌, ◌||◌, ◌&&◌, not, is_some, if◌then◌else◌, option_map, option_and_then, unwrap_or, slice_get}
 use Rattle.std.specs.FinMap as fin
@@ -39,7 +39,7 @@ object_found store x m = let (n, got, made) = node_there store x m in object-at 
 pub object_of_live : (store : Store) (o : ℕ) → IsLive store o → (n : Node) × (fin.get store.nodes o ≡ Some n) × (object_at (objects_of store) o ≡ Some (object_from store.rows o n))
 object_of_live store o live = let (n, got) = node_of_live store o live in (n, got, object-at store o ∙ ap (option_map (object_from store.rows o)) got)
 
--- whether a weak reference is to lose its referent, by its serial
+-- whether a weak reference is to be cleared, by its serial
 abbrev pub is_lost_early_at : ℕ → Store → ℕ → Bool
 is_lost_early_at profile store weak = not (profile == 2) || is_some (callback_of (objects_of store) weak)
 
@@ -51,7 +51,7 @@ loses-at profile store weak live =
     ∙ (λ i. (not (profile == 2) || is_some (option_and_then (λ (x : Object). callback_in x.entries) (sym at i)))
     && unwrap_or (option_map (λ o. is_condemned_in (objects_of store) o || unwrap_or (option_map is_condemned (sym at i)) false) (referent_in store.rows weak)) false)
 
--- by its referent, and whether it is lost early
+-- by its referent, and whether it is cleared early
 module _ (profile : ℕ) (store : Store) (weak : ℕ) (live : IsLive store weak) where
   abbrev early : Bool
   early = is_lost_early_at profile store weak
@@ -69,7 +69,7 @@ module _ (profile : ℕ) (store : Store) (weak : ℕ) (live : IsLive store weak)
       nothing true = refl
       nothing false = refl
 
--- one that has no referent loses none
+-- one without a referent is not cleared
 loses_none : (profile : ℕ) (objects : List Object) (x : Object) → x.referent ≡ None → loses_in_weak_phase profile objects x ≡ false
 loses_none profile objects x e = ap (λ r. is_lost_early profile x && unwrap_or (option_map (λ o. is_condemned_in objects o || is_condemned x) r) false) e ∙ nothing (is_lost_early profile x)
   where
@@ -77,7 +77,7 @@ loses_none profile objects x e = ap (λ r. is_lost_early profile x && unwrap_or 
     nothing true = refl
     nothing false = refl
 
--- the referent of one that loses it
+-- the referent of one that is cleared
 pub loses_some : (profile : ℕ) (objects : List Object) (x : Object) → loses_in_weak_phase profile objects x ≡ true → (o : ℕ) × (x.referent ≡ Some o) × ((is_condemned_in objects o || is_condemned x) ≡ true)
 loses_some profile objects x e = known x.referent refl (true_and (is_lost_early profile x) (unwrap_or (option_map (λ o. is_condemned_in objects o || is_condemned x) x.referent) false) e).1
   where
@@ -85,7 +85,7 @@ loses_some profile objects x e = known x.referent refl (true_and (is_lost_early 
     known None is h = absurd (let f : false ≡ true = h in cc)
     known (Some o) is h = (o, is, h)
 
--- where the same objects are condemned
+-- the same objects are condemned
 loses-same : (profile : ℕ) (old new : List Object) (x : Object) → ((o : ℕ) → is_condemned_in new o ≡ is_condemned_in old o) → loses_in_weak_phase profile new x ≡ loses_in_weak_phase profile old x
 loses-same profile old new x same = ap (λ b. is_lost_early profile x && b) (known x.referent)
   where
@@ -93,7 +93,6 @@ loses-same profile old new x same = ap (λ b. is_lost_early profile x && b) (kno
     known None = refl
     known (Some o) = ap (λ b. b || is_condemned x) (same o)
 
--- one of the test of condemned objects
 condemned_place : (p : Place) → (same_place p Cand || same_place p Seen) ≡ true → (p ≡ Cand) ⊎ (p ≡ Seen)
 condemned_place p h = either (true_or (same_place p Cand) (same_place p Seen) h) (λ e. inl (place_is p Cand e)) (λ e. inr (place_is p Seen e))
 
@@ -125,7 +124,7 @@ walk_begins profile store listed unseen none_pending = record {
         (λ e. inr (o, is, stands o (condemned_place (place_of store o) (sym (condemned-at store o) ∙ e))))
         (λ e. inl (stands x.serial (condemned_place (place_of store x.serial) (ap (λ p. same_place p Cand || same_place p Seen) (place_there store x m) ∙ e))))
 
--- the one that may lose its referent next
+-- the one that may be cleared next
 pub may_lose : (profile : ℕ) (store : Store) (weak : ℕ) (member : Option ℕ) → IsWalk profile store member (Some weak) → IsLive store weak → loses_at profile store weak ≡ true → MayLoseNext (loses_in_weak_phase profile (objects_of store)) (objects_of store) weak
 may_lose profile store weak member walk live loses =
     let (n, got, at) = object_of_live store weak live in
@@ -137,7 +136,7 @@ may_lose profile store weak member walk live loses =
       newest = λ y m wanted same. walk.none_newer weak refl y m wanted same;
     }
 
--- a weak reference has lost its referent, and perhaps waits since
+-- a weak reference was cleared, and perhaps waits since
 pub record IsLost (store new : Store) (v : ℕ) : Type 0 where
   pub rows : new.rows ≡ without_row v store.rows
   pub candidates : list_at new Cand ≡ list_at store Cand
@@ -146,7 +145,6 @@ pub record IsLost (store new : Store) (v : ℕ) : Type 0 where
   pub codes : (o : ℕ) → HasCode store o Weak → HasCode new o Weak
   pub pending : (u : ℕ) → Includes (list_at new Pend) u → Includes (list_at store Pend) u ⊎ (v ≡ u)
 
--- one object changed to one without referent
 pub changed_objects : (f : Object → Object) → ((x : Object) → (f x).referent ≡ None) → (v : ℕ) (objects : List Object) (x : Object) → Includes (change f v objects) x → (x.referent ≡ None) ⊎ (Includes objects x × (x.serial ≢ v))
 changed_objects f none v objects x m = let (y, member, is) = Includes-map_cases (λ y. if y.serial == v then f y else y) objects x m in go y member is (cases_of (y.serial == v))
   where
@@ -164,11 +162,11 @@ module _ (profile : ℕ) (store : Store) (ok : AreRows store) (r : Row) (inside 
   older : List ℕ
   older = older_ones store ok r inside stays
 
-  -- what was to be looked at, but for this one, still is
+  -- the others are still to be visited
   still_looked : (x : ℕ) → x ≢ r.weak → Includes (to_look_at store (Some r.weak)) x → Includes (older_ones store ok r inside stays) x
   still_looked x other m = either (subst (λ l. Includes l x) (looks_here store ok r inside stays) m) (λ e. absurd (other (sym e))) (λ k. k)
 
-  -- one that does not lose its referent
+  -- one that is not cleared
   pub walk_passes : loses_at profile store r.weak ≡ false → IsWalk profile store member next
   walk_passes keeps = record {
     member_at = walk.member_at;
@@ -196,7 +194,7 @@ module _ (profile : ℕ) (store : Store) (ok : AreRows store) (r : Row) (inside 
       below : (a : ℕ) → a ≤ r.weak → a ≢ r.weak → a < r.weak
       below a le ne = omega (arith, le, ne)
 
-  -- one that loses it
+  -- one that is cleared
   pub walk_loses : (new : Store) → IsLost store new r.weak → IsRising new.rows → IsWalk profile new member next
   walk_loses new lost rise = record {
     member_at = subst (IsAt member) (sym lost.candidates) walk.member_at;

@@ -1,4 +1,4 @@
--- Worlds in which a collection stands on top, the steps of the machine from them, and what of a heap stands for them.
+-- Worlds with a collection on top, the machine's steps from them, and what of a heap represents them.
 use Rattle.std.proofs.Common.{◌≡◌, refl, sym, ◌∙◌, ap, subst, ℕ, ◌+◌, Bool, true, cond, inl, inr, List, [], ◌∷◌, ◌++◌, Option, None, add-zero, arith}
 use Rattle.std.specs.Prelude.{flat_map, count_by}
 use Rattle.std.proofs.lemmas.List.Sums.{sum_by-cons}
@@ -33,7 +33,7 @@ use Rattle.cg_collect.specs.Turns.{collection_at, TurnSteps}
 pub spelled : (asked : Bool) (c : Collection) (store : Store) (policy : Policy) (w : World) (below : List Activity) → CollectionStands asked c store policy w below → CollectionStands asked c store policy (with_stack (on_stack asked c store ++ below) w) below
 spelled asked c store policy w below s = subst (λ st. CollectionStands asked c store policy (with_stack st w) below) s.shows.top s
 
--- an answer for each world is one for those whose stack is spelled out
+-- an answer for each world is one for those with an explicit stack
 pub steps_at : (script : Script) (old : Collection) (store : Store) (policy : Policy) (new : Collection) (now : Store) (policy_now : Policy) (answer : CollectStep)
     → ((asked : Bool) (v : World) (below : List Activity) → CollectionStands asked old store policy (with_stack (on_stack asked old store ++ below) v) below
     → CollectAnswer script asked (with_stack (on_stack asked old store ++ below) v) below (lines_left script asked old old.phase store) new now policy_now answer)
@@ -42,7 +42,7 @@ steps_at script old store policy new now policy_now answer each asked w below s 
     at_stack (λ u. CollectAnswer script asked u below (lines_left script asked old old.phase store) new now policy_now answer) w (on_stack asked old store ++ below) s.shows.top
     (each asked w below (spelled asked old store policy w below s))
 
--- A turn that no object is counted in: the collection has its facts as before.
+-- A turn that counts no object: the collection keeps its facts.
 pub turn_steps : (script : Script) (facts : Facts) (phase : Phase) (store : Store) (policy : Policy) (now : Store) (policy_now : Policy) (turn : Turn) (next : Phase) (release : Option Release) (answer : CollectStep)
     → turn ≡ record { phase = next; release = release; collected = 0; answer = answer }
     → CollectSteps script (collection_at facts phase None) store policy (collection_at facts next release) now policy_now answer
@@ -55,7 +55,7 @@ turn_steps script facts phase store policy now policy_now turn next release answ
 pub stays : (script : Script) (w : World) → Goes script w [] w
 stays script w = record { steps = []; run = tt; prints = refl; ends = refl; alone = tt }
 
--- A call that tells a line, or none, of the machine's last step, and makes no step.
+-- A call that prints at most one line of the machine's last step, and makes no step.
 pub only_tells : (script : Script) (asked : Bool) (w : World) (below : List Activity) (left told : List Event) (c : Collection) (store : Store) (policy : Policy)
     → left ≡ told ++ lines_left script asked c c.phase store → CollectionShows asked c store policy w below → WentOn script asked w below left told c store policy
 only_tells script asked w below left told c store policy lines shows = record {
@@ -76,14 +76,14 @@ none_below (a ∷ below) none c m =
     (λ e. let one : cond {A = ℕ} (is_collection a) 1 0 ≡ 1 = ap (λ b. cond {A = ℕ} (is_collection b) 1 0) e in absurd (omega (arith, none, split, one)))
     (λ k. none_below below (omega (arith, none, split)) c k)
 
--- What a call leaves of a heap besides objects, lists and holds.
+-- What a call leaves of a heap except objects, lists and holds.
 pub record LeavesRest (old new : Store) : Type 0 where
   pub last : new.last ≡ old.last
   pub names : new.names ≡ old.names
   pub waiting : (o : ℕ) → waiting_for new o ≡ waiting_for old o
   pub no_more : (r : Row) → Includes new.rows r → r.waits ≡ true → Includes old.rows r
 
--- where the rows stay as they are
+-- the rows stay as they are
 pub with_same_rows : (old new : Store) → new.last ≡ old.last → new.names ≡ old.names → new.rows ≡ old.rows → LeavesRest old new
 with_same_rows old new last names rows = record {
   last = last;
@@ -94,7 +94,6 @@ with_same_rows old new last names rows = record {
 
 -- The collection on top goes to another phase, over another heap.
 module _ (old new : Store) (v : World) (below : List Activity) (a b : machine.Collection) (r : Represents old (with_stack (Collecting a ∷ below) v)) (alone : count_by is_collection below ≡ 0) where
-  -- what waits with it
   pub pending_is : CollectionWaits a.phase (list_at old Pend)
   pending_is = r.collection a (inl refl)
 
@@ -131,7 +130,6 @@ module _ (old new : Store) (v : World) (below : List Activity) (a b : machine.Co
         occurrences-append s (collect_holds b.phase) (flat_map holds below),
       ))
 
--- the same heap
 pub represents_same : (store : Store) (v : World) (below : List Activity) (a b : machine.Collection) → Represents store (with_stack (Collecting a ∷ below) v) → count_by is_collection below ≡ 0
     → CollectionWaits b.phase (list_at store Pend) → ((s : ℕ) → occurrences s (collect_holds a.phase) ≡ occurrences s (collect_holds b.phase)) → Represents store (with_stack (Collecting b ∷ below) v)
 represents_same store v below a b r alone waits held =

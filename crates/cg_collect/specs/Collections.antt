@@ -23,12 +23,12 @@ use Rattle.cg_collect.specs.Turns.{ComesNearer}
 abbrev pub facts_of : Collection → Facts
 facts_of c = record { generation = c.generation; flags = c.flags; collected = c.collected }
 
--- the references that it gives up
+-- the references that it is giving up
 abbrev pub given_up_by : Option Release → List ℕ
 given_up_by None = []
 given_up_by (Some release) = references_left release
 
--- what its phase holds, the weak references that wait aside
+-- what its phase holds, not counting the waiting weak references
 abbrev pub own_holds_at : Phase → List ℕ
 own_holds_at (phase_of.AfterCallback weak) = weak ∷ []
 own_holds_at (phase_of.AfterFinalizing o) = o ∷ []
@@ -39,7 +39,7 @@ own_holds_at phase = []
 abbrev pub held_by : Collection → List ℕ
 held_by c = given_up_by c.release ++ own_holds_at c.phase
 
--- What a step needs of the heap, which commands, frames and deaths may have changed since the step before.
+-- What a step requires of the heap; commands, frames and deaths may have changed it since the step before.
 pub record IsReadyForCollection (script : Script) (c : Collection) (store : Store) : Type 0 where
   pub generation : c.generation ≤ 2
   pub phase : IsReadyForCollectionAt store c.generation c.phase
@@ -47,8 +47,8 @@ pub record IsReadyForCollection (script : Script) (c : Collection) (store : Stor
   pub collected : HasFewCollected c.collected c.phase store
   pub gives_up : GivesUpIn c.phase c.release
 
--- What lasts while a frame or a death runs that was handed out. All but `collected` is on the collection alone; `collected` is on
--- how many wait, which the phase of the machine tells.
+-- What lasts while an answered frame or death runs. All but `collected` depends on the collection alone; `collected` depends on
+-- how many wait, which the machine's phase says.
 pub record HandsOut (c : Collection) (store : Store) : Type 0 where
   pub runs : MayRun c.phase
   pub generation : c.generation ≤ 2
@@ -56,8 +56,8 @@ pub record HandsOut (c : Collection) (store : Store) : Type 0 where
   pub gives_up : GivesUpIn c.phase c.release
   pub spares : SparesGarbageList c.phase
 
--- After an answer that hands nothing out, the heap is ready for the next step. After a frame or a death it is where its phase is
--- (`IsReadyForCollectionAt`), which is for the caller to show. A collection that has finished found few.
+-- After an answer without a frame or a death, the heap is ready for the next step. After one, it is as its phase requires
+-- (`IsReadyForCollectionAt`), which the caller must show. A finished collection found few.
 abbrev pub KeepsReady : Script → Collection → Store → CollectStep → Type 0
 KeepsReady script c store answer_of.Continue = IsReadyForCollection script c store
 KeepsReady script c store (answer_of.Emit event) = IsReadyForCollection script c store
@@ -65,31 +65,32 @@ KeepsReady script c store (answer_of.Frame spec) = HandsOut c store × RunsFrame
 KeepsReady script c store (answer_of.Died o) = HandsOut c store × IsSome c.release
 KeepsReady script c store (answer_of.Finished collected set_aside) = (c.generation ≤ 2) × (collected + set_aside ≤ 3000003)
 
--- The object whose death is to begin lives, and nothing holds it.
+-- The object whose death is to begin lives and is unheld.
 abbrev pub DiesUnheld : CollectStep → Store → Type 0
 DiesUnheld (answer_of.Died o) store = IsUnheld store o
 DiesUnheld answer store = Unit {0}
 
--- the last turn but one: the line of the stop has the generation, what was collected and what was set aside
+-- the last turn but one: the line of the stop has the generation and the numbers of collected and uncollectable
+-- objects
 abbrev pub stop_turn : Facts → ℕ → Turn
 stop_turn facts set_aside = record { phase = phase_of.Over set_aside; release = None; collected = 0; answer = answer_of.Emit (GcStop facts.generation facts.collected set_aside) }
 
--- A collection that stops tells both numbers, and keeps them.
+-- A collection that stops prints both numbers, and keeps them.
 pub record StopsWith (old new : Collection) (answer : CollectStep) (set_aside : ℕ) : Type 0 where
   pub told : answer ≡ answer_of.Emit (GcStop old.generation old.collected set_aside)
   pub over : new.phase ≡ phase_of.Over set_aside
   pub collected : new.collected ≡ old.collected
 
--- It has ended with the two numbers that it kept, each by itself.
+-- It ended with the two numbers that it kept.
 abbrev pub CollectionEndsWith : Collection → CollectStep → Type 0
 CollectionEndsWith old (answer_of.Finished collected set_aside) = (old.phase ≡ phase_of.Over set_aside) × (old.collected ≡ collected)
 CollectionEndsWith old answer = Unit {0}
 
--- A step that went on without an answer reached a later pass, or in the same pass less is left.
+-- A step that goes on without an answer reaches a later pass, or leaves less in the same pass.
 abbrev pub CollectFalls : Collection → Store → Collection → Store → Type 0
 CollectFalls old store new now = ComesNearer store old.phase old.release now new.phase new.release
 
--- what a step that gives up the next reference leaves of a collection, by the answer of the release
+-- the collection after a step that gives up the next reference, by the answer of the release
 abbrev pub once_given_up : Collection → Release → DeathStep → Collection
 once_given_up c release death_answer.Gone = record c { release = None }
 once_given_up c release answer = record c { release = Some release }
@@ -99,7 +100,7 @@ abbrev pub give_up_answer : DeathStep → CollectStep
 give_up_answer (death_answer.Died o) = answer_of.Died o
 give_up_answer answer = answer_of.Continue
 
--- It gave up the next reference of what is to be given up.
+-- It gives up the next reference.
 pub record GivesUpNext (old : Collection) (store : Store) (new : Collection) (now : Store) (answer : CollectStep) : Type 0 where
   pub before : Release
   pub had : old.release ≡ Some before

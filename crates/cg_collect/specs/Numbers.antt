@@ -1,8 +1,8 @@
--- What a collection needs of the policy's numbers. (Ours: a run makes far fewer objects.)
+-- What a collection requires of the policy's numbers. (Ours: a run makes far fewer objects.)
 use Rattle.std.specs.Prelude.{◌<◌, ◌^◌}
 use Rattle.cg_machine.specs.World.{Numbers}
 
--- Counts and total are below 2^62. The pending number grows by a whole generation with each collection.
+-- Counts and total are below 2^62. The pending number grows by at most a whole generation with each collection.
 pub record AreSmall (n : Numbers) : Type 0 where
   pub zero : n.zero_count < 2 ^ 62
   pub one : n.one_count < 2 ^ 62

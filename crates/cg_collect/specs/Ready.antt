@@ -1,5 +1,4 @@
--- What a step of a collection needs of the heap. Frames and deaths that run in it may change the heap between two steps; what
--- they leave is said here. (Ours.)
+-- What a step of a collection requires of the heap, and what frames and deaths that run between two steps must leave. (Ours.)
 use Rattle.std.specs.Prelude.{◌≡◌, ◌≢◌, ℕ, ◌+◌, ◌≤◌, ◌⊎◌, ◌==◌, not, Bool, true, false, List, [], Option, Some, None, IsSome, if◌then◌else◌, option_map, unwrap_or, slice_get, length, filter}
 use Rattle.cg_value.specs.declared.Place.{Place}
 use Rattle.cg_value.specs.declared.Place.TheVariants.{Untracked, Gen, Cand, Seen, Back, Legacy, Pend}
@@ -16,11 +15,11 @@ use Rattle.cg_collect.specs.declared.phase.Phase.{Phase}
 use Rattle.cg_collect.specs.declared.phase.Phase.TheVariants as phase_of
 pub use Rattle.cg_collect.specs.Phases.{from_on, to_look_at}
 
--- none stands at a place
+-- a place is empty
 abbrev pub IsEmptyAt : Store → Place → Type 0
 IsEmptyAt store p = list_at store p ≡ []
 
--- nothing is set apart, and the garbage list is untracked
+-- no objects are partitioned, and the garbage list is untracked
 pub record IsClear (store : Store) : Type 0 where
   pub candidates : IsEmptyAt store Cand
   pub seen : IsEmptyAt store Seen
@@ -29,7 +28,7 @@ pub record IsClear (store : Store) : Type 0 where
   pub pending : IsEmptyAt store Pend
   pub garbage : place_of store 1 ≡ Untracked
 
--- each that waits is a weak reference with a callback
+-- each waiting one is a weak reference with a callback
 abbrev pub HaveCallbacks : Store → Type 0
 HaveCallbacks store = (w : ℕ) → Includes (list_at store Pend) w → HasCode store w Weak × IsSome (callback_of (objects_of store) w)
 
@@ -37,11 +36,12 @@ HaveCallbacks store = (w : ℕ) → Includes (list_at store Pend) w → HasCode 
 abbrev pub OthersHaveCallbacks : Store → ℕ → Type 0
 OthersHaveCallbacks store weak = (w : ℕ) → Includes (list_at store Pend) w → w ≢ weak → HasCode store w Weak × IsSome (callback_of (objects_of store) w)
 
--- the garbage list names none of a place
+-- the garbage list names no object of a place
 abbrev pub IsUnsaved : Store → Place → Type 0
 IsUnsaved store p = (o : ℕ) → Includes (list_at store p) o → ¬ Includes (references (entries_of store 1)) o
 
--- The garbage list is untracked and names nothing that is set apart, and nothing stands between the two detections.
+-- The garbage list is untracked and names no partitioned object, and no object is in a place that exists only within
+-- the second pass.
 pub record IsHeapApart (store : Store) : Type 0 where
   pub garbage : place_of store 1 ≡ Untracked
   pub back : IsEmptyAt store Back
@@ -49,63 +49,64 @@ pub record IsHeapApart (store : Store) : Type 0 where
   pub seen : IsUnsaved store Seen
   pub legacy : IsUnsaved store Legacy
 
--- the same where no condemned object was looked at
+-- the same if no condemned object was visited
 abbrev pub IsApartUnseen : Store → Type 0
 IsApartUnseen store = IsHeapApart store × IsEmptyAt store Seen
 
--- the next of a walk is one of the list, or the walk is over
+-- the next of a walk is in the list, or the walk is over
 abbrev pub IsAt : Option ℕ → List ℕ → Type 0
 IsAt None xs = Unit {0}
 IsAt (Some o) xs = Includes xs o
 
--- whether a weak reference is to lose its referent in the weak phase, by its serial
+-- whether the weak phase is to clear a weak reference, by its serial
 abbrev pub loses_at : ℕ → Store → ℕ → Bool
 loses_at profile store weak = unwrap_or (option_map (loses_in_weak_phase profile (objects_of store)) (object_at (objects_of store) weak)) false
 
--- the object whose weak references are looked at for a candidate: its referent, where it is to lose it itself, or else it
+-- the object whose weak references are visited for a candidate: its referent, if it is a weak reference to be cleared, or
+-- else itself
 abbrev pub looked_at_for : ℕ → Store → ℕ → ℕ
 looked_at_for profile store o = if loses_at profile store o then unwrap_or (referent_in store.rows o) o else o
 
--- the referent of a weak reference is none itself (`weakref` manual: class instances and functions have weak references)
+-- a referent is no weak reference itself (`weakref` manual: class instances and functions have weak references)
 abbrev pub RefersPlainly : Store → Object → Type 0
 RefersPlainly store x = (o : ℕ) → x.referent ≡ Some o → ¬ HasCode store o Weak
 
--- The walk of the weak phase has left out nothing: a weak reference that is still to lose its referent is to be looked at, or
--- it, or its referent, is a candidate whose turn is to come.
+-- The walk of the weak phase has missed nothing: a weak reference that is still to be cleared will be visited, or it, or its
+-- referent, is a candidate whose turn is to come.
 abbrev pub HasMissedNone : ℕ → Store → Option ℕ → Option ℕ → Type 0
 HasMissedNone profile store member weak = (x : Object) → Includes (objects_of store) x → loses_in_weak_phase profile (objects_of store) x ≡ true → RefersPlainly store x
     → Includes (to_look_at store weak) x.serial
     ⊎ Includes (from_on member (list_at store Cand)) x.serial
     ⊎ ((o : ℕ) × (x.referent ≡ Some o) × Includes (from_on member (list_at store Cand)) o)
 
--- Of the weak references to one object that are to lose it, none is newer than the one that is looked at.
+-- Of the weak references to one object that are to be cleared, none is newer than the visited one.
 abbrev pub HasNoneNewer : ℕ → Store → Option ℕ → Type 0
 HasNoneNewer profile store weak = (v : ℕ) → weak ≡ Some v → (x : Object) → Includes (objects_of store) x → loses_in_weak_phase profile (objects_of store) x ≡ true
     → x.referent ≡ referent_in store.rows v → x.serial ≤ v
 
--- The candidates that come before the next of a walk have no weak references.
+-- The candidates before the next of a walk have no weak references.
 abbrev pub HasNoneBehind : Store → Option ℕ → Type 0
 HasNoneBehind store next = (o : ℕ) → Includes (list_at store Cand) o → Includes (from_on next (list_at store Cand)) o ⊎ (weak_references_in store.rows o ≡ [])
 
--- a weak reference that is looked at has a referent
+-- a visited weak reference has a referent
 abbrev pub StillRefers : Store → Option ℕ → Type 0
 StillRefers store weak = (v : ℕ) → weak ≡ Some v → (o : ℕ) × (referent_in store.rows v ≡ Some o)
 
--- what a walk of the weak phase has
+-- the invariant of the walk of the weak phase
 pub record IsWalk (profile : ℕ) (store : Store) (member weak : Option ℕ) : Type 0 where
   pub member_at : IsAt member (list_at store Cand)
   pub weak_live : StillRefers store weak
   pub none_missed : HasMissedNone profile store member weak
   pub none_newer : HasNoneNewer profile store weak
-  pub waiting : (v : ℕ) → Includes (list_at store Pend) v → referent_in store.rows v ≡ None  -- those that wait have lost theirs
+  pub waiting : (v : ℕ) → Includes (list_at store Pend) v → referent_in store.rows v ≡ None  -- waiting ones are cleared
 
--- the walk of a phase has this, in the profile of the script
+-- the invariant in the walk's phase, in the profile of the script
 abbrev pub HasItsWalk : ℕ → Store → Phase → Type 0
 HasItsWalk profile store (phase_of.WeakClearing member weak) = IsWalk profile store member weak
 HasItsWalk profile store phase = Unit {0}
 
--- What the walk over the members with a referent has: none has weak references, and a member that has a referent is to be
--- looked at, or its turn is to come.
+-- The invariant of the walk over the members with a referent: no weak reference refers to a member, and a member with a
+-- referent will be visited, or its turn is to come.
 pub record IsMemberWalk (store : Store) (member weak : Option ℕ) : Type 0 where
   pub member_at : IsAt member (list_at store Cand)
   pub weak_live : StillRefers store weak
@@ -116,7 +117,7 @@ pub record IsMemberWalk (store : Store) (member weak : Option ℕ) : Type 0 wher
 abbrev pub IsNotGarbageList : ℕ → Type 0
 IsNotGarbageList o = 1 ≢ o
 
--- what a phase names and moves is not
+-- the objects that a phase names and moves are not
 abbrev pub SparesGarbageList : Phase → Type 0
 SparesGarbageList (phase_of.AfterCallback weak) = IsNotGarbageList weak
 SparesGarbageList (phase_of.AfterRelease weak) = IsNotGarbageList weak
@@ -124,7 +125,7 @@ SparesGarbageList (phase_of.Turn o) = IsNotGarbageList o
 SparesGarbageList (phase_of.AfterTurn o) = IsNotGarbageList o
 SparesGarbageList phase = Unit {0}
 
--- What a step needs, phase by phase, its own holds aside.
+-- What a step requires, phase by phase, not counting its own holds.
 abbrev pub IsReadyForCollectionAt : Store → ℕ → Phase → Type 0
 IsReadyForCollectionAt store g phase_of.Start = IsClear store
 IsReadyForCollectionAt store g (phase_of.Sizes zero one two frozen) = IsApartUnseen store × IsEmptyAt store Pend
@@ -148,8 +149,8 @@ IsReadyForCollectionAt store g (phase_of.Saved next number) = IsAt next (list_at
 IsReadyForCollectionAt store g (phase_of.Stopping number) = Unit {0}
 IsReadyForCollectionAt store g (phase_of.Over number) = Unit {0}
 
--- The number of collected objects is small: it grows by one for each weak reference that waits and dies, and by the final
--- set, and no list of a heap is longer than a million and one. So is the number of those that were set aside.
+-- The number of collected objects is small: it grows by one for each waiting weak reference that dies, and by the final
+-- set, and no list of a heap is longer than a million and one. So is the number of uncollectable objects.
 abbrev pub HasFewCollected : ℕ → Phase → Store → Type 0
 HasFewCollected collected phase_of.Start store = collected ≡ 0
 HasFewCollected collected (phase_of.Sizes zero one two frozen) store = collected ≡ 0
@@ -167,7 +168,7 @@ HasFewCollected collected (phase_of.Stopping number) store = (collected ≤ 2000
 HasFewCollected collected (phase_of.Over number) store = (collected ≤ 2000002) × (number ≤ 1000001)
 HasFewCollected collected phase store = collected ≤ 2000002
 
--- the phases that something is given up in
+-- the phases in which something is given up
 abbrev pub MayGiveUp : Phase → Type 0
 MayGiveUp (phase_of.AfterRelease weak) = Unit {0}
 MayGiveUp phase_of.Finalizing = Unit {0}
@@ -175,12 +176,12 @@ MayGiveUp (phase_of.Turn o) = Unit {0}
 MayGiveUp (phase_of.AfterTurn o) = Unit {0}
 MayGiveUp phase = ⊥
 
--- what is given up is given up in these
+-- things are given up only in these
 abbrev pub GivesUpIn : Phase → Option Release → Type 0
 GivesUpIn phase None = Unit {0}
 GivesUpIn phase (Some release) = MayGiveUp phase
 
--- the phases in which a frame runs, with nothing given up: that of a callback, and that of a finalizer
+-- the phases in which a frame runs and nothing is given up: that of a callback, and that of a finalizer
 abbrev pub RunsFrame : Phase → Option Release → Type 0
 RunsFrame (phase_of.AfterCallback weak) release = release ≡ None
 RunsFrame (phase_of.AfterFinalizing o) release = release ≡ None
@@ -192,7 +193,7 @@ MayRun (phase_of.AfterCallback weak) = Unit {0}
 MayRun (phase_of.AfterFinalizing o) = Unit {0}
 MayRun phase = MayGiveUp phase
 
--- a collection has begun once its first step is done
+-- a collection has begun after its first step
 abbrev pub IsBegun : Phase → Type 0
 IsBegun phase_of.Start = ⊥
 IsBegun phase = Unit {0}

@@ -1,5 +1,5 @@
--- What the parts of the start leave: who is untracked, and who is set aside. (Developer guide, "optimization: delay tracking
--- containers"; `gc` manual, `gc.garbage`.)
+-- What the parts of the start leave: the untracked objects, and the uncollectable ones. (Developer guide, "optimization:
+-- delay tracking containers"; `gc` manual, `gc.garbage`.)
 use Rattle.std.specs.Prelude.{◌≡◌, ◌≢◌, ℕ, ◌+◌, Bool, true, false, ◌⊎◌, List, ◌++◌, length, None, slice_get, option_and_then, is_some, if◌then◌else◌}
 use Rattle.std.specs.List.{list_any}
 use Rattle.std.specs.FinMap as fin
@@ -21,15 +21,15 @@ use Rattle.cg_trial.specs.Split.{IsSameButPlaces}
 use Rattle.cg_collect.specs.declared.phase.Phase.{Phase}
 use Rattle.cg_collect.specs.declared.phase.Phase.TheVariants as phase_of
 
--- the phase that tells the sizes that the generations had
+-- the phase that prints the sizes that the generations had
 abbrev pub told_sizes : Store → Phase
 told_sizes store = phase_of.Sizes (length (list_at store (Gen 0))) (length (list_at store (Gen 1))) (length (list_at store (Gen 2))) (length (list_at store Frozen))
 
--- the weak phase, from the first condemned object on
+-- the weak phase, starting with the first condemned object
 abbrev pub told_weak : Store → Phase
 told_weak store = phase_of.WeakClearing (slice_get (list_at store Cand) 0) None
 
--- the phase that tells the condemned objects, where they are to be told
+-- the phase that prints the condemned objects, if they are to be printed
 abbrev pub told_if : Bool → Store → Phase
 told_if b store = if b then phase_of.Telling (slice_get (list_at store Cand) 0) else told_weak store
 
@@ -37,12 +37,12 @@ told_if b store = if b then phase_of.Telling (slice_get (list_at store Cand) 0) 
 abbrev pub told_after_sizes : ℕ → Store → Phase
 told_after_sizes flags store = told_if (has_flag flags collectable) store
 
--- the phase after the start: the sizes come first, where they are to be told
+-- the phase after the start; the sizes come first, if they are to be printed
 abbrev pub told_start : Bool → Bool → Store → Store → Phase
 told_start true b old store = told_sizes old
 told_start false b old store = told_if b store
 
--- an object stands where it stood
+-- an object stays where it was
 abbrev pub StaysAt : Store → Store → ℕ → Type 0
 StaysAt old new o = place_of new o ≡ place_of old o
 
@@ -51,31 +51,31 @@ pub record MergesYounger (g : ℕ) (old new : Store) : Type 0 where
   pub same : IsSameButPlaces old new
   pub places : (o : ℕ) → place_of new o ≡ merged_place g (place_of old o)
 
--- the objects of a generation go to the older one
+-- the objects of a generation move to the older one
 pub record GetOlder (g : ℕ) (old new : Store) : Type 0 where
   pub same : IsSameButPlaces old new
   pub moved : (o : ℕ) → place_of old o ≡ Gen g → place_of new o ≡ Gen (older g)
   pub others : (o : ℕ) → place_of old o ≢ Gen g → StaysAt old new o
 
--- whether a reference of an object may be tracked
+-- whether an object has a reference that may be tracked
 abbrev pub has_tracked : Store → ℕ → Bool
 has_tracked store o = list_any (λ p. node_may_be_tracked (fin.get store.nodes p)) (references (entries_of store o))
 
--- an object of a kind was untracked: none of its references may be tracked afterwards
+-- an object of a kind was untracked: afterwards it has no reference that may be tracked
 pub record WasUntracked (g : ℕ) (kind : KindCode) (old new : Store) (o : ℕ) : Type 0 where
   pub stood : place_of old o ≡ Gen g
   pub stands : place_of new o ≡ Untracked
   pub of_kind : HasCode old o kind
   pub none_tracked : has_tracked new o ≡ false
 
--- A pass over the objects of a kind in a generation: it untracks those that it could untrack at once, and none that it could
--- not untrack at its end.
+-- A pass over the objects of a kind in a generation untracks those that it could untrack at once, and none that it could not
+-- untrack at its end.
 pub record Untracks (g : ℕ) (kind : KindCode) (old new : Store) : Type 0 where
   pub same : IsSameButPlaces old new
   pub at_least : (o : ℕ) → place_of old o ≡ Gen g → HasCode old o kind → has_tracked old o ≡ false → place_of new o ≡ Untracked
   pub at_most : (o : ℕ) → StaysAt old new o ⊎ WasUntracked g kind old new o
 
--- one object is untracked, where it is of the kind and none of its references may be tracked
+-- one object is untracked, if it is of the kind and has no reference that may be tracked
 abbrev pub UntracksOne : ℕ → KindCode → Store → Store → Type 0
 UntracksOne o kind old new =
     ((new ≡ moved o Untracked old) × HasCode old o kind × (has_tracked old o ≡ false)) ⊎ ((new ≡ old) × ¬ (HasCode old o kind × (has_tracked old o ≡ false)))
@@ -91,7 +91,7 @@ pub record UntracksSurvivors (g : ℕ) (old new : Store) : Type 0 where
 abbrev pub has_legacy_in : Script → Store → ℕ → Bool
 has_legacy_in script store o = is_some (option_and_then (legacy_of script) (object_at (objects_of store) o))
 
--- a candidate with a legacy finalizer, or one that a path of candidates leads to from such a one
+-- a candidate with a legacy finalizer, or one reachable from such a candidate through candidates
 abbrev pub IsLedByLegacy : Script → Store → ℕ → Type 0
 IsLedByLegacy script store o = Reach (λ x. has_legacy_in script store x ≡ true) (StandsAt store Cand) (edges (graph_at store Cand)) o
 
@@ -107,7 +107,7 @@ pub record SetsFinalizedAside (script : Script) (old new : Store) : Type 0 where
   pub aside : (o : ℕ) → place_of old o ≡ Cand → has_legacy_in script old o ≡ true → place_of new o ≡ Legacy
   pub others : (o : ℕ) → StaysAt old new o ⊎ ((place_of old o ≡ Cand) × (place_of new o ≡ Legacy) × (has_legacy_in script old o ≡ true))
 
--- The candidates among some references go to the end of those that are set aside.
+-- The candidates among some references go to the end of the list of uncollectable objects.
 pub record SetsReferencesAside (refs : List ℕ) (old new : Store) : Type 0 where
   pub same : IsSameButPlaces old new
   pub more : List ℕ
@@ -116,15 +116,15 @@ pub record SetsReferencesAside (refs : List ℕ) (old new : Store) : Type 0 wher
   pub aside : (o : ℕ) → Includes refs o → place_of new o ≢ Cand
   pub others : (o : ℕ) → StaysAt old new o ⊎ ((place_of old o ≡ Cand) × (place_of new o ≡ Legacy) × Includes refs o)
 
--- a reference of one that is set aside
+-- a reference of an uncollectable object
 abbrev pub IsHeldByLegacy : Store → ℕ → Type 0
 IsHeldByLegacy store o = (q : ℕ) × (place_of store q ≡ Legacy) × Includes (references (entries_of store q)) o
 
--- a candidate that a path of candidates leads to from one that is set aside
+-- a candidate reachable through candidates from an uncollectable one
 abbrev pub FollowsLegacy : Store → ℕ → Type 0
 FollowsLegacy store o = Reach (IsHeldByLegacy store) (StandsAt store Cand) (edges (graph_at store Cand)) o
 
--- what leads from those that are set aside to candidates is followed to its end
+-- everything reachable from the uncollectable objects among the candidates is found
 pub record Closes (old new : Store) : Type 0 where
   pub same : IsSameButPlaces old new
   pub closed : (q p : ℕ) → place_of new q ≡ Legacy → Includes (references (entries_of old q)) p → place_of new p ≢ Cand

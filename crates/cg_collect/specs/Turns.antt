@@ -1,4 +1,4 @@
--- The turns of the phases, and how a collection comes nearer to its end. (Ours.)
+-- The turns of the phases, and the measure of a collection. (Ours.)
 use Rattle.std.specs.Prelude.{◌≡◌, ℕ, ◌+◌, ◌*◌, ◌<◌, ◌≤◌, ◌⊎◌, List, [], length, Option, Some, None, sum_by}
 use Rattle.cg_value.specs.declared.Place.TheVariants.{Cand, Pend}
 use Rattle.cg_script.specs.declared.Script.{Script}
@@ -22,20 +22,21 @@ use Rattle.cg_collect.specs.Ready.{IsReadyForCollectionAt, HasItsWalk, SparesGar
 use Rattle.cg_collect.specs.Answers.{CollectSteps}
 use Rattle.cg_collect.specs.Stages.{detection_at, stage_at, MeetsStage}
 
--- a collection with these facts, at a phase, which gives up this first; whether its last step detected is seen in no answer
+-- a collection with these facts, at a phase, that gives this up first; no answer depends on whether its last step made a
+-- pass
 abbrev pub collection_at : Facts → Phase → Option Release → Collection
 collection_at facts phase release = record { generation = facts.generation; flags = facts.flags; collected = facts.collected; phase = phase; release = release; detected = None }
 
--- the one that a turn leaves
+-- the collection after a turn
 abbrev pub collection_after : Facts → Turn → Collection
 collection_after facts turn = record { generation = facts.generation; flags = facts.flags; collected = facts.collected + turn.collected; phase = turn.phase; release = turn.release; detected = None }
 
--- a turn of a phase is steps of the machine, in every world that heap and policy stand for
+-- a turn of a phase is steps of the machine, in every world that heap and policy represent
 abbrev pub TurnSteps : Script → Facts → Phase → Store → Policy → Store → Policy → Turn → Type 0
 TurnSteps script facts phase store policy store_now policy_now turn =
     CollectSteps script (collection_at facts phase None) store policy (collection_after facts turn) store_now policy_now turn.answer
 
--- After an answer that hands nothing out, the heap is ready for the next step.
+-- After an answer without a frame or a death, the heap is ready for the next step.
 abbrev pub StaysReady : Store → ℕ → Phase → CollectStep → Type 0
 StaysReady store generation phase answer_of.Continue = IsReadyForCollectionAt store generation phase
 StaysReady store generation phase (answer_of.Emit event) = IsReadyForCollectionAt store generation phase
@@ -65,34 +66,34 @@ pass_of (phase_of.Saved next number) = 13
 pass_of (phase_of.Stopping number) = 14
 pass_of (phase_of.Over number) = 15
 
--- by how many passes the next step is later at least: a detection is over after one
+-- the least number of passes by which the next step is later; a reachability pass takes one step
 abbrev pub passes_on : Phase → ℕ
 passes_on phase_of.Start = 1
 passes_on phase_of.Split = 1
 passes_on phase = 0
 
--- No earlier pass follows, and of the stages that were ahead the turn meets the first or none.
+-- No earlier pass follows, and the turn meets the first of the remaining stages or none.
 abbrev pub Advances : Phase → Phase → Type 0
 Advances phase next = (pass_of phase + passes_on phase ≤ pass_of next) × MeetsStage phase (stage_at next (detection_at phase)) next
 
--- what a release has still to do
+-- what a release still has to do
 abbrev pub still_released : Option Release → ℕ
 still_released None = 0
 still_released (Some release) = length (references_left release) + 1
 
--- what an object has still to do in its turn: it is to be taken, and each of its entries
+-- what an object still has to do in its turn: be taken, and lose each of its entries
 abbrev pub to_clear : Store → ℕ → ℕ
 to_clear store o = 16 + 4 * length (entries_of store o)
 
--- what the members of the final set have still to do
+-- what the members of the final set still have to do
 abbrev pub still_cleared : Store → ℕ
 still_cleared store = sum_by (to_clear store) (list_at store Cand)
 
--- the same for all but one, which has its turn and may stand elsewhere
+-- the same for all but one, which has its turn and may be elsewhere
 abbrev pub others_cleared : Store → ℕ → ℕ
 others_cleared store o = sum_by (to_clear store) (without_serial o (list_at store Cand))
 
--- the list in which the next of a walk stands
+-- the list that contains the next of a walk
 abbrev pub list_around : Store → Option ℕ → List ℕ
 list_around store None = []
 list_around store (Some o) = list_at store (place_of store o)
@@ -101,7 +102,7 @@ list_around store (Some o) = list_at store (place_of store o)
 abbrev pub left_to_walk : Option ℕ → Option ℕ → Store → ℕ
 left_to_walk member weak store = length (from_on member (list_at store Cand)) * (length store.rows + 1) + length (to_look_at store weak)
 
--- What is left in a pass, what is given up aside.
+-- What is left in a pass, not counting what is being given up.
 abbrev pub left_in_pass : Phase → Store → ℕ
 left_in_pass (phase_of.WeakClearing member weak) store = left_to_walk member weak store
 left_in_pass phase_of.WeakCalling store = 8 * length (list_at store Pend)
@@ -117,7 +118,7 @@ left_in_pass (phase_of.AfterTurn o) store = others_cleared store o + 10
 left_in_pass (phase_of.Saved next number) store = length (from_on next (list_around store next))
 left_in_pass phase store = 0
 
--- A later pass is reached, or in the same one less is left.
+-- A later pass is reached, or less is left in the same one.
 abbrev pub ComesNearer : Store → Phase → Option Release → Store → Phase → Option Release → Type 0
 ComesNearer old phase release new phase_now release_now =
     (pass_of phase < pass_of phase_now)
@@ -127,32 +128,31 @@ ComesNearer old phase release new phase_now release_now =
 abbrev pub TurnFalls : Store → Phase → Store → Turn → Type 0
 TurnFalls old phase new turn = turn.answer ≡ answer_of.Continue → ComesNearer old phase None new turn.phase turn.release
 
--- A frame is handed out in a phase for it, and a death in none: what is given up hands those out. A collection ends where it
--- is over, and stays there, with both numbers.
+-- A frame is answered only in a phase for it, and a death in none: those come from what is given up. A collection ends in
+-- `Over` and stays there, with both numbers.
 abbrev pub HandsOutIn : Facts → Phase → CollectStep → Phase → Option Release → Type 0
 HandsOutIn facts phase (answer_of.Frame spec) next release = RunsFrame next release × SparesGarbageList next
 HandsOutIn facts phase (answer_of.Died o) next release = ⊥
 HandsOutIn facts phase (answer_of.Finished collected set_aside) next release = (phase ≡ phase_of.Over set_aside) × (next ≡ phase_of.Over set_aside) × (facts.collected ≡ collected)
 HandsOutIn facts phase answer next release = Unit {0}
 
--- No object is made, no name gets another value, and no serial is given.
+-- No object is made, no name changes, and no serial is given.
 pub record KeepsObjects (old new : Store) : Type 0 where
   pub objects : MakesNone old new
   pub names : KeepsNames old new
 
 -- A collection takes a turn: what its phase does to heap and policy, and what it leaves and answers.
 pub record TakesTurn (script : Script) (facts : Facts) (phase : Phase) (old : Store) (was : Policy) (new : Store) (now : Policy) (turn : Turn) : Type 0 where
-  -- in every world that heap and policy stood for the machine does so
+  -- the machine does the same in every world that heap and policy represented
   pub steps : TurnSteps script facts phase old was new now turn
-  -- what the next step needs: the number of collected objects is small as before, and what is given up is so in a phase for it
+  -- what the next step requires: the number of collected objects stays small, and things are given up only in a phase for it
   pub ready : StaysReady new facts.generation turn.phase turn.answer
   pub walk : HasItsWalk (profile_of script.items) new turn.phase
   pub few : (n : ℕ) → HasFewCollected n phase old → HasFewCollected (n + turn.collected) turn.phase new
   pub gives_up : GivesUpIn turn.phase turn.release
-  -- what is handed out
+  -- frames and deaths
   pub hands_out : HandsOutIn facts phase turn.answer turn.phase turn.release
-  -- no earlier pass follows, no stage is left out, and the end comes nearer
+  -- no earlier pass follows, no stage is skipped, and the end comes nearer
   pub onward : Advances phase turn.phase
   pub falls : TurnFalls old phase new turn
-  -- what stays
   pub keeps : KeepsObjects old new

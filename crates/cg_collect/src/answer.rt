@@ -6,12 +6,12 @@ use cg_machine::{Event, FrameSpec};
 pub enum CollectStep {
     /// It went on, and printed nothing.
     Continue,
-    /// It went on, and this line is due.
+    /// It went on, and this line is to be printed.
     Emit(Event),
-    /// This frame is to run to its end before the next step.
+    /// This frame must run to its end before the next step.
     Frame(FrameSpec),
-    /// Nothing holds this object any more: its death is to be brought to its end before the next step.
+    /// Nothing holds this object any more; its death must end before the next step.
     Died(u64),
-    /// It has ended. A command that asked for it is answered by the sum of the two numbers.
+    /// It ended. A command that asked for it answers the sum of the two numbers.
     Finished { collected: u64, uncollectable: u64 },
 }

@@ -39,17 +39,17 @@ use std::sync::ledger::Ledger;
 
 /// A collection of a generation, step by step. (Developer guide, "garbage collector design"; PEP 442.)
 ///
-/// It runs no command: it hands out frames and deaths, and is resumed after them.
+/// It runs no command: it answers frames and deaths for the caller to run, and is resumed after them.
 #[derive(Drop)]
 pub struct Collection {
     generation: u8,
-    // As they stood when it began.
+    // Read when it began.
     flags: Flagset,
-    // The objects that it found to be garbage.
+    // How many objects it found to be garbage.
     collected: u64,
     phase: Phase,
     release: Option<Release>,
-    // The detection that its last step made, if it made one.
+    // The reachability pass of its last step, if that made one.
     detected: Option<Detection>,
 }
 
@@ -62,7 +62,7 @@ pub struct Facts {
 }
 
 impl Collection {
-    /// A collection of a generation, 0 to 2, begins: the counts change, and the debug flags are read.
+    /// Begins a collection of a generation, 0 to 2: changes the counts, and reads the debug flags.
     pub fn begin<B: Kind>(heap: &mut Heap<B>, policy: &mut Policy, generation: u8) -> Collection
         requires generation { generation ≤ 2 }
         requires idle { policy.old.running ≡ false }
@@ -94,11 +94,11 @@ impl Collection {
         self.generation
     }
 
-    /// Where it stands towards its two detections.
+    /// Before, at or after each reachability pass.
     pub fn stage(&self) -> Stage
         ensures stage { result ≡ stage_of self.now }
 
-        // Before a detection it stands exactly at the phases whose step makes one.
+        // It is before a pass exactly if its phase's step makes one.
         ensures first { (result ≡ stage.BeforeFirst) ↔ (self.now.phase ≡ phase_of.Start) }
         ensures second { (result ≡ stage.BeforeSecond) ↔ (self.now.phase ≡ phase_of.Split) }
     {
@@ -128,12 +128,12 @@ impl Collection {
         ensures falls { result ≡ answer_of.Continue → CollectFalls self.old heap.old self.new heap.new }
         ensures died { DiesUnheld result heap.new }
 
-        // At its end it tells two numbers, what was collected and what was set aside, and answers with both.
+        // At its end it prints two numbers, the collected and the uncollectable objects, and answers both.
         ensures stops { (set_aside : ℕ) → self.old.phase ≡ phase_of.Stopping set_aside → self.old.release ≡ None
             → StopsWith self.old self.new result set_aside }
         ensures ends { CollectionEndsWith self.old result }
 
-        // What it leaves besides, whatever it answers.
+        // What holds after any answer.
         ensures generation { self.new.generation ≡ self.old.generation }
         ensures begun { IsBegun self.new.phase }
         ensures detected { self.new.detected ≡ detection_at self.old.phase }
@@ -144,7 +144,7 @@ impl Collection {
         ensures names { KeepsNames heap.old heap.new }
         ensures looks { steps.new + looks_left self.old.phase self.new.phase heap.new ≤ steps.old + most_looks self.old.generation self.old.phase heap.old }
     {
-        // Nothing is given up at a phase that makes one.
+        // A phase whose step makes one gives nothing up.
         self.detected = self.phase.detection();
         if let Some(answer) = self.give_up(heap) {
             return answer;
@@ -156,7 +156,7 @@ impl Collection {
         turn.answer
     }
 
-    /// Gives up the next reference, if one is to be given up.
+    /// Gives up the next reference, if there is one to give up.
     fn give_up<B: Kind>(&mut self, heap: &mut Heap<B>) -> Option<CollectStep>
         requires { HasHolds heap.old (given_up_by self.old.release) }
         ensures none { IfNone result ((self.new ≡ self.old) × (heap.new ≡ heap.old) × (self.old.release ≡ None)) }

@@ -1,5 +1,5 @@
-//! The second detection: what finalizers brought back is alive; the rest is the final set. (PEP 442, "disposal of cyclic
-//! isolates".)
+//! The second reachability pass: what finalizers resurrected is alive; the rest is the final set. (PEP 442, "disposal of
+//! cyclic isolates".)
 ghost use Rattle.std.specs.Prelude.{◌≡◌, ◌+◌, ◌≤◌, Some, None, true, slice_get, option_and_then};
 ghost use Rattle.cg_value.specs.declared.Place.TheVariants as place_of;
 ghost use Rattle.cg_graph.specs.Object.{same_place};
@@ -23,7 +23,7 @@ use cg_trial::split;
 use cg_value::Place;
 use std::sync::ledger::Ledger;
 
-/// Survivors go to the older generation; the rest is the final set, whose size is added to the collected number.
+/// Survivors move to the older generation. The rest is the final set; its size is added to the collected number.
 pub fn detect<B: Kind, L: Ledger>(facts: Facts, heap: &mut Heap<B>, steps: &mut Steps<L>) -> Turn
     requires generation { facts.generation ≤ 2 }
     requires ready { IsReadyForCollectionAt heap.old facts.generation phase_of.Split }
@@ -43,7 +43,7 @@ pub fn detect<B: Kind, L: Ledger>(facts: Facts, heap: &mut Heap<B>, steps: &mut 
     }
 }
 
-/// Tells the next survivor; then weak references to the final set lose it.
+/// Prints the next survivor; afterwards the weak references to the final set are cleared.
 pub fn tell_living<B: Kind>(facts: Facts, heap: &Heap<B>, next: Option<u64>) -> Turn
     requires generation { facts.generation ≤ 2 }
     requires ready { IsReadyForCollectionAt heap.now facts.generation (phase_of.Living next) }
@@ -56,9 +56,9 @@ pub fn tell_living<B: Kind>(facts: Facts, heap: &Heap<B>, next: Option<u64>) -> 
     }
 }
 
-/// The newest weak reference to a member of the final set loses it, without callback; when none to it is left, those to
-/// the next member follow. When none to a member is left, members lose their own referents. Where no weak reference has a
-/// referent, the members have their turns at once.
+/// Clears the newest weak reference to a member of the final set, without callback; if none is left, goes to the next
+/// member. After the last member, the members that are weak references are cleared. If no weak reference has a referent,
+/// the turns of the members follow at once.
 pub fn detach_one<B: Kind, L: Ledger>(
     heap: &mut Heap<B>,
     next: Option<u64>,
@@ -87,10 +87,10 @@ pub fn detach_one<B: Kind, L: Ledger>(
     }
 }
 
-/// Looks at the next weak reference of the walk, or at the next member of the final set.
+/// Visits the next weak reference of the walk, or the next member of the final set.
 ///
-/// For each member that has a referent all weak references to it are looked at, from the newest on, and the members among
-/// them lose it. So each list is gone through once.
+/// For each member with a referent it visits all weak references to that referent, newest first, and clears the members
+/// among them. So it walks each list once.
 pub fn unlink_one<B: Kind, L: Ledger>(
     heap: &mut Heap<B>,
     member: Option<u64>,
@@ -107,7 +107,7 @@ pub fn unlink_one<B: Kind, L: Ledger>(
     }
 }
 
-/// A weak reference that is a member loses its referent, without callback.
+/// Clears a weak reference that is a member, without callback.
 fn look_at<B: Kind, L: Ledger>(
     heap: &mut Heap<B>,
     member: Option<u64>,
@@ -143,7 +143,7 @@ fn is_member<B: Kind>(heap: &Heap<B>, object: u64) -> bool
     }
 }
 
-/// The weak references to the referent of the next member are looked at; when all members were, they have their turns.
+/// Visits the weak references to the next member's referent; after the last member, the turns follow.
 fn next_member<B: Kind, L: Ledger>(
     heap: &mut Heap<B>,
     member: Option<u64>,

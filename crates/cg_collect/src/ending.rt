@@ -1,4 +1,5 @@
-//! The end: what was set aside is told and saved. (`gc` manual, `gc.garbage`, `gc.DEBUG_UNCOLLECTABLE`.)
+//! The end: uncollectable objects are reported and saved. (`gc` manual, `gc.garbage`,
+//! `gc.DEBUG_UNCOLLECTABLE`.)
 ghost use Rattle.std.specs.Prelude.{◌≡◌, ◌≤◌};
 ghost use Rattle.cg_script.specs.declared.Script.{Script as AnyScript};
 ghost use Rattle.cg_policy.specs.Policy.{Policy as Standing};
@@ -22,7 +23,8 @@ use cg_policy::{Flagset, Policy};
 use cg_script::Script;
 use cg_value::Place;
 
-/// What was set aside is saved where it is to be, and goes to the older generation. No collection runs any more.
+/// Saves the uncollectable objects that are to be saved, and moves all to the older generation. The collection
+/// no longer counts as running.
 pub fn end<B: Kind>(facts: Facts, heap: &mut Heap<B>, policy: &mut Policy, script: &Script) -> Turn
     requires generation { facts.generation ≤ 2 }
     requires ready { IsReadyForCollectionAt heap.old facts.generation phase_of.Ending }
@@ -50,7 +52,7 @@ pub fn end<B: Kind>(facts: Facts, heap: &mut Heap<B>, policy: &mut Policy, scrip
     }
 }
 
-/// The objects that were set aside are saved, if they are to be.
+/// Saves the uncollectable objects that are to be saved.
 fn save_legacy<B: Kind>(facts: Facts, heap: &mut Heap<B>, script: &Script)
     requires { IsReadyForCollectionAt heap.old facts.generation phase_of.Ending }
     ensures { heap.new ≡ with_saved (kept_aside script.now (bits_of facts.flags) heap.old) heap.old }
@@ -65,7 +67,7 @@ fn save_legacy<B: Kind>(facts: Facts, heap: &mut Heap<B>, script: &Script)
     }
 }
 
-/// Whether an object that was set aside is saved: with SAVEALL, or with a legacy finalizer.
+/// Whether an uncollectable object is saved: with SAVEALL, or with a legacy finalizer.
 fn is_saved<B: Kind>(facts: Facts, heap: &Heap<B>, script: &Script, object: u64) -> bool
     requires { IsLive heap.now object }
     ensures { result ≡ is_saved_at script.now (bits_of facts.flags) heap.now object }
@@ -76,7 +78,7 @@ fn is_saved<B: Kind>(facts: Facts, heap: &Heap<B>, script: &Script, object: u64)
     finalizers_of(heap, script, object).legacy.is_some()
 }
 
-/// Tells the next object that was set aside; then those that were saved are told.
+/// Prints the next uncollectable object; afterwards the saved ones are printed.
 pub fn tell_uncollectable<B: Kind>(
     facts: Facts,
     heap: &Heap<B>,
@@ -105,7 +107,7 @@ pub fn tell_uncollectable<B: Kind>(
     }
 }
 
-/// Tells the next object, if it was saved; then the end is told.
+/// Prints the next object if it was saved; afterwards the end is printed.
 pub fn tell_saved<B: Kind>(
     facts: Facts,
     heap: &Heap<B>,
@@ -132,7 +134,7 @@ pub fn tell_saved<B: Kind>(
     }
 }
 
-/// Tells the end, with both numbers.
+/// Prints the end, with both numbers.
 pub fn tell_end(facts: Facts, number: u64) -> Turn
     ensures takes { (script : AnyScript) (store : Store) (policy : Standing) → TakesTurn script facts (phase_of.Stopping number) store policy store policy result }
     ensures stops { result ≡ stop_turn facts number }

@@ -1,4 +1,4 @@
-//! The finalizer phase: condemned objects are looked at, and the finalizers that have not run are run. (PEP 442: a
+//! The finalizer phase: visits the condemned objects, and runs the finalizers that have not run. (PEP 442: a
 //! finalizer is called once.)
 ghost use Rattle.std.specs.Prelude.{◌≡◌, ◌∷◌, [], Some, None, slice_get};
 ghost use Rattle.cg_script.specs.declared.Script.{Script as AnyScript};
@@ -23,7 +23,8 @@ use cg_machine::FrameSort;
 use cg_script::Script;
 use cg_value::Place;
 
-/// Looks at a condemned object, if one is left; then all are condemned as before, and the second detection follows.
+/// Visits a condemned object, if one is left; afterwards all are condemned again, and the second reachability pass
+/// follows.
 pub fn look_at_one<B: Kind>(heap: &mut Heap<B>, script: &Script) -> Turn
     requires ready { IsReadyForCollectionAt heap.old 0 phase_of.Finalizing }
     requires few { HasFewHolds heap.old }
@@ -40,7 +41,7 @@ pub fn look_at_one<B: Kind>(heap: &mut Heap<B>, script: &Script) -> Turn
     }
 }
 
-/// Its finalizer runs, if it has not. The object is near.
+/// Runs its finalizer unless that has run. The object is near.
 fn look_at<B: Kind>(heap: &mut Heap<B>, script: &Script, object: u64, near: Near) -> Turn
     requires ready { IsReadyForCollectionAt heap.old 0 phase_of.Finalizing }
     requires few { HasFewHolds heap.old }
@@ -57,7 +58,7 @@ fn look_at<B: Kind>(heap: &mut Heap<B>, script: &Script, object: u64, near: Near
     }
 }
 
-/// A finalizer runs: its object is marked, and held for its frame.
+/// Runs a finalizer: its object is marked, and held for its frame.
 fn run<B: Kind>(heap: &mut Heap<B>, object: u64, proc: u32) -> Turn
     requires live { IsLive heap.old object }
     requires few { HasFewHolds heap.old }
@@ -76,7 +77,7 @@ fn run<B: Kind>(heap: &mut Heap<B>, object: u64, proc: u32) -> Turn
     Turn::runs(frame, Phase::AfterFinalizing(object))
 }
 
-/// The frame of a finalizer has ended: the object is given up.
+/// After the frame of a finalizer: gives up the object.
 pub fn after_finalizer(object: u64) -> Turn
     ensures { (script : AnyScript) (facts : AnyFacts) (store : Store) (policy : Standing) → IsReadyForCollectionAt store facts.generation (phase_of.AfterFinalizing object)
         → TakesTurn script facts (phase_of.AfterFinalizing object) store policy store policy result }

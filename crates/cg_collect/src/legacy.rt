@@ -1,5 +1,5 @@
-//! Unreachable objects whose class has a legacy finalizer, and what they lead to, are set aside. (`gc` manual, `gc.garbage`;
-//! PEP 442, "legacy finalizers".)
+//! Sets aside unreachable objects whose class has a legacy finalizer, and what is reachable from them. (`gc` manual,
+//! `gc.garbage`; PEP 442, "legacy finalizers".)
 ghost use Rattle.std.specs.Prelude.{◌≡◌, ◌+◌, ◌≤◌, length};
 ghost use Rattle.cg_graph.specs.Value.{references};
 ghost use Rattle.cg_graph.specs.Store.{IsLive, entries_of};
@@ -17,7 +17,7 @@ use cg_script::Script;
 use cg_value::{Place, Val};
 use std::sync::ledger::Ledger;
 
-/// The candidates with a legacy finalizer, and the candidates that they lead to, are set aside.
+/// Sets aside the candidates with a legacy finalizer, and the candidates reachable from them.
 pub fn set_legacy_aside<B: Kind, L: Ledger>(
     heap: &mut Heap<B>,
     script: &Script,
@@ -32,7 +32,7 @@ pub fn set_legacy_aside<B: Kind, L: Ledger>(
     close(heap, steps);
 }
 
-/// The candidates with a legacy finalizer are set aside.
+/// Sets aside the candidates with a legacy finalizer.
 fn set_finalized_aside<B: Kind>(heap: &mut Heap<B>, script: &Script)
     ensures { SetsFinalizedAside script.now heap.old heap.new }
 {
@@ -50,7 +50,8 @@ fn set_finalized_aside<B: Kind>(heap: &mut Heap<B>, script: &Script)
     heap.sound();
 }
 
-/// What they lead to is set aside: each stands behind them in the list, and is gone through in its turn.
+/// Sets aside what is reachable from them: each object found goes to the end of the list, and is visited in
+/// turn.
 fn close<B: Kind, L: Ledger>(heap: &mut Heap<B>, steps: &mut Steps<L>)
     ensures closes { Closes heap.old heap.new }
     ensures looks { steps.new ≤ steps.old + entries_listed heap.new Place.Legacy }
@@ -66,7 +67,7 @@ fn close<B: Kind, L: Ledger>(heap: &mut Heap<B>, steps: &mut Steps<L>)
     heap.sound();
 }
 
-/// The candidates among the references of an object are set aside.
+/// Sets aside the candidates among the references of an object.
 fn set_references_aside<B: Kind, L: Ledger>(heap: &mut Heap<B>, object: u64, steps: &mut Steps<L>)
     requires { IsLive heap.old object }
     ensures sets { SetsReferencesAside (references (entries_of heap.old object)) heap.old heap.new }
@@ -80,7 +81,7 @@ fn set_references_aside<B: Kind, L: Ledger>(heap: &mut Heap<B>, object: u64, ste
     }
 }
 
-/// A candidate is set aside.
+/// Sets aside a candidate.
 fn set_aside<B: Kind>(heap: &mut Heap<B>, val: Val)
     requires { IsLiveValue heap.old val }
     ensures { SetsReferencesAside (targets val) heap.old heap.new }

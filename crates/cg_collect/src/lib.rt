@@ -1,13 +1,13 @@
 //! Collections: a collection of a generation, step by step.
 //!
-//! The layer above rests on one contract: in every world of the machine that heap and policy stand for, a step of a
-//! collection goes on as the machine does, and tells what is due: a line, a frame, or an object's death.
+//! The layer above relies on one contract: in every world of the machine that heap and policy represent, a step of a
+//! collection does what the machine does, and answers what comes next: a line, a frame, or an object's death.
 //!
-//! - `answer`: what a step answers; `phase`: where a collection stands; `stage`: where it stands towards its detections.
+//! - `answer`: what a step answers; `phase`: the phases; `stage`: before, at or after each reachability pass.
 //! - `collection`: a collection, and its steps.
 //! - `start`: all before the weak phase; `untracking` and `legacy`, parts of it.
 //! - `weak`: the weak phase; `finalizing`: the finalizer phase.
-//! - `detection`: the second detection; `turns`: the clearing; `ending`: the end.
+//! - `detection`: the second reachability pass; `turns`: the clearing; `ending`: the end.
 //! - `laws`: what holds of whole collections.
 #![tactic(auto)]
 

@@ -1,4 +1,4 @@
-//! All before the weak phase: trial subtraction, what survivors become, and what is set aside.
+//! Everything before the weak phase: trial subtraction, the survivors, and the uncollectable objects.
 ghost use Rattle.std.specs.Prelude.{◌≡◌, ◌+◌, ◌<◌, ◌≤◌, Some, None, unwrap_or, if◌then◌else◌};
 ghost use Rattle.cg_script.specs.declared.Script.{Script as AnyScript};
 ghost use Rattle.cg_machine.specs.Collect.{has_flag, stats};
@@ -29,8 +29,8 @@ use cg_trial::split;
 use cg_value::Place;
 use std::sync::ledger::Ledger;
 
-/// The start: the younger generations are merged into this one, and its unreachable objects become the candidates, but for
-/// those that are set aside. The survivors are untracked or get older.
+/// The start: merges the younger generations into this one. Its unreachable objects become the candidates, except for the
+/// uncollectable ones. The survivors are untracked or move to the older generation.
 pub fn start<B: Kind, L: Ledger>(
     facts: Facts,
     heap: &mut Heap<B>,
@@ -65,7 +65,7 @@ pub fn start<B: Kind, L: Ledger>(
     )
 }
 
-/// With STATS the sizes of the generations, before they are merged.
+/// With STATS, the sizes of the generations before they are merged.
 fn first_phase<B: Kind>(facts: Facts, heap: &Heap<B>) -> Option<Phase>
     ensures { result ≡ (if has_flag (bits_of facts.flags) stats then Some (told_sizes heap.now) else None) }
 {
@@ -91,7 +91,7 @@ fn told_first<B: Kind>(facts: Facts, heap: &Heap<B>, sizes: Option<Phase>) -> Ph
     }
 }
 
-/// With COLLECTABLE the condemned objects are told, before weak references lose them.
+/// With COLLECTABLE, the condemned objects are printed before weak references to them are cleared.
 fn after_sizes<B: Kind>(facts: Facts, heap: &Heap<B>) -> Phase
     ensures { result ≡ told_after_sizes (bits_of facts.flags) heap.now }
 {
@@ -102,7 +102,7 @@ fn after_sizes<B: Kind>(facts: Facts, heap: &Heap<B>) -> Phase
     }
 }
 
-/// The weak phase, from the first condemned object on.
+/// The weak phase, starting with the first condemned object.
 fn weak_phase<B: Kind>(heap: &Heap<B>) -> Phase
     ensures { result ≡ told_weak heap.now }
 {
@@ -112,7 +112,7 @@ fn weak_phase<B: Kind>(heap: &Heap<B>) -> Phase
     }
 }
 
-/// The generations below this one are merged into it.
+/// Merges the generations below this one into it.
 fn merge_younger<B: Kind>(generation: u8, heap: &mut Heap<B>)
     requires { generation ≤ 2 }
     ensures { MergesYounger generation heap.old heap.new }
@@ -127,7 +127,7 @@ fn merge_younger<B: Kind>(generation: u8, heap: &mut Heap<B>)
     }
 }
 
-/// The survivors that are still tracked go to the older generation.
+/// Moves the survivors that are still tracked to the older generation.
 fn get_older<B: Kind>(generation: u8, heap: &mut Heap<B>)
     requires { generation ≤ 2 }
     ensures { GetOlder generation heap.old heap.new }
@@ -137,7 +137,7 @@ fn get_older<B: Kind>(generation: u8, heap: &mut Heap<B>)
     }
 }
 
-/// Tells the sizes.
+/// Prints the sizes.
 pub fn tell_sizes<B: Kind>(
     facts: Facts,
     heap: &Heap<B>,
@@ -160,7 +160,7 @@ pub fn tell_sizes<B: Kind>(
     Turn::tells(event, after_sizes(facts, heap))
 }
 
-/// Tells the next condemned object.
+/// Prints the next condemned object.
 pub fn tell_condemned<B: Kind>(heap: &Heap<B>, next: Option<u64>) -> Turn
     requires ready { IsReadyForCollectionAt heap.now 0 (phase_of.Telling next) }
     ensures { (script : AnyScript) (facts : AnyFacts) (policy : Standing) → TakesTurn script facts (phase_of.Telling next) heap.now policy heap.now policy result }

@@ -23,7 +23,7 @@ use cg_policy::Flagset;
 use cg_value::{KindCode, Place};
 use std::sync::ledger::Ledger;
 
-/// The next member has its turn; when all have had theirs, the end follows.
+/// Begins the turn of the next member; after the last one, the end follows.
 pub fn take_turn<B: Kind>(facts: Facts, heap: &mut Heap<B>) -> Turn
     requires generation { facts.generation ≤ 2 }
     requires ready { IsReadyForCollectionAt heap.old facts.generation phase_of.Turns }
@@ -37,7 +37,7 @@ pub fn take_turn<B: Kind>(facts: Facts, heap: &mut Heap<B>) -> Turn
     }
 }
 
-/// With SAVEALL it is saved. A tuple cannot be cleared. Another is held, to be emptied.
+/// With SAVEALL it is saved. A tuple cannot be cleared. Any other object is held, to be emptied.
 fn begin_turn<B: Kind>(facts: Facts, heap: &mut Heap<B>, object: u64) -> Turn
     requires generation { facts.generation ≤ 2 }
     requires ready { IsReadyForCollectionAt heap.old facts.generation phase_of.Turns }
@@ -64,7 +64,7 @@ fn begin_turn<B: Kind>(facts: Facts, heap: &mut Heap<B>, object: u64) -> Turn
     }
 }
 
-/// Its last entry is taken out, to be given up; when none is left, it is given up itself.
+/// Removes its last entry, to be given up; if none is left, gives up the object itself.
 pub fn empty_one<B: Kind, L: Ledger>(heap: &mut Heap<B>, object: u64, steps: &mut Steps<L>) -> Turn
     requires ready { IsReadyForCollectionAt heap.old 0 (phase_of.Turn object) }
     requires few { HasFewHolds heap.old }
@@ -79,7 +79,7 @@ pub fn empty_one<B: Kind, L: Ledger>(heap: &mut Heap<B>, object: u64, steps: &mu
     }
 }
 
-/// One that lives after its turn gets older.
+/// If it lives after its turn, it moves to the older generation.
 pub fn after_turn<B: Kind>(facts: Facts, heap: &mut Heap<B>, object: u64) -> Turn
     requires generation { facts.generation ≤ 2 }
     requires ready { IsReadyForCollectionAt heap.old facts.generation (phase_of.AfterTurn object) }

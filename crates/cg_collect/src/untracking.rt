@@ -1,4 +1,4 @@
-//! The survivors that are untracked. (Developer guide, "optimization: delay tracking containers".)
+//! The survivors that become untracked. (Developer guide, "optimization: delay tracking containers".)
 ghost use Rattle.std.specs.Prelude.{◌≡◌, ◌+◌, ◌*◌, ◌≤◌, length};
 ghost use Rattle.cg_value.specs.declared.KindCode.TheVariants as kind_of;
 ghost use Rattle.cg_value.specs.declared.Place.TheVariants.{Gen};
@@ -13,8 +13,8 @@ use cg_kind::Kind;
 use cg_value::{KindCode, Place, Val};
 use std::sync::ledger::Ledger;
 
-/// The surviving tuples of which no item may be tracked are untracked, and then, in a collection of 2, the dictionaries of
-/// which no key and no value may be.
+/// Untracks the surviving tuples without an item that may be tracked, and then, in a collection of 2, the dictionaries
+/// without a key or value that may be.
 pub fn untrack<B: Kind, L: Ledger>(heap: &mut Heap<B>, generation: u8, steps: &mut Steps<L>)
     requires { generation ≤ 2 }
     ensures untracks { UntracksSurvivors generation heap.old heap.new }
@@ -28,7 +28,7 @@ pub fn untrack<B: Kind, L: Ledger>(heap: &mut Heap<B>, generation: u8, steps: &m
     }
 }
 
-/// The objects of a kind in a generation are untracked, where none of their references may be tracked.
+/// Untracks the objects of a kind in a generation that have no reference that may be tracked.
 fn untrack_kind<B: Kind, L: Ledger>(
     heap: &mut Heap<B>,
     generation: u8,
@@ -51,7 +51,7 @@ fn untrack_kind<B: Kind, L: Ledger>(
     heap.sound();
 }
 
-/// One of them, which is near.
+/// Untracks one of them, which is near.
 fn untrack_one<B: Kind, L: Ledger>(
     heap: &mut Heap<B>,
     object: u64,
@@ -68,7 +68,7 @@ fn untrack_one<B: Kind, L: Ledger>(
     }
 }
 
-/// Whether a reference of an object that is near may be tracked.
+/// Whether an object that is near has a reference that may be tracked.
 fn has_tracked<B: Kind, L: Ledger>(
     heap: &Heap<B>,
     object: u64,
@@ -89,7 +89,7 @@ fn has_tracked<B: Kind, L: Ledger>(
     false
 }
 
-/// Whether a value is an object that may be tracked: it is no tuple, or a tracked one.
+/// Whether a value is an object that may be tracked: a tracked one, or any but a tuple.
 fn may_be_tracked<B: Kind>(heap: &Heap<B>, val: Val) -> bool
     requires { IsLiveValue heap.now val }
     ensures { result ≡ may_be_tracked heap.now val }

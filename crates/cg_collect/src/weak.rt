@@ -1,5 +1,5 @@
-//! The weak phase: weak references lose condemned objects, and the callbacks of those that are not condemned are called.
-//! (PEP 442; `weakref` manual.)
+//! The weak phase: clears weak references to and of condemned objects, and calls the callbacks of those that are not
+//! condemned. (PEP 442; `weakref` manual.)
 ghost use Rattle.std.specs.Prelude.{◌≡◌, ◌+◌, ◌≤◌, ◌∷◌, [], ◌==◌, ◌||◌, not, Some, None, IsSome, true, false, is_some, slice_get, unwrap_or, option_and_then, if◌then◌else◌};
 ghost use Rattle.cg_value.specs.declared.Place.TheVariants as place_of;
 ghost use Rattle.cg_script.specs.declared.Script.{Script as AnyScript};
@@ -31,10 +31,10 @@ use cg_machine::{Event, FrameSpec};
 use cg_value::Place;
 use std::sync::ledger::Ledger;
 
-/// Looks at the next weak reference of the walk, or at the next condemned object.
+/// Visits the next weak reference of the walk, or the next condemned object.
 ///
-/// For each condemned object all weak references to it are looked at, from the newest on; for a weak reference that is
-/// condemned and is to lose its referent, all to its referent. So each list is walked once or twice.
+/// For each condemned object it visits all weak references to it, newest first; for a condemned weak reference that is
+/// to be cleared, all those to its referent. So it walks each list once or twice.
 pub fn clear_one<B: Kind, L: Ledger>(
     heap: &mut Heap<B>,
     profile: u8,
@@ -54,7 +54,7 @@ pub fn clear_one<B: Kind, L: Ledger>(
     }
 }
 
-/// A weak reference loses its referent, if it is to lose it.
+/// Clears a weak reference, if it is to be cleared.
 fn look_at<B: Kind, L: Ledger>(
     heap: &mut Heap<B>,
     profile: u8,
@@ -82,7 +82,7 @@ fn look_at<B: Kind, L: Ledger>(
     }
 }
 
-/// Whether a weak reference is to lose its referent: it has one, and one of the two is condemned.
+/// Whether a weak reference is to be cleared: it has a referent, and one of the two is condemned.
 fn loses<B: Kind, L: Ledger>(heap: &Heap<B>, profile: u8, weak: u64, steps: &mut Steps<L>) -> bool
     requires { IsLive heap.now weak }
     ensures loses { result ≡ loses_at profile heap.now weak }
@@ -98,8 +98,8 @@ fn loses<B: Kind, L: Ledger>(heap: &Heap<B>, profile: u8, weak: u64, steps: &mut
     }
 }
 
-/// Whether a weak reference loses its referent before the finalizers run. In profile 2 one without a callback keeps it for
-/// them.
+/// Whether a weak reference is cleared before the finalizers run. In profile 2, one without a callback keeps its referent
+/// for them.
 fn is_lost_early<B: Kind, L: Ledger>(
     heap: &Heap<B>,
     profile: u8,
@@ -113,7 +113,7 @@ fn is_lost_early<B: Kind, L: Ledger>(
     profile != 2 || callback_looking(heap, weak, steps).is_some()
 }
 
-/// The callback of a weak reference, if it has one: its entry, which is looked at.
+/// The callback of a weak reference, if it has one; this looks at its entry.
 fn callback_looking<B: Kind, L: Ledger>(
     heap: &Heap<B>,
     weak: u64,
@@ -141,7 +141,7 @@ fn is_condemned<B: Kind>(heap: &Heap<B>, object: u64) -> bool
     }
 }
 
-/// A weak reference loses its referent. One that is not condemned and has a callback waits, and is held.
+/// Clears a weak reference. One that is not condemned and has a callback waits, and is held.
 fn lose<B: Kind, L: Ledger>(heap: &mut Heap<B>, weak: u64, steps: &mut Steps<L>)
     requires few { HasFewHolds heap.old }
     requires live { IsLive heap.old weak }
@@ -158,7 +158,7 @@ fn lose<B: Kind, L: Ledger>(heap: &mut Heap<B>, weak: u64, steps: &mut Steps<L>)
     }
 }
 
-/// Whether a weak reference that loses its referent waits for its callback.
+/// Whether a weak reference waits for its callback after it is cleared.
 fn waits<B: Kind, L: Ledger>(heap: &Heap<B>, weak: u64, steps: &mut Steps<L>) -> bool
     requires { IsLive heap.now weak }
     ensures waits { result ≡ waits (objects_of heap.now) weak }
@@ -167,8 +167,8 @@ fn waits<B: Kind, L: Ledger>(heap: &Heap<B>, weak: u64, steps: &mut Steps<L>) ->
     !is_condemned(heap, weak) && callback_looking(heap, weak, steps).is_some()
 }
 
-/// The weak references to the next condemned object are looked at, or those to its referent; when all were, the callbacks
-/// follow. They follow at once where no weak reference has a referent.
+/// Visits the weak references to the next condemned object, or those to its referent; after the last, the callbacks
+/// follow. They follow at once if no weak reference has a referent.
 fn next_member<B: Kind, L: Ledger>(
     heap: &mut Heap<B>,
     profile: u8,
@@ -193,7 +193,7 @@ fn next_member<B: Kind, L: Ledger>(
     }
 }
 
-/// The newest weak reference to the referent of a condemned one that is to lose it, or else to a condemned object.
+/// The newest weak reference to a condemned object, or to its referent if it is a weak reference to be cleared.
 fn first_to_look_at<B: Kind, L: Ledger>(
     heap: &Heap<B>,
     profile: u8,
@@ -213,7 +213,7 @@ fn first_to_look_at<B: Kind, L: Ledger>(
     }
 }
 
-/// The first of those that wait has its callback called; when none is left, the finalizers follow.
+/// Calls the callback of the first waiting weak reference; if none is left, the finalizers follow.
 pub fn call_one<B: Kind, L: Ledger>(heap: &mut Heap<B>, steps: &mut Steps<L>) -> Turn
     requires ready { IsReadyForCollectionAt heap.old 0 phase_of.WeakCalling }
     ensures takes { (script : AnyScript) (facts : AnyFacts) (policy : Standing) → TakesTurn script facts phase_of.WeakCalling heap.old policy heap.new policy result }
@@ -250,7 +250,7 @@ fn frame_of_callback<B: Kind, L: Ledger>(
     callback_frame(heap, weak, callback)
 }
 
-/// The frame of a callback has ended: the weak reference is given up.
+/// After the frame of a callback: gives up the weak reference.
 pub fn after_callback(weak: u64) -> Turn
     ensures { (script : AnyScript) (facts : AnyFacts) (store : Store) (policy : Standing) → IsReadyForCollectionAt store facts.generation (phase_of.AfterCallback weak)
         → TakesTurn script facts (phase_of.AfterCallback weak) store policy store policy result }
@@ -258,7 +258,7 @@ pub fn after_callback(weak: u64) -> Turn
     Turn::gives_up(Release::of(weak), Phase::AfterRelease(weak))
 }
 
-/// One that has died since it was given up counts as collected; one that lives gets older.
+/// It counts as collected if giving it up freed it; if it lives, it moves to the older generation.
 pub fn after_release<B: Kind>(facts: Facts, heap: &mut Heap<B>, weak: u64) -> Turn
     requires generation { facts.generation ≤ 2 }
     requires ready { IsReadyForCollectionAt heap.old facts.generation (phase_of.AfterRelease weak) }

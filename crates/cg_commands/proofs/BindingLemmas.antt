@@ -1,4 +1,4 @@
--- What binding a name, and unbinding it, does.
+-- What binding and unbinding a name does.
 use Rattle.std.proofs.Common.{◌≡◌, sym, ◌∙◌, ap, ℕ, zero, suc, ◌<◌, false, List, [], ◌∷◌, set, refl, Option, Some, None, Ok, Err, arith}
 use Rattle.std.specs.Prelude.{slice_get, option_and_then, ok_or}
 use Rattle.cg_value.specs.declared.Val.{Val}
@@ -26,7 +26,7 @@ use Rattle.cg_commands.proofs.Reading.{reads-name}
 use Rattle.cg_commands.proofs.Chains.{next, refused}
 
 module _ (store : Store) (sound : IsSound store) (locals : Option Locals) (name : ℕ) (was : Option Val) (at : slice_get store.names name ≡ Some was) where
-  -- what a name gives up is what it had
+  -- a name gives up its old value
   pub given-up_by : (w : World) → Represents store w → given_up_by w name ≡ references_of_value was
   given-up_by w r = ap (λ x. references_of_value (option_and_then (λ v. v) x)) (ap (λ ns. slice_get ns name) (sym r.names) ∙ at)
 

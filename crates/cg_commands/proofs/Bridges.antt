@@ -1,4 +1,4 @@
--- What the changes of a heap are in the world that it stands for.
+-- Changes of a heap, in the world that it represents.
 use Rattle.std.proofs.Common.{◌≡◌, refl, sym, ◌∙◌, ap, subst, ℕ, ◌+◌, ◌<◌, Bool, List, [], ◌∷◌, ◌++◌, Option, Some, None, Result, Ok, option_to_list, set, arith}
 use Rattle.std.specs.Prelude.{flat_map, option_map}
 use Rattle.std.proofs.lemmas.List.{get_or-set_other}
@@ -24,7 +24,7 @@ use Rattle.cg_commands.specs.declared.done.Done.TheVariants.{Changed}
 use Rattle.cg_commands.specs.Answers.{AnswersOnHeap}
 use Rattle.cg_machine.proofs.Representing.{matches, represents, pushed}
 
--- nothing is held by no references
+-- no references hold nothing
 pub held-none : (store : Store) → held [] store ≡ store
 held-none store = λ i. record store { nodes = same_map (held [] store).nodes store.nodes (λ q. get-mapped (λ s n. more 0 n) store.nodes q ∙ known (fin.get store.nodes q)) i }
   where
@@ -47,11 +47,10 @@ module _ (store : Store) (w : World) (r : Represents store w) where
       }))
       (λ s. omega (arith, outside-held refs store s (live s), r.outside s, occurrences-append s refs (flat_map holds w.stack)))
 
-  -- nothing to give up is a release with nothing left
+  -- with nothing to give up, an empty release is on top
   pub released-none : Represents store (push (Releasing []) w)
   released-none = represents store (push (Releasing []) w) (pushed store w [] w.stack (matches store w r)) r.outside
 
-  -- a name with another value
   pub renamed : (i : ℕ) (v : Option Val) → Represents (named i v store) (bound w i v)
   renamed i v = record {
     objects = r.objects;
@@ -63,7 +62,6 @@ module _ (store : Store) (w : World) (r : Represents store w) where
     collection = r.collection;
   }
 
-  -- an object with other entries
   pub refilled : (o : ℕ) (es : List Entry) → Represents (rewritten o es store) (with_change (object_with_entries es) o w)
   refilled o es = record {
     objects = objects-changed store o (with_entries es) (object_with_entries es) (λ s n. refl) ∙ ap (change (object_with_entries es) o) r.objects;
@@ -95,7 +93,7 @@ module _ (store : Store) (w : World) (r : Represents store w) where
       pending : list_at (moved o (Gen 0) store) Pend ≡ list_at store Pend
       pending = ap (λ p. list_of (move_between store.lists o (place_number p) 7) 6) was ∙ others store.lists
 
--- Two changes of an object are the same where they do the same to it.
+-- Two changes of an object are equal if they do the same to it.
 pub change-alike : (store : Store) (o : ℕ) (n : Node) (g h : Node → Node) (f e : Object → Object) → ((s : ℕ) (x : Node) → object_from store.rows s (g x) ≡ f (object_from store.rows s x)) → ((s : ℕ) (x : Node) → object_from store.rows s (h x) ≡ e (object_from store.rows s x))
     → fin.get store.nodes o ≡ Some n → g n ≡ h n → change f o (objects_of store) ≡ change e o (objects_of store)
 change-alike store o n g h f e first second found same =
@@ -103,7 +101,7 @@ change-alike store o n g h f e first second found same =
     ∙ ap (λ m. objects_of (record store { nodes = m })) (changed-insert g o store.nodes n found ∙ ap (λ x. fin.insert store.nodes o x) same ∙ sym (changed-insert h o store.nodes n found))
     ∙ objects-changed store o h e second
 
--- A change that gives up references: the effect is known, and they are held from outside now.
+-- A change that gives up references: the effect is known, and the references are now held from outside.
 pub gives_up : (effect : Result Effect ℕ) (line : Option Event) (e : Entry) (wants : Bool) (refs : List ℕ) (mid : Store) (after : World) (old new : Store) → effect ≡ Ok (Changes wants (option_to_list line) refs after) → entry_references e ≡ refs → new ≡ held refs mid → Represents mid after → ((s : ℕ) → 0 < occurrences s refs → IsLive mid s)
     → AnswersOnHeap (Ok (Changed line e)) effect old new
 gives_up effect line e wants refs mid after old new is entry now stands live = record {

@@ -1,4 +1,4 @@
--- What a command of the collector does is the machine's effect.
+-- A command of the collector does the machine's effect.
 use Rattle.std.proofs.Common.{◌≡◌, refl, sym, ◌∙◌, ap, subst, ◌+◌, Bool, false, List, [], map, Option, Some, None, Result, Ok, Err}
 use Rattle.std.specs.Prelude.{ℤ, ok_or, option_to_list}
 use Rattle.cg_value.specs.declared.Val.TheVariants as val
@@ -32,7 +32,7 @@ use Rattle.cg_commands.specs.Stands.{HeapAndLocalsStandFor}
 use Rattle.cg_commands.proofs.Bridges.{gives_nothing}
 use Rattle.cg_commands.proofs.Growing.{nothing_made}
 
--- objects in other places, in the world that the heap stands for
+-- moved objects, in the world that the heap represents
 replaced_represents : (places : Place → Place) (numbers : Numbers → Numbers) (old new : Store) → Replaces places old new → (w : World) → Represents old w → Represents new (record w { objects = replaced places w; numbers = numbers w.numbers })
 replaced_represents places numbers old new moves w r = record {
   objects = moves.objects ∙ ap (map (λ x. with_place (places x.place) x)) r.objects;
@@ -75,7 +75,7 @@ module _ (old : Store) (was : Policy) (locals : Option Locals) (room : Bool) (gi
       changes (Some here) (λ w. w) (λ w s same. does w ∙ ap (prints w) (told w s.represents same)) (λ w. subst (IsOfObjectsAndNumbers w) (sym (does w)) refl) old nothing_moves
       (λ w r. r) was (λ w same. same)
 
-  -- it replaces objects, and sets numbers
+  -- it moves objects, and sets numbers
   pub replaces : (places : Place → Place) (numbers : Numbers → Numbers) → ((w : World) → effect w command ≡ Ok (Changes false [] [] (record w { objects = replaced places w; numbers = numbers w.numbers }))) → (new : Store) → Replaces places old new
       → (now : Policy) → now ≡ with_numbers (numbers was.numbers) was → (done : Done) → done ≡ Changed None (item val.None) → Attempts old was locals room given new now (Ok done)
   replaces places numbers does new moves now set =

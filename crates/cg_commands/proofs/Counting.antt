@@ -1,5 +1,4 @@
--- What a command that is not the collector's leaves of the policy: it stays, but for an object that is made, which is
--- counted.
+-- What a command for objects leaves of the policy: it stays, except that a new object is counted.
 use Rattle.std.proofs.Common.{◌≡◌, refl, sym, ◌∙◌, ap, subst, ℕ, Bool, true, false, List, [], Option, Some, None, Result, Ok, Err, OnOk, inl, inr}
 use Rattle.cg_value.specs.declared.Entry.{Entry}
 use Rattle.cg_value.specs.declared.KindCode.{KindCode}
@@ -27,7 +26,6 @@ use Rattle.cg_commands.specs.Inspections.{Inspects}
 use Rattle.cg_commands.specs.Stands.{HeapAndLocalsStandFor}
 use Rattle.cg_commands.proofs.Growing.{of_effect, made_makes, nothing_made, made_in_room}
 
--- the policy stays
 abbrev StaysCounted : World → Effect → Type 0
 StaysCounted w (Changes wants_memory lines given_up after) = policy_of after ≡ policy_of w
 StaysCounted w (Calls f) = Unit {0}
@@ -35,7 +33,7 @@ StaysCounted w (Collects g) = Unit {0}
 StaysCounted w Quits = Unit {0}
 StaysCounted w (Explains o) = Unit {0}
 
--- the commands for objects set no numbers
+-- commands for objects set no numbers
 sets_none : (command : Command) → IsForObjects command → SetsNumbers command → ⊥
 sets_none Enable own k = own
 sets_none Disable own k = own
@@ -57,7 +55,6 @@ shape_stays w command own none e s = refl
 effect_stays : (w : World) (command : Command) → IsForObjects command → makes_object command ≡ false → Each (StaysCounted w) (effect w command)
 effect_stays w command own none = by_shape (StaysCounted w) w command (shape_stays w command own none)
 
--- one object more is counted
 abbrev CountsOne : World → Effect → Type 0
 CountsOne w (Changes wants_memory lines given_up after) = policy_of after ≡ with_numbers (with_one_made w.numbers) (policy_of w)
 CountsOne w (Calls f) = ⊥
@@ -78,7 +75,7 @@ effect_counts w (MakeRef name target callback) made =
     checked (CountsOne w) _ _ (λ v. checked (CountsOne w) _ _ (λ f. checked (CountsOne w) _ _ (λ x. checked (CountsOne w) _ _ (λ entries. makes_counts w name Weak None entries (Some x.serial)))))
 effect_counts w command made = absurd (let no : false ≡ true = made in cc)
 
--- so what was done to the heap alone is the effect
+-- so a change of the heap alone is the effect
 module _ (w : World) (command : Command) (old new : Store) where
   stays_after : IsForObjects command → makes_object command ≡ false → (answer : Result Done Refusal) → AnswersOnHeap answer (effect w command) old new → policy_of w ≡ policy_after answer (effect w command) (policy_of w)
   stays_after own none (Ok (done.Changed line e)) h =
@@ -112,7 +109,7 @@ module _ (w : World) (command : Command) (old new : Store) where
   counted_after made (Ok (done.Tells lines)) (inr h, same) = absurd (of_effect (CountsOne w) (effect w command) _ h.is (effect_counts w command made))
   counted_after made (Err refusal) h = refl
 
--- A command that makes no object leaves the policy, also where its answer rests on the policy.
+-- A command that makes no object leaves the policy, even if its answer depends on the policy.
 plain : (old : Store) (was : Policy) (locals : Option Locals) (room : Bool) (given command : Command) → given ≡ command → IsForObjects command → makes_object command ≡ false → (new : Store) (answer : Result Done Refusal)
     → ((w : World) → HeapAndLocalsStandFor old locals w → was ≡ policy_of w → AnswersOnHeap answer (effect w command) old new) → Attempts old was locals room given new was answer
 plain old was locals room given command is own none new answer does = subst (λ c. Attempts old was locals room c new was answer) (sym is) (record {
@@ -124,7 +121,7 @@ plain old was locals room given command is own none new answer does = subst (λ 
   in_room = nothing_made answer (makes_object command) room none;
 })
 
--- an inspection, which rests on whether a collection is running
+-- an inspection, which depends on whether a collection is under way
 pub inspects : (store : Store) (was : Policy) (locals : Option Locals) (room : Bool) (given command : Command) → given ≡ command → IsForObjects command → makes_object command ≡ false → (answer : Result Done Refusal)
     → Inspects store was.running locals (λ w. effect w command) answer → Attempts store was locals room given store was answer
 inspects store was locals room given command is own none answer does =
@@ -135,7 +132,7 @@ module _ (old : Store) (was : Policy) (locals : Option Locals) (room : Bool) (gi
   pub plainly : makes_object command ≡ false → Attempts old was locals room given new was answer
   plainly none = plain old was locals room given command is own none new answer (λ w stands policy. does w stands)
 
-  -- one that makes an object, once it is counted
+  -- a command that makes an object, after it is counted
   pub made_and_counted : makes_object command ≡ true → OnOk answer (room ≡ true) → (now : Policy) → now ≡ counted answer was → Attempts old was locals room given new now answer
   made_and_counted made in_room now counts = subst (λ c. Attempts old was locals room c new now answer) (sym is) (record {
     performs = λ w stands policy. record {

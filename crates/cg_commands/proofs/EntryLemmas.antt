@@ -1,4 +1,4 @@
--- Commands that put entries in, take them out, and replace them.
+-- Commands that add, remove and replace entries.
 use Rattle.std.proofs.Common.{◌≡◌, ◌≢◌, refl, sym, ◌∙◌, ap, subst, ℕ, ◌<◌, ◌≤◌, Bool, true, false, not, List, [], ◌∷◌, ◌++◌, length, Option, Some, None, IsSome, Ok, Err, arith, remove}
 use Rattle.std.specs.Prelude.{◌==◌, slice_get, ◌↔◌, ℤ, pos, IfSome}
 use Rattle.std.specs.FinMap as fin
@@ -59,7 +59,7 @@ is_instance_code kind.Inst h = refl
 is_instance_code kind.Func h = cc
 is_instance_code kind.Weak h = cc
 
--- what kind each test asks for, of those that change
+-- the kind that each mutating test expects
 abbrev pub kind_of : Wanted → KindCode
 kind_of wanted.Dict = kind.Dict
 kind_of wanted.Inst = kind.Inst
@@ -106,7 +106,7 @@ code-here store o c (n, at, is) = ap (λ (x : Option Node). elim x [ None ↦ ki
 pub can_take : (store : Store) (what : Wanted) → IsChanging what → (v : Val) (o : ℕ) → RefersTo store (test_of what) v o → CanTake store o
 can_take store what c v o there = (subst IsSome (sym there.found) refl, subst IsMutable (sym (code-here store o (kind_of what) (has_code store what c v o there))) (mutable what c))
 
--- no other list than the garbage list is it
+-- it is not the garbage list
 pub not_garbage : (store : Store) (v : Val) (o : ℕ) → RefersTo store (test_of wanted.ScriptList) v o → o ≢ 1
 not_garbage store v o there is = absurd (contra (o == 1) (eq-eqb o 1 is) (true_and _ _ there.passes).1)
   where
@@ -118,7 +118,7 @@ module _ (store : Store) (sound : IsSound store) (locals : Option Locals) (test 
   entries-here : entries_of store o ≡ there.node.entries
   entries-here = ap (λ (x : Option Node). elim x [ None ↦ [] | Some n ↦ n.entries ]) there.found
 
-  -- an item goes last
+  -- an item is appended
   pub appends : {X : Type 0} (u : X) (val : Val) (e : Entry) (new : Store) → new ≡ rewritten o (entries_of store o ++ item val ∷ []) store → entry_references e ≡ [] → ((Ok u ≡ Err fault.EntryLimit) ↔ (4000000 ≤ entry_number store))
       → PerformsOnHeap store locals (λ w. has_room w 1 >>= (λ _. Ok (Changes true [] [] (with_change (with_entries (there.node.entries ++ item val ∷ [])) o w)))) new (Ok (Gives e))
   unfolding ◌>>=◌
@@ -127,7 +127,7 @@ module _ (store : Store) (sound : IsSound store) (locals : Option Locals) (test 
       (ap (λ q. q >>= (λ _. Ok (Changes true [] [] (with_change (with_entries (there.node.entries ++ item val ∷ [])) o w)))) (room store w s.represents 1 (one_fits store u limit))) none
       (subst (λ st. Represents st (with_change (with_entries (there.node.entries ++ item val ∷ [])) o w)) (sym (is ∙ ap (λ es. rewritten o (es ++ item val ∷ []) store) entries-here)) (refilled store w s.represents o (there.node.entries ++ item val ∷ [])))
 
-  -- an entry is taken out
+  -- an entry is removed
   pub takes : (i : ℕ) (e : Entry) (es : List Entry) (new : Store) → slice_get (entries_of store o) i ≡ Some e → new ≡ held (entry_references e) (rewritten o (remove (entries_of store o) i) store) → es ≡ remove there.node.entries i
       → PerformsOnHeap store locals (λ w. sets_entries w (object_from store.rows o there.node) es (entry_references e)) new (Ok (Gives e))
   takes i e es new at is gone w s =
@@ -136,7 +136,7 @@ module _ (store : Store) (sound : IsSound store) (locals : Option Locals) (test 
       (refilled store w s.represents o es)
       (λ q some. lives_on store (rewritten o es store) (kinds-rewritten o es store) q (sound.live q (omega (arith, some, entry_holds store o i e at q))))
 
-  -- the entry under a key is taken out
+  -- the entry under a key is removed
   pub takes_key : (key : Val) (e : Entry) (new : Store) → Some e ≡ entry_at (entries_of store o) key → new ≡ held (entry_references e) (rewritten o (without_key (entries_of store o) key) store)
       → PerformsOnHeap store locals (λ w. sets_entries w (object_from store.rows o there.node) (without_key there.node.entries key) (entry_references e)) new (Ok (Gives e))
   takes_key key e new at is =
@@ -148,7 +148,7 @@ module _ (store : Store) (sound : IsSound store) (locals : Option Locals) (test 
       (refilled store w s.represents o es)
       (λ q some. lives_on store (rewritten o es store) (kinds-rewritten o es store) q (sound.live q (omega (arith, some, entry_holds store o i e here q))))
 
-  -- the same, where what is given up is another entry with its references
+  -- the same, where another entry with its references is given up
   pub takes_references : (key : Val) (e given : Entry) (new : Store) → Some e ≡ entry_at (entries_of store o) key → new ≡ held (entry_references e) (rewritten o (without_key (entries_of store o) key) store) → entry_references given ≡ entry_references e
       → PerformsOnHeap store locals (λ w. sets_entries w (object_from store.rows o there.node) (without_key there.node.entries key) (entry_references e)) new (Ok (Gives given))
   takes_references key e given new at is same =
@@ -195,7 +195,7 @@ can_put_code store what is o has key =
     any wanted.Referable is = absurd is
     any wanted.Weak is = absurd is
 
--- A call that asks for the kind tells by it whether the object passes.
+-- A call decides by the kind whether the object passes.
 passes_by_code : (what : Wanted) → IsKeyedTest what → (c : KindCode) → c ≡ kind_of what → (o : ℕ) → test_of what (bare c o) ≡ true
 passes_by_code what is c same o = ap (λ c. test_of what (bare c o)) same ∙ of what is
   where

@@ -1,4 +1,4 @@
--- What a heap tells of why an object is alive is what the machine asks for in the world that it stands for.
+-- The heap's reason why an object is alive is the machine's, in the world that it represents.
 use Rattle.std.proofs.Common.{◌≡◌, sym, ap, subst, ℕ, List, [], ◌∷◌, ◌++◌, Result, arith}
 use Rattle.std.specs.Prelude.{flat_map}
 use Rattle.cg_graph.specs.declared.Edge.{Edge}
@@ -19,7 +19,7 @@ use Rattle.cg_machine.specs.Commands.{Explanation, HasPath, HasNone}
 use Rattle.cg_commands.specs.Reasons.{Explained, reason_lines}
 
 module _ (store : Store) (w : World) (r : Represents store w) where
-  -- what is held otherwise than by entries
+  -- what roots hold
   holdings-but_entries : holdings_but_entries store ≡ other_holdings w
   holdings-but_entries = λ i s. same s i
     where
@@ -31,11 +31,11 @@ module _ (store : Store) (w : World) (r : Represents store w) where
   arrows-same : arrows_of store ≡ edges (graph_of w.objects)
   arrows-same = ap (λ objects. edges (graph_of objects)) r.objects
 
-  -- In words of the heap, and in those of the machine.
+  -- In terms of the heap, and in those of the machine.
   in_world : (P : (ℕ → ℕ) → List Edge → Type 0) → P (holdings_but_entries store) (arrows_of store) → P (other_holdings w) (edges (graph_of w.objects))
   in_world P h = subst (λ arrows. P (other_holdings w) arrows) arrows-same (subst (λ holdings. P holdings (arrows_of store)) holdings-but_entries h)
 
-  -- The machine asks for just these lines.
+  -- The machine expects exactly these lines.
   pub explanation : (effect : Result Effect ℕ) (lines : List Event) (explained : Explained effect store lines) → Explanation w explained.object lines
   explanation effect lines explained = subst (Explanation w explained.object) (sym explained.tells) (known explained.reason explained.is_reason)
     where

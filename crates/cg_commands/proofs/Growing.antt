@@ -28,7 +28,7 @@ use Rattle.cg_commands.specs.Attempts.{Attempts}
 use Rattle.cg_commands.specs.Stands.{HeapAndLocalsStandFor}
 use Rattle.cg_commands.specs.Growth.{GrowsBy, makes_object}
 
--- what was done without a new object, or where there is room for one
+-- what was done without a new object, or with room for one
 pub nothing_made : (r : Result Done Refusal) (made room : Bool) → made ≡ false → OnOk r (made ≡ true → room ≡ true)
 nothing_made (Ok done) made room none = λ is. absurd (let no : true ≡ false = sym is ∙ none in cc)
 nothing_made (Err refusal) made room none = tt
@@ -37,7 +37,7 @@ pub made_in_room : (r : Result Done Refusal) (made room : Bool) → OnOk r (room
 made_in_room (Ok done) made room is = λ _. is
 made_in_room (Err refusal) made room is = tt
 
--- A world after a command, which may have made an object.
+-- A world after a command that may have made an object.
 record Sized (made : Bool) (w after : World) : Type 0 where
   objects : length after.objects ≤ length w.objects + (if made then 1 else 0)
   names : length after.names ≡ length w.names
@@ -69,7 +69,7 @@ made_makes command kind class (ByInst name number) = refl
 made_makes command kind class (ByFunc name proc cells) = refl
 made_makes command kind class (ByRef name target callback) = refl
 
--- one that changes no number of objects is so also where one may be made
+-- a change that makes no object satisfies this too
 at_most : (made : Bool) (w after : World) → Sized false w after → Sized made w after
 at_most true w after s = record { objects = omega (arith, s.objects); names = s.names }
 at_most false w after s = s
@@ -94,7 +94,7 @@ shape_sized w command e (AsksWhy x h calm) = tt
 effect_sized : (w : World) (command : Command) → Each (HasSize (makes_object command) w) (effect w command)
 effect_sized w command = by_shape (HasSize (makes_object command) w) w command (shape_sized w command)
 
--- what holds of each effect holds of this one
+-- a property of each effect holds of this one
 pub of_effect : (P : Effect → Type 0) (r : Result Effect ℕ) (e : Effect) → r ≡ Ok e → Each P r → P e
 of_effect P r e is each = subst (Each P) is each
 
@@ -105,7 +105,7 @@ one_more false room is = omega arith
 kept : (room : Bool) (old new : Store) → new ≡ old → GrowsBy room old new
 kept room old new is = subst (GrowsBy room old) (sym is) (record { objects = omega arith; names = refl })
 
--- what was done lets the heap grow no further
+-- what was done bounds the heap's growth
 pub grows : (command : Command) (w : World) (room : Bool) (old new : Store) (answer : Result Done Refusal) → Represents old w → AnswersOnHeap answer (effect w command) old new → OnOk answer (makes_object command ≡ true → room ≡ true) → GrowsBy room old new
 grows command w room old new (Ok (done.Changed line e)) r h is =
     let sized : Sized (makes_object command) w h.after = of_effect (HasSize (makes_object command) w) (effect w command) _ h.is (effect_sized w command) in
@@ -129,7 +129,7 @@ grows command w room old new (Ok done.Quits) r h is = kept room old new h.1
 grows command w room old new (Ok (done.Tells lines)) r h is = kept room old new h.1
 grows command w room old new (Err refusal) r h is = kept room old new h.1
 
--- so does what was attempted, in each world that it is of
+-- so does what was attempted, in each of its worlds
 pub grows_by : {command : Command} {old : Store} {was : Policy} {locals : Option Locals} {room : Bool} {new : Store} {now : Policy} {answer : Result Done Refusal} → Attempts old was locals room command new now answer
     → (w : World) → HeapAndLocalsStandFor old locals w → was ≡ policy_of w → GrowsBy room old new
 grows_by {command} {old} {was} {locals} {room} {new} {now} {answer} does w stands policy = grows command w room old new answer stands.represents (does.performs w stands policy).heap does.in_room

@@ -1,4 +1,4 @@
--- Commands that inspect: what they ask for first, and the lines that they tell.
+-- Inspection commands: what they check first, and the lines that they print.
 use Rattle.std.proofs.Common.{◌≡◌, refl, sym, ◌∙◌, ap, subst, ℕ, Bool, true, false, not, List, [], ◌∷◌, ◌++◌, length, map, Option, Result, Ok, Err, inl, inr}
 use Rattle.cg_value.specs.declared.Val.{Val}
 use Rattle.cg_graph.specs.Object.{Object}
@@ -60,12 +60,12 @@ module _ (store : Store) (running : Bool) (locals : Option Locals) (operand : Op
           ∙ ap (λ q. q >>= (λ x. unless (not (is_collecting w)) in_collection >>= (λ _. Ok x))) (object-found store w s.represents any_object wrong_kind v o there)
           ∙ ap (λ b. unless (not b) in_collection >>= (λ _. Ok (object_from store.rows o there.node))) same
 
-      -- a collection is running
+      -- a collection is under way
       pub in_collection_now : running ≡ true → IsNotInspected store running locals operand InCollection
       unfolding ◌>>=◌
       in_collection_now on w s same = after_object w s same ∙ ap (λ b. unless (not b) in_collection >>= (λ _. Ok (object_from store.rows o there.node))) on
 
-      -- none is running
+      -- none is
       pub is_inspected : running ≡ false → IsInspected store running locals operand o
       unfolding ◌>>=◌
       is_inspected off = record {
@@ -75,7 +75,7 @@ module _ (store : Store) (running : Bool) (locals : Option Locals) (operand : Op
         is = λ w s same. after_object w s same ∙ ap (λ b. unless (not b) in_collection >>= (λ _. Ok (object_from store.rows o there.node))) off;
       }
 
-  -- what comes after that
+  -- what follows
   module _ (k : World → Object → Result Effect ℕ) where
     abbrev whole : World → Result Effect ℕ
     whole w = do
@@ -111,7 +111,7 @@ module _ (store : Store) (running : Bool) (locals : Option Locals) (operand : Op
       pub no_memory_for : ((w : World) → HeapAndLocalsStandFor store locals w → WantsMemory (k w (object_from store.rows o there.node))) → Inspects store running locals whole (Err OutOfMemory)
       no_memory_for wants w s same = (subst WantsMemory (sym (after_inspected w s same)) (wants w s), refl)
 
--- Memory may be wanted for a list,
+-- A list may allocate,
 pub lists_memory : (w : World) (line : ℕ → Event) (objects : List ℕ) → WantsMemory (lists w line objects)
 lists_memory w line objects = inl (record { lines = map line objects ++ Listed (length objects) ∷ []; given_up = []; after = w; is = refl })
 

@@ -1,4 +1,4 @@
--- What is under a key stands at a position.
+-- What is under a key has a position.
 use Rattle.std.proofs.Common.{◌≡◌, refl, ℕ, suc, Bool, true, false, cond, List, [], ◌∷◌, Some}
 use Rattle.std.specs.Prelude.{slice_get}
 use Rattle.cg_value.specs.declared.Val.{Val}

@@ -1,4 +1,4 @@
--- The numbers of objects and entries that the heap keeps are those of the world, and so are the limits.
+-- The numbers of objects and entries that the heap keeps are those of the world, so the limits agree.
 use Rattle.std.proofs.Common.{◌≡◌, ◌≢◌, refl, sym, ◌∙◌, ap, ℕ, ◌+◌, ◌<◌, ◌≤◌, Bool, true, false, not, cond, List, [], ◌∷◌, length, map, filter, Option, Some, None, Result, Ok, Err, inl, inr, arith, sum_by}
 use Rattle.std.specs.Prelude.{◌⊎◌, ◌==◌, if◌then◌else◌, nat_le, ◌↔◌}
 use Rattle.std.proofs.lemmas.Bool.Decides.{leb_tells}
@@ -65,7 +65,7 @@ entries-number store w r =
     known None = refl
     known (Some n) = refl
 
--- there is room for so many entries more, or there is not
+-- there is room for this many more entries, or there is not
 pub room : (store : Store) (w : World) → Represents store w → (n : ℕ) → entry_number store + n ≤ 4000000 → has_room w n ≡ Ok tt
 room store w r n fits = known (nat_le (entry_count w + n) MOST_ENTRIES) (leb_tells (entry_count w + n) MOST_ENTRIES)
   where
@@ -80,7 +80,7 @@ no_room store w r n full = known (nat_le (entry_count w + n) MOST_ENTRIES) (leb_
     known b (inl h) = absurd (omega (arith, h.1, full, entries-number store w r))
     known b (inr h) = ap (λ b. unless b entry_limit) h.0
 
--- The heap took one entry more: there was room for it.
+-- The heap accepted one more entry: there was room for it.
 pub one_fits : {X : Type 0} (store : Store) (x : X) → ((Ok x ≡ Err fault.EntryLimit) ↔ (4000000 ≤ entry_number store)) → entry_number store + 1 ≤ 4000000
 one_fits store x limit = known (leb_tells 4000000 (entry_number store))
   where

@@ -1,4 +1,4 @@
--- A weak reference gives its referent.
+-- Dereferencing a weak reference.
 use Rattle.std.proofs.Common.{◌≡◌, sym, subst, ℕ, Option, Some, None, Result}
 use Rattle.cg_value.specs.declared.Val.TheVariants as val
 use Rattle.cg_graph.specs.Rows.{referent_in}

@@ -1,4 +1,4 @@
--- Objects that are made and bound.
+-- Making and binding objects.
 use Rattle.std.proofs.Common.{◌≡◌, refl, sym, ◌∙◌, ap, subst, ℕ, suc, ◌+◌, ◌<◌, ◌≤◌, Bool, true, false, List, [], ◌∷◌, length, Option, Some, Result, Ok, Err, inl, inr, arith}
 use Rattle.std.specs.Prelude.{◌⊎◌, ◌↔◌, ◌==◌, slice_get, nat_lt}
 use Rattle.std.proofs.lemmas.Bool.Decides.{leb_tells}
@@ -33,7 +33,7 @@ use Rattle.cg_commands.proofs.BindingLemmas.{given-up_by, was_live}
 use Rattle.cg_commands.proofs.Limits.{room, no_room, live-number}
 use Rattle.cg_commands.proofs.NewObjects.{represents-new}
 
--- one object more may live, or not
+-- one more object may live, or not
 few : (store : Store) (w : World) → Represents store w → IsSound store → object_number store < 1000000 → unless (nat_lt (live w) MOST_OBJECTS) object_limit ≡ Ok tt
 few store w r sound fits = known (nat_lt (live w) MOST_OBJECTS) (leb_tells (suc (live w)) MOST_OBJECTS)
   where
@@ -108,7 +108,6 @@ module _ (store : Store) (sound : IsSound store) (locals : Option Locals) (name 
           known (inl h) = h.1
           known (inr h) = let no' = entries.1 (few_objects, h.1) in absurd (cc)
 
-  -- a refusal
   pub makes-refused : {X : Type 0} (f : HeapFault) (r : Result X HeapFault) → r ≡ Err f → ((r ≡ Err fault.ObjectLimit) ↔ (1000000 ≤ object_number store)) → ((r ≡ Err fault.EntryLimit) ↔ ((object_number store < 1000000) × (4000000 < entry_number store + length parts)))
       → (new : Store) → new ≡ store → PerformsOnHeap store locals (λ w. makes w name code class parts referent) new (Err (refusal_by f))
   unfolding ◌>>=◌
@@ -141,7 +140,7 @@ module _ (store : Store) (sound : IsSound store) (locals : Option Locals) (name 
           known (inl h) = h.1
           known (inr h) = let no' = sym is ∙ entries.1 (few_objects, h.1) in absurd (cc)
 
--- an object whose hold has been given up lives, and fewer holds are left
+-- an object whose hold was given up lives, and fewer holds are left
 pub new_live : (store new : Store) (o : ℕ) → 0 < outside_of store o → new ≡ unheld (o ∷ []) store → IsLiveValue new (val.Ref o)
 new_live store new o has is s e =
     let same : o ≡ s = cc in

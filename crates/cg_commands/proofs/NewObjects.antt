@@ -1,4 +1,4 @@
--- An object that the heap makes is the new object of the world.
+-- An object that the heap makes is the world's new object.
 use Rattle.std.proofs.Common.{◌≡◌, refl, sym, ◌∙◌, ap, subst, ℕ, ◌+◌, ◌<◌, Bool, true, false, not, ◌&&◌, cond, List, [], ◌∷◌, ◌++◌, map, filter, reverse, Option, Some, None, IsSome, arith}
 use Rattle.std.specs.Prelude.{◌==◌, find, option_map}
 use Rattle.std.specs.List.{All}
@@ -29,7 +29,7 @@ use Rattle.cg_machine.specs.World.{World}
 use Rattle.cg_machine.specs.Effects.{with_new}
 use Rattle.cg_machine.specs.Represents.{Represents, CollectionWaits}
 
--- a search in a list with one more at the end
+-- a search in a list with one more member at the end
 find-keeps : (p : Row → Bool) (rows : List Row) (x : Row) → p x ≡ false → find p (rows ++ x ∷ []) ≡ find p rows
 find-keeps p [] x no' = ap (λ b. cond b (Some x) None) no'
 find-keeps p (r ∷ rows) x no' = ap (cond (p r) (Some r)) (find-keeps p rows x no')
@@ -68,7 +68,7 @@ module _ (store : Store) (w : World) (r : Represents store w) (sound : IsSound s
     abbrev rows : List Row
     rows = with_new_row s referent store.rows
 
-    -- the object, before its outside hold is given up and after
+    -- the object, before and after its outside hold is given up
     abbrev made_store : Store
     made_store = attached s referent (made code class parts store)
 

@@ -1,4 +1,4 @@
--- The values of several operands, one after the other, and a callback.
+-- The values of several operands, and a callback.
 use Rattle.std.proofs.Common.{◌≡◌, refl, sym, ◌∙◌, ap, subst, ℕ, ◌+◌, ◌<◌, List, [], ◌∷◌, ◌++◌, map, Option, Some, Result, Ok, Err, inl, inr, arith, length-append}
 use Rattle.std.proofs.lemmas.Bool.{cases_eq}
 use Rattle.std.proofs.lemmas.List.Elements.{All-nil, All-cons}
@@ -83,7 +83,6 @@ module _ (store : Store) (locals : Option Locals) where
       (sym (ap (values w) is ∙ values-append w front (op ∷ rest) ∙ ap (λ q. q >>= (λ vs. values w (op ∷ rest) >>= (λ us. Ok (vs ++ us)))) (g.reads w s)))
       (declines_then r (values w (op ∷ rest)) (λ us. Ok (g.vals ++ us)) (declines_then r (value w op) (λ v. values w rest >>= (λ vs. Ok (v ∷ vs))) (refuses w s)))
 
-  -- a callback
   callback-is : (w : World) (v : Val) → (v ≡ val.None → ⊥) → callback_entries w v ≡ (object w is_function not_callable v >>= (λ f. Ok (item v ∷ [])))
   callback-is w val.None other = absurd (other refl)
   callback-is w (val.Int n) other = refl
@@ -103,7 +102,7 @@ module _ (store : Store) (locals : Option Locals) where
   pub callback-refused : (v : Val) (r : Refusal) → HasNoObject store is_function not_callable v r → (v ≡ val.None → ⊥) → IsRefused store locals (λ w. callback_entries w v) r
   callback-refused v r none other w s = subst (λ q. Declines r q) (sym (callback-is w v other)) (declines_then r (object w is_function not_callable v) (λ f. Ok (item v ∷ [])) (none w s.represents))
 
--- entries made of values are items
+-- entries made from values are items
 pub items-are : (vs : List Val) (parts : List Entry) → parts ≡ map item vs → AreItems parts
 items-are vs parts is = subst (λ ps. AreItems ps) (sym is) (each vs)
   where

@@ -104,7 +104,7 @@ module _ (store : Store) (sound : IsSound store) (locals : Option Locals) (test 
       untouched : tracked_if (becomes_tracked store o (val.Int z) value) o (with_put store o (val.Int z) value) ≡ with_put store o (val.Int z) value
       untouched = ap (λ b. tracked_if (b && (may_be_tracked store (val.Int z) || may_be_tracked store value)) o (with_put store o (val.Int z) value)) no_dict
 
-  -- and is there, so that nothing is refused
+  -- and is there, so nothing is refused
   pub sets-there : there.node.code ≡ kind.List → (z : ℤ) (i : ℕ) (e : Entry) → z ≡ pos i → slice_get (entries_of store o) i ≡ Some e → IsSome (value_in store o (val.Int z))
   sets-there list z i e at here = subst IsSome (sym ((λ j. value_under ((code-is ∙ list) j) (entries_of store o) (val.Int (at j))) ∙ ap (option_map (λ e. e.val)) here)) refl
 
@@ -178,7 +178,7 @@ module _ (store : Store) (sound : IsSound store) (locals : Option Locals) (test 
   abbrev puts_with : Option Val → World → Result Effect ℕ
   puts_with old w = (if is_some old then Ok tt else has_room w 1) >>= (λ _. Ok (Changes (is_none old) [] (references_of_value old) (changed_world w)))
 
-  -- refused for want of room or memory, where the key is new
+  -- refused for room or memory, if the key is new
   pub puts-refused : {X : Type 0} (f : HeapFault) (r : Result X HeapFault) → r ≡ Err f → ((r ≡ Err fault.EntryLimit) ↔ ((value_in store o key ≡ None) × (4000000 ≤ entry_number store))) → r ≢ Err fault.ObjectLimit → (IsSome (value_in store o key) → IsOk r) → (new : Store) → new ≡ store → PerformsOnHeap store locals (λ w. puts w (object_from store.rows o n) key value) new (Err (refusal_by f))
   puts-refused f r is limit objects present new same = subst (λ old. PerformsOnHeap store locals (λ w. puts_with old w) new (Err (refusal_by f))) (sym none ∙ under)
       (fault-refused store locals f [] [] changed_world r is (λ h. (limit.0 h).1, λ h. limit.1 (none, h)) objects new same)
@@ -243,7 +243,7 @@ module _ (store : Store) (sound : IsSound store) (locals : Option Locals) (test 
         one true y = refl
         one false y = refl
 
-    -- one change after another
+    -- two consecutive changes
     change-twice : (f g : Object → Object) → ((y : Object) → (g y).serial ≡ y.serial) → (xs : List Object) → change f o (change g o xs) ≡ change (λ y. f (g y)) o xs
     change-twice f g same [] = refl
     change-twice f g same (y ∷ ys) = (λ j. one (y.serial == o) refl j ∷ change-twice f g same ys j)
@@ -289,7 +289,7 @@ module _ (store : Store) (sound : IsSound store) (locals : Option Locals) (test 
             ∙ untracked_place n.place (place n.code was)
     moved-if false is = subst (λ os. Represents (held refs filled) (record before { objects = os })) (sym (change-none before.objects)) first
 
-    -- the two changes are the machine's one
+    -- the two changes are the machine's single one
     world-is : change (tracks now) o (change (with_entries es) o w.objects) ≡ change (λ y. tracked_by w key value (with_entries es y)) o w.objects
     world-is =
         change-twice (tracks now) (with_entries es) (λ y. refl) w.objects
@@ -308,7 +308,6 @@ module _ (store : Store) (sound : IsSound store) (locals : Option Locals) (test 
         subst (λ st. Represents st (push (Releasing refs) (changed_world w))) (sym (is ∙ ap (λ l. tracked_if now o (held refs (rewritten o l store))) after))
         (subst (λ os. Represents (tracked_if now o (held refs filled)) (record (push (Releasing refs) w) { objects = os })) world-is (moved-if now refl))
 
-  -- A key gets a value.
   pub puts-performs : (was : Option Val) (e : Entry) (new : Store) → new ≡ tracked_if (becomes_tracked store o key value) o (with_put store o key value) → was ≡ value_in store o key → entry_references e ≡ references_of_value was
       → ((Ok was ≡ Err fault.EntryLimit) ↔ ((value_in store o key ≡ None) × (4000000 ≤ entry_number store))) → PerformsOnHeap store locals (λ w. puts w (object_from store.rows o n) key value) new (Ok (Gives e))
   unfolding ◌>>=◌

@@ -1,4 +1,4 @@
--- Commands that change nothing: a line, a call, or the end of a frame.
+-- Commands that change nothing: they print a line, call, or end a frame.
 use Rattle.std.proofs.Common.{◌≡◌, refl, sym, ◌∙◌, ap, subst, ℕ, Bool, false, [], Option, Some, None, Ok}
 use Rattle.cg_value.specs.declared.Val.{Val}
 use Rattle.cg_value.specs.declared.Val.TheVariants as val
@@ -21,12 +21,11 @@ use Rattle.cg_commands.specs.Answers.{PerformsOnHeap}
 use Rattle.cg_commands.proofs.Bridges.{gives_nothing}
 
 module _ (store : Store) (locals : Option Locals) where
-  -- a line
   pub prints-performs : (line : Event) (done : Done) → done ≡ Changed (Some line) (item val.None) → PerformsOnHeap store locals (λ w. prints w line) store (Ok done)
   prints-performs line done is = subst (λ d. PerformsOnHeap store locals (λ w. prints w line) store (Ok d)) (sym is)
       (λ w s. gives_nothing (prints w line) (Some line) (item val.None) false w store store refl refl s.represents)
 
-  -- one that the world tells
+  -- a line known from the world
   pub prints-known : (line : World → Event) (here : Event) → ((w : World) → HeapAndLocalsStandFor store locals w → line w ≡ here) → (done : Done) → done ≡ Changed (Some here) (item val.None) → PerformsOnHeap store locals (λ w. prints w (line w)) store (Ok done)
   prints-known line here told done is = subst (λ d. PerformsOnHeap store locals (λ w. prints w (line w)) store (Ok d)) (sym is)
       (λ w s. gives_nothing (prints w (line w)) (Some here) (item val.None) false w store store (ap (prints w) (told w s)) refl s.represents)
@@ -37,11 +36,10 @@ module _ (store : Store) (locals : Option Locals) where
   pub prints-told : (line : Bool → Event) (question : Object → Bool) (v : Val) (b : Bool) → Tells store question v b → (done : Done) → done ≡ Changed (Some (line b)) (item val.None) → PerformsOnHeap store locals (λ w. prints w (line (elim (object_of w v) [ None ↦ false | Some x ↦ question x ]))) store (Ok done)
   prints-told line question v b told = prints-known (λ w. line (elim (object_of w v) [ None ↦ false | Some x ↦ question x ])) (line b) (λ w s. ap line (told w s.represents))
 
-  -- a call
   pub calls-performs : (f : ℕ) → PerformsOnHeap store locals (λ w. Ok (CallsEffect f)) store (Ok (Calls f))
   calls-performs f w s = (refl, refl)
 
-  -- the end of a frame, where the value is none
+  -- the end of a frame, if the value is none
   pub quits-performs : (v : Val) → v ≡ val.None → PerformsOnHeap store locals (λ w. Ok (elim v [ val.None ↦ QuitsEffect | _ ↦ Changes false [] [] w ])) store (Ok Quits)
   quits-performs v is w s = (ap (λ x. Ok (elim x [ val.None ↦ QuitsEffect | _ ↦ Changes false [] [] w ])) is, refl)
 

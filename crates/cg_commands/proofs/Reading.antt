@@ -1,4 +1,4 @@
--- What a heap tells of the world that it stands for: the values of operands, and the objects that values refer to.
+-- What a heap says of the world that it represents: the values of operands, and the objects that values refer to.
 use Rattle.std.proofs.Common.{◌≡◌, refl, sym, ◌∙◌, ap, subst, ℕ, ◌<◌, Bool, true, false, [], ◌∷◌, Option, Some, None, IsSome, Result, Ok, Err, arith}
 use Rattle.std.proofs.Common.{T, w64}
 use mir.Val.{to_z, of_z}
@@ -45,7 +45,7 @@ entries-in_world store w r o = ap (λ x. unwrap_or (option_map (λ x. x.entries)
     known None = refl
     known (Some n) = refl
 
--- what is asked of the frame on top is asked of its locals
+-- questions about the top frame are questions about its locals
 of_locals : {X : Type 0} (g : FrameSort → ℕ → Option ℕ → Option X) (f : Option Frame) (locals : Option Locals) → option_map locals_of f ≡ locals → option_and_then (λ f. g f.sort f.subject f.function) f ≡ option_and_then (λ l. g l.sort l.subject l.func) locals
 of_locals {X} g f locals is = known f ∙ ap (option_and_then (λ l. g l.sort l.subject l.func)) is
   where
@@ -105,7 +105,7 @@ object-found store w r test k v o there =
     ∙ ap (λ x. ok_or x k >>= tested test k) (object-at_node store w r o ∙ ap (option_map (object_from store.rows o)) there.found)
     ∙ ap (λ b. if b then Ok (object_from store.rows o there.node) else Err k) there.passes
 
--- a value that refers to no object, or to one that does not pass, is refused
+-- a value without an object, or with one that does not pass, is refused
 declined : {A : Type 0} (kind : Wanted) (r : Result A ℕ) → r ≡ Err (number_of (refusal_of kind)) → Declines (refusal_of kind) r
 declined wanted.Any r is = is
 declined wanted.List r is = is
@@ -127,7 +127,7 @@ pub object-none : (store : Store) (kind : Wanted) (v : Val) → ((o : ℕ) → v
 unfolding ◌>>=◌
 object-none store kind v none w r = declined kind _ (ap (λ x. ok_or (option_and_then (object_at w.objects) x) (number_of (refusal_of kind)) >>= tested (test_of kind) (number_of (refusal_of kind))) (no_reference v none))
 
--- the tests ask for the kind and the serial alone
+-- the tests use only the kind and the serial
 pub test-bare : (kind : Wanted) (x : Object) → test_of kind x ≡ test_of kind (bare x.code x.serial)
 test-bare wanted.Any x = refl
 test-bare wanted.List x = refl
@@ -166,6 +166,6 @@ object-other store kind o code live told fails w r = declined kind _ (known (fin
 pub refers_live : (store : Store) (test : Object → Bool) (v : Val) (o : ℕ) → RefersTo store test v o → IsLive store o
 refers_live store test v o there = subst IsSome (sym there.found) refl
 
--- a number of 64 bits is read back as it was written
+-- a number of 64 bits is read back unchanged
 pub read_back : (z : ℤ) → mag z < 9223372036854775808 → to_z w64 (of_z w64 z) ≡ z
 read_back z fits = to_z-of_z {w = w64} {z = z} (sfits_lit {w = w64} {z = z} (subst T (sym (lt-ltb (mag z) 9223372036854775808 fits)) tt))

@@ -1,4 +1,4 @@
--- What the merges of `freeze` and `unfreeze` are to the objects.
+-- The merges of `freeze` and `unfreeze`, in terms of objects.
 use Rattle.std.proofs.Common.{◌≡◌, ◌≢◌, refl, sym, ◌∙◌, ap, subst, ℕ, ◌+◌, ◌<◌, ◌⊎◌, inl, inr, Bool, true, false, [], length, map, Option, Some, None, arith}
 use Rattle.std.specs.Prelude.{◌==◌, if◌then◌else◌, option_map}
 use Rattle.std.proofs.lemmas.Bool.{ne_eqb, cases_eq}
@@ -38,7 +38,7 @@ module _ (p q : Place) (store : Store) where
 abbrev all_merged : Store → Store
 all_merged store = merged (Gen 2) Frozen (merged (Gen 1) Frozen (merged (Gen 0) Frozen store))
 
--- and their work on one node
+-- and what they do to one node
 abbrev iced : Node → Node
 iced n = place_merged (Gen 2) Frozen (place_merged (Gen 1) Frozen (place_merged (Gen 0) Frozen n))
 

@@ -1,4 +1,4 @@
--- The list of a place is as long as there are objects that stand there.
+-- The list of a place is as long as there are objects in it.
 use Rattle.std.proofs.Common.{◌≡◌, ◌≢◌, refl, sym, ◌∙◌, ap, ℕ, ◌+◌, ◌<◌, ◌⊎◌, inl, inr, Bool, true, false, cond, T, List, [], ◌∷◌, length, map, Option, Some, None, arith}
 use Rattle.std.specs.Prelude.{◌==◌, ◌&&◌, if◌then◌else◌, filter, option_map}
 use Rattle.std.specs.Ordering.{nat_cmp, is_lt, MatchOrdering}
@@ -19,7 +19,7 @@ use Rattle.cg_arena.specs.Nodes.{count_in_list}
 use Rattle.cg_heap.specs.Calls.{IsListed}
 use Rattle.cg_machine.proofs.Saving.{no_longer, count_cons}
 
--- two places are the same where their numbers are
+-- two places are equal if their numbers are
 same-number : (p q : Place) → same_place p q ≡ (place_number p == place_number q)
 same-number (Gen i) (Gen j) = go (cases_eq i j)
   where
@@ -60,14 +60,14 @@ apart x y h e = go (nat_cmp x y) (ranks x y) h
     go Greater above t = t
 
 module _ (rows : List Row) (p : Place) (o : ℕ) where
-  -- the serials of those that stand at the place
+  -- the serials of those in the place
   abbrev standing : List (ℕ × Node) → List ℕ
   standing es = serials (filter (is_at p) (map (λ e. object_from rows e.0 e.1) es))
 
   abbrev place_at : List (ℕ × Node) → Option Place
   place_at es = option_map (λ n. n.place) (fin.find nat_cmp o es)
 
-  -- one entry more, with another key
+  -- one more entry, with another key
   skipped : (e : ℕ × Node) (es : List (ℕ × Node)) → o ≢ e.0 → (occurrences o (standing (e ∷ es)) ≡ occurrences o (standing es)) × (fin.find nat_cmp o (e ∷ es) ≡ fin.find nat_cmp o es)
   skipped e es differs = (go (is_at p (object_from rows e.0 e.1)), ap (λ b. cond b (Some e.1) (fin.find nat_cmp o es)) (unsigned_tied o e.0 ∙ ne_eqb o e.0 differs))
     where

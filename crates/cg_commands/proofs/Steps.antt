@@ -1,4 +1,4 @@
--- What a command asks for after its operands, as the heap tells it: objects, indices, entries and keys.
+-- What a command reads after its operands, as the heap answers: objects, indices, entries and keys.
 use Rattle.std.proofs.Common.{◌≡◌, sym, ◌∙◌, ap, subst, ℕ, Bool, true, false, not, length, Option, Some, None, IsSome, Err}
 use Rattle.std.specs.Prelude.{slice_get, ok_or, ℤ, IfSome, option_map, option_and_then}
 use Rattle.std.specs.FinMap as fin
@@ -26,14 +26,12 @@ use Rattle.cg_commands.specs.Objects.{RefersTo, Tells, IsKey, test_of, bare}
 use Rattle.cg_commands.proofs.Reading.{object-at_node, object-found, no_reference}
 
 module _ (store : Store) (locals : Option Locals) (test : Object → Bool) (v : Val) (o : ℕ) (there : RefersTo store test v o) where
-  -- the object
   pub reads-object : (k : ℕ) → Reads store locals (λ w. object w test k v) (object_from store.rows o there.node)
   reads-object k w s = object-found store w s.represents test k v o there
 
   pub entries-here : entries_of store o ≡ there.node.entries
   entries-here = ap entries_in there.found
 
-  -- a position
   pub reads-index : (index arg : ℤ) → arg ≡ index → (i : ℕ) → valid_index arg (length (entries_of store o)) ≡ Some i → Reads store locals (λ w. ok_or (valid_index index (length there.node.entries)) no_index) i
   reads-index index arg same i at w s = ap (λ z. ok_or (valid_index z (length there.node.entries)) no_index) (sym same) ∙ ap (λ es. ok_or (valid_index arg (length es)) no_index) (sym entries-here) ∙ ap (λ x. ok_or x no_index) at
 
@@ -66,7 +64,7 @@ pub no-key : (store : Store) (test : Object → Bool) (k : ℕ) (v : Val) (o : �
 unfolding ◌>>=◌
 no-key store test k v o there key b is no' w r = ap (λ q. q >>= (λ x. unless (is_hashable w key) unhashable)) (object-found store w r test k v o there) ∙ ap (λ x. unless x unhashable) (is w r ∙ no')
 
--- what is asked of an object
+-- a question about an object
 pub tells-object : (store : Store) (question : Object → Bool) (o : ℕ) (b : Bool) → IsLive store o → IfSome (fin.get store.nodes o) (λ n. b ≡ question (object_from store.rows o n)) → Tells store question (val.Ref o) b
 tells-object store question o b live told w r =
     ap (λ x. elim x [ None ↦ false | Some x ↦ question x ]) (object-at_node store w r o)

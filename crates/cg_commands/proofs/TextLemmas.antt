@@ -1,4 +1,4 @@
--- What is true of all texts of a command is true of those of each operand.
+-- A property of all texts of a command holds of those of each operand.
 use Rattle.std.proofs.Common.{ℕ, zero, suc, ◌<◌, List, [], ◌∷◌, ◌++◌, length, get_or, arith}
 use Rattle.std.specs.Prelude.{flat_map}
 use Rattle.std.specs.List.{All}

@@ -1,4 +1,4 @@
--- What a command may answer, in every world that the heap and the policy stand for. (Ours.)
+-- What a command may answer, in every world that the heap and the policy represent. (Ours.)
 use Rattle.cg_value.specs.declared.Entry.{Entry}
 use Rattle.std.specs.Prelude.{◌≡◌, ℕ, ◌≤◌, ◌⊎◌, Bool, true, List, [], Option, option_to_list, Result, Ok, Err}
 use Rattle.cg_graph.specs.Store.{Store}
@@ -18,32 +18,32 @@ use Rattle.cg_commands.specs.Refusals.{number_of}
 use Rattle.cg_commands.specs.Stands.{HeapAndLocalsStandFor}
 use Rattle.cg_commands.specs.Reasons.{Explained}
 
--- The effect is a change for which memory may be wanted.
+-- The effect is a change that may allocate.
 pub record ChangesByMemory (effect : Result Effect ℕ) : Type 0 where
   pub lines : List Event
   pub given_up : List ℕ
   pub after : World
   pub is : effect ≡ Ok (Changes true lines given_up after)
 
--- No refusal holds, and memory may be wanted: for a change, or to find out why an object is alive.
+-- No refusal applies, and the effect may allocate: a change, or the search for why an object is alive.
 abbrev pub WantsMemory : Result Effect ℕ → Type 0
 WantsMemory effect = ChangesByMemory effect ⊎ ((object : ℕ) × (effect ≡ Ok (ExplainsEffect object)))
 
--- The refusal is the one that the machine gives. Want of memory comes only where memory may be wanted.
+-- The refusal is the machine's. Out of memory only if the effect may allocate.
 abbrev pub Refuses : Refusal → Result Effect ℕ → Type 0
 Refuses OutOfMemory effect = WantsMemory effect
 Refuses refusal effect = effect ≡ Err (number_of refusal)
 
--- The effect is a change with these lines, told one after the other, and these references to be given up; and the heap
--- stands for the world in which their release has been put on top.
+-- The effect is a change with these lines in order and these references to give up; and the heap represents the world
+-- with their release on top.
 pub record HasChanged (effect : Result Effect ℕ) (lines : List Event) (given_up : List ℕ) (new : Store) : Type 0 where
   pub wants_memory : Bool
   pub after : World
   pub is : effect ≡ Ok (Changes wants_memory lines given_up after)
   pub represents : Represents new (push (Releasing given_up) after)
 
--- What was done is the effect. All but a change leaves the heap. Lines are those of a change that changes nothing, or tell why
--- an object is alive.
+-- What was done is the effect. All but a change leaves the heap. Lines are those of an effect that changes nothing, or explain
+-- why an object is alive.
 abbrev pub IsDone : Done → Result Effect ℕ → Store → Store → Type 0
 IsDone (Changed line given_up) effect old new = HasChanged effect (option_to_list line) (entry_references given_up) new
 IsDone (Gives given_up) effect old new = HasChanged effect [] (entry_references given_up) new
@@ -57,28 +57,28 @@ abbrev pub AnswersOnHeap : Result Done Refusal → Result Effect ℕ → Store �
 AnswersOnHeap (Ok done) effect old new = IsDone done effect old new
 AnswersOnHeap (Err refusal) effect old new = Refuses refusal effect × (new ≡ old)
 
--- the policy of the world that a change leaves; what else is answered leaves the policy
+-- the policy of the world after a change; any other answer leaves the policy
 abbrev pub policy_after : Result Done Refusal → Result Effect ℕ → Policy → Policy
 policy_after (Ok (Changed line given_up)) (Ok (Changes wants_memory lines references after)) was = policy_of after
 policy_after (Ok (Gives given_up)) (Ok (Changes wants_memory lines references after)) was = policy_of after
 policy_after (Ok (Tells told)) (Ok (Changes wants_memory lines references after)) was = policy_of after
 policy_after answer effect was = was
 
--- What was answered is the effect, and heap and policy are as it leaves them.
+-- What was answered is the effect, with its heap and policy.
 pub record CommandAnswers (answer : Result Done Refusal) (effect : Result Effect ℕ) (old : Store) (was : Policy) (new : Store) (now : Policy) : Type 0 where
   pub heap : AnswersOnHeap answer effect old new
   pub policy : now ≡ policy_after answer effect was
 
--- The answer is that of the machine, in every world for which the heap, the policy and the locals stood before: the policy
--- had its numbers, and knew whether a collection was running in it.
+-- The answer is the machine's, in every world that the heap, the policy and the locals represented before: the policy had
+-- its numbers, and knew whether a collection was under way in it.
 abbrev pub Performs : Store → Policy → Option Locals → (World → Result Effect ℕ) → Store → Policy → Result Done Refusal → Type 0
 Performs old was locals effect new now answer = (w : World) → HeapAndLocalsStandFor old locals w → was ≡ policy_of w → CommandAnswers answer (effect w) old was new now
 
--- the same of a command that has no business with the policy, where the machine's numbers are left to the caller
+-- the same for a command that does not use the policy; the machine's numbers are left to the caller
 abbrev pub PerformsOnHeap : Store → Option Locals → (World → Result Effect ℕ) → Store → Result Done Refusal → Type 0
 PerformsOnHeap old locals effect new answer = (w : World) → HeapAndLocalsStandFor old locals w → AnswersOnHeap answer (effect w) old new
 
--- a change without a line, after which this entry is to be given up
+-- a change without a line that gives up this entry
 abbrev pub gives : Result Entry Refusal → Result Done Refusal
 gives (Ok given_up) = Ok (Gives given_up)
 gives (Err refusal) = Err refusal

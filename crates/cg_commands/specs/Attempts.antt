@@ -1,4 +1,4 @@
--- What the dispatcher answers, before it is asked how far the heap grew. (Ours.)
+-- What the dispatcher answers, apart from how far the heap grew. (Ours.)
 use Rattle.std.specs.Prelude.{◌≡◌, Bool, true, false, Option, OnOk, Result, Ok, Err}
 use Rattle.cg_script.specs.declared.Command.{Command}
 use Rattle.cg_script.specs.declared.Command.TheVariants.{Bind, Del, Append, SetItem, DelItem, Put, Remove, SetAttr, DelAttr, Item, Get, Attr, Deref}
@@ -12,7 +12,7 @@ use Rattle.cg_commands.specs.Answers.{Performs}
 use Rattle.cg_commands.specs.Controls.{IsControl, Leaves}
 use Rattle.cg_commands.specs.Growth.{makes_object}
 
--- the commands that change names or entries of what stands, and tell no line
+-- the commands that change names or entries of existing objects, and print no line
 abbrev pub only_changes : Command → Bool
 only_changes (Bind name value) = true
 only_changes (Del name) = true
@@ -29,12 +29,12 @@ only_changes (Attr name object attr) = true
 only_changes (Deref name weak) = true
 only_changes command = false
 
--- the policy once an object is counted, where it was made (`gc.set_threshold`)
+-- the policy after it counted an object, if one was made (`gc.set_threshold`)
 abbrev pub counted : Result Done Refusal → Policy → Policy
 counted (Ok done) policy = with_numbers (with_one_made policy.numbers) policy
 counted (Err refusal) policy = policy
 
--- It is the machine's effect, a command of the collector leaves what it must, and an object is made only where there is
+-- It is the machine's effect, a command of the collector leaves what it must, and an object is made only if there is
 -- room for it.
 pub record Attempts (old : Store) (was : Policy) (locals : Option Locals) (room : Bool) (command : Command) (new : Store) (now : Policy) (answer : Result Done Refusal) : Type 0 where
   pub performs : Performs old was locals (λ w. effect w command) new now answer

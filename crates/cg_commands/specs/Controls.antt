@@ -1,4 +1,4 @@
--- What the commands of the collector leave, whatever the world. (Ours; the generations of `gc.collect`.)
+-- What the commands of the collector leave alone, in any world. (Ours; the generations of `gc.collect`.)
 use Rattle.std.specs.Prelude.{◌≡◌, ℕ, ◌≤◌, ℤ, [], Some, None, Result, Ok, Err}
 use Rattle.cg_value.specs.declared.Entry.{Entry}
 use Rattle.cg_script.specs.declared.Command.{Command}
@@ -20,13 +20,13 @@ use Rattle.cg_commands.specs.Places.{KeepsAllButPlaces}
 abbrev pub IsControl : Command → Type 0
 IsControl command = IsForObjects command → ⊥
 
--- The number asks for a collection of this generation, 0 to 2, or names none and is refused. (`gc.collect`.)
+-- The number asks for a collection of this generation, 0 to 2, or is none of these and is refused. (`gc.collect`.)
 abbrev pub IsAsked : ℤ → Result Done Refusal → Type 0
 IsAsked number (Ok (Collects generation)) = (valid_index number 3 ≡ Some generation) × (generation ≤ 2)
 IsAsked number (Err BadGeneration) = valid_index number 3 ≡ None
 IsAsked number answer = ⊥
 
--- the command is a `collect` that asks so, and nothing has changed
+-- the command is a `collect` with this generation, and nothing has changed
 pub record HasAsked (old : Store) (was : Policy) (command : Command) (new : Store) (now : Policy) (answer : Result Done Refusal) : Type 0 where
   pub number : ℤ
   pub is : command ≡ Collect number
@@ -34,19 +34,19 @@ pub record HasAsked (old : Store) (was : Policy) (command : Command) (new : Stor
   pub store : new ≡ old
   pub policy : now ≡ was
 
--- an effect that changes objects and numbers alone
+-- an effect that changes only objects and numbers
 abbrev pub IsOfObjectsAndNumbers : World → Result Effect ℕ → Type 0
 IsOfObjectsAndNumbers w (Ok (Changes wants_memory lines given_up after)) = after ≡ record w { objects = after.objects; numbers = after.numbers }
 IsOfObjectsAndNumbers w effect = Unit {0}
 
--- Nothing changes but places and numbers, in the heap and in each world: the stack, with a running collection, is the same.
+-- Only places and numbers change, in the heap and in each world. The stack, with a collection under way, is the same.
 -- Nothing is given up.
 pub record ChangesPlaces (old : Store) (command : Command) (given_up : Entry) (new : Store) : Type 0 where
   pub heap : KeepsAllButPlaces old new
   pub world : (w : World) → IsOfObjectsAndNumbers w (effect w command)
   pub nothing : entry_references given_up ≡ []
 
--- A change is one of places and numbers alone, and what else is answered is so of a `collect`, and has changed nothing.
+-- A change is one of places and numbers only; any other answer is that of a `collect`, and has changed nothing.
 abbrev pub Leaves : Store → Policy → Command → Store → Policy → Result Done Refusal → Type 0
 Leaves old was command new now (Ok (Changed line given_up)) = ChangesPlaces old command given_up new
 Leaves old was command new now (Ok (Gives given_up)) = ChangesPlaces old command given_up new

@@ -1,4 +1,4 @@
--- How far a command lets a heap grow. (Ours.)
+-- How far a heap grows in a command. (Ours.)
 use Rattle.std.specs.Prelude.{◌≡◌, ◌+◌, ◌≤◌, Bool, true, false, if◌then◌else◌, length}
 use Rattle.cg_script.specs.declared.command.Command.{Command}
 use Rattle.cg_script.specs.declared.command.Command.TheVariants.{MakeList, MakeTuple, MakeDict, MakeInst, MakeFunc, MakeRef}
@@ -14,7 +14,7 @@ makes_object (MakeFunc name proc cells) = true
 makes_object (MakeRef name target callback) = true
 makes_object command = false
 
--- At most one more object lives where there is room for one, and no more where there is none. The names stay as many.
+-- At most one more object lives if there is room for one, and none more if there is not. The number of names stays.
 pub record GrowsBy (room : Bool) (old new : Store) : Type 0 where
   pub objects : length (objects_of new) ≤ length (objects_of old) + (if room then 1 else 0)
   pub names : length new.names ≡ length old.names

@@ -1,4 +1,4 @@
--- What the commands that inspect ask for before they look, and the lines of those that list. (Ours; `gc.get_referents`,
+-- What the inspection commands require first, and the lines of those that list objects. (Ours; `gc.get_referents`,
 -- `gc.get_referrers`.)
 use Rattle.std.specs.Prelude.{◌≡◌, ℕ, Bool, false, not, Option, Some, Result, Ok}
 use Rattle.std.specs.FinMap as fin
@@ -21,8 +21,8 @@ use Rattle.cg_commands.specs.Refusals.{Declines}
 use Rattle.cg_commands.specs.Stands.{HeapAndLocalsStandFor}
 use Rattle.cg_commands.specs.Answers.{AnswersOnHeap}
 
--- The answer is that of the machine, and the heap stays, in every world for which the heap and the locals stand and in which
--- a collection is running or not, as this says.
+-- The answer is the machine's, and the heap stays, in every world that the heap and the locals represent and in which a
+-- collection is under way or not, as this says.
 abbrev pub Inspects : Store → Bool → Option Locals → (World → Result Effect ℕ) → Result Done Refusal → Type 0
 Inspects store running locals effect answer = (w : World) → HeapAndLocalsStandFor store locals w → is_collecting w ≡ running → AnswersOnHeap answer (effect w) store store
 
@@ -34,7 +34,7 @@ inspected w operand = do
   _ ← unless (not (is_collecting w)) in_collection
   Ok x
 
--- In each such world the machine inspects this live object: no collection is running.
+-- In each such world the machine inspects this live object: no collection is under way.
 pub record IsInspected (store : Store) (running : Bool) (locals : Option Locals) (operand : Operand) (o : ℕ) : Type 0 where
   pub node : Node
   pub found : fin.get store.nodes o ≡ Some node

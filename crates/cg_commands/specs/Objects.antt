@@ -1,4 +1,4 @@
--- The objects that values refer to, and the kind that a command asks of them. (Ours.)
+-- The objects that values refer to, and the kinds that commands expect. (Ours.)
 use Rattle.std.specs.Prelude.{◌≡◌, ℕ, Bool, true, false, [], Some, None}
 use Rattle.std.specs.FinMap as fin
 use Rattle.cg_value.specs.declared.Val.{Val}
@@ -44,16 +44,16 @@ pub record RefersTo (store : Store) (test : Object → Bool) (v : Val) (o : ℕ)
   pub found : fin.get store.nodes o ≡ Some node
   pub passes : test (object_from store.rows o node) ≡ true
 
--- It refers to no object that passes: in every world for which the heap stands the machine gives this refusal.
+-- It refers to no object that passes: in every world that the heap represents, the machine gives this refusal.
 abbrev pub HasNoObject : Store → (Object → Bool) → ℕ → Val → Refusal → Type 0
 HasNoObject store test number v refusal = (w : World) → Represents store w → Declines refusal (object w test number v)
 
--- an object of which only the kind and the serial are known: the tests ask no more
+-- an object of which only the kind and the serial are known: the tests need no more
 abbrev pub bare : KindCode → ℕ → Object
 bare code o = record { serial = o; code = code; class = None; entries = []; place = Untracked; finalized = false; referent = None }
 
--- What a question answers of the object that a value refers to, in every world for which the heap stands; where it refers
--- to none, it answers no.
+-- The answer to a question about the object that a value refers to, in every world that the heap represents; it is no for
+-- a value without an object.
 abbrev pub Tells : Store → (Object → Bool) → Val → Bool → Type 0
 Tells store question v answer = (w : World) → Represents store w → elim (object_of w v) [ None ↦ false | Some x ↦ question x ] ≡ answer
 
@@ -61,6 +61,6 @@ Tells store question v answer = (w : World) → Represents store w → elim (obj
 abbrev pub IsKey : Store → Val → Bool → Type 0
 IsKey store v answer = (w : World) → Represents store w → is_hashable w v ≡ answer
 
--- Why a value with a key is refused, in every such world: it refers to no dictionary, or else the key may not be one.
+-- Why a value with a key is refused, in every such world: it refers to no dictionary, or else the key is not allowed.
 abbrev pub DeclinesKey : Store → Val → Val → Refusal → Type 0
 DeclinesKey store v key refusal = (w : World) → Represents store w → Declines refusal (object w is_dict wrong_kind v >>= (λ x. unless (is_hashable w key) unhashable))

@@ -11,11 +11,11 @@ use Rattle.cg_machine.specs.Effects.{callback_entries}
 use Rattle.cg_commands.specs.declared.locals.Locals.{Locals}
 use Rattle.cg_commands.specs.Stands.{Reads}
 
--- what they hold lives
+-- the objects in them live
 abbrev pub AreLive : Store → List Entry → Type 0
 AreLive store parts = (s : ℕ) → 0 < occurrences s (references parts) → IsLive store s
 
--- The operands have values, in every world that the heap and the locals stand for, and these are their items.
+-- The operands have values, in every world that the heap and the locals represent, and these are their items.
 pub record Gathers (store : Store) (locals : Option Locals) (operands : List Operand) (parts : List Entry) : Type 0 where
   pub vals : List Val
   pub reads : Reads store locals (λ w. values w operands) vals

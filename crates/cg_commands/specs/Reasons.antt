@@ -1,4 +1,4 @@
--- Why an object is alive, in lines, as the heap tells it. (Ours.)
+-- The lines that explain why an object is alive. (Ours.)
 use Rattle.std.specs.Prelude.{◌≡◌, ℕ, List, [], ◌∷◌, Result, Ok}
 use Rattle.cg_graph.specs.Store.{Store}
 use Rattle.cg_inspect.specs.declared.reason.Why.{Why}
@@ -14,8 +14,7 @@ abbrev pub reason_lines : Why → List Event
 reason_lines (reason.Path path) = path_lines path.items
 reason_lines reason.Unreachable = Unreachable ∷ []
 
--- The effect explains why an object is alive, and these lines tell it: a shortest path, or that there is
--- none.
+-- The effect explains why an object is alive, with these lines: a shortest path, or that there is none.
 pub record Explained (effect : Result Effect ℕ) (store : Store) (lines : List Event) : Type 0 where
   pub object : ℕ
   pub is : effect ≡ Ok (Explains object)

@@ -1,4 +1,4 @@
--- Refusals by the numbers of the machine, and what a refusal says. (Ours.)
+-- Refusals by the numbers of the machine, and what a refusal means. (Ours.)
 use Rattle.std.specs.Prelude.{◌≡◌, ℕ, Result, Err}
 use Rattle.cg_machine.specs.Refusals.{no_name, wrong_kind, no_index, no_key, no_attribute, not_weak, not_callable, bad_generation, unhashable, no_memory, object_limit, entry_limit, in_collection}
 use Rattle.cg_heap.specs.declared.fault.HeapFault.{HeapFault}
@@ -22,13 +22,13 @@ number_of ObjectLimit = object_limit
 number_of EntryLimit = entry_limit
 number_of InCollection = in_collection
 
--- the refusal that a fault of the heap is
+-- the refusal for a fault of the heap
 abbrev pub refusal_by : HeapFault → Refusal
 refusal_by fault.ObjectLimit = ObjectLimit
 refusal_by fault.EntryLimit = EntryLimit
 refusal_by fault.OutOfMemory = OutOfMemory
 
--- The machine gives this refusal. It never refuses for memory, which no rule ties to anything.
+-- The machine gives this refusal. It never refuses for memory; no rule says when memory runs out.
 abbrev pub Declines : {A : Type 0} → Refusal → Result A ℕ → Type 0
 Declines OutOfMemory r = ⊥
 Declines refusal r = r ≡ Err (number_of refusal)

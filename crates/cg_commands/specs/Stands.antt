@@ -1,4 +1,4 @@
--- The worlds of the machine that a heap and the locals of a frame stand for. (Ours.)
+-- The worlds of the machine that a heap and the locals of a frame represent. (Ours.)
 use Rattle.std.specs.Prelude.{◌≡◌, ℕ, Option, IfSome, option_map, Result, Ok}
 use Rattle.cg_graph.specs.Store.{Store, IsLive}
 use Rattle.cg_machine.specs.World.{World, Frame}
@@ -14,7 +14,7 @@ use Rattle.cg_commands.specs.Refusals.{Declines}
 abbrev pub locals_of : Frame → Locals
 locals_of f = record { sort = f.sort; subject = f.subject; func = f.function }
 
--- the frame on top of the world has these locals, or no frame is on top
+-- the top frame of the world has these locals, or no frame is on top
 abbrev pub HasLocals : Option Locals → World → Type 0
 HasLocals locals w = option_map locals_of (frame_on w.stack) ≡ locals
 
@@ -22,7 +22,7 @@ HasLocals locals w = option_map locals_of (frame_on w.stack) ≡ locals
 abbrev pub LocalsLive : Store → Option Locals → Type 0
 LocalsLive store locals = IfSome locals (λ l. IsLive store l.subject × IfSome l.func (λ f. IsLive store f))
 
--- The heap stands for the world, and the locals are those of its frame on top.
+-- The heap represents the world, and the locals are those of its top frame.
 pub record HeapAndLocalsStandFor (store : Store) (locals : Option Locals) (w : World) : Type 0 where
   pub represents : Represents store w
   pub locals_are : HasLocals locals w

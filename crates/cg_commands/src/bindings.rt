@@ -1,4 +1,4 @@
-//! `x = v` and `del x`. Each answers the entry that is then to be given up.
+//! `x = v` and `del x`. Each answers the entry to give up next.
 ghost use Rattle.std.specs.Prelude.{◌≡◌, ◌<◌, ◌∷◌, [], length, Some};
 ghost use Rattle.std.specs.List.{All};
 ghost use Rattle.cg_graph.specs.Value.{references_of_value, entry_references};
@@ -53,7 +53,7 @@ pub(crate) fn unbind<B: Kind>(
     }
 }
 
-/// Binds a name to a value. What it had is to be given up.
+/// Binds a name to a value. Its old value is to be given up.
 #[inline(always)]
 pub(crate) fn bind_to<B: Kind>(
     heap: &mut Heap<B>,
@@ -71,7 +71,7 @@ pub(crate) fn bind_to<B: Kind>(
     Ok(given_up(old))
 }
 
-/// An entry with the reference of a value, if there is one.
+/// An entry with the reference of a value, if any.
 #[inline(always)]
 pub(crate) fn given_up(val: Option<Val>) -> Entry
     ensures { entry_references result ≡ references_of_value val }

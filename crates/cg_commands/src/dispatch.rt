@@ -33,15 +33,15 @@ use cg_value::Entry;
 use std::alloc::Global;
 
 /// Does a command: what the machine's definition of effects says, in every world that the heap, the policy and the locals
-/// stand for. `locals` are those of the frame on top, if one is. The policy counts an object that is made. `room` says
-/// whether there is room for one more object: where there is none, the heap has no more objects after it than before.
+/// represent. `locals` are those of the top frame, if any. The policy counts a new object. `room` says whether there is
+/// room for one more object; if not, the heap has at most as many objects afterwards.
 ///
-/// A refusal has changed nothing. `OutOfMemory` comes only where the effect may want memory and no other refusal holds.
-/// A command of the collector takes no memory, gives up nothing, and changes places and numbers alone, or nothing where it
-/// asks for a collection. The memory of lines is taken from `alloc`.
+/// A refusal changes nothing. `OutOfMemory` only if the effect may allocate and no other refusal applies. A command of the
+/// collector allocates nothing, gives up nothing, and changes only places and numbers, or nothing if it asks for a
+/// collection. The lines are allocated from `alloc`.
 ///
-/// The command is one of a script that some bytes spell, the objects among the locals live, and fewer than 2^63 objects
-/// have been made. Where no collection is running, nothing stands in the places that collections use.
+/// The command comes from a script that some bytes spell, the objects among the locals live, and fewer than 2^63 objects
+/// have been made. If no collection is under way, the places that collections use are empty.
 #[inline(always)]
 pub fn perform<B: Kind>(
     alloc: Global,
@@ -68,10 +68,10 @@ pub fn perform<B: Kind>(
     }
 }
 
-/// Does a command that does more than change; it makes an object only where there is room for it.
+/// Does a command that is more than a change. It makes an object only if there is room for it.
 ///
-/// Each command stands in a call of its own that is not inlined, and those that make something or tell the collector something
-/// in one for all of them: the frame of this one would else have the locals of all, and clear them for each command.
+/// Each command has a call of its own that is not inlined; those that make something, or are for the collector, share one
+/// call. Otherwise this function's frame would have the locals of all commands, and clear them each time.
 #[inline(always)]
 fn attempt_other<B: Kind>(
     alloc: Global,
@@ -119,8 +119,8 @@ fn attempt_other<B: Kind>(
     }
 }
 
-/// `perform` for a command that changes names or entries and prints no line. It answers the entry to give up,
-/// which is small to move; most commands are of this sort.
+/// `perform` for a command that changes names or entries and prints no line. Most commands are of this sort.
+/// It answers the entry to give up, which is cheap to move.
 #[inline(always)]
 pub fn change<B: Kind>(
     heap: &mut Heap<B>,
@@ -137,7 +137,7 @@ pub fn change<B: Kind>(
     attempt_change(heap, locals, command)
 }
 
-/// Does a command that only changes.
+/// Does a command that is only a change.
 #[inline(always)]
 fn attempt_change<B: Kind>(
     heap: &mut Heap<B>,
@@ -193,7 +193,7 @@ pub fn gives(changed: Result<Entry, Refusal>) -> Result<Done, Refusal>
     }
 }
 
-/// Does a command that makes an object, where there is room for it, and counts the object.
+/// Does a command that makes an object, if there is room for it, and counts the object.
 #[inline(never)]
 fn make<B: Kind>(
     heap: &mut Heap<B>,
@@ -291,7 +291,7 @@ fn control<B: Kind>(
     }
 }
 
-/// Counts an object, where one was made.
+/// Counts an object, if one was made.
 fn count(policy: &mut Policy, made: Result<Done, Refusal>) -> Result<Done, Refusal>
     requires { IsBounded (with_one_made policy.old.numbers) }
     ensures same { result ≡ made }
@@ -303,7 +303,7 @@ fn count(policy: &mut Policy, made: Result<Done, Refusal>) -> Result<Done, Refus
     made
 }
 
-// Its type says that it is a number of 64 bits.
+// By its type it is a number of 64 bits.
 fn number(index: &i64) -> i64
     ensures { result ≡ index.now }
 {
@@ -325,7 +325,7 @@ pub fn makes_object(command: &Command) -> bool
     )
 }
 
-/// Whether a command only changes names or entries, and prints no line.
+/// Whether a command is only a change of names or entries, without a line.
 #[inline(always)]
 pub fn only_changes(command: &Command) -> bool
     ensures { result ≡ only_changes command.now }

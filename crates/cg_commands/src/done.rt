@@ -10,35 +10,35 @@ use cg_heap::HeapFault;
 use cg_machine::Event;
 use cg_value::{Entry, Val};
 
-/// What a command did, and what is to follow.
+/// What a command did, and what follows.
 #[derive(Debug, Drop)]
 pub enum Done {
-    /// It changed what it had to, and perhaps a line is due. The references of the entry are outside holds, which are now
-    /// to be given up: the one in the value, and then the one in the key.
+    /// It made its change, and perhaps prints a line. The references of the entry are outside holds to give up next: the
+    /// one in the value, then the one in the key.
     Changed {
         line: Option<Event>,
         given_up: Entry,
     },
-    /// It changed what it had to, and no line is due. The references of the entry are outside holds, which are now to be given
-    /// up: the one in the value, and then the one in the key.
+    /// It made its change, without a line. The references of the entry are outside holds to give up next: the one in the
+    /// value, then the one in the key.
     Gives(Entry),
     /// A frame of this function's procedure is to start. The function is not held from outside yet.
     Calls(u64),
-    /// A collection of this generation, 0 to 2, is asked for. Nothing has changed: where a collection is running, none
-    /// starts, and the answer is a line of its own, by the machine's step.
+    /// It asks for a collection of this generation, 0 to 2. Nothing has changed. If a collection is under way, none
+    /// starts; the machine's step then prints its own line.
     Collects(u8),
-    /// The frame on top is to end, or the script.
+    /// The top frame is to end, or the script.
     Quits,
-    /// It tells these lines, one after the other. Nothing has changed, and nothing is to be given up.
+    /// It prints these lines in order. Nothing has changed, and nothing is to be given up.
     Tells(Lines),
 }
 
-/// Why a command is refused. It has changed nothing then.
+/// Why a command is refused. It has changed nothing.
 #[derive(Clone, Copy, Debug, PartialEq, Eq, Drop)]
 pub enum Refusal {
-    /// An operand is an unbound name, or a local that the frame does not have.
+    /// An operand is an unbound name, or a local that the frame lacks.
     NoName,
-    /// The object is not of the kind that the command asks.
+    /// The object is not of the kind that the command expects.
     WrongKind,
     /// The index is below 0 or not below the length.
     NoIndex,
@@ -50,7 +50,7 @@ pub enum Refusal {
     NotWeak,
     /// The value is not a function.
     NotCallable,
-    /// The number of a `collect` is none of 0, 1 and 2.
+    /// The number of a `collect` is not 0, 1 or 2.
     BadGeneration,
     /// The key is a list, a tuple, a dictionary or a weak reference.
     Unhashable,
@@ -60,7 +60,7 @@ pub enum Refusal {
     ObjectLimit,
     /// The entries would pass 4,000,000.
     EntryLimit,
-    /// A collection is running, and the command tells of objects that it may be about to free.
+    /// A collection is under way, and the command would report objects that it may be about to free.
     InCollection,
 }
 
@@ -87,7 +87,7 @@ impl Refusal {
     }
 }
 
-/// A change after which nothing is to be given up, with this line, if one is due.
+/// A change with nothing to give up, and with this line, if any.
 #[inline(always)]
 pub(crate) fn told(line: Option<Event>) -> Done
     ensures { result ≡ done.Changed line (item val_of.None) }

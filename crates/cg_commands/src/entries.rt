@@ -1,4 +1,4 @@
-//! Entries that come, go, and change. Each command answers the entry that is then to be given up.
+//! Adding, removing and changing entries. Each command answers the entry to give up next.
 ghost use Rattle.std.specs.Prelude.{◌≡◌, ◌<◌, ◌∷◌, ◌++◌, [], Some, length};
 ghost use Rattle.std.specs.List.{All};
 ghost use Rattle.cg_graph.specs.Value.{references_of_value, entry_references};
@@ -20,7 +20,7 @@ use cg_kind::Kind;
 use cg_script::Operand;
 use cg_value::{Entry, KindCode, Val};
 
-/// `append L v`: the value goes last.
+/// `append L v`: appends the value.
 #[tactic(auto, using(crate::proofs::Reading::refers_live))]
 #[inline(never)]
 pub(crate) fn append<B: Kind>(
@@ -44,7 +44,7 @@ pub(crate) fn append<B: Kind>(
     }
 }
 
-/// `setitem L i v`: an item is replaced, and what it was is to be given up.
+/// `setitem L i v`: replaces an item; the old one is to be given up.
 #[tactic(auto, using(crate::proofs::Reading::refers_live))]
 #[inline(never)]
 pub(crate) fn set_item<B: Kind>(
@@ -73,7 +73,7 @@ pub(crate) fn set_item<B: Kind>(
     }
 }
 
-/// `delitem L i`: an item is taken out, also of the garbage list.
+/// `delitem L i`: removes an item, also of the garbage list.
 #[tactic(auto, using(crate::proofs::Reading::refers_live))]
 #[inline(never)]
 pub(crate) fn del_item<B: Kind>(
@@ -96,7 +96,7 @@ pub(crate) fn del_item<B: Kind>(
     Ok(entry)
 }
 
-/// `put D K v`: the key gets the value, and what it had is to be given up.
+/// `put D K v`: sets the value under the key; the old value is to be given up.
 #[tactic(auto, using(crate::proofs::Reading::refers_live))]
 #[inline(never)]
 pub(crate) fn put<B: Kind>(
@@ -126,7 +126,7 @@ pub(crate) fn put<B: Kind>(
     }
 }
 
-/// `drop D K`: the entry of the key is taken out.
+/// `drop D K`: removes the entry of the key.
 #[tactic(auto, using(crate::proofs::Reading::refers_live))]
 #[inline(never)]
 pub(crate) fn remove<B: Kind>(
@@ -152,7 +152,7 @@ pub(crate) fn remove<B: Kind>(
     }
 }
 
-/// `setattr O n v`: the attribute gets the value, and what it had is to be given up.
+/// `setattr O n v`: sets the attribute; the old value is to be given up.
 #[tactic(auto, using(crate::proofs::Reading::refers_live))]
 #[inline(never)]
 pub(crate) fn set_attr<B: Kind>(
@@ -180,7 +180,7 @@ pub(crate) fn set_attr<B: Kind>(
     }
 }
 
-/// `delattr O n`: the attribute is taken out.
+/// `delattr O n`: removes the attribute.
 #[tactic(auto, using(crate::proofs::Reading::refers_live))]
 #[inline(never)]
 pub(crate) fn del_attr<B: Kind>(
@@ -205,7 +205,7 @@ pub(crate) fn del_attr<B: Kind>(
     }
 }
 
-/// An entry with the references of this one. Only references have to be given up.
+/// An entry with the references of this one; only references have to be given up.
 #[inline(always)]
 fn references_of(entry: Entry) -> Entry
     ensures { entry_references result ≡ entry_references entry }

@@ -33,7 +33,7 @@ pub(crate) fn call<B: Kind>(
     Ok(Done::Calls(target))
 }
 
-/// `quit v`: where the value is none, the frame is to end, or the script.
+/// `quit v`: if the value is none, the frame ends, or the script.
 #[inline(never)]
 pub(crate) fn quit<B: Kind>(
     heap: &Heap<B>,

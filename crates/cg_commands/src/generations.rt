@@ -1,4 +1,4 @@
-//! The generations as the commands of the collector see them: `freeze`, `unfreeze`, `gens`, `count` and `collect`.
+//! The commands on generations: `freeze`, `unfreeze`, `gens`, `count` and `collect`.
 ghost use Rattle.std.specs.Prelude.{◌≡◌};
 ghost use Rattle.cg_graph.specs.Store.{objects_of};
 ghost use Rattle.cg_machine.specs.declared.event.Event.TheVariants as event;
@@ -13,7 +13,7 @@ use cg_machine::Event;
 use cg_policy::Policy;
 use cg_value::Place;
 
-/// The objects of the generations go to the permanent one. (`gc.freeze`.)
+/// Moves the objects of the generations to the permanent one. (`gc.freeze`.)
 pub(crate) fn freeze<B: Kind>(heap: &mut Heap<B>)
     ensures { Replaces frozen heap.old heap.new }
 {
@@ -23,7 +23,7 @@ pub(crate) fn freeze<B: Kind>(heap: &mut Heap<B>)
     heap.merge(Place::Gen(2), Place::Frozen);
 }
 
-/// The objects of the permanent generation go to generation 2. (`gc.unfreeze`.)
+/// Moves the objects of the permanent generation to generation 2. (`gc.unfreeze`.)
 pub(crate) fn unfreeze<B: Kind>(heap: &mut Heap<B>)
     ensures { Replaces unfrozen heap.old heap.new }
 {
@@ -56,7 +56,7 @@ pub(crate) fn counts(policy: &Policy) -> Event
     }
 }
 
-/// A collection of the generation that a `collect` names. (`gc.collect`: the number is 0 to 2.)
+/// A collection of the generation in a `collect`. (`gc.collect`: the number is 0 to 2.)
 pub(crate) fn collect(generation: i64) -> Result<Done, Refusal>
     ensures { IsAsked generation result }
 {

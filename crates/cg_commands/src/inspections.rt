@@ -1,5 +1,5 @@
-//! What tells of objects, in several lines, and changes nothing: what an object refers to, what refers to it, and why it is
-//! alive. Each is refused while a collection is running.
+//! Inspections of objects that print several lines and change nothing: what an object refers to, what refers to it, and why
+//! it is alive. Each is refused while a collection is under way.
 ghost use Rattle.std.specs.Prelude.{◌≡◌, ◌<◌, ◌++◌, ◌∷◌, [], false, IfOk, IfErr, filter, length, map};
 ghost use Rattle.std.specs.List.{All};
 ghost use Rattle.cg_script.specs.Texts.{operand_texts};
@@ -28,7 +28,7 @@ use std::alloc::{AllocError, Global};
 use std::marker::Brand;
 use std::sync::ledger::{Blank, Ledger};
 
-/// `referents v`: the objects to which the entries of an object refer.
+/// `referents v`: the objects that an object refers to.
 #[inline(never)]
 pub(crate) fn referents<B: Kind>(
     alloc: Global,
@@ -52,7 +52,7 @@ pub(crate) fn referents<B: Kind>(
     Ok(Done::Tells(lines))
 }
 
-/// `referrers v`: the objects whose entries refer to an object.
+/// `referrers v`: the objects that refer to an object.
 #[inline(never)]
 pub(crate) fn referrers<B: Kind>(
     alloc: Global,
@@ -76,7 +76,7 @@ pub(crate) fn referrers<B: Kind>(
     Ok(Done::Tells(lines))
 }
 
-/// `why x`: a shortest path of holders to an object, but for one name that holds it.
+/// `why x`: a shortest path of holders to an object, apart from one name that holds it.
 #[inline(never)]
 pub(crate) fn why<B: Kind>(
     alloc: Global,
@@ -100,7 +100,7 @@ pub(crate) fn why<B: Kind>(
     Ok(Done::Tells(lines))
 }
 
-/// What an object refers to. Contracts alone count the looks, by a counter of its own.
+/// What an object refers to. The counter is its own: only contracts count the looks.
 fn referents_of<B: Kind, L: Ledger>(
     alloc: Global,
     heap: &Heap<B>,
@@ -151,7 +151,7 @@ fn reason_of<B: Kind, L: Ledger>(
     cg_inspect::why(alloc, heap, object, &mut steps)
 }
 
-/// The object that the operand refers to. Any is refused while a collection is running.
+/// The object that the operand refers to. Refuses any while a collection is under way.
 fn inspected<B: Kind>(
     heap: &Heap<B>,
     running: bool,
@@ -171,7 +171,7 @@ fn inspected<B: Kind>(
     Ok(target)
 }
 
-/// Which objects a list tells.
+/// Which objects a list contains.
 #[derive(Clone, Copy, Debug, PartialEq, Eq, Drop)]
 enum Listed {
     Referents,
@@ -190,7 +190,7 @@ impl Listed {
     }
 }
 
-/// A line for each object, and then how many they are.
+/// A line for each object, then their number.
 fn listing(alloc: Global, objects: &[u64], listed: Listed) -> Result<Lines, AllocError>
     ensures { IfOk result (λ lines. lines ≡ map (line_of listed) objects.now ++ event.Listed (length objects.now) ∷ []) }
 {
@@ -212,7 +212,7 @@ pub(crate) fn explanation(alloc: Global, reason: &Why) -> Result<Lines, AllocErr
     }
 }
 
-/// That no path leads to the object.
+/// The line that no path leads to the object.
 fn unreachable_line(alloc: Global) -> Result<Lines, AllocError>
     ensures { IfOk result (λ lines. lines ≡ event.Unreachable ∷ []) }
 {
@@ -221,7 +221,7 @@ fn unreachable_line(alloc: Global) -> Result<Lines, AllocError>
     Ok(Lines::new(events))
 }
 
-/// The objects of a path: the first is held by a root, and each next by the one before.
+/// The lines of a path: a root holds the first object, and each object holds the next.
 fn path_lines(alloc: Global, path: &[u64]) -> Result<Lines, AllocError>
     ensures { IfOk result (λ lines. lines ≡ path_lines path.now) }
 {

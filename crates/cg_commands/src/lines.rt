@@ -1,10 +1,10 @@
-//! The lines that a command tells.
+//! The lines that a command prints.
 ghost use Rattle.std.specs.Prelude.{◌≡◌};
 
 use cg_machine::Event;
 use std::marker::Model;
 
-/// Several lines, in the order in which they are told.
+/// Several lines, in the order in which they are printed.
 #[derive(Debug, Drop)]
 pub struct Lines {
     events: Vec<Event>,
@@ -20,14 +20,12 @@ impl Model for Lines {
 }
 
 impl Lines {
-    /// These lines.
     pub(crate) fn new(events: Vec<Event>) -> Lines
         ensures { result ≡ events.items }
     {
         Lines { events }
     }
 
-    /// The lines.
     pub fn as_slice(&self) -> &[Event]
         ensures { result.now ≡ self.now }
     {

@@ -8,6 +8,6 @@ pub struct Locals {
     pub sort: FrameSort,
     /// The object whose finalizer runs, the weak reference whose callback runs, or the function that was called.
     pub subject: u64,
-    /// The function whose cells the frame has; none exactly for finalizers and legacy finalizers.
+    /// The function whose cells the frame sees. `None` exactly for finalizers and legacy finalizers.
     pub func: Option<u64>,
 }

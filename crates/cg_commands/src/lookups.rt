@@ -1,4 +1,4 @@
-//! Names that are bound to what an object holds. Each command answers the entry that is then to be given up.
+//! Commands that bind a name to what an object holds. Each answers the entry to give up next.
 ghost use Rattle.std.specs.Prelude.{◌≡◌, ◌<◌, ◌∷◌, ◌++◌, [], true, IfOk, IfErr, OnOk, length, slice_get, Some, None};
 ghost use Rattle.std.specs.List.{All};
 ghost use Rattle.cg_value.specs.declared.Val.TheVariants as val_of;
@@ -23,7 +23,7 @@ use cg_kind::Kind;
 use cg_script::Operand;
 use cg_value::{Entry, KindCode, Val};
 
-/// `x = item L i`: the name is bound to an item of a list or a tuple.
+/// `x = item L i`: binds the name to an item of a list or a tuple.
 #[tactic(auto, using(crate::proofs::Reading::refers_live))]
 #[inline(never)]
 pub(crate) fn item<B: Kind>(
@@ -46,7 +46,7 @@ pub(crate) fn item<B: Kind>(
     bind_to(heap, locals, name, found.entry.val)
 }
 
-/// `x = get D K`: the name is bound to the value under a key of a dictionary.
+/// `x = get D K`: binds the name to the value under a key of a dictionary.
 #[tactic(auto, using(crate::proofs::Reading::refers_live))]
 #[inline(never)]
 pub(crate) fn get<B: Kind>(
@@ -73,7 +73,7 @@ pub(crate) fn get<B: Kind>(
     }
 }
 
-/// `x = attr O n`: the name is bound to an attribute of an instance.
+/// `x = attr O n`: binds the name to an attribute of an instance.
 #[tactic(auto, using(crate::proofs::Reading::refers_live))]
 #[inline(never)]
 pub(crate) fn attr<B: Kind>(
@@ -99,7 +99,7 @@ pub(crate) fn attr<B: Kind>(
     }
 }
 
-/// `x = deref w`: the name is bound to the referent, or to none where there is none or the callback waits.
+/// `x = deref w`: binds the name to the referent, or to none if there is none or the callback waits.
 #[tactic(auto, using(crate::proofs::Reading::refers_live))]
 #[inline(never)]
 pub(crate) fn deref<B: Kind>(
@@ -123,7 +123,7 @@ pub(crate) fn deref<B: Kind>(
     }
 }
 
-/// An entry, and where it stands.
+/// An entry, and its position.
 #[derive(Clone, Copy)]
 struct Found {
     at: usize,
@@ -174,8 +174,8 @@ pub(crate) fn index_in<B: Kind>(
     }
 }
 
-/// The object that a value refers to, if the key is allowed. If it is not, the value is refused first where
-/// it is no dictionary.
+/// The object that a value refers to, if the key is allowed. With a bad key, a value that is no dictionary is
+/// refused first.
 #[inline(always)]
 pub(crate) fn target_under_key<B: Kind>(heap: &Heap<B>, val: Val, key: Val) -> Result<u64, Refusal>
     requires val { IsLiveValue heap.now val }

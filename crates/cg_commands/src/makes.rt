@@ -1,4 +1,4 @@
-//! Objects that are made.
+//! Commands that make objects.
 ghost use Rattle.std.specs.Prelude.{◌≡◌, ◌<◌, ◌≤◌, ◌+◌, ◌↔◌, ◌++◌, ◌∷◌, [], List, IfOk, IfSome, OnOk, OnErr, Some, None, Err, true, length, map, slice_get};
 ghost use Rattle.std.specs.List.{All};
 ghost use Rattle.cg_value.specs.declared.KindCode.TheVariants as code;
@@ -32,10 +32,10 @@ use cg_machine::Event;
 use cg_script::Operand;
 use cg_value::{Entry, KindCode, Val};
 
-/// Most objects are made of at most this many entries, so only that much room is cleared for them.
+/// Most objects start with at most this many entries, so only that much room is cleared for them.
 const FEW: usize = 8;
 
-/// `x = list v*`: a new list of the values is bound to the name.
+/// `x = list v*`: binds the name to a new list of the values.
 pub(crate) fn make_list<B: Kind>(
     heap: &mut Heap<B>,
     locals: &Option<Locals>,
@@ -100,7 +100,7 @@ fn make_sequence<B: Kind>(
     }
 }
 
-/// Makes an object of the values of at most `N` operands, and binds it to a name.
+/// Makes an object with the values of at most `N` operands, and binds it to a name.
 #[inline(never)]
 fn make_of<B: Kind, const N: usize>(
     heap: &mut Heap<B>,
@@ -200,7 +200,7 @@ pub(crate) fn make_function<B: Kind>(
     make_of::<B, 8>(heap, locals, name, KindCode::Func, Some(proc), cells, room)
 }
 
-/// `x = ref y [f]`: a new weak reference to an instance or a function, with a callback or none.
+/// `x = ref y [f]`: a new weak reference to an instance or a function, with or without a callback.
 #[tactic(auto, using(crate::proofs::Reading::refers_live))]
 #[inline(never)]
 pub(crate) fn make_weak<B: Kind>(
@@ -235,7 +235,7 @@ pub(crate) fn make_weak<B: Kind>(
     )
 }
 
-/// Makes an object and binds it to a name. What the name had is to be given up.
+/// Makes an object and binds it to a name. The name's old value is to be given up.
 fn make_bound<B: Kind>(
     heap: &mut Heap<B>,
     locals: &Option<Locals>,
@@ -270,8 +270,8 @@ fn make_bound<B: Kind>(
     }
 }
 
-/// Makes an object as the heap does, where there is room for one more. Where there is none, memory is refused, if the heap
-/// refuses nothing else.
+/// Makes an object as the heap does, if there is room for one more. If not, memory is refused, unless the heap has another
+/// refusal.
 fn make_where_room<B: Kind>(
     heap: &mut Heap<B>,
     code: KindCode,
@@ -303,7 +303,7 @@ fn make_where_room<B: Kind>(
     }
 }
 
-/// The refusal of an object with `parts` entries, where there is no room for one more object.
+/// The refusal of an object with `parts` entries, when there is no room for one more object.
 fn fault_without_room<B: Kind>(heap: &Heap<B>, parts: usize) -> HeapFault
     ensures object_limit { (result ≡ fault.ObjectLimit) ↔ (MOST_OBJECTS ≤ object_number heap.now) }
     ensures entry_limit { (result ≡ fault.EntryLimit)
@@ -319,7 +319,7 @@ fn fault_without_room<B: Kind>(heap: &Heap<B>, parts: usize) -> HeapFault
     }
 }
 
-/// Binds a name to an object that has just been made: the name holds it in place of the caller. Answers what it had.
+/// Binds a name to a new object: the name then holds it instead of the caller. Answers the old value.
 fn bind_new<B: Kind>(heap: &mut Heap<B>, name: u32, serial: u64) -> Option<Val>
     requires name { name < length heap.old.names }
     requires held { 0 < outside_of heap.old serial }
@@ -328,7 +328,7 @@ fn bind_new<B: Kind>(heap: &mut Heap<B>, name: u32, serial: u64) -> Option<Val>
     ensures rest { heap.new ≡ held (references_of_value result)
         (named name (Some (val_of.Ref serial)) (unheld (serial ∷ []) heap.old)) }
 {
-    // For a moment nothing holds it. It does not die, since only a caller begins deaths.
+    // For a moment nothing holds it. It does not die, since only callers begin deaths.
     let _unheld = heap.unhold(serial);
     heap.bind(name, Val::Ref(serial))
 }

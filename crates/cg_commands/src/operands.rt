@@ -20,7 +20,7 @@ use cg_machine::FrameSort;
 use cg_script::Operand;
 use cg_value::{KindCode, Val};
 
-/// The kind of object that a command asks.
+/// The kind of object that a command expects.
 #[derive(Clone, Copy, Debug, PartialEq, Eq, Drop)]
 pub(crate) enum Wanted {
     Any,
@@ -32,7 +32,7 @@ pub(crate) enum Wanted {
     Dict,
     Inst,
     Func,
-    /// An instance or a function: what may have weak references, and be a key.
+    /// An instance or a function: a kind that may have weak references, and be a key.
     Referable,
     Weak,
 }
@@ -96,7 +96,7 @@ impl Wanted {
     }
 }
 
-/// The value of an operand. A name that is unbound, and a local that the frame does not have, are refused.
+/// The value of an operand. Refuses an unbound name, and a local that the frame lacks.
 #[inline(always)]
 pub(crate) fn value<B: Kind>(
     heap: &Heap<B>,
@@ -113,7 +113,7 @@ pub(crate) fn value<B: Kind>(
     value_located(heap, locals, operand, &mut near)
 }
 
-/// The same, and where the object may lie to which a name refers.
+/// The same, and where the object that a name refers to may be.
 #[inline(always)]
 pub(crate) fn value_located<B: Kind>(
     heap: &Heap<B>,
@@ -165,10 +165,10 @@ pub(crate) fn value_near<B: Kind>(
     }
 }
 
-/// The value of an operand, if it has one, where it is no name.
+/// The value of an operand other than a name, if it has one.
 ///
-/// One sort is asked for after the other, that of most operands first: one `match` for all would become a jump by way of a
-/// table. What a call in memory answers is cleared where the function begins that has the call, and so the calls stand apart.
+/// Tests one sort after the other, the most frequent first: a single `match` would compile to a jump table. The calls are
+/// separate functions, since a function clears the space for results in memory when it begins.
 #[inline(always)]
 fn number_or_other<B: Kind>(
     heap: &Heap<B>,
@@ -186,7 +186,7 @@ fn number_or_other<B: Kind>(
     }
 }
 
-/// The same, where it is no number either.
+/// The same for an operand that is no number either.
 #[inline(always)]
 fn text_or_other<B: Kind>(heap: &Heap<B>, locals: &Option<Locals>, operand: &Operand) -> Option<Val>
     requires known { All (λ n. n < length heap.now.names) (operand_texts operand.now) }
@@ -273,7 +273,7 @@ fn cell_in<B: Kind>(heap: &Heap<B>, locals: &Option<Locals>, i: u8) -> Option<Va
     }
 }
 
-/// The object that a value refers to, of whatever kind. What refers to none is refused as an object of another kind than this.
+/// The object of any kind that a value refers to. A value without one is refused as an object of another kind than this.
 #[inline(always)]
 pub(crate) fn reference(val: Val, wanted: Wanted) -> Result<u64, Refusal>
     ensures ok { IfOk result (λ o. val ≡ val_of.Ref o) }
@@ -296,7 +296,7 @@ pub(crate) fn object<B: Kind>(heap: &Heap<B>, val: Val, wanted: Wanted) -> Resul
     object_near(heap, val, wanted, &mut near)
 }
 
-/// The same, and where the object is, for what is done to it next. Nothing is looked up where it is near already.
+/// The same, and where the object is, for the next access. Looks nothing up if the object is near already.
 #[inline(always)]
 pub(crate) fn object_near<B: Kind>(
     heap: &Heap<B>,

@@ -1,4 +1,4 @@
-//! The entries that an object is made of.
+//! The entries of a new object.
 ghost use Rattle.std.specs.Prelude.{◌≡◌, ◌<◌, ◌≤◌, ◌++◌, ◌∷◌, [], IfOk, IfErr, length};
 ghost use Rattle.std.specs.List.{All};
 ghost use Rattle.cg_graph.specs.Value.{item};
@@ -18,7 +18,7 @@ use cg_script::Operand;
 use cg_value::{Entry, Val};
 use std::marker::Model;
 
-/// Up to `N` entries. They take no memory but their own.
+/// Up to `N` entries, stored inline.
 #[derive(Drop)]
 pub(crate) struct Parts<const N: usize> {
     items: [Entry; N],
@@ -37,7 +37,6 @@ impl<const N: usize> Model for Parts<N> {
 }
 
 impl<const N: usize> Parts<N> {
-    /// No entries.
     fn new() -> Parts<N>
         ensures { result ≡ [] }
     {
@@ -51,7 +50,7 @@ impl<const N: usize> Parts<N> {
         }
     }
 
-    /// One more item, whose key is none.
+    /// Appends an item, an entry without key.
     #[tactic(auto, using(std::proofs::lemmas::List::take_more_set))]
     fn push(&mut self, val: Val)
         requires { length self.old < N }
@@ -72,7 +71,7 @@ impl<const N: usize> Parts<N> {
     }
 }
 
-/// The items that the values of operands make, in order. The first operand without a value is refused.
+/// The items that the values of operands make, in order. Refuses at the first operand without a value.
 pub(crate) fn gather<B: Kind, const N: usize>(
     heap: &Heap<B>,
     locals: &Option<Locals>,

@@ -1,4 +1,4 @@
-//! What prints a line and changes nothing.
+//! Queries: they print a line and change nothing.
 ghost use Rattle.std.specs.Prelude.{◌≡◌, ◌<◌, length};
 ghost use Rattle.std.specs.List.{All};
 ghost use Rattle.cg_value.specs.declared.Place.TheVariants as where_it_is;
@@ -53,7 +53,7 @@ pub(crate) fn refs<B: Kind>(
     Ok(told(Some(Event::RefCount(count))))
 }
 
-/// `tracked v`: whether the collector has the object.
+/// `tracked v`: whether an object is tracked.
 #[inline(never)]
 pub(crate) fn tracked<B: Kind>(
     heap: &Heap<B>,
@@ -69,7 +69,7 @@ pub(crate) fn tracked<B: Kind>(
     Ok(told(Some(Event::Tracked(answer))))
 }
 
-/// `finalized v`: whether the finalizer of the object has been called.
+/// `finalized v`: whether an object's finalizer was called.
 #[inline(never)]
 pub(crate) fn finalized<B: Kind>(
     heap: &Heap<B>,
@@ -94,7 +94,7 @@ fn is_tracked<B: Kind>(heap: &Heap<B>, val: Val) -> bool
     !is_untracked(heap.place_of(target))
 }
 
-/// Whether a place is that of untracked objects.
+/// Whether it is the place of untracked objects.
 fn is_untracked(place: Place) -> bool
     ensures { result ≡ machine_object.same_place place where_it_is.Untracked }
 {

@@ -1,4 +1,4 @@
--- What a heap does when a death begins is what the machine does.
+-- When a death begins, the heap does what the machine does.
 use Rattle.std.proofs.Common.{◌≡◌, refl, sym, ◌∙◌, ap, subst, ℕ, Bool, true, false, not, inl, inr, List, [], Option, Some, None, arith}
 use Rattle.std.specs.Prelude.{◌==◌, if◌then◌else◌, is_some}
 use Rattle.std.proofs.lemmas.Bool.{not-true, cases_eq, eq-eqb, ne_eqb}
@@ -20,7 +20,7 @@ use Rattle.cg_death.proofs.Places.{change-change, matches-moved}
 use Rattle.cg_death.proofs.RowSplits.{split_at, referent-without, waiting-without, left-in}
 use Rattle.cg_death.proofs.WeakObjects.{row_there, objects-cleared}
 
--- Rows in which a weak reference has no referent any more, and all that waits is as it was.
+-- Rows in which a weak reference has lost its referent, with the same waiting ones.
 pub record Forgets (rows after : List Row) (o : ℕ) : Type 0 where
   pub referents : (q : ℕ) → referent_in after q ≡ (if q == o then None else referent_in rows q)
   pub waiting : (p : ℕ) → waiting_in after p ≡ waiting_in rows p
@@ -54,7 +54,6 @@ rows_after store o ok = known (referent_in store.rows o) refl
     known None e = forgets_none store.rows o e
     known (Some referent) e = forgets_one store o referent ok e
 
--- the object is untracked, and has no referent
 module _ (store : Store) (o : ℕ) (rows : List Row) (forgets : Forgets store.rows rows o) (none : count_of store o ≡ 0) (none_waits : waiting_in store.rows o ≡ []) (w : World) (r : Represents store w) where
   abbrev begun : Store
   begun = record (moved o Untracked store) { rows = rows }
@@ -74,7 +73,6 @@ module _ (store : Store) (o : ℕ) (rows : List Row) (forgets : Forgets store.ro
     collection = λ c i. untracked.collection c (either i (λ e. cc) (λ k. k));
   }) (λ q. outside-moved o Untracked store q ∙ r.outside q)
 
--- with what the heap does for it
 pub begins-death : (store mid new : Store) (o : ℕ) → AreRows store → count_of store o ≡ 0 → waiting_in store.rows o ≡ [] → mid ≡ moved o Untracked store → new ≡ (if is_some (referent_in mid.rows o) then cleared_weak o false mid else mid)
     → (w : World) → Represents store w → Represents new (begin_death o w)
 begins-death store mid new o ok none none_waits is_mid is_new w r =

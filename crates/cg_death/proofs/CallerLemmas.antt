@@ -1,5 +1,5 @@
--- What the layer above may conclude for a step from what it knows of the world: what a death needs of the heap, in each
--- world that the heap stands for.
+-- What the layer above may conclude for a step from what it knows of the world: what a death requires of the heap, in
+-- each world that the heap represents.
 use Rattle.std.proofs.Common.{◌≡◌, ◌≢◌, refl, sym, ◌∙◌, ap, subst, ℕ, ◌+◌, ◌<◌, true, false, List, [], ◌∷◌, ◌++◌, Option, Some, None, IsSome, arith}
 use Rattle.std.specs.Prelude.{flat_map, option_map, slice_get, is_some}
 use Rattle.std.specs.List.{All}
@@ -37,7 +37,6 @@ held_on_top store w r tops below top s =
     split [] = omega arith
     split (a ∷ xs) = omega (arith, split xs, occurrences-append s (holds a) (flat_map holds (xs ++ below)), occurrences-append s (holds a) (flat_map holds xs))
 
--- so a death on top has its holds
 pub death_is_held : (store : Store) (w : World) → Represents store w → (d : Death) (below : List Activity) → w.stack ≡ on_stack d store ++ below → HasHolds store (held_by d store)
 death_is_held store w r d below top = held_on_top store w r (on_stack d store) below top
 
@@ -49,7 +48,7 @@ lives_in_heap store w r o there = known (fin.get store.nodes o) (sym (ap is_some
     known None e = absurd (let x : false ≡ true = e in cc)
     known (Some n) e = refl
 
--- and nothing holds it where the world has nothing that does
+-- and is unheld there if it is unheld in the world
 pub unheld_in_heap : (store : Store) (w : World) → Represents store w → (o : ℕ) → is_in_map w.objects o ≡ true → in_degree w o ≡ 0 → IsUnheld store o
 unheld_in_heap store w r o there none = record { live = lives_in_heap store w r o there; none = count-in_degree store w r o ∙ none }
 
@@ -57,22 +56,22 @@ unheld_in_heap store w r o there none = record { live = lives_in_heap store w r 
 pub rows_of_world : (store : Store) (w : World) → Represents store w → AreRows store → (o : ℕ) → weak_references w.objects o ≡ weak_references_in store.rows o
 rows_of_world store w r ok o = ap (λ os. weak_references os o) (sym r.objects) ∙ weak_references-are store ok o
 
--- what waits is newer than what does not
+-- a waiting weak reference is newer than the others
 pub newer_in_heap : (store : Store) (w : World) → Represents store w → AreRows store → (o : ℕ) (waiting : List ℕ) → waiting ≡ waiting_for store o → ((v q : ℕ) → Includes waiting v → Includes (weak_references w.objects o) q → q < v) → AreNewer store o
 newer_in_heap store w r ok o waiting is newer v q waits refers = newer v q (subst (λ l. Includes l v) (sym is) waits) (subst (λ l. Includes l q) (sym (rows_of_world store w r ok o)) refers)
 
--- each that waits has its callback
+-- each waiting one has its callback
 pub callbacks_in_heap : (store : Store) (w : World) → Represents store w → (o : ℕ) (waiting : List ℕ) → waiting ≡ waiting_for store o → ((q : ℕ) → Includes waiting q → (f : ℕ) × (object_entries_of w.objects q ≡ item (Ref f) ∷ [])) → HaveCallbacks store o
 callbacks_in_heap store w r o waiting is each q waits =
     let has = each q (subst (λ l. Includes l q) (sym is) waits) in
     (has.0, sym (ap (λ os. object_entries_of os q) (sym r.objects) ∙ entries-agree store q) ∙ has.1)
 
--- no row has the object as referent where no weak reference has it and none waits
+-- no row refers to the object if no weak reference does and none waits
 pub no_referent_in_heap : (store : Store) (w : World) → Represents store w → AreRows store → (o : ℕ) → weak_references w.objects o ≡ [] → waiting_for store o ≡ [] → All (λ r. r.referent ≢ o) store.rows
 no_referent_in_heap store w r ok o none none_waits =
     no_referent store.rows o (ap (λ l. slice_get l 0) (sym (rows_of_world store w r ok o) ∙ none)) (ap (λ l. slice_get l 0) none_waits)
 
--- A steady death may take a step: it is ready, and has its holds.
+-- A steady death can take a step: it is ready, and has its holds.
 pub steady_is_ready : (script : Script) (d : Death) (store : Store) → IsSteady script d store → IsReadyForDeath d store
 steady_is_ready script d store s = (s.ready, s.during)
 

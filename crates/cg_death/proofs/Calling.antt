@@ -1,4 +1,4 @@
--- What a heap does when the callback of a weak reference that waits is taken out and called is the step of the machine.
+-- When a waiting weak reference's callback is removed and called, the heap does the machine's step.
 use Rattle.std.proofs.Common.{◌≡◌, refl, sym, ◌∙◌, ap, subst, ℕ, ◌<◌, Bool, true, false, inl, List, [], ◌∷◌, ◌++◌, Option, Some, None, IsSome, arith}
 use Rattle.std.specs.Prelude.{◌==◌, IfSome, flat_map, if◌then◌else◌, unwrap_or, option_map, option_and_then, slice_get}
 use Rattle.std.proofs.lemmas.Bool.{eqb-true}
@@ -58,7 +58,7 @@ procedure-at store f = ap (option_and_then (λ (x : Object). x.class)) (object-a
     known None = refl
     known (Some n) = refl
 
--- what the heap says of it
+-- the heap reports it
 pub procedure-told : (store : Store) (f : ℕ) (class : Option ℕ) → IsLive store f → IfSome (fin.get store.nodes f) (λ n. class ≡ n.class) → class ≡ option_and_then (λ (x : Object). x.class) (object_at (objects_of store) f)
 procedure-told store f class live is = known (fin.get store.nodes f) live is ∙ sym (procedure-at store f)
   where
@@ -66,7 +66,7 @@ procedure-told store f class live is = known (fin.get store.nodes f) live is ∙
     known None h e = cc
     known (Some n) h e = e
 
--- it is the same once the callback is out
+-- it is the same after the callback is removed
 pub procedure-after : (store : Store) (weak f : ℕ) (entries : List Entry) (refs : List ℕ) → option_and_then (λ (x : Object). x.class) (object_at (objects_of (forgotten_weak weak (held refs (rewritten weak entries store)))) f) ≡ class_in (fin.get store.nodes f)
 procedure-after store weak f entries refs =
     procedure-at (forgotten_weak weak (held refs (rewritten weak entries store))) f
@@ -95,7 +95,7 @@ turn-all_called script store o none =
     (ap (call_one script o below (here store v o (Calling ws) below)) empty)
     (sym empty) (λ q. ap (occurrences q) (sym empty)))
 
--- the newest that waits is called, by its row
+-- the newest waiting one is called, by its row
 module _ (script : Script) (store : Store) (r : Row) (ok : AreRows store) (inside : Includes store.rows r) (waits : waits_with r.referent r ≡ true) (first : slice_get (waiting_in store.rows r.referent) 0 ≡ Some r.weak)
     (sound : (q : ℕ) → 0 < inner store q → IsLive store q) (f : ℕ) (callback : entries_of store r.weak ≡ item (Ref f) ∷ []) where
   abbrev o : ℕ

@@ -11,7 +11,7 @@ use Rattle.cg_graph.proofs.Objects.{object-at}
 use Rattle.cg_machine.specs.Program.{classes, class_number, finalizer_of, legacy_of}
 use Rattle.cg_machine.specs.Dying.{finalizer_to_run}
 
--- instances alone have a class
+-- only instances have a class
 no_class : (code : KindCode) (class : Option ℕ) → code ≢ Inst → class_number code class ≡ None
 no_class ListKind class other = refl
 no_class Tuple class other = refl
@@ -38,7 +38,7 @@ module _ (script : Script) (store : Store) (o : ℕ) (live : IsLive store o) whe
       known None h e f = cc
       known (Some n) h e f = λ i. option_and_then (λ c. c.legacy) (option_and_then (slice_get (classes script.items)) (class_number (sym e i) (sym f i)))
 
-  -- an object that is no instance has none
+  -- an object other than an instance has none
   pub none-at : (code : KindCode) → code ≢ Inst → IfSome (fin.get store.nodes o) (λ n. code ≡ n.code)
       → (option_and_then (finalizer_of script) (object_at (objects_of store) o) ≡ None) × (option_and_then (legacy_of script) (object_at (objects_of store) o) ≡ None)
   none-at code other coded = let both = known (fin.get store.nodes o) live coded in (ap (option_and_then (finalizer_of script)) (object-at store o) ∙ both.0, ap (option_and_then (legacy_of script)) (object-at store o) ∙ both.1)

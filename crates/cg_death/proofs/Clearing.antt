@@ -1,4 +1,4 @@
--- What a heap does when a weak reference loses a dying object is the step of the machine.
+-- When a weak reference to a dying object is cleared, the heap does the machine's step.
 use Rattle.std.proofs.Common.{◌≡◌, ◌≢◌, refl, sym, ◌∙◌, ap, subst, ℕ, ◌+◌, ◌<◌, ◌≤◌, true, false, cond, not, inl, inr, List, [], ◌∷◌, ◌++◌, Some, None, arith}
 use Rattle.std.specs.Prelude.{◌⊎◌, ◌==◌, ◌&&◌, count_by, flat_map, slice_get}
 use Rattle.std.proofs.lemmas.Bool.{eq-eqb}
@@ -56,8 +56,8 @@ alone o phase below once d m e =
     let there = deaths_below o d below m e in
     absurd (omega (arith, once, split, one, there))
 
--- Other rows for the weak references of a dying object: the deaths of others see the same, and a row that waits now waits
--- with this object or did before.
+-- Other rows for the weak references of a dying object: other deaths see the same, and a row that waits now waits with
+-- this object or waited before.
 module _ (store : Store) (v : World) (o : ℕ) (phase next : DyingPhase) (below : List Activity) (rows : List Row)
     (m : Matches store (here store v o phase below)) (once : count_by (is_death_of o) (death_of o phase ∷ below) ≤ 1) (waits : death_waits next ≡ waiting_in rows o)
     (others : (p : ℕ) → p ≢ o → waiting_in rows p ≡ waiting_for store p)
@@ -87,7 +87,7 @@ module _ (store : Store) (v : World) (o : ℕ) (phase next : DyingPhase) (below 
     collection = λ c i. m.collection c (either i (λ e. cc) (λ k. inr k));
   }
 
--- A weak reference without callback, or in the later phase, loses the object.
+-- A weak reference without callback, or in the later phase, is cleared.
 module _ (script : Script) (store : Store) (v : World) (r : Row) (below : List Activity) (ok : AreRows store) (inside : Includes store.rows r) (stays : r.waits ≡ false) (phase next : DyingPhase)
     (s : DeathStands store (here store v r.referent phase below) (death_of r.referent phase ∷ below)) (same_waits : death_waits next ≡ death_waits phase) (same_holds : dying_holds r.referent next ≡ dying_holds r.referent phase) where
   abbrev w : World
@@ -114,7 +114,7 @@ module _ (script : Script) (store : Store) (v : World) (r : Row) (below : List A
   pub represents-lost : Represents without (death_at r.referent next below lost)
   represents-lost = represents without (death_at r.referent next below lost) matches-lost (λ q. s.represents.outside q ∙ ap (λ hs. occurrences q (hs ++ flat_map holds below)) (sym same_holds))
 
--- One with a callback waits from then on.
+-- One with a callback then waits.
 module _ (script : Script) (store : Store) (v : World) (r : Row) (below : List Activity) (ok : AreRows store) (inside : Includes store.rows r) (stays : r.waits ≡ false) (newer : AreNewer store r.referent)
     (s : DeathStands store (here store v r.referent (Clearing (waiting_for store r.referent)) below) (death_of r.referent (Clearing (waiting_for store r.referent)) ∷ below)) where
   abbrev phase_before : DyingPhase

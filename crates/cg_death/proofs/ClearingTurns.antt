@@ -1,4 +1,4 @@
--- The turns of the phases in which weak references lose a dying object.
+-- The turns of the phases that clear weak references.
 use Rattle.std.proofs.Common.{◌≡◌, refl, sym, ◌∙◌, ap, subst, ℕ, Bool, true, false, not, inl, List, [], ◌∷◌, ◌++◌, Some, None}
 use Rattle.std.specs.Prelude.{◌==◌, if◌then◌else◌, is_some, slice_get}
 use Rattle.std.proofs.lemmas.Bool.{not-true, eqb-true}
@@ -25,7 +25,7 @@ use Rattle.cg_death.proofs.Clearing.{none_first, some_first, represents-lost, re
 use Rattle.cg_death.proofs.WeakObjects.{row_there}
 
 module _ (script : Script) (store : Store) (o : ℕ) where
-  -- none is left to lose the object
+  -- none is left to clear
   pub turn-all_cleared : slice_get (weak_references_if has_weak_references (objects_of store) o) 0 ≡ None → DeathSteps script store (activities o phase_of.Clearing None store) store (activities o phase_of.Calling None store) answer_of.Continue
   turn-all_cleared none =
       let ws : List ℕ = waiting_for store o in
@@ -43,7 +43,7 @@ module _ (script : Script) (store : Store) (o : ℕ) where
       (ap (λ os. detach_one o below (here store v o Detaching below) (weak_references_if (has_finalizers script) os o)) (sym s.represents.objects) ∙ ap (detach_one o below (here store v o Detaching below)) (none_first (weak_references_if (has_finalizers script) (objects_of store) o) none))
       (waits_are store v o Detaching below (matches store (here store v o Detaching below) s.represents)) (λ q. refl))
 
--- One loses it, by its row.
+-- One is cleared, by its row.
 module _ (script : Script) (store : Store) (r : Row) (ok : AreRows store) (inside : Includes store.rows r) (stays : r.waits ≡ false) where
   abbrev o : ℕ
   o = r.referent

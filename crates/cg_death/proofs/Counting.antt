@@ -1,4 +1,4 @@
--- What nothing holds is held by nothing still, after a change of a heap that gives it no hold.
+-- An unheld object stays unheld after a change of a heap that adds no hold of it.
 use Rattle.std.proofs.Common.{◌≡◌, refl, ap, ℕ, ◌+◌, ◌≤◌, List, [], ◌∷◌, Option, Some, None, IsSome, Bool, true, false, arith}
 use Rattle.std.specs.Prelude.{◌==◌, if◌then◌else◌}
 use Rattle.std.specs.FinMap as fin
@@ -14,7 +14,7 @@ use Rattle.cg_heap.proofs.HoldLemmas.{entries_hold, outside-held, outside-unheld
 use Rattle.cg_heap.proofs.CallerLemmas.{lives_on, kinds-held, kinds-unheld, kinds-moved, kinds-rewritten}
 use Rattle.cg_death.specs.Activities.{IsUnheld}
 
--- what is held inside, where the entries stay
+-- what entries hold, where the entries stay
 inner-mapped : (store : Store) (g : ℕ → Node → Node) → ((s : ℕ) (n : Node) → (g s n).entries ≡ n.entries) → (o : ℕ) → held_within store.names (mapped g store.nodes) o ≡ inner store o
 unfolding held_within
 inner-mapped store g same o =
@@ -71,7 +71,7 @@ module _ (store : Store) (o : ℕ) (u : IsUnheld store o) where
   pub held_by_none : (weak : ℕ) → occurrences o (references (entries_of store weak)) ≡ 0
   held_by_none weak = omega (arith, entries_hold store weak o, u.none)
 
--- one that has lost its last hold, and is placed
+-- one that lost its last hold, and moved
 pub unheld-moved : (store : Store) (o : ℕ) (p : Place) → IsLive store o → count_of store o ≡ 0 → IsUnheld (moved o p store) o
 unheld-moved store o p live nothing = record {
   live = lives_on store (moved o p store) (kinds-moved o p store) o live;

@@ -1,4 +1,4 @@
--- What a heap does in the last phase of a death is the step of the machine.
+-- In the last phase of a death, the heap does the machine's step.
 use Rattle.std.proofs.Common.{◌≡◌, refl, sym, ◌∙◌, ap, subst, ℕ, suc, ◌-◌, ◌<◌, inl, inr, List, [], ◌∷◌, ◌++◌, length, length-append, Option, Some, None, arith}
 use Rattle.std.specs.Prelude.{flat_map, unwrap_or, option_map, slice_get}
 use Rattle.std.proofs.lemmas.Bool.{cases_eq}
@@ -30,7 +30,7 @@ use Rattle.cg_heap.proofs.HoldLemmas.{entries_hold, outside-held, outside-rewrit
 use Rattle.cg_heap.proofs.CallerLemmas.{lives_on, kinds-rewritten}
 use Rattle.cg_death.proofs.Places.{matches-held, left-cases, still-waits}
 
--- the object of a serial in the store has the entries that it has in the world
+-- an object's entries in the store are those in the world
 pub entries-agree : (store : Store) (o : ℕ) → object_entries_of (objects_of store) o ≡ entries_of store o
 entries-agree store o = ap (λ x. unwrap_or (option_map (λ (x : Object). x.entries) x) []) (object-at store o) ∙ known (fin.get store.nodes o)
   where
@@ -38,7 +38,7 @@ entries-agree store o = ap (λ x. unwrap_or (option_map (λ (x : Object). x.entr
     known None = refl
     known (Some n) = refl
 
--- the last entry of a list that is spelled so
+-- the last entry of such a list
 last-of : (xs : List Entry) (e : Entry) → last_entry (xs ++ e ∷ []) ≡ Some e
 last-of [] e = refl
 last-of (x ∷ xs) e = ap (slice_get (x ∷ xs ++ e ∷ [])) len ∙ ap (slice_get (xs ++ e ∷ [])) len' ∙ last-of xs e
@@ -59,7 +59,6 @@ module _ (script : Script) (store : Store) (v : World) (o : ℕ) (below : List A
   was : (q : ℕ) → outside_of store q ≡ occurrences q (flat_map holds below)
   was q = s.represents.outside q
 
-  -- an entry is taken out
   module _ (sound : (q : ℕ) → 0 < inner store q → IsLive store q) (e : Entry) (last : entries_of store o ≡ without_last (entries_of store o) ++ e ∷ []) where
     abbrev rest : List Entry
     rest = without_last (entries_of store o)
@@ -106,7 +105,6 @@ module _ (script : Script) (store : Store) (v : World) (o : ℕ) (below : List A
       keeps = record { numbers = refl; budget = refl; outcome = refl };
     }
 
-  -- the object is gone
   module _ (none : count_of store o ≡ 0) (empty : entries_of store o ≡ []) where
     abbrev freed : World
     freed = with_stack below (record w { objects = without o w.objects; numbers = record w.numbers { zero_count = w.numbers.zero_count - 1 } })
@@ -142,7 +140,6 @@ module _ (script : Script) (store : Store) (v : World) (o : ℕ) (below : List A
       keeps = record { numbers = refl; budget = refl; outcome = refl };
     }
 
--- the turns of this phase
 module _ (script : Script) (store new : Store) (o : ℕ) where
   pub turn-taken : (e : Entry) (release : Release) → ((q : ℕ) → 0 < inner store q → IsLive store q) → entries_of store o ≡ without_last (entries_of store o) ++ e ∷ [] → new ≡ held (entry_references e) (rewritten o (without_last (entries_of store o)) store) → references_left release ≡ entry_references e
       → DeathSteps script store (activities o phase_of.Emptying None store) new (activities o phase_of.Emptying (Some release) new) answer_of.Continue

@@ -1,4 +1,4 @@
--- The end of a death is answered by its last phase alone.
+-- Only the last phase answers the end of a death.
 use Rattle.std.proofs.Common.{◌≡◌, ℕ, subst, []}
 use Rattle.cg_graph.specs.Store.{Store}
 use Rattle.cg_death.specs.declared.answer.DeathStep.{DeathStep}

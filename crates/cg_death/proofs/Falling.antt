@@ -1,4 +1,4 @@
--- What is left to be done in a death becomes less.
+-- The work left in a death decreases.
 use Rattle.std.proofs.Common.{◌≡◌, refl, ◌∙◌, ap, ℕ, inr, List, [], ◌∷◌, ◌++◌, length, length-append, Option, Some, None, IsSome, arith}
 use Rattle.std.specs.Prelude.{option_map}
 use Rattle.std.specs.FinMap as fin
@@ -16,7 +16,7 @@ use Rattle.cg_death.specs.Activities.{references_left}
 use Rattle.cg_death.specs.Falls.{Falls}
 use Rattle.cg_death.specs.Deaths.{TakesNext}
 
--- holds leave entries as they are
+-- holds leave entries alone
 pub entries-held : (refs : List ℕ) (store : Store) (q : ℕ) → entries_of (held refs store) q ≡ entries_of store q
 entries-held refs store q = ap entries_in (get-mapped (λ s n. more (occurrences s refs) n) store.nodes q) ∙ known (fin.get store.nodes q)
   where
@@ -31,7 +31,6 @@ entries-unheld refs store q = ap entries_in (get-mapped (λ s n. less (occurrenc
     known None = refl
     known (Some n) = refl
 
--- entries that replace others
 pub entries-rewritten : (store : Store) (o : ℕ) (entries : List Entry) → IsLive store o → entries_of (rewritten o entries store) o ≡ entries
 entries-rewritten store o entries live = ap entries_in (get-changed_same (with_entries entries) o store.nodes o refl) ∙ known (fin.get store.nodes o) live
   where
@@ -39,7 +38,7 @@ entries-rewritten store o entries live = ap entries_in (get-changed_same (with_e
     known None h = cc
     known (Some n) h = refl
 
--- an entry was taken out, and its references are to be given up
+-- an entry was removed, and its references are to be given up
 pub falls-taken : (store : Store) (o : ℕ) (e : Entry) (release : Release) → IsLive store o → entries_of store o ≡ without_last (entries_of store o) ++ e ∷ [] → references_left release ≡ entry_references e
     → Falls o store phase_of.Emptying None (held (entry_references e) (rewritten o (without_last (entries_of store o)) store)) phase_of.Emptying (Some release)
 falls-taken store o e release live last refs =
@@ -50,14 +49,13 @@ falls-taken store o e release live last refs =
     let few : length (references_left release) ≡ length (entry_references e) = ap length refs in
     inr (refl, omega (arith, fewer, one_more, few, entry-le e, length-append (without_last (entries_of store o)) (e ∷ [])))
 
--- a callback was given up, and its weak reference is to be
+-- a callback was given up, and its weak reference comes next
 pub falls-call_ended : (store : Store) (o weak callback : ℕ) (release : Release) → references_left release ≡ weak ∷ [] → Falls o store (phase_of.AfterCall weak callback) None (unheld (callback ∷ []) store) phase_of.Calling (Some release)
 falls-call_ended store o weak callback release left =
     let one : length (references_left release) ≡ 1 = ap length left in
     let same : length (entries_of (unheld (callback ∷ []) store) o) ≡ length (entries_of store o) = ap length (entries-unheld (callback ∷ []) store o) in
     inr (refl, omega (arith, one, same))
 
--- a reference was given up
 pub falls-given_up : (store : Store) (o : ℕ) (phase : Phase) (q : ℕ) (before after : Release) → references_left before ≡ q ∷ references_left after → Falls o store phase (Some before) (unheld (q ∷ []) store) phase (Some after)
 falls-given_up store o phase q before after taken =
     let fewer : length (references_left before) ≡ length (q ∷ references_left after) = ap length taken in

@@ -1,4 +1,4 @@
--- What a heap does in the phases that call finalizers is the step of the machine.
+-- In the phases that call finalizers, the heap does the machine's step.
 use Rattle.std.proofs.Common.{◌≡◌, ◌≢◌, refl, sym, ◌∙◌, ap, subst, ℕ, Bool, List, [], ◌∷◌, ◌++◌, Some, None, arith}
 use Rattle.std.specs.Prelude.{flat_map, if◌then◌else◌, option_and_then}
 use Rattle.std.proofs.lemmas.Bool.{eq-eqb, ne_eqb}
@@ -32,12 +32,12 @@ use Rattle.cg_death.proofs.Releases.{matches-unheld}
 use Rattle.cg_death.proofs.Turns.{here, rephased, ended, waits_are, steps_to, only_phase}
 use Rattle.cg_death.proofs.Places.{matches-held, matches-moved, matches-marked, only-one}
 
--- A frame of its own is due: the object is tracked and held.
+-- A frame of the object comes next: the object is tracked and held.
 module _ (script : Script) (store : Store) (v : World) (o : ℕ) (below : List Activity) (live : IsLive store o) (none : count_of store o ≡ 0) where
   abbrev tracked : Store
   tracked = moved o (Gen 0) store
 
-  -- once more held than before it was tracked, and marked or not
+  -- held once more than before it was tracked, and marked or not
   held-once : (phase : DyingPhase) → DeathStands store (here store v o phase below) (death_of o phase ∷ below) → (q : ℕ) → occurrences q (dying_holds o phase) ≡ 0 → (ready : Store) → IsLive ready o → outside_of ready q ≡ outside_of tracked q → outside_of (held (o ∷ []) ready) q ≡ occurrences q (o ∷ flat_map holds below)
   held-once phase s q nothing ready lives same =
       let more = outside-held (o ∷ []) ready q (λ h. subst (IsLive ready) (sym (only-one o q h)) lives) in
@@ -98,7 +98,7 @@ module _ (script : Script) (store : Store) (v : World) (o : ℕ) (below : List A
       keeps = record { numbers = refl; budget = refl; outcome = refl };
     }
 
--- The hold of its own frame ends.
+-- The death gives up its own hold.
 module _ (script : Script) (store : Store) (v : World) (o : ℕ) (below : List Activity) (phase next : DyingPhase)
     (does : dying script o phase below (here store v o phase below) ≡ after_frame o next below (here store v o phase below)) (held_once : dying_holds o phase ≡ o ∷ []) (holds_none : dying_holds o next ≡ [])
     (waits : death_waits phase ≡ []) (waits_none : death_waits next ≡ [])
@@ -146,7 +146,7 @@ module _ (script : Script) (store : Store) (v : World) (o : ℕ) (below : List A
     keeps = record { numbers = refl; budget = refl; outcome = refl };
   }
 
-  -- it was brought back
+  -- it was resurrected
   pub brought_back : count_of let_off o ≢ 0 → WentOn script w (Alive o ∷ []) w.numbers let_off below
   unfolding choice
   brought_back held = record {
@@ -159,7 +159,6 @@ module _ (script : Script) (store : Store) (v : World) (o : ℕ) (below : List A
     keeps = record { numbers = refl; budget = refl; outcome = refl };
   }
 
--- the turns of these phases
 module _ (script : Script) (store new : Store) (o : ℕ) where
   pub turn-no_finalizer : option_and_then (finalizer_to_run script) (object_at (objects_of store) o) ≡ None → DeathSteps script store (activities o phase_of.Finalizer None store) store (activities o phase_of.Clearing None store) answer_of.Continue
   turn-no_finalizer due =

@@ -1,4 +1,4 @@
--- What the changes of the phases leave of the rest of a heap.
+-- What the phases leave of the rest of a heap.
 use Rattle.std.proofs.Common.{refl, ℕ, ◌+◌, ◌≤◌, Bool, true, false, List, [], ◌∷◌, arith}
 use Rattle.std.specs.Prelude.{if◌then◌else◌, is_some}
 use Rattle.cg_value.specs.declared.Entry.{Entry}

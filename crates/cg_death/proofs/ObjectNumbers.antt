@@ -1,4 +1,4 @@
--- How many objects there are after a change: never more. And names stay.
+-- A change never adds objects, and names stay.
 use Rattle.std.proofs.Common.{◌≡◌, refl, ◌∙◌, ap, ℕ, ◌≤◌, Bool, true, false, cond, not, List, [], ◌∷◌, map, length, arith}
 use Rattle.std.specs.Prelude.{◌==◌, if◌then◌else◌, filter, is_some}
 use Rattle.std.specs.FinMap as fin
@@ -73,7 +73,7 @@ none-gone o store =
     let is : length (fin.entries (fin.remove store.nodes o)) ≡ length (filter (λ e. not (e.0 == o)) (fin.entries store.nodes)) = ap (λ (es : List (ℕ × Node)). length es) (entries-remove store.nodes o) in
     none_by_nodes store (gone o store) (omega (arith, is, fewer_left (λ (e : ℕ × Node). not (e.0 == o)) (fin.entries store.nodes))) refl
 
--- a weak reference may forget its referent, or stop waiting
+-- a weak reference may be cleared, or stop waiting
 pub none-cleared : (weak : ℕ) (wait : Bool) (store : Store) → MakesNone store (cleared_weak weak wait store)
 none-cleared weak wait store = none-same store (cleared_weak weak wait store) refl refl
 

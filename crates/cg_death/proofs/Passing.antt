@@ -1,4 +1,4 @@
--- A death that calls nothing passes on to its contents at once.
+-- A death that calls nothing goes straight to its contents.
 use Rattle.std.proofs.Common.{◌≡◌, refl, sym, ◌∙◌, ap, subst, ℕ, ◌+◌, cond, Bool, true, false, inl, inr, List, [], ◌∷◌, ◌++◌, Option, Some, None, arith}
 use Rattle.std.specs.Prelude.{◌==◌, count_by, flat_map, slice_get, option_and_then, option_map, unwrap_or, if◌then◌else◌}
 use Rattle.std.proofs.lemmas.List.Sums.{sum_by-cons}
@@ -31,7 +31,7 @@ use Rattle.cg_death.proofs.SteadyRows.{steady-all_cleared, steady-all_called, st
 use Rattle.cg_death.proofs.Steps.{first_then}
 use Rattle.cg_death.proofs.Turns.{here, rephased, waits_are, death}
 
--- From one phase to another, which holds as little.
+-- From one phase to another that holds as little.
 module _ (script : Script) (store : Store) (o : ℕ) (p q : DyingPhase) (waits : death_waits q ≡ death_waits p) (held : dying_holds o q ≡ dying_holds o p)
     (alone : (hs : List ℕ) → IsHeldInItsFramesAlone o p hs → IsHeldInItsFramesAlone o q hs) where
   module _ (v : World) (below : List Activity) where

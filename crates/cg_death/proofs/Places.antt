@@ -1,4 +1,4 @@
--- What a change of place, a mark or a hold does to a heap that stands for a world.
+-- What a change of place, a mark or a hold does to a heap that represents a world.
 use Rattle.std.proofs.Common.{◌≡◌, ◌≢◌, refl, sym, ◌∙◌, ap, subst, ℕ, ◌<◌, Bool, true, false, cond, not, inl, inr, List, [], ◌∷◌, ◌++◌, length, set, arith}
 use Rattle.std.specs.Prelude.{◌⊎◌, ◌==◌, if◌then◌else◌}
 use Rattle.std.proofs.lemmas.Bool.{cases_eq, cases_lt, eq-eqb, ne_eqb}
@@ -20,7 +20,7 @@ use Rattle.cg_heap.specs.Calls.{with_node, marked}
 use Rattle.cg_machine.proofs.Representing.{held_by_one, Matches}
 use Rattle.cg_machine.proofs.PlainCollect.{occurrences-cons}
 
--- a list without a serial that does not stand in it
+-- a list without a serial that it does not contain
 without-absent : (o : ℕ) (xs : List ℕ) → occurrences o xs ≡ 0 → without_serial o xs ≡ xs
 without-absent o [] none = refl
 without-absent o (x ∷ xs) none =
@@ -34,7 +34,7 @@ without-absent o (x ∷ xs) none =
     one : (x : ℕ) → o ≡ x → cond {A = ℕ} (x == o) 1 0 ≡ 1
     one x same = ap (λ b. cond {A = ℕ} b 1 0) (eq-eqb x o (sym same))
 
--- what a collection waits with stays so once an object that it does not hold has left the list
+-- what a collection waits with stays after an object that it does not hold has left the list
 waits-without : (o : ℕ) (phase : CollectPhase) (pending : List ℕ) → occurrences o (collect_holds phase) ≡ 0 → CollectionWaits phase pending → CollectionWaits phase (without_serial o pending)
 waits-without o (WeakClearing waiting) pending none is = ap (without_serial o) is ∙ without-absent o waiting none
 waits-without o (WeakCalling waiting) pending none is = ap (without_serial o) is ∙ without-absent o waiting none
@@ -63,11 +63,11 @@ left-cases lists o p q =
     (λ past. inl (ap (λ k. list_of (leaves_list lists o k) q) (sym same) ∙ get_or_past (set lists q (without_serial o (list_of lists q))) q [] (omega (arith, past, length-set lists q (without_serial o (list_of lists q)))) ∙ sym (get_or_past lists q [] past))))
     (λ differs. inl (get_or-set_other lists p q (without_serial o (list_of lists p)) [] differs))
 
--- an object that nothing holds is held by no collection
+-- no collection holds an unheld object
 unheld_by : (store : Store) (w : World) → Represents store w → (o : ℕ) → count_of store o ≡ 0 → (c : Collection) → Includes w.stack (Collecting c) → occurrences o (collect_holds c.phase) ≡ 0
 unheld_by store w r o none c m = let there = held_by_one o w.stack (Collecting c) m in omega (arith, there, r.outside o, none)
 
--- the list of what waits in a collection, once such an object has moved or gone
+-- the waiting ones of a collection, after such an object moved or was freed
 abbrev pub StillWaits : Store → Store → World → Type 0
 StillWaits store new w = (c : Collection) → Includes w.stack (Collecting c) → CollectionWaits c.phase (list_at new Pend)
 
@@ -85,7 +85,7 @@ matches-held refs store w m = record {
   collection = m.collection;
 }
 
--- What waits in a collection, once an object has moved to a place that is not there.
+-- What waits in a collection, after an object moved to a place that does not exist.
 pub moved-cases : (store : Store) (o : ℕ) (q : Place) → 6 ≢ place_number q → (list_at (moved o q store) Pend ≡ list_at store Pend) ⊎ (list_at (moved o q store) Pend ≡ without_serial o (list_at store Pend))
 moved-cases store o q differs =
     let left = leaves_list store.lists o (place_number (place_of store o)) in
@@ -101,7 +101,7 @@ change-change f g same o (x ∷ objects) = λ i. each (x.serial == o) refl i ∷
     each true e = ap (λ c. if c then f (g x) else g x) (ap (λ s. s == o) (same x) ∙ e)
     each false e = ap (λ c. if c then f x else x) e
 
--- an object that nothing holds goes to another place
+-- an unheld object moves
 pub matches-moved : (store : Store) (w : World) (o : ℕ) (q : Place) → 6 ≢ place_number q → Represents store w → count_of store o ≡ 0 → Matches (moved o q store) (with_change (object_placed q) o w)
 matches-moved store w o q differs r none = record {
   objects = objects-changed store o (with_place q) (object_placed q) (λ s n. refl) ∙ ap (change (object_placed q) o) r.objects;
@@ -112,7 +112,7 @@ matches-moved store w o q differs r none = record {
   collection = still-waits store w r o none (moved o q store) (moved-cases store o q differs);
 }
 
--- and is marked then
+-- and is marked
 pub matches-marked : (store : Store) (w : World) (o : ℕ) (q : Place) → Matches store (with_change (object_placed q) o w) → Matches (with_node marked o store) (with_change (λ x. object_marked (object_placed q x)) o w)
 matches-marked store w o q m = record {
   objects = objects-changed store o marked object_marked (λ s n. refl) ∙ ap (change object_marked o) m.objects ∙ change-change object_marked (object_placed q) (λ x. refl) o w.objects;
@@ -123,7 +123,6 @@ matches-marked store w o q m = record {
   collection = m.collection;
 }
 
--- a list of one
 pub only-one : (o q : ℕ) → 0 < occurrences q (o ∷ []) → q ≡ o
 only-one o q there = elim (cases_eq o q) [
   | inl same ↦ sym same

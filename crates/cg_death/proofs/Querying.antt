@@ -1,4 +1,4 @@
--- What the heap answers of weak references is what the world has.
+-- What the heap answers about weak references is true of the world.
 use Rattle.std.proofs.Common.{◌≡◌, ◌≢◌, refl, sym, ◌∙◌, ap, subst, ℕ, ◌<◌, Bool, true, false, not, ◌||◌, inl, inr, List, [], ◌∷◌, ◌++◌, length, Option, Some, None, IsSome, arith}
 use Rattle.std.specs.Prelude.{◌⊎◌, ◌==◌, ◌↔◌, IfSome, IsNone, if◌then◌else◌, is_some, unwrap_or, option_map, option_and_then, slice_get}
 use Rattle.std.proofs.lemmas.Bool.{not-true, eqb-true}
@@ -34,7 +34,7 @@ module _ (store : Store) (o : ℕ) (ok : AreRows store) (test : Object → Bool)
   pub none-if : unwrap_or (option_map test (object_at (objects_of store) o)) false ≡ false → None ≡ slice_get (weak_references_if test (objects_of store) o) 0
   none-if fails = ap (λ b. slice_get (if b then weak_references (objects_of store) o else []) 0) (sym fails)
 
--- the newest has the object as referent, and lives
+-- the newest refers to the object, and lives
 pub newest-is : (store : Store) (o : ℕ) → AreRows store → (a : Option ℕ) → a ≡ slice_get (weak_references_in store.rows o) 0 → IfSome a (λ w. referent_in store.rows w ≡ Some o) × IfSome a (λ w. IsLive store w)
 newest-is store o ok None e = (tt, tt)
 newest-is store o ok (Some w) e =
@@ -44,7 +44,7 @@ newest-is store o ok (Some w) e =
       subst (IsLive store) found.3 (live_of_kind store found.0.weak Weak (all_in (λ (x : Row). HasCode store x.weak Weak) store.rows found.0 ok.weak found.1)),
     )
 
--- instances and functions may have some
+-- instances and functions may have weak references
 of_code : (o : Option Node) (rows : List Row) (q : ℕ) (code : KindCode) → IsSome o → IfSome o (λ n. code ≡ n.code) → (test : KindCode → Bool) → ((n : Node) → has_weak_references (object_from rows q n) ≡ test n.code) → unwrap_or (option_map has_weak_references (option_map (object_from rows q) o)) false ≡ test code
 of_code None rows q code live is test same = cc
 of_code (Some n) rows q code live is test same = same n ∙ ap test (sym is)
@@ -92,7 +92,6 @@ not-supports-at store o code live is i f =
     ∙ of_code (fin.get store.nodes o) store.rows o code live is supports (λ n. supports-is store.rows o n n.code refl)
     ∙ supports-not code i f
 
--- objects whose class has a finalizer
 pub finalizers-test : (script : Script) (x : Option Object) → unwrap_or (option_map (has_finalizers script) x) false ≡ (is_some (option_and_then (finalizer_of script) x) || is_some (option_and_then (legacy_of script) x))
 finalizers-test script None = refl
 finalizers-test script (Some x) = refl
@@ -106,7 +105,7 @@ pub first_entry : (entries : List Entry) (e : Entry) → slice_get entries 0 ≡
 first_entry [] e is = absurd (cc)
 first_entry (x ∷ entries) e is = let same : x ≡ e = cc in ap (λ (y : Entry). reference_in y.val) same
 
--- the newest that waits waits, and lives
+-- the newest waiting one waits, and lives
 pub newest-waits : (store : Store) (o w : ℕ) → AreRows store → slice_get (waiting_in store.rows o) 0 ≡ Some w → IsSome (waited_in store.rows w) × IsLive store w
 newest-waits store o w ok e =
     let found = row_of_one (waits_with o) store.rows w (head_in (waiting_in store.rows o) w e) in
@@ -115,7 +114,7 @@ newest-waits store o w ok e =
       subst (IsLive store) found.3 (live_of_kind store found.0.weak Weak (all_in (λ (x : Row). HasCode store x.weak Weak) store.rows found.0 ok.weak found.1)),
     )
 
--- The one entry of a weak reference with a callback, taken off.
+-- The single entry of a weak reference with a callback, removed.
 pub entry_there : (entries : List Entry) (e : Entry) (r : Option Entry) → entries ≡ e ∷ [] → IsNone r ↔ (entries ≡ []) → IsSome r
 entry_there entries e None is none = absurd (let x : e ∷ [] ≡ [] = sym is ∙ none.0 refl in cc)
 entry_there entries e (Some x) is none = refl

@@ -1,4 +1,4 @@
--- A hold that the heap gives up is the release step of the machine.
+-- When the heap gives up a hold, it does the machine's release step.
 use Rattle.std.proofs.Common.{◌≡◌, ◌≢◌, refl, sym, ◌∙◌, ap, subst, ℕ, ◌+◌, ◌<◌, ◌≤◌, Bool, true, false, cond, not, inl, inr, List, [], ◌∷◌, ◌++◌, arith}
 use Rattle.std.specs.Prelude.{◌==◌, ◌&&◌, flat_map, if◌then◌else◌}
 use Rattle.std.proofs.lemmas.Bool.{cases_Bool, cases_eq, eq-eqb, ne_eqb, and_from, and_right}
@@ -31,7 +31,7 @@ matches-unheld refs store w m = record {
   collection = m.collection;
 }
 
--- a dying object that is held is held by its own death, once
+-- a held dying object is held by its own death, once
 held_by_death : (o : ℕ) (phase : DyingPhase) (held : List ℕ) → IsHeldInItsFramesAlone o phase held → 0 < occurrences o held → occurrences o (dying_holds o phase) ≡ 1
 held_by_death o Finalizer held h m = absurd (omega (arith, h, m))
 held_by_death o AfterFinalizer held h m = occurrences-one o
@@ -43,7 +43,7 @@ held_by_death o AfterLegacy held h m = occurrences-one o
 held_by_death o Detaching held h m = absurd (omega (arith, h, m))
 held_by_death o Emptying held h m = absurd (omega (arith, h, m))
 
--- A reference given up: its object begins to die exactly where its count is now 0.
+-- A reference is given up: its object begins to die exactly if its count is now 0.
 module _ (script : Script) (store : Store) (v : World) (o : ℕ) (references : List ℕ) (below : List Activity) where
   abbrev before : World
   before = with_stack (Releasing (o ∷ references) ∷ below) v
@@ -108,7 +108,7 @@ module _ (script : Script) (store : Store) (v : World) (o : ℕ) (references : L
       keeps = record { numbers = refl; budget = refl; outcome = refl };
     }
 
-    -- the answer that the count gives
+    -- the answer that the count decides
     pub given_up : (new : Store) → new ≡ unheld (o ∷ []) store → ReleaseAnswer script before below new references (if count_of new o == 0 then answer_of.Died o else answer_of.Continue)
     given_up new is = subst (λ st. ReleaseAnswer script before below st references (if count_of st o == 0 then answer_of.Died o else answer_of.Continue)) (sym is) here
       where
@@ -128,7 +128,7 @@ gives_up store new o left is script w below s =
     at_stack (λ u. ReleaseAnswer script u below new left (if count_of new o == 0 then answer_of.Died o else answer_of.Continue)) w (Releasing (o ∷ left) ∷ below) s.top
     (given_up script store w o left below (spelled store w (Releasing (o ∷ left) ∷ below) s) new is)
 
--- a release with nothing left ends
+-- an empty release ends
 pub pops : (store : Store) → ReleaseSteps store [] store [] answer_of.Gone
 pops store script w below s =
     at_stack (λ u. ReleaseAnswer script u below store [] answer_of.Gone) w (Releasing [] ∷ below) s.top

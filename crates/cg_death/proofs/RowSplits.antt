@@ -1,4 +1,4 @@
--- Rows split at one of them, and what the rows say once that one waits or is gone.
+-- Rows split at one of them, and what the rows say after that one waits or is gone.
 use Rattle.std.proofs.Common.{◌≡◌, ◌≢◌, refl, sym, ◌∙◌, ap, subst, ℕ, ◌<◌, Bool, true, false, cond, not, inl, inr, List, [], ◌∷◌, ◌++◌, map, reverse, Some, None, append_assoc, arith}
 use Rattle.std.specs.Prelude.{◌⊎◌, ◌==◌, ◌&&◌, filter, find, option_map, slice_get, if◌then◌else◌}
 use Rattle.std.specs.List.{All}
@@ -29,7 +29,7 @@ pub head_in : (xs : List ℕ) (x : ℕ) → slice_get xs 0 ≡ Some x → Includ
 head_in [] x e = absurd (cc)
 head_in (y ∷ xs) x e = let same : y ≡ x = cc in inl same
 
--- a weak reference of some of the rows has a row of these
+-- a weak reference of some of the rows has a row among these
 pub row_of_one : (test : Row → Bool) (rows : List Row) (weak : ℕ) → Includes (newest_first test rows) weak → (r : Row) × Includes rows r × (test r ≡ true) × (r.weak ≡ weak)
 row_of_one test rows weak m =
     let named = Includes-map_cases (λ (r : Row). r.weak) (filter test rows) weak (Includes-reverse (map (λ (r : Row). r.weak) (filter test rows)) weak m) in
@@ -39,7 +39,7 @@ row_of_one test rows weak m =
 pub one_of_row : (test : Row → Bool) (rows : List Row) (r : Row) → Includes rows r → test r ≡ true → Includes (newest_first test rows) r.weak
 one_of_row test rows r m passes = Includes-reversed (map (λ (r : Row). r.weak) (filter test rows)) r.weak (Includes-map (λ (r : Row). r.weak) (filter test rows) r (Includes-filter test rows r passes m))
 
--- rising rows on both sides of one of them
+-- rising rows before and after one of them
 pub record Split (rows : List Row) (r : Row) : Type 0 where
   pub front : List Row
   pub back : List Row
@@ -65,7 +65,6 @@ split_at (y ∷ rows) r rise (inr m) =
       higher = rest.higher;
     }
 
--- the weak references of split rows
 filter-append : (test : Row → Bool) (xs ys : List Row) → filter test (xs ++ ys) ≡ filter test xs ++ filter test ys
 filter-append test [] ys = refl
 filter-append test (x ∷ xs) ys = go (test x) (filter-append test xs ys)
@@ -84,14 +83,14 @@ newest_first-append test xs ys =
     ∙ ap reverse (weaks-append (filter test xs) (filter test ys))
     ∙ reverse-append (map (λ (r : Row). r.weak) (filter test xs)) (map (λ (r : Row). r.weak) (filter test ys))
 
--- a row that does not pass is not seen
+-- a row that does not pass is skipped
 pub newest_first-skip : (test : Row → Bool) (front : List Row) (r : Row) (back : List Row) → test r ≡ false → newest_first test (front ++ r ∷ back) ≡ newest_first test (front ++ back)
 newest_first-skip test front r back fails =
     newest_first-append test front (r ∷ back)
     ∙ ap (λ b. reverse (map (λ (x : Row). x.weak) (cond b (r ∷ filter test back) (filter test back))) ++ newest_first test front) fails
     ∙ sym (newest_first-append test front back)
 
--- one that passes stands between the others
+-- one that passes is between the others
 pub newest_first-pass : (test : Row → Bool) (front : List Row) (r : Row) (back : List Row) → test r ≡ true → newest_first test (front ++ r ∷ back) ≡ newest_first test back ++ r.weak ∷ newest_first test front
 newest_first-pass test front r back passes =
     newest_first-append test front (r ∷ back)
@@ -106,7 +105,7 @@ none_first test rows none = ap (λ l. reverse (map (λ (r : Row). r.weak) l)) (n
     nothing [] h = refl
     nothing (x ∷ xs) h = ap (λ b. cond b (x ∷ filter test xs) (filter test xs)) (h x (inl refl)) ∙ nothing xs (λ y m. h y (inr m))
 
--- the rows once that one is gone, or waits
+-- the rows after that one is gone, or waits
 kept_all : (weak : ℕ) (rows : List Row) → ((x : Row) → Includes rows x → x.weak ≢ weak) → without_row weak rows ≡ rows
 kept_all weak [] h = refl
 kept_all weak (x ∷ rows) h = ap (λ b. cond (not b) (x ∷ without_row weak rows) (without_row weak rows)) (ne_eqb x.weak weak (h x (inl refl))) ∙ ap (λ l. x ∷ l) (kept_all weak rows (λ y m. h y (inr m)))
@@ -138,7 +137,6 @@ module _ (rows : List Row) (r : Row) (s : Split rows r) where
       ∙ map-append (λ x. if x.weak == r.weak then waiting_row x else x) s.front (r ∷ s.back)
       ∙ (λ i. same_all r.weak s.front front_apart i ++ (if eq-eqb r.weak r.weak refl i then waiting_row r else r) ∷ same_all r.weak s.back back_apart i)
 
--- what is found
 find-skip : (test : Row → Bool) (front : List Row) (r : Row) (back : List Row) → test r ≡ false → find test (front ++ r ∷ back) ≡ find test (front ++ back)
 find-skip test [] r back fails = ap (λ b. cond b (Some r) (find test back)) fails
 find-skip test (x ∷ front) r back fails = ap (cond (test x) (Some x)) (find-skip test front r back fails)
@@ -166,19 +164,18 @@ module _ (rows : List Row) (r : Row) (s : Split rows r) where
   no_others : (x : Row) → Includes (s.front ++ s.back) x → stands r.weak x ≡ false
   no_others x m = apart r.weak x (either (Includes-append_cases s.front s.back x m) (front_apart rows r s x) (back_apart rows r s x))
 
-  -- the row's weak reference has its referent
   pub referent-is : r.waits ≡ false → referent_in rows r.weak ≡ Some r.referent
   referent-is stays =
       ap (λ l. referent_in l r.weak) s.is
       ∙ ap (option_map (λ (x : Row). x.referent)) (find-first (stands r.weak) s.front r s.back (λ x m. apart r.weak x (front_apart rows r s x m)) (λ i. eq-eqb r.weak r.weak refl i && not (stays i)))
 
-  -- the object with which it waits
+  -- the object that it waits with
   pub waited-is : r.waits ≡ true → waited_in rows r.weak ≡ Some r.referent
   waited-is waits =
       ap (λ l. waited_in l r.weak) s.is
       ∙ ap (option_map (λ (x : Row). x.referent)) (find-first (λ x. (x.weak == r.weak) && x.waits) s.front r s.back (λ x m. ap (λ b. b && x.waits) (ne_eqb x.weak r.weak (front_apart rows r s x m))) (λ i. eq-eqb r.weak r.weak refl i && waits i))
 
-  -- Once it is gone, or waits, it has none, and the others have theirs.
+  -- After it is gone, or waits, it has no referent, and the others keep theirs.
   referent-front : (q : ℕ) → referent_in (s.front ++ s.back) q ≡ (if q == r.weak then None else referent_in rows q)
   referent-front q = elim (cases_eq q r.weak) [
     | inl same ↦
@@ -200,14 +197,14 @@ module _ (rows : List Row) (r : Row) (s : Split rows r) where
       ∙ ap (option_map (λ (x : Row). x.referent)) (find-skip (stands q) s.front (waiting_row r) s.back (waits_apart (r.weak == q) true refl))
       ∙ referent-front q
 
-  -- one that waited had none
+  -- a waiting one had no referent
   pub referent-forgotten : r.waits ≡ true → (q : ℕ) → referent_in (without_row r.weak rows) q ≡ referent_in rows q
   referent-forgotten waits q =
       ap (λ l. referent_in l q) (without-is rows r s)
       ∙ ap (option_map (λ (x : Row). x.referent)) (sym (find-skip (stands q) s.front r s.back (waits_apart (r.weak == q) r.waits waits)))
       ∙ ap (λ l. referent_in l q) (sym s.is)
 
-  -- what waits: the same, where the row did not wait and is gone
+  -- the waiting ones are the same if the row did not wait and is gone
   pub waiting-without : r.waits ≡ false → (o : ℕ) → waiting_in (without_row r.weak rows) o ≡ waiting_in rows o
   waiting-without stays o =
       ap (λ l. waiting_in l o) (without-is rows r s)
@@ -218,7 +215,7 @@ module _ (rows : List Row) (r : Row) (s : Split rows r) where
       both_false true c e = e
       both_false false c e = refl
 
-  -- or is that of another object
+  -- or if it waits with another object
   pub waiting-other : (o : ℕ) → r.referent ≢ o → (waiting_in (without_row r.weak rows) o ≡ waiting_in rows o) × (r.waits ≡ false → waiting_in (with_row_waiting r.weak rows) o ≡ waiting_in rows o)
   waiting-other o differs = (
     ap (λ l. waiting_in l o) (without-is rows r s) ∙ sym (newest_first-skip (waits_with o) s.front r s.back (ap (λ b. b && r.waits) (ne_eqb r.referent o differs))) ∙ ap (λ l. waiting_in l o) (sym s.is),
@@ -229,7 +226,7 @@ module _ (rows : List Row) (r : Row) (s : Split rows r) where
         ∙ ap (λ l. waiting_in l o) (sym s.is),
   )
 
-  -- one that waits now comes after all that are newer
+  -- a new waiting one comes after all newer ones
   pub waiting-more : r.waits ≡ false → ((v : ℕ) → Includes (waiting_in rows r.referent) v → r.weak < v) → waiting_in (with_row_waiting r.weak rows) r.referent ≡ waiting_in rows r.referent ++ r.weak ∷ []
   waiting-more stays newer =
       let o : ℕ = r.referent in
@@ -255,7 +252,7 @@ module _ (rows : List Row) (r : Row) (s : Split rows r) where
           let low = s.lower x m in
           absurd (omega (arith, high, low))
 
-  -- the newest that waits, and the others
+  -- the newest waiting one, and the others
   pub waiting-first : waits_with r.referent r ≡ true → slice_get (waiting_in rows r.referent) 0 ≡ Some r.weak → waiting_in rows r.referent ≡ r.weak ∷ waiting_in (without_row r.weak rows) r.referent
   waiting-first passes first =
       let spelled : waiting_in rows r.referent ≡ newest_first (waits_with r.referent) s.back ++ r.weak ∷ newest_first (waits_with r.referent) s.front =
@@ -273,7 +270,7 @@ module _ (rows : List Row) (r : Row) (s : Split rows r) where
           let high = s.higher found.0 found.1 in
           absurd (omega (arith, high, same, found.3))
 
--- the rows that are left, and those that wait then
+-- the remaining rows, and those that then wait
 pub left-in : (weak : ℕ) (rows : List Row) (x : Row) → Includes (without_row weak rows) x → Includes rows x
 left-in weak rows x m = (Includes-filter_cases (λ y. not (y.weak == weak)) rows x m).0
 

@@ -1,4 +1,4 @@
--- What of the weak references of an object is left once one has lost it, waits with it, or waits no longer.
+-- The remaining weak references of an object after one is cleared, waits with it, or waits no longer.
 use Rattle.std.proofs.Common.{◌≡◌, ◌≢◌, refl, sym, ◌∙◌, ap, subst, ℕ, ◌≤◌, Bool, true, false, not, inl, inr, List, [], ◌∷◌, ◌++◌, Some, arith}
 use Rattle.std.specs.Prelude.{◌==◌, slice_get, if◌then◌else◌}
 use Rattle.std.specs.List.{All}
@@ -9,7 +9,6 @@ use Rattle.cg_graph.specs.Rows.{Row, IsRising, refers_to, newest_first, weak_ref
 use Rattle.cg_graph.proofs.Members.{either, true_and, Includes-append_cases, Includes-map_cases}
 use Rattle.cg_death.proofs.RowSplits.{all_in, row_of_one, one_of_row, head_in, split_at, newest_first-pass, left-in}
 
--- a list with no member
 pub none_inside : (xs : List ℕ) → ((x : ℕ) → Includes xs x → ⊥) → xs ≡ []
 none_inside [] none = refl
 none_inside (x ∷ xs) none = absurd (none x (inl refl))
@@ -23,7 +22,7 @@ fewer_in test rows left inside w m =
 pub none_of_fewer : (test : Row → Bool) (rows left : List Row) → ((x : Row) → Includes left x → Includes rows x) → newest_first test rows ≡ [] → newest_first test left ≡ []
 none_of_fewer test rows left inside none = none_inside (newest_first test left) (λ w m. subst (λ l. Includes l w) none (fewer_in test rows left inside w m))
 
--- what holds of each row of others holds of those that are left, and of those of which one waits
+-- a property of each row holds of the remaining ones, and of those of which one waits
 pub all_of : (P : Row → Type 0) (xs : List Row) → ((x : Row) → Includes xs x → P x) → All P xs
 all_of P [] each = All-nil P
 all_of P (x ∷ xs) each = All-cons P x xs (each x (inl refl)) (all_of P xs (λ y m. each y (inr m)))
@@ -40,12 +39,12 @@ others_waiting o weak (x ∷ rows) all =
     one true differs = differs
     one false differs = differs
 
--- the first of two lists, the first of which is not empty
+-- the first member of two lists, the first of which is not empty
 first_inside : (xs ys : List ℕ) (w first : ℕ) → Includes xs w → slice_get (xs ++ ys) 0 ≡ Some first → Includes xs first
 first_inside [] ys w first m e = absurd m
 first_inside (x ∷ xs) ys w first m e = let same : x ≡ first = cc in inl same
 
--- the newest of some weak references is the greatest
+-- the newest weak reference is the greatest
 pub newest_is_greatest : (test : Row → Bool) (rows : List Row) (weak w : ℕ) → IsRising rows → slice_get (newest_first test rows) 0 ≡ Some weak → Includes (newest_first test rows) w → w ≤ weak
 newest_is_greatest test rows weak w rise newest m =
     let top = row_of_one test rows weak (head_in (newest_first test rows) weak newest) in
@@ -62,7 +61,7 @@ newest_is_greatest test rows weak w rise newest m =
     let high = s.higher found.0 found.1 in
     absurd (omega (arith, high, found.3, top.3))))
 
--- a row that still refers once another waits did before, and is not that other
+-- a row that still refers after another began to wait did so before, and is not that other
 pub refers_before : (o weak : ℕ) (rows : List Row) (w : ℕ) → Includes (weak_references_in (with_row_waiting weak rows) o) w → Includes (weak_references_in rows o) w × (w ≢ weak)
 refers_before o weak rows w m =
     let found = row_of_one (refers_to o) (with_row_waiting weak rows) w m in

@@ -1,4 +1,4 @@
--- What the phases on weak references, and the last one, leave of a steady death.
+-- The phases on weak references, and the last one, leave a steady death.
 use Rattle.std.proofs.Common.{◌≡◌, ◌≢◌, refl, sym, ◌∙◌, ap, subst, ℕ, ◌≤◌, Bool, true, false, cond, not, inr, List, [], ◌∷◌, ◌++◌, length, Some, None, arith}
 use Rattle.std.specs.Prelude.{◌==◌, ◌&&◌, if◌then◌else◌, is_some, slice_get}
 use Rattle.std.specs.List.{All}
@@ -45,7 +45,7 @@ use Rattle.cg_death.proofs.RowsLeft.{fewer_in, none_of_fewer, all_left, others_w
 use Rattle.cg_death.proofs.Counting.{unheld-unheld, unheld-held, unheld-rewritten, held_by_none}
 use Rattle.cg_death.proofs.Steadying.{weak_references_by_kind, passes-mapped, passes-same, no_holds, steady-over}
 
--- None of those that may refer to it is left.
+-- No weak reference that may refer to it is left.
 none_refers : (test : Object → Bool) (store : Store) (o : ℕ) → AreRows store → slice_get (weak_references_if test (objects_of store) o) 0 ≡ None → RefersOnlyIf test store o → NoneRefers store o
 none_refers test store o ok none only = known (passes test store o) refl
   where
@@ -61,7 +61,6 @@ newest_in_rows test store o weak ok newest = known (passes test store o) refl
     known true e = ap (λ l. slice_get l 0) (sym (weak_references-are store ok o)) ∙ ap (λ b. slice_get (if b then weak_references (objects_of store) o else []) 0) (sym e) ∙ newest
     known false e = let nothing : slice_get [] 0 ≡ Some weak = ap (λ b. slice_get (if b then weak_references (objects_of store) o else []) 0) (sym e) ∙ newest in absurd (cc)
 
--- a weak reference to an object: its row
 module _ (store : Store) (o weak : ℕ) (ok : AreRows store) (refers : referent_in store.rows weak ≡ Some o) where
   abbrev row : Row
   row = (row_there store.rows weak o refers).0
@@ -82,7 +81,7 @@ module _ (store : Store) (o weak : ℕ) (ok : AreRows store) (refers : referent_
   is_other : All (λ r. r.weak ≢ o) store.rows → weak ≢ o
   is_other others same = all_in (λ (r : Row). r.weak ≢ o) store.rows row others inside ((row_there store.rows weak o refers).3 ∙ same)
 
-  -- what waits once it waits, and once it is gone
+  -- the waiting ones after it waits, and after it is gone
   waits_now : AreNewer store o → waiting_in (with_row_waiting weak store.rows) o ≡ waiting_in store.rows o ++ weak ∷ []
   waits_now = subst (λ (q : ℕ × ℕ). AreNewer store q.0 → waiting_in (with_row_waiting q.1 store.rows) q.0 ≡ waiting_in store.rows q.0 ++ q.1 ∷ []) both
       (λ newer. waiting-more store.rows row (split_at store.rows row ok.rise inside) stays (λ v i. newer v row.weak i (subst (λ (q : ℕ × ℕ). Includes (weak_references_in store.rows q.0) q.1) (sym both) refers_in)))
@@ -90,11 +89,11 @@ module _ (store : Store) (o weak : ℕ) (ok : AreRows store) (refers : referent_
   pub waits_still : waiting_in (without_row weak store.rows) o ≡ waiting_in store.rows o
   waits_still = subst (λ (q : ℕ × ℕ). waiting_in (without_row q.1 store.rows) q.0 ≡ waiting_in store.rows q.0) both (waiting-without store.rows row (split_at store.rows row ok.rise inside) stays row.referent)
 
-  -- an object to which it refers may have weak references
+  -- an object that it refers to may have weak references
   may_have : (test : Object → Bool) (new : Store) → passes test new o ≡ passes test store o → RefersOnlyIf test store o → RefersOnlyIf test new o
   may_have test new same only fails = absurd (subst (λ l. Includes l weak) (only (sym same ∙ fails)) refers_in)
 
--- the one entry of a weak reference with a callback
+-- the single entry of a weak reference with a callback
 callback_there : (entries : List Entry) → AreItems entries → length entries ≤ 1 → is_some (callback_in entries) ≡ true → (f : ℕ) × (entries ≡ item (val.Ref f) ∷ [])
 callback_there [] items few has = absurd (let no : false ≡ true = has in cc)
 callback_there (e ∷ []) items few has = known e.val refl has
@@ -113,11 +112,11 @@ has_callback store weak well code has =
     let entries : entries_of store weak ≡ code.0.entries = ap entries_in code.1 in
     callback_there (entries_of store weak) (subst AreItems (sym entries) single.0) (subst (λ (es : List Entry). length es ≤ 1) (sym entries) single.1) (ap is_some (sym (callback-at store weak)) ∙ has)
 
--- an object that is not the one of a list
+-- an object other than the single one of a list
 not_in_one : (o weak : ℕ) → weak ≢ o → occurrences o (weak ∷ []) ≡ 0
 not_in_one o weak differs = let none : cond {A = ℕ} (weak == o) 1 0 ≡ 0 = ap (λ b. cond {A = ℕ} b 1 0) (ne_eqb weak o differs) in omega (arith, occurrences-cons o weak [], none)
 
--- None is left to lose the object.
+-- None is left to clear.
 pub steady-all_cleared : (script : Script) (store : Store) (o : ℕ) → AreRows store → slice_get (weak_references_if has_weak_references (objects_of store) o) 0 ≡ None → IsSteadyAt script store o phase_of.Clearing None → IsSteadyAt script store o phase_of.Calling None
 steady-all_cleared script store o ok none s = record {
   ready = (s.ready.0, s.rows.0);
@@ -127,7 +126,7 @@ steady-all_cleared script store o ok none s = record {
   no_own_row = s.no_own_row;
 }
 
--- The newest loses it: with a callback it waits from then on, without it its row is gone.
+-- The newest is cleared. With a callback it then waits; without one its row is gone.
 module _ (script : Script) (store : Store) (o weak : ℕ) (sound : IsSound store) (refers : referent_in store.rows weak ≡ Some o) where
   abbrev waiting_store : Store
   waiting_store = cleared_weak weak true (held (weak ∷ []) store)
@@ -201,7 +200,7 @@ module _ (script : Script) (store : Store) (o weak : ℕ) (sound : IsSound store
   steady-cleared true has newest s = steady-waits newest has s
   steady-cleared false has newest s = steady-lost s
 
-  -- One that its own frames made loses it.
+  -- One that its own frames made is cleared.
   pub steady-detached : IsSteadyAt script store o phase_of.Detaching None → IsSteadyAt script lost_store o phase_of.Detaching None
   steady-detached s = record {
     ready = lost_unheld s.ready;
@@ -214,7 +213,6 @@ module _ (script : Script) (store : Store) (o weak : ℕ) (sound : IsSound store
     no_own_row = all_left (λ r. r.weak ≢ o) weak store.rows s.no_own_row;
   }
 
--- none is left
 pub steady-all_detached : (script : Script) (store : Store) (o : ℕ) → AreRows store → slice_get (weak_references_if (has_finalizers script) (objects_of store) o) 0 ≡ None → IsSteadyAt script store o phase_of.Detaching None → IsSteadyAt script store o phase_of.Emptying None
 steady-all_detached script store o ok none s = record {
   ready = (s.ready, in_no_row store.rows o s.no_own_row (no_referent store.rows o (ap (λ l. slice_get l 0) (none_refers (has_finalizers script) store o ok none s.rows.1)) (ap (λ l. slice_get l 0) s.rows.0)));
@@ -224,7 +222,7 @@ steady-all_detached script store o ok none s = record {
   no_own_row = s.no_own_row;
 }
 
--- No callback is left to be called.
+-- No callback is left to call.
 pub steady-all_called : (script : Script) (store : Store) (o : ℕ) → slice_get (waiting_in store.rows o) 0 ≡ None → IsSteadyAt script store o phase_of.Calling None → IsSteadyAt script store o phase_of.LegacyFinalizer None
 steady-all_called script store o none s = record {
   ready = s.ready.0;
@@ -234,7 +232,7 @@ steady-all_called script store o none s = record {
   no_own_row = s.no_own_row;
 }
 
--- The newest that waits has its callback taken out and called.
+-- The newest waiting one has its callback removed and called.
 module _ (script : Script) (store : Store) (o weak f : ℕ) (sound : IsSound store) (newest : slice_get (waiting_in store.rows o) 0 ≡ Some weak) (entry : entries_of store weak ≡ item (val.Ref f) ∷ []) where
   abbrev emptied : Store
   emptied = rewritten weak [] store
@@ -254,7 +252,7 @@ module _ (script : Script) (store : Store) (o weak f : ℕ) (sound : IsSound sto
       subst (λ (q : ℕ × ℕ). slice_get (waiting_in store.rows q.0) 0 ≡ Some q.1 → waiting_in store.rows q.0 ≡ q.1 ∷ waiting_in (without_row q.1 store.rows) q.0) both
       (waiting-first store.rows r (split_at store.rows r sound.rows.rise found.1) (λ i. eq-eqb r.referent r.referent refl i && parts.1 i)) newest
 
-  -- another that waits has its entry still
+  -- another waiting one keeps its entry
   other_waits : (w : ℕ) → Includes (waiting_in (without_row weak store.rows) o) w → w ≢ weak
   other_waits w m =
       let found = row_of_one (waits_with o) (without_row weak store.rows) w m in
@@ -296,7 +294,7 @@ module _ (script : Script) (store : Store) (o weak f : ℕ) (sound : IsSound sto
         no_own_row = all_left (λ r. r.weak ≢ o) weak store.rows s.no_own_row;
       }
 
--- A call has ended: the callback was given up, and its weak reference is to be.
+-- A call has ended: the callback was given up, and its weak reference comes next.
 pub steady-call_ended : (script : Script) (store : Store) (o weak f : ℕ) (release : Release) → references_left release ≡ weak ∷ [] → IsSteadyAt script store o (phase_of.AfterCall weak f) None → IsSteadyAt script (unheld (f ∷ []) store) o phase_of.Calling (Some release)
 steady-call_ended script store o weak f release left s =
     let callbacks : HaveCallbacks (unheld (f ∷ []) store) o = λ w waits. let had = s.rows.0 w waits in (had.0, entries-unheld (f ∷ []) store w ∙ had.1) in
@@ -311,7 +309,7 @@ steady-call_ended script store o weak f release left s =
       no_own_row = s.no_own_row;
     }
 
--- An entry was taken out, and its references are to be given up.
+-- An entry was removed, and its references are to be given up.
 pub steady-taken : (script : Script) (store : Store) (o : ℕ) (e : Entry) (release : Release) → IsSound store → entries_of store o ≡ without_last (entries_of store o) ++ e ∷ [] → references_left release ≡ entry_references e → IsSteadyAt script store o phase_of.Emptying None
     → IsSteadyAt script (held (entry_references e) (rewritten o (without_last (entries_of store o)) store)) o phase_of.Emptying (Some release)
 steady-taken script store o e release sound last left s =
@@ -336,6 +334,5 @@ steady-taken script store o e release sound last left s =
       no_own_row = s.no_own_row;
     }
 
--- the object is gone
 pub steady-gone : (script : Script) (store : Store) (o : ℕ) → IsSteadyAt script store o phase_of.Emptying None → IsSteadyAt script (gone o store) o phase_of.Over None
 steady-gone script store o s = steady-over script (gone o store) o s.no_own_row

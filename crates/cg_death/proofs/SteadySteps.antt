@@ -1,4 +1,4 @@
--- What a step leaves of a steady death: a reference is given up above it, or its phase has a turn. And how one begins.
+-- A step leaves a steady death: a reference above it is given up, or its phase has a turn. And how one begins.
 use Rattle.std.proofs.Common.{◌≡◌, ◌≢◌, refl, sym, ◌∙◌, ap, subst, ℕ, Bool, true, false, List, [], ◌∷◌, ◌++◌, Option, Some, None, arith}
 use Rattle.std.specs.Prelude.{flat_map, if◌then◌else◌, is_some}
 use Rattle.std.specs.List.{All}
@@ -28,7 +28,7 @@ use Rattle.cg_death.proofs.RowSplits.{split_at, referent-is, left-in}
 use Rattle.cg_death.proofs.RowsLeft.{all_of, none_of_fewer}
 use Rattle.cg_death.proofs.Steadying.{weak_references_by_kind, finalizers_by_kind, only-unheld, only-moved, passes-same, no_holds}
 
--- Holds that are given up leave what each phase needs.
+-- Giving up holds preserves what each phase requires.
 module _ (script : Script) (store : Store) (o : ℕ) (refs : List ℕ) where
   abbrev given_up : Store
   given_up = unheld refs store
@@ -60,7 +60,6 @@ module _ (script : Script) (store : Store) (o : ℕ) (refs : List ℕ) where
   rows_kept phase_of.Emptying r = tt
   rows_kept phase_of.Over r = tt
 
--- the first reference is given up
 pub steady-given_up : (script : Script) (store : Store) (o q : ℕ) (phase : Phase) (before after : Option Release) → TakesNext before (Some q) after → IsSteadyAt script store o phase before → IsSteadyAt script (unheld (q ∷ []) store) o phase after
 steady-given_up script store o q phase None after takes s = absurd takes
 steady-given_up script store o q phase (Some release) None takes s = absurd takes
@@ -76,7 +75,7 @@ steady-given_up script store o q phase (Some release) (Some left) takes s = reco
   no_own_row = s.no_own_row;
 }
 
--- none is left to be given up
+-- none is left to give up
 pub steady-popped : (script : Script) (store : Store) (o : ℕ) (phase : Phase) (before after : Option Release) → TakesNext before None after → IsSteadyAt script store o phase before → IsSteadyAt script store o phase None
 steady-popped script store o phase None after takes s = s
 steady-popped script store o phase (Some release) after takes s = record {
@@ -87,7 +86,7 @@ steady-popped script store o phase (Some release) after takes s = record {
   no_own_row = s.no_own_row;
 }
 
--- A death begins: its object is untracked, and if it is a weak reference it has no referent any more.
+-- A death begins: its object is untracked, and a weak reference is cleared.
 module _ (script : Script) (store : Store) (o : ℕ) (ok : AreRows store) (u : IsUnheld store o) (none_waits : waiting_for store o ≡ []) (fresh : IsFresh store o) where
   abbrev placed : Store
   placed = moved o Untracked store

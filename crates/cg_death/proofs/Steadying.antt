@@ -1,4 +1,4 @@
--- What each phase leaves of a steady death.
+-- Each phase leaves a steady death.
 use Rattle.std.proofs.Common.{◌≡◌, ◌≢◌, refl, sym, ◌∙◌, ap, subst, ℕ, ◌<◌, Bool, true, false, List, [], ◌∷◌, ◌++◌, Option, Some, None, arith}
 use Rattle.std.specs.Prelude.{◌==◌, if◌then◌else◌, option_map, unwrap_or}
 use Rattle.std.specs.List.{All}
@@ -28,7 +28,7 @@ use Rattle.cg_death.specs.Steady.{NoneWaits, passes, RefersOnlyIf, IsSteadyAt}
 use Rattle.cg_death.proofs.Places.{only-one}
 use Rattle.cg_death.proofs.Counting.{unheld-moved}
 
--- Tests that look at the kind and the class alone.
+-- Tests that examine only the kind and the class.
 abbrev pub IsByKind : (Object → Bool) → Type 0
 IsByKind test = (x y : Object) → x.code ≡ y.code → x.class ≡ y.class → test x ≡ test y
 
@@ -38,7 +38,7 @@ weak_references_by_kind x y code class = ap (λ (c : KindCode). has_weak_referen
 pub finalizers_by_kind : (script : Script) → IsByKind (has_finalizers script)
 finalizers_by_kind script x y code class = λ i. has_finalizers script (record x { code = code i; class = class i })
 
--- such a test passes as before where nodes keep both
+-- such a test gives the same result where nodes keep both
 pub passes-mapped : (test : Object → Bool) → IsByKind test → (g : ℕ → Node → Node) → ((s : ℕ) (n : Node) → (g s n).code ≡ n.code) → ((s : ℕ) (n : Node) → (g s n).class ≡ n.class) → (old new : Store) → new.nodes ≡ mapped g old.nodes → (o : ℕ) → passes test new o ≡ passes test old o
 passes-mapped test by_kind g codes classes old new is o =
     ap (λ x. unwrap_or (option_map test x) false) (object-at new o ∙ ap (option_map (object_from new.rows o)) (ap (λ m. fin.get m o) is ∙ get-mapped g old.nodes o))
@@ -66,7 +66,7 @@ only_if test old new o same rows was fails = ap (λ rs. weak_references_in rs o)
 pub no_holds : (store : Store) → HasHolds store []
 no_holds store s = omega arith
 
--- no weak reference waits: what is asked of each that waits holds
+-- if no weak reference waits, every claim about the waiting ones holds
 none_newer : (store : Store) (o : ℕ) → NoneWaits store o → AreNewer store o
 none_newer store o none v w waits refers = absurd (subst (λ l. Includes l v) none waits)
 
@@ -76,7 +76,7 @@ none_without store o none w waits = absurd (subst (λ l. Includes l w) none wait
 nothing_held : (store : Store) (o : ℕ) → NoneWaits store o → HasHolds store (waiting_for store o ++ [])
 nothing_held store o none = subst (λ l. HasHolds store (l ++ [])) (sym none) (no_holds store)
 
--- The finalizer has run already, or there is none.
+-- The finalizer has run, or there is none.
 pub steady-no_finalizer : (script : Script) (store : Store) (o : ℕ) → IsSteadyAt script store o phase_of.Finalizer None → IsSteadyAt script store o phase_of.Clearing None
 steady-no_finalizer script store o s = record {
   ready = (s.ready, none_newer store o s.rows.0);
@@ -86,7 +86,7 @@ steady-no_finalizer script store o s = record {
   no_own_row = s.no_own_row;
 }
 
--- what refers to it, once it has moved, and once holds are taken or given up
+-- what refers to it after it moved, and after holds are taken or given up
 only-held : (test : Object → Bool) → IsByKind test → (refs : List ℕ) (store : Store) (o : ℕ) → RefersOnlyIf test store o → RefersOnlyIf test (held refs store) o
 only-held test by_kind refs store o = only_if test store (held refs store) o (passes-mapped test by_kind (λ s n. more (occurrences s refs) n) (λ s n. refl) (λ s n. refl) store (held refs store) refl o) refl
 
@@ -115,11 +115,11 @@ only-marked test by_kind store o = only_if test store (with_node marked o store)
     class true n = refl
     class false n = refl
 
--- an object that lives, once more held
+-- a living object, held once more
 own_hold : (store : Store) (o : ℕ) → IsLive store o → HasHolds (held (o ∷ []) store) (o ∷ [])
 own_hold store o live s = omega (arith, outside-held (o ∷ []) store s (λ h. subst (IsLive store) (sym (only-one o s h)) live))
 
--- Its frame is due.
+-- Its frame comes next.
 pub steady-finalizer : (script : Script) (store : Store) (o : ℕ) → IsSteadyAt script store o phase_of.Finalizer None → IsSteadyAt script (held (o ∷ []) (with_node marked o (moved o (Gen 0) store))) o phase_of.AfterFinalizer None
 steady-finalizer script store o s =
     let placed : Store = moved o (Gen 0) store in
@@ -144,7 +144,6 @@ steady-legacy script store o s =
       no_own_row = s.no_own_row;
     }
 
--- there is no legacy finalizer
 pub steady-no_legacy : (script : Script) (store : Store) (o : ℕ) → IsSteadyAt script store o phase_of.LegacyFinalizer None → IsSteadyAt script store o phase_of.Detaching None
 steady-no_legacy script store o s = record {
   ready = s.ready;
@@ -154,7 +153,7 @@ steady-no_legacy script store o s = record {
   no_own_row = s.no_own_row;
 }
 
--- The hold of an own frame ends, and nothing holds the object,
+-- The hold of its own frame is given up, and the object is unheld,
 ended_ready : (store : Store) (o : ℕ) → IsLive store o → count_of (unheld (o ∷ []) store) o ≡ 0 → IsUnheld (moved o Untracked (unheld (o ∷ []) store)) o
 ended_ready store o live none = unheld-moved (unheld (o ∷ []) store) o Untracked (lives_on store (unheld (o ∷ []) store) (kinds-unheld (o ∷ []) store) o live) none
 
@@ -183,6 +182,6 @@ steady-legacy_ended script store o has none s =
       no_own_row = s.no_own_row;
     }
 
--- or it was brought back, and the death is over.
+-- or it was resurrected, and the death is over.
 pub steady-over : (script : Script) (store : Store) (o : ℕ) → All (λ r. r.weak ≢ o) store.rows → IsSteadyAt script store o phase_of.Over None
 steady-over script store o others = record { ready = tt; during = tt; held = no_holds store; rows = tt; no_own_row = others }

@@ -1,4 +1,4 @@
--- Steps of the machine put one after the other, and what is given up above a death.
+-- Steps of the machine in sequence, and what is given up above a death.
 use Rattle.std.proofs.Common.{◌≡◌, refl, sym, ◌∙◌, ap, subst, ℕ, ◌+◌, ◌⊎◌, Bool, true, false, cond, inl, inr, List, [], ◌∷◌, ◌++◌, Option, Some, None, arith}
 use Rattle.std.specs.Prelude.{◌==◌, count_by, if◌then◌else◌}
 use Rattle.std.proofs.lemmas.List.Sums.{sum_by-cons}
@@ -24,7 +24,8 @@ use Rattle.cg_machine.proofs.Representing.{in_one, and_then, matches, represents
 use Rattle.cg_death.proofs.Releases.{given_up}
 use Rattle.cg_death.proofs.Turns.{here, rephased, death}
 
--- A step that prints nothing and changes the stack alone, and then an answer. Neither it nor the next is a detection of a collection.
+-- A step that prints nothing and changes only the stack, and then an answer. Neither it nor the next is a reachability pass of a
+-- collection.
 module _ (script : Script) (v : World) (before between : List Activity) (step : StepOf script (with_stack before v) before [] (with_stack between v)) (none : detects before ≡ false) (next : detects between ≡ false) (new : Store) (stack : List Activity) where
   went : (e : List Rattle.cg_machine.specs.declared.event.Event.Event) (numbers : Rattle.cg_machine.specs.World.Numbers) → (with_stack before v).outcome ≡ Rattle.cg_machine.specs.World.Running → WentOn script (with_stack between v) e numbers new stack → WentOn script (with_stack before v) e numbers new stack
   went e numbers running a = record {
@@ -60,17 +61,17 @@ module _ (script : Script) (v : World) (before between : List Activity) (step : 
   }
   first_then answer_of.Gone running a = went [] v.numbers running a
 
--- what a release answers a death answers
+-- what a release answers, a death answers
 pub of_release : (script : Script) (w : World) (below : List Activity) (new : Store) (left : List ℕ) (o : ℕ) (b : Bool)
     → ReleaseAnswer script w below new left (if b then answer_of.Died o else answer_of.Continue) → DeathAnswer script w new (Releasing left ∷ below) (if b then answer_of.Died o else answer_of.Continue)
 of_release script w below new left o true a = a
 of_release script w below new left o false a = a
 
--- deaths with a release above them, and without it
+-- deaths with and without a release above them
 count_release : (q : ℕ) (references : List ℕ) (stack : List Activity) → count_by (is_death_of q) (Releasing references ∷ stack) ≡ count_by (is_death_of q) stack
 count_release q references stack = sum_by-cons (λ (b : Activity). cond {A = ℕ} (is_death_of q b) 1 0) (Releasing references) stack ∙ omega arith
 
--- A release with nothing left above a death ends.
+-- An empty release above a death ends.
 module _ (store : Store) (v : World) (stack : List Activity) where
   pub stands-popped : DeathStands store (with_stack (Releasing [] ∷ stack) v) (Releasing [] ∷ stack) → DeathStands store (with_stack stack v) stack
   stands-popped s = record {
@@ -81,7 +82,7 @@ module _ (store : Store) (v : World) (stack : List Activity) where
     once = λ q. let was = s.once q in omega (arith, was, count_release q [] stack);
   }
 
--- A death that is not over is no collection.
+-- A death that is not over is not a collection.
 pub after_pop : (script : Script) (store : Store) (tops : List Activity) (new : Store) (tops_after : List Activity) (answer : DeathStep) → ((below : List Activity) → detects (tops ++ below) ≡ false) → DeathSteps script store tops new tops_after answer → DeathSteps script store (Releasing [] ∷ tops) new tops_after answer
 after_pop script store tops new tops_after answer none steps =
     steps_at script store (Releasing [] ∷ tops) new tops_after answer
@@ -89,13 +90,13 @@ after_pop script store tops new tops_after answer none steps =
     first_then script v (Releasing [] ∷ tops ++ below) (tops ++ below) (refl, refl) refl (none below) new (tops_after ++ below) answer s.running
     (steps (with_stack (tops ++ below) v) below (stands-popped store v (tops ++ below) s)))
 
--- What is given up above a death is a step of the release.
+-- Giving up a reference above a death is a step of the release.
 pub gives_up_above : (script : Script) (store new : Store) (q : ℕ) (left : List ℕ) (tops : List Activity) → new ≡ unheld (q ∷ []) store → DeathSteps script store (Releasing (q ∷ left) ∷ tops) new (Releasing left ∷ tops) (if count_of new q == 0 then answer_of.Died q else answer_of.Continue)
 gives_up_above script store new q left tops is =
     steps_at script store (Releasing (q ∷ left) ∷ tops) new (Releasing left ∷ tops) (if count_of new q == 0 then answer_of.Died q else answer_of.Continue)
     (λ v below s. of_release script (with_stack (Releasing (q ∷ left) ∷ tops ++ below) v) (tops ++ below) new left q (count_of new q == 0) (given_up script store v q left (tops ++ below) s new is))
 
--- After a callback both are given up, the callback first.
+-- After a callback both are given up, callback first.
 module _ (script : Script) (store : Store) (o weak callback : ℕ) where
   abbrev ws : List ℕ
   ws = waiting_for store o
@@ -129,7 +130,7 @@ module _ (script : Script) (store : Store) (o weak callback : ℕ) where
       (of_release script (with_stack (Releasing (callback ∷ weak ∷ []) ∷ death_of o (Calling ws) ∷ below) v) (death_of o (Calling ws) ∷ below) new (weak ∷ []) callback (count_of new callback == 0)
       (given_up script store v callback (weak ∷ []) (death_of o (Calling ws) ∷ below) (stands-pushed v below s) new is)))))
 
--- What is given up above a death: one reference, or none is left.
+-- Above a death, one reference is given up, or none is left.
 pub step-given_up : (script : Script) (store new : Store) (o q : ℕ) (phase : Phase) (before after : Option Release) → TakesNext before (Some q) after → new ≡ unheld (q ∷ []) store
     → DeathSteps script store (activities o phase before store) new (activities o phase after new) (if count_of new q == 0 then answer_of.Died q else answer_of.Continue)
 step-given_up script store new o q phase None after takes is = absurd takes
@@ -139,7 +140,7 @@ step-given_up script store new o q phase (Some release) (Some left) takes is =
     (subst (λ refs. DeathSteps script store (Releasing refs ∷ death_activities o phase (waiting_for store o)) new (Releasing (references_left left) ∷ death_activities o phase (waiting_for store o)) (if count_of new q == 0 then answer_of.Died q else answer_of.Continue)) (sym takes)
     (gives_up_above script store new q (references_left left) (death_activities o phase (waiting_for store o)) is))
 
--- One that is over has nothing left but a release that ends.
+-- One that is over has at most an empty release left, which ends.
 over_popped : (script : Script) (store : Store) → DeathSteps script store (Releasing [] ∷ []) store [] answer_of.Gone
 over_popped script store =
     steps_at script store (Releasing [] ∷ []) store [] answer_of.Gone
@@ -153,7 +154,6 @@ over_popped script store =
       keeps = record { numbers = refl; budget = refl; outcome = refl };
     })
 
--- a death is over, or on the stack
 over_or_there : (o : ℕ) (phase : Phase) (waiting : List ℕ) → (phase ≡ phase_of.Over) ⊎ ((below : List Activity) → detects (death_activities o phase waiting ++ below) ≡ false)
 over_or_there o phase_of.Finalizer waiting = inr (λ below. refl)
 over_or_there o phase_of.AfterFinalizer waiting = inr (λ below. refl)
@@ -166,7 +166,7 @@ over_or_there o phase_of.Detaching waiting = inr (λ below. refl)
 over_or_there o phase_of.Emptying waiting = inr (λ below. refl)
 over_or_there o phase_of.Over waiting = inl refl
 
--- The turn of one that is over leaves all as it is.
+-- A turn of one that is over changes nothing.
 pub record RestsIfOver (store new : Store) (phase : Phase) (tops : List Activity) (answer : DeathStep) : Type 0 where
   pub heap : phase ≡ phase_of.Over → new ≡ store
   pub nothing : phase ≡ phase_of.Over → tops ≡ []
@@ -187,7 +187,6 @@ module _ (script : Script) (store new : Store) (o : ℕ) (phase : Phase) (tops :
   step-turned None after takes = steps
   step-turned (Some release) after takes = subst (λ refs. DeathSteps script store (Releasing refs ∷ death_activities o phase (waiting_for store o)) new tops answer) (sym takes) turned_below
 
--- a death that is over stays so
 pub turn-over : (script : Script) (store : Store) (o : ℕ) → DeathSteps script store (activities o phase_of.Over None store) store (activities o phase_of.Over None store) answer_of.Gone
 turn-over script store o =
     steps_at script store [] store [] answer_of.Gone

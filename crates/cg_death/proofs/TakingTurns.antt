@@ -1,4 +1,4 @@
--- How a turn is put together of what its phase does: it goes on, tells a line, or runs a frame.
+-- A turn, composed of what its phase does: it goes on, prints a line, or runs a frame.
 use Rattle.std.proofs.Common.{◌≡◌, ◌≢◌, refl, sym, subst, ℕ, ◌<◌, None, inl}
 use Rattle.cg_script.specs.declared.Script.{Script}
 use Rattle.cg_graph.specs.Store.{Store}
@@ -23,7 +23,7 @@ abbrev pub running : Phase → FrameSpec → Turn
 running next spec = record { phase = next; release = None; answer = answer_of.Frame spec }
 
 module _ (script : Script) (old now new : Store) (new_is : new ≡ now) (o : ℕ) (phase next : Phase) (turn : Turn) (rest : LeavesTheRest old now) (steady : IsSteadyAt script old o phase None → IsSteadyAt script now o next None) where
-  -- what is said of any turn that leaves nothing to be given up
+  -- what holds of any turn that leaves nothing to give up
   stays : IsSteadyAt script old o phase None → IsSteadyAt script new o next None
   stays s = subst (λ st. IsSteadyAt script st o next None) (sym new_is) (steady s)
 

@@ -1,4 +1,4 @@
--- A death that goes on to another phase, or that ends, while the heap stays as it is.
+-- A death goes to another phase, or ends, and the heap stays as it is.
 use Rattle.std.proofs.Common.{length, ◌≡◌, refl, sym, ◌∙◌, ap, subst, ℕ, true, inl, inr, List, [], ◌∷◌, ◌++◌, map, reverse, arith}
 use Rattle.std.specs.Prelude.{flat_map, ◌==◌, ◌&&◌, filter}
 use Rattle.std.proofs.lemmas.Bool.{eq-eqb}
@@ -44,7 +44,6 @@ module _ (store : Store) (v : World) (o : ℕ) (phase : DyingPhase) (below : Lis
   abbrev pub here : World
   here = with_stack (death_of o phase ∷ below) v
 
-  -- the death at another phase
   pub rephased : (next : DyingPhase) → death_waits next ≡ waiting_for store o → Matches store here → Matches store (with_stack (death_of o next ∷ below) v)
   rephased next waits m = record {
     objects = m.objects;
@@ -55,7 +54,6 @@ module _ (store : Store) (v : World) (o : ℕ) (phase : DyingPhase) (below : Lis
     collection = λ c i. m.collection c (either i (λ e. cc) (λ k. inr k));
   }
 
-  -- a death that is over
   pub ended : waiting_for store o ≡ [] → Matches store here → Matches store (with_stack below v)
   ended none m = record {
     objects = m.objects;
@@ -66,16 +64,14 @@ module _ (store : Store) (v : World) (o : ℕ) (phase : DyingPhase) (below : Lis
     collection = λ c i. m.collection c (inr i);
   }
 
-  -- what waits with the object
   pub waits_are : Matches store here → death_waits phase ≡ waiting_for store o
   waits_are m = m.deaths (death o phase) (inl refl)
 
   module _ (script : Script) (s : DeathStands store here (death_of o phase ∷ below)) where
-    -- one step of the death
     pub steps_to : (events : List Event) (after : World) → dying script o phase below here ≡ (events, after) → Goes script here events after
     steps_to events after e = in_one script here events after s.running (sym (ap (λ (t : Transition). t.0) e), sym (ap (λ (t : Transition). t.1) e))
 
-    -- another phase, and nothing else
+    -- only the phase changes
     pub only_phase : (next : DyingPhase) → dying script o phase below here ≡ ([], death_at o next below here) → death_waits next ≡ waiting_for store o → ((q : ℕ) → occurrences q (dying_holds o next) ≡ occurrences q (dying_holds o phase))
         → WentOn script here [] here.numbers store (death_of o next ∷ below)
     only_phase next e waits held = record {

@@ -22,7 +22,7 @@ abbrev Ascends : List ℕ → Type 0
 Ascends [] = Unit {0}
 Ascends (x ∷ xs) = ((y : ℕ) → Includes xs y → x < y) × Ascends xs
 
--- two rising lists of the same numbers are one
+-- two rising lists of the same numbers are equal
 same_ascending : (xs ys : List ℕ) → Ascends xs → Ascends ys → ((n : ℕ) → Includes xs n → Includes ys n) → ((n : ℕ) → Includes ys n → Includes xs n) → xs ≡ ys
 same_ascending [] [] a b into back = refl
 same_ascending [] (y ∷ ys) a b into back = absurd (back y (inl refl))
@@ -39,7 +39,6 @@ same_ascending (x ∷ xs) (y ∷ ys) a b into back =
     first (inr k) (inl e) = e
     first (inr k) (inr m) = let low = b.0 x k in let high = a.0 y m in absurd (omega (arith, low, high))
 
--- some of the rows
 ascends-rows : (test : Row → Bool) (rows : List Row) → IsRising rows → Ascends (map (λ (r : Row). r.weak) (filter test rows))
 ascends-rows test [] rise = tt
 ascends-rows test (r ∷ rows) rise = go (test r) (ascends-rows test rows rise.1)
@@ -54,7 +53,6 @@ ascends-rows test (r ∷ rows) rise = go (test r) (ascends-rows test rows rise.1
     go true rest = (above, rest)
     go false rest = rest
 
--- some of the objects
 below_is : (a b : ℕ) → T (is_lt (nat_cmp a b)) → a < b
 below_is a b h = either (cases_lt a b) (λ l. l) (λ le. either (cases_eq a b)
     (λ e. absurd (subst (λ o. T (is_lt o)) (sym (nat_cmp_is a b Equal e)) h))
@@ -91,7 +89,7 @@ module _ (rows : List Row) (test : Object → Bool) where
       go true low rest = (low, rest)
       go false low rest = rest
 
--- an entry that is found is there
+-- a found entry is a member
 entry_there : (q : ℕ) (n : Node) (es : List (ℕ × Node)) → fin.find nat_cmp q es ≡ Some n → Includes es (q, n)
 entry_there q n [] found = absurd (cc)
 entry_there q n (e ∷ es) found = elim (cases_eq q e.0) [
@@ -102,7 +100,7 @@ entry_there q n (e ∷ es) found = elim (cases_eq q e.0) [
   | inr differs ↦ inr (entry_there q n es (sym (ap (λ b. cond b (Some e.1) (fin.find nat_cmp q es)) (unsigned_tied q e.0 ∙ ne_eqb q e.0 differs)) ∙ found))
 ]
 
--- a referent that is found is that of a row
+-- a found referent is that of a row
 pub row_there : (rows : List Row) (q o : ℕ) → referent_in rows q ≡ Some o → (r : Row) × Includes rows r × (refers_to o r ≡ true) × (r.weak ≡ q)
 row_there [] q o found = absurd (cc)
 row_there (r ∷ rows) q o found = go ((r.weak == q) && not r.waits) refl (row_there rows q o)
@@ -153,7 +151,7 @@ module _ (store : Store) (rows : AreRows store) (o : ℕ) where
   pub weak_references-are : weak_references (objects_of store) o ≡ weak_references_in store.rows o
   weak_references-are = ap reverse (same_ascending in_world in_rows (ascends-objects store.rows (is_reference_to o) (fin.entries store.nodes) (fin.entries_sorted store.nodes)) (ascends-rows (refers_to o) store.rows rows.rise) into back)
 
--- other rows, in which one weak reference has no referent any more
+-- other rows, in which one weak reference is cleared
 pub objects-cleared : (store : Store) (rows : List Row) (weak : ℕ) → ((q : ℕ) → referent_in rows q ≡ (if q == weak then None else referent_in store.rows q)) → objects_of (record store { rows = rows }) ≡ change (with_referent None) weak (objects_of store)
 objects-cleared store rows weak same = each (fin.entries store.nodes)
   where
@@ -165,7 +163,7 @@ objects-cleared store rows weak same = each (fin.entries store.nodes)
     each [] = refl
     each (e ∷ es) = λ i. one (e.0 == weak) e.0 e.1 (same e.0) i ∷ each es i
 
--- other rows, in which each has the referent that it had
+-- other rows, in which each keeps its referent
 pub objects-alike : (store : Store) (rows : List Row) → ((q : ℕ) → referent_in rows q ≡ referent_in store.rows q) → objects_of (record store { rows = rows }) ≡ objects_of store
 objects-alike store rows same = each (fin.entries store.nodes)
   where

@@ -1,4 +1,4 @@
--- Steps of the machine from a world whose stack is spelled out, and what of a heap stands for such a world.
+-- Steps of the machine from a world with an explicit stack, and what a heap says of such a world.
 use Rattle.std.proofs.Common.{◌≡◌, refl, sym, ap, subst, List, [], ◌∷◌, ◌++◌}
 use Rattle.cg_script.specs.declared.Script.{Script}
 use Rattle.cg_graph.specs.Store.{Store}
@@ -13,7 +13,7 @@ at_stack P w stack top p = subst (λ s. P (with_stack s w)) (sym top) p
 pub spelled : (store : Store) (w : World) (stack : List Activity) → DeathStands store w stack → DeathStands store (with_stack stack w) stack
 spelled store w stack s = subst (λ st. DeathStands store (with_stack st w) stack) s.top s
 
--- an answer for each world is one for those whose stack is spelled out
+-- an answer for each world is one for those with an explicit stack
 pub steps_at : (script : Script) (old : Store) (tops : List Activity) (new : Store) (tops_after : List Activity) (answer : DeathStep)
     → ((v : World) (below : List Activity) → DeathStands old (with_stack (tops ++ below) v) (tops ++ below) → DeathAnswer script (with_stack (tops ++ below) v) new (tops_after ++ below) answer)
     → DeathSteps script old tops new tops_after answer

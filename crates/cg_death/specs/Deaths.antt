@@ -19,30 +19,30 @@ use Rattle.cg_death.specs.Falls.{Falls, still_released}
 abbrev pub object_of : Death → ℕ
 object_of d = d.object
 
--- what a death stands for on top of the stack of the machine
+-- what a death represents on top of the machine's stack
 abbrev pub on_stack : Death → Store → List Activity
 on_stack d store = activities d.object d.phase d.release store
 
--- what it holds: references that it still gives up, and what its phase holds
+-- what it holds: references still to be given up, and what its phase holds
 abbrev pub held_by : Death → Store → List ℕ
 held_by d store = flat_map holds (on_stack d store)
 
--- while references are given up nothing holds the object
+-- while references are given up, the object is unheld
 abbrev pub IsUnheldDuring : Store → ℕ → Option Release → Type 0
 IsUnheldDuring store o None = Unit {0}
 IsUnheldDuring store o (Some release) = IsUnheld store o
 
--- What a step needs of the heap, which commands, frames and other deaths may have changed since the step before.
+-- What a step requires of the heap; commands, frames and other deaths may have changed it since the step before.
 abbrev pub IsReadyForDeath : Death → Store → Type 0
 IsReadyForDeath d store = IsReadyForDeathAt store d.object d.phase × IsUnheldDuring store d.object d.release
 
--- while callbacks are called, and while entries are taken out, references are given up
+-- references are given up in the phases that call callbacks and remove entries
 abbrev pub GivesUpAt : Phase → Type 0
 GivesUpAt phase_of.Calling = Unit {0}
 GivesUpAt phase_of.Emptying = Unit {0}
 GivesUpAt phase = ⊥
 
--- and at no other time
+-- and in no other phase
 abbrev pub IsSettledAt : Phase → Option Release → Type 0
 IsSettledAt phase None = Unit {0}
 IsSettledAt phase (Some release) = GivesUpAt phase
@@ -51,7 +51,7 @@ IsSettledAt phase (Some release) = GivesUpAt phase
 abbrev pub IsSettled : Death → Type 0
 IsSettled d = IsSettledAt d.phase d.release
 
--- Something of a death is on the stack, whatever the heap is,
+-- Something of a death is on the stack, whatever the heap,
 abbrev pub IsGoing : Death → Type 0
 IsGoing d = (store : Store) → on_stack d store ≢ []
 
@@ -59,11 +59,11 @@ IsGoing d = (store : Store) → on_stack d store ≢ []
 abbrev pub IsOffStack : Death → Type 0
 IsOffStack d = (store : Store) → on_stack d store ≡ []
 
--- After another answer than a line or the end, something of a death is left to be done.
+-- After any answer but a line or the end, the death has something left to do.
 abbrev pub IsGoingAfter : DeathStep → Death → Type 0
 IsGoingAfter answer d = may_end answer ≡ false → IsGoing d
 
--- the object is gone, or was brought back
+-- the object was freed or resurrected
 abbrev pub IsOver : Death → Type 0
 IsOver d = (d.phase ≡ phase_of.Over) × (still_released d.release ≡ 0)
 
@@ -71,7 +71,7 @@ IsOver d = (d.phase ≡ phase_of.Over) × (still_released d.release ≡ 0)
 abbrev pub EndsSo : Turn → Type 0
 EndsSo turn = (turn.phase ≡ phase_of.Over) × (turn.release ≡ None)
 
--- A step that went on without an answer reached a later pass, or in the same pass less is left.
+-- A step that goes on without an answer reaches a later pass, or leaves less in the same pass.
 abbrev pub DeathFalls : Death → Store → Death → Store → Type 0
 DeathFalls old store new after = Falls old.object store old.phase old.release after new.phase new.release
 
@@ -79,7 +79,7 @@ DeathFalls old store new after = Falls old.object store old.phase old.release af
 abbrev pub HasCause : Death → Store → DeathStep → Type 0
 HasCause d new answer = IsCaused d.object d.phase new answer
 
--- The first reference of what is still given up is taken, or there is none.
+-- The first reference still to be given up is taken, if there is one.
 abbrev pub TakesNext : Option Release → Option ℕ → Option Release → Type 0
 TakesNext None None after = Unit {0}
 TakesNext None (Some o) after = ⊥
@@ -87,6 +87,6 @@ TakesNext (Some release) None after = references_left release ≡ []
 TakesNext (Some release) (Some o) None = ⊥
 TakesNext (Some release) (Some o) (Some left) = references_left release ≡ o ∷ references_left left
 
--- A weak reference that has a referent loses it. (`weakref` manual: a weak reference that is gone calls nothing.)
+-- A weak reference is cleared. (`weakref` manual: a weak reference that is gone calls nothing.)
 abbrev pub forgets_referent : ℕ → Store → Store
 forgets_referent o store = if is_some (referent_in store.rows o) then cleared_weak o false store else store

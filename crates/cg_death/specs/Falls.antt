@@ -1,4 +1,4 @@
--- How a death that goes on without a line, a frame or another death comes nearer to its end. (Ours.)
+-- The measure of a death that goes on without a line, a frame or another death. (Ours.)
 use Rattle.std.specs.Prelude.{◌≡◌, ℕ, ◌+◌, ◌*◌, ◌<◌, length, ◌⊎◌, Option, Some, None}
 use Rattle.cg_graph.specs.Rows.{weak_references_in}
 use Rattle.cg_graph.specs.Store.{Store, entries_of, waiting_for}
@@ -22,7 +22,7 @@ pass_of phase_of.Detaching = 6
 pass_of phase_of.Emptying = 7
 pass_of phase_of.Over = 8
 
--- the holds of a phase that are still to be given up, those of waiting weak references aside
+-- the holds of a phase still to be given up, not counting waiting weak references
 abbrev pub own_holds : Phase → ℕ
 own_holds phase_of.AfterFinalizer = 1
 own_holds (phase_of.AfterCall weak callback) = 2
@@ -34,13 +34,13 @@ abbrev pub still_released : Option Release → ℕ
 still_released None = 0
 still_released (Some release) = length (references_left release)
 
--- What is left: one for each hold and for each reference still to be given up, three for each weak reference that waits,
--- four for each that is still to be cleared, and four for each entry still to be taken out.
+-- What is left: one for each hold and each reference still to be given up, three for each waiting weak reference, four
+-- for each that is still to be cleared, and four for each entry still to be removed.
 abbrev pub number_left : ℕ → Phase → Option Release → Store → ℕ
 number_left o phase release store =
     own_holds phase + still_released release + 3 * length (waiting_for store o) + 4 * length (weak_references_in store.rows o) + 4 * length (entries_of store o)
 
--- A later pass is reached, or in the same one less is left.
+-- A later pass is reached, or less is left in the same one.
 abbrev pub Falls : ℕ → Store → Phase → Option Release → Store → Phase → Option Release → Type 0
 Falls o old phase release new phase_after release_after =
     (pass_of phase < pass_of phase_after) ⊎ ((pass_of phase ≡ pass_of phase_after) × (number_left o phase_after release_after new < number_left o phase release old))

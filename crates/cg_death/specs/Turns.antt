@@ -11,15 +11,15 @@ use Rattle.cg_death.specs.Falls.{TurnFalls}
 use Rattle.cg_death.specs.Deaths.{IsSettledAt, EndsSo}
 use Rattle.cg_death.specs.Steady.{TurnStaysSteady, TakesFewHolds, KeepsNames, StandsAfterFrame, DiesUnheld}
 
--- What a death does to the rest of a heap: it makes no object, gives few holds, and leaves names and serials.
+-- What a death does to the rest of a heap: it makes no object, adds few holds, and leaves names and serials.
 pub record LeavesTheRest (old new : Store) : Type 0 where
   pub objects : MakesNone old new
   pub holds : TakesFewHolds old new
   pub names : KeepsNames old new
 
--- The death of an object takes a turn: what the phase finds, and what it leaves and answers.
+-- The death of an object takes a turn: what the phase requires, and what it leaves and answers.
 pub record TakesTurn (script : Script) (old : Store) (o : ℕ) (phase : Phase) (new : Store) (turn : Turn) : Type 0 where
-  -- in every world that the heap stood for the machine does so
+  -- the machine does the same in every world that the heap represented
   pub steps : TurnSteps script old o phase new turn
   -- the answer, and what it says of the death
   pub answers : IsCaused o phase new turn.answer
@@ -28,7 +28,6 @@ pub record TakesTurn (script : Script) (old : Store) (o : ℕ) (phase : Phase) (
   pub ends : turn.answer ≡ answer_of.Gone → EndsSo turn
   pub framed : StandsAfterFrame turn.answer turn.phase turn.release
   pub died : DiesUnheld turn.answer new
-  -- what it leaves
   pub settled : IsSettledAt turn.phase turn.release
   pub steady : TurnStaysSteady script old o phase new turn
   pub rest : LeavesTheRest old new

@@ -1,4 +1,4 @@
-//! The last phase: the entries are taken out, and the object goes.
+//! The last phase: the entries are removed, and the object is freed.
 ghost use Rattle.cg_script.specs.declared.Script.{Script};
 ghost use Rattle.cg_heap.specs.Calls.{HasFewHolds};
 ghost use Rattle.cg_heap.specs.Weak.{IsInNoRow};
@@ -13,7 +13,7 @@ use cg_heap::Heap;
 use cg_kind::Kind;
 use cg_machine::Event;
 
-/// Takes the last entry out, whose references are given up next, or frees the object.
+/// Removes the last entry, whose references are given up next, or frees the object.
 pub fn empty_one<B: Kind>(object: u64, heap: &mut Heap<B>) -> Turn
     requires few { HasFewHolds heap.old }
     requires unheld { IsUnheld heap.old object }

@@ -1,4 +1,4 @@
-//! The death of an object that nothing holds.
+//! The death of an unheld object.
 ghost use Rattle.std.specs.Prelude.{◌≡◌, ◌↔◌, ◌∷◌, [], None, false, is_some, IsTrue};
 ghost use Rattle.cg_value.specs.declared.Place.TheVariants as place_of;
 ghost use Rattle.cg_graph.specs.Rows.{waiting_in};
@@ -38,8 +38,8 @@ pub struct Death {
 }
 
 impl Death {
-    /// The death of an object begins: it is untracked, and if it is a weak reference it loses its referent without a line.
-    /// No weak reference waits with it.
+    /// Begins the death of an object: it is untracked, and a weak reference is cleared without a line. No weak reference
+    /// waits with it.
     pub fn begin<B: Kind>(heap: &mut Heap<B>, object: u64) -> Death
         requires unheld { IsUnheld heap.old object }
         requires none_waits { waiting_in heap.old.rows object ≡ [] }
@@ -67,9 +67,9 @@ impl Death {
 
     /// One action of the death.
     ///
-    /// `Frame` comes where a finalizer or a callback is to be called, and the holds that it takes are given back by the
-    /// next steps. `Died` comes exactly where a reference was given up and nothing holds its object any more; it is never
-    /// the dying object. `Gone` comes exactly where the death is over: the object is gone, or was brought back.
+    /// `Frame` if a finalizer or a callback is to be called; the next steps give back the holds that it takes. `Died`
+    /// exactly if a reference was given up and nothing holds its object any more; it is never the dying object. `Gone`
+    /// exactly if the death is over: the object was freed or resurrected.
     pub fn step<B: Kind>(&mut self, heap: &mut Heap<B>, script: &Script) -> DeathStep
         requires few { HasFewHolds heap.old }
         requires held { HasHolds heap.old (held_by self.old heap.old) }
@@ -88,7 +88,7 @@ impl Death {
         ensures holds { TakesFewHolds heap.old heap.new }
         ensures names { KeepsNames heap.old heap.new }
 
-        // Where nothing else runs, the next step may be taken, whatever this one answers.
+        // If nothing else runs, the next step may be taken after any answer.
         ensures steady { IsSteady script.now self.old heap.old → IsSteady script.now self.new heap.new }
         ensures framed { DeathStandsAfterFrame result self.new }
         ensures died { DiesUnheld result heap.new }
@@ -102,7 +102,7 @@ impl Death {
         turn.answer
     }
 
-    /// Whether it is over: the object is gone, or was brought back, and nothing of the death is left on the stack.
+    /// Whether it is over: the object was freed or resurrected, and nothing of the death is left on the stack.
     pub fn is_over(&self) -> bool
         ensures over { IsTrue result → IsOffStack self.now }
         ensures going { result ≡ false → IsGoing self.now }
@@ -111,7 +111,7 @@ impl Death {
     }
 }
 
-/// Takes the first of the references that are still to be given up, if one is left.
+/// Takes the first of the references still to be given up, if there is one.
 fn next_reference(release: &mut Option<Release>) -> Option<u64>
     ensures { TakesNext release.old result release.new }
 {
@@ -121,7 +121,7 @@ fn next_reference(release: &mut Option<Release>) -> Option<u64>
     }
 }
 
-/// If an object is a weak reference, it loses its referent.
+/// Clears an object that is a weak reference.
 fn lose_own_referent<B: Kind>(object: u64, heap: &mut Heap<B>)
     requires { IsLive heap.old object }
     ensures { heap.new ≡ forgets_referent object heap.old }

@@ -1,4 +1,4 @@
-//! The phases that call finalizers: what class an object has, and its frames.
+//! The phases that call finalizers: the class of an object, and its frames.
 ghost use Rattle.std.specs.Prelude.{◌≡◌, ◌<◌, ◌∷◌, [], option_and_then, slice_get, if◌then◌else◌, IsTrue, ◌↔◌};
 ghost use Rattle.cg_value.specs.declared.Place.TheVariants as place_of;
 ghost use Rattle.cg_graph.specs.Object.{object_at};
@@ -33,7 +33,7 @@ const NO_FINALIZERS: Finalizers = Finalizers {
     legacy: None,
 };
 
-/// The finalizers of the class with a number; none where there is no such class.
+/// The finalizers of the class with this number; none if there is no such class.
 #[inline(never)]
 fn finalizers_in(items: &Items, class: u32) -> Finalizers
     ensures del { result.del ≡ option_and_then (λ c. c.del) (slice_get (classes items.now) class) }
@@ -48,7 +48,7 @@ fn finalizers_in(items: &Items, class: u32) -> Finalizers
     }
 }
 
-/// The finalizers of an object's class. Instances alone have one.
+/// The finalizers of an object's class. Only instances have one.
 #[inline(always)]
 pub fn finalizers_of<B: Kind>(heap: &Heap<B>, script: &Script, object: u64) -> Finalizers
     requires { IsLive heap.now object }
@@ -66,7 +66,7 @@ pub fn finalizers_of<B: Kind>(heap: &Heap<B>, script: &Script, object: u64) -> F
     }
 }
 
-/// The finalizer of an object, if it has not run. (PEP 442: a finalizer is called once.)
+/// The finalizer of an object if it has not run. (PEP 442: a finalizer is called once.)
 pub fn finalizer_to_run<B: Kind>(heap: &Heap<B>, script: &Script, object: u64) -> Option<u32>
     requires { IsLive heap.now object }
     ensures { result ≡
@@ -81,8 +81,8 @@ pub fn finalizer_to_run<B: Kind>(heap: &Heap<B>, script: &Script, object: u64) -
     }
 }
 
-/// Runs the finalizer, if it has not run: the object is tracked in generation 0, marked and held for its frame. Where the death
-/// has nothing else to call either, its contents follow.
+/// Runs the finalizer if it has not run: the object is tracked in generation 0, marked, and held for its frame. If the death
+/// has nothing else to call either, it goes straight to the contents.
 pub fn run_finalizer<B: Kind>(object: u64, heap: &mut Heap<B>, script: &Script) -> Turn
     requires few { HasFewHolds heap.old }
     requires unheld { IsUnheld heap.old object }
@@ -106,7 +106,7 @@ pub fn run_finalizer<B: Kind>(object: u64, heap: &mut Heap<B>, script: &Script) 
     }
 }
 
-/// Runs the legacy finalizer: the object is tracked in generation 0 and held for its frame.
+/// Runs the legacy finalizer: the object is tracked in generation 0, and held for its frame.
 pub fn run_legacy<B: Kind>(object: u64, heap: &mut Heap<B>, script: &Script) -> Turn
     requires few { HasFewHolds heap.old }
     requires unheld { IsUnheld heap.old object }
@@ -137,8 +137,8 @@ pub fn finalizer_frame(sort: FrameSort, proc: u32, object: u64) -> FrameSpec
     }
 }
 
-/// The hold of its own frame ends: the object was brought back and its death is over, or it is untracked again and the
-/// death goes on.
+/// Gives up the hold of the object's own frame. If it is still held, it was resurrected and its death is over; else it
+/// is untracked again and the death goes on.
 pub fn end_finalizer<B: Kind>(object: u64, heap: &mut Heap<B>) -> Turn
     requires { 0 < outside_of heap.old object }
     ensures { (script : Script) → TakesTurn script heap.old object phase_of.AfterFinalizer heap.new result }
@@ -162,7 +162,7 @@ pub fn end_legacy<B: Kind>(object: u64, heap: &mut Heap<B>) -> Turn
     }
 }
 
-/// Gives up the hold of an object's own frame. Where nothing holds it any more, it is untracked.
+/// Gives up the hold of an object's own frame. If nothing else holds it, it is untracked.
 fn is_unheld_now<B: Kind>(object: u64, heap: &mut Heap<B>) -> bool
     requires { 0 < outside_of heap.old object }
     ensures rest { heap.new ≡ (if result then moved object place_of.Untracked (unheld (object ∷ []) heap.old)

@@ -1,12 +1,12 @@
-//! Deaths by count, and releases: how references are given up, and what happens to an object that nothing holds.
+//! Deaths by count, and releases: how references are given up, and what happens to an unheld object.
 //!
-//! The layer above rests on one contract: in every world of the machine that the heap stands for, a step of a release or
-//! a death goes on as the machine does, and tells what is due: a line, a frame, or another object's death.
+//! The layer above relies on one contract: in every world of the machine that the heap represents, a step of a release
+//! or a death does what the machine does, and answers what comes next: a line, a frame, or another object's death.
 //!
 //! - `answer`: what a step answers.
 //! - `release`: references that are given up one after the other.
-//! - `death`: the death of an object; `phase`: where it stands.
-//! - `finalizers`, `weak`, `contents`: its phases; `plain`: whether it comes to the last of them at once.
+//! - `death`: the death of an object; `phase`: its phase.
+//! - `finalizers`, `weak`, `contents`: the phases; `plain`: whether a death goes straight to the last one.
 #![tactic(auto)]
 
 mod answer;

@@ -1,4 +1,4 @@
-//! Where a death stands, and what a turn of one phase leaves.
+//! The phases of a death, and what a turn of one phase leaves.
 ghost use Rattle.std.specs.Prelude.{◌≡◌};
 ghost use Rattle.cg_death.specs.declared.answer.DeathStep.TheVariants as answer_of;
 
@@ -6,28 +6,28 @@ use crate::answer::DeathStep;
 use crate::release::Release;
 use cg_machine::{Event, FrameSpec};
 
-/// Where a death stands. (PEP 442, "Disposal of regular objects": finalizer, weak references, contents.)
+/// The phase of a death. (PEP 442, "Disposal of regular objects": finalizer, weak references, contents.)
 #[derive(Clone, Copy, Debug, PartialEq, Eq, Drop)]
 pub enum Phase {
-    /// The finalizer is to come.
+    /// The finalizer comes next.
     Finalizer,
     /// The frame of the finalizer runs or has ended; the object is held.
     AfterFinalizer,
-    /// Weak references lose the object, the newest first. Those that have a callback wait for it, and are held.
+    /// Weak references are cleared, newest first. Those with a callback wait for it, and are held.
     Clearing,
-    /// The callbacks of those that wait are to come.
+    /// The callbacks of the waiting weak references come next.
     Calling,
     /// The frame of a callback runs or has ended; the weak reference and the callback are held.
     AfterCall { weak: u64, callback: u64 },
-    /// The legacy finalizer is to come.
+    /// The legacy finalizer comes next.
     LegacyFinalizer,
     /// The frame of the legacy finalizer runs or has ended; the object is held.
     AfterLegacy,
-    /// Weak references that the frames made lose the object.
+    /// Weak references that those frames made are cleared.
     Detaching,
-    /// The entries are taken out, the last first, and then the object goes.
+    /// The entries are removed, last first, and then the object is freed.
     Emptying,
-    /// The object is gone, or was brought back.
+    /// The object was freed or resurrected.
     Over,
 }
 
@@ -51,7 +51,7 @@ impl Turn {
         }
     }
 
-    /// A line is due, and the death goes on with a phase.
+    /// A line is to be printed, and the death goes on with a phase.
     pub fn tells(event: Event, phase: Phase) -> Turn
         ensures { result ≡ record { phase = phase; release = None; answer = answer_of.Emit event } }
     {
@@ -62,7 +62,7 @@ impl Turn {
         }
     }
 
-    /// A frame is due, and the death goes on with a phase.
+    /// A frame is to run, and the death goes on with a phase.
     pub fn runs(frame: FrameSpec, phase: Phase) -> Turn
         ensures { result ≡ record { phase = phase; release = None; answer = answer_of.Frame frame } }
     {

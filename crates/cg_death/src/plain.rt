@@ -11,8 +11,8 @@ use cg_heap::Heap;
 use cg_kind::Kind;
 use cg_script::Script;
 
-/// Whether the class of an object has no finalizer and no legacy finalizer, and no weak reference is to lose the object. So its
-/// death comes to its contents at once, as most do.
+/// Whether an object's class has no finalizer of either kind, and no weak reference to it is left. Its death then goes straight
+/// to the contents, as most do.
 #[inline(always)]
 pub fn is_plain<B: Kind>(object: u64, heap: &Heap<B>, script: &Script) -> bool
     requires { IsLive heap.now object }

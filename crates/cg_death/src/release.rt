@@ -1,4 +1,4 @@
-//! References that are given up one after the other.
+//! References given up one after the other.
 ghost use Rattle.std.specs.Prelude.{◌≡◌, ◌<◌, ◌++◌, ◌∷◌, [], option_to_list, if◌then◌else◌, ◌==◌, IfNone, drop};
 ghost use Rattle.cg_value.specs.declared.Val.TheVariants as val_of;
 ghost use Rattle.cg_graph.specs.Value.{entry_references};
@@ -16,7 +16,7 @@ use cg_heap::Heap;
 use cg_kind::Kind;
 use cg_value::Entry;
 
-/// References that are to be given up, at most two. Each is an outside hold of its object.
+/// At most two references to give up. Each is an outside hold of its object.
 #[derive(Drop)]
 pub struct Release {
     first: Option<u64>,
@@ -24,7 +24,7 @@ pub struct Release {
 }
 
 impl Release {
-    /// Gives up the references of an entry: the one in its value, and then the one in its key. (Ours.)
+    /// Gives up the references of an entry: the one in its value, then the one in its key. (Ours.)
     #[inline(always)]
     pub fn new(entry: Entry) -> Release
         ensures { references_left result ≡ entry_references entry }
@@ -48,9 +48,8 @@ impl Release {
 
     /// Gives up the next reference.
     ///
-    /// `Died` comes exactly where nothing then holds its object, and `Gone` exactly where no reference was left. It
-    /// never answers `Frame` or `Emit`. (Developer guide, "Reference counting": an object whose count reaches 0 is
-    /// deallocated.)
+    /// `Died` exactly if nothing then holds its object, and `Gone` exactly if no reference was left. Never `Frame`
+    /// or `Emit`. (Developer guide, "Reference counting": an object whose count reaches 0 is deallocated.)
     #[inline(always)]
     pub fn step<B: Kind>(&mut self, heap: &mut Heap<B>) -> DeathStep
         requires { HasHolds heap.old (references_left self.old) }
@@ -70,7 +69,6 @@ impl Release {
         }
     }
 
-    /// Takes the first reference.
     #[inline(always)]
     pub(crate) fn take_first(&mut self) -> Option<u64>
         ensures taken { references_left self.old ≡ option_to_list result ++ references_left self.new }

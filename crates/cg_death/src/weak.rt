@@ -1,4 +1,4 @@
-//! The phases on weak references: they lose the object, and the callbacks of those that waited are called.
+//! The phases on weak references: they are cleared, and the callbacks of those that wait are called.
 ghost use Rattle.std.specs.Prelude.{◌≡◌, ◌<◌, ◌∷◌, [], Some, None, true, false, IfSome, IsSome, slice_get, option_map, option_and_then, if◌then◌else◌, is_some, unwrap_or};
 ghost use Rattle.cg_script.specs.declared.Script.{Script};
 ghost use Rattle.cg_value.specs.declared.Val.TheVariants as val_of;
@@ -26,7 +26,7 @@ use cg_machine::{Event, FrameSort, FrameSpec};
 use cg_script::Script;
 use cg_value::KindCode;
 
-/// The newest weak reference to a dying instance or function loses it. With a callback it waits, and is held.
+/// Clears the newest weak reference to a dying instance or function. One with a callback waits, and is held.
 pub fn clear_one<B: Kind>(object: u64, heap: &mut Heap<B>) -> Turn
     requires few { HasFewHolds heap.old }
     requires unheld { IsUnheld heap.old object }
@@ -43,7 +43,8 @@ pub fn clear_one<B: Kind>(object: u64, heap: &mut Heap<B>) -> Turn
     }
 }
 
-/// The newest weak reference to an object that may have some: to an instance or a function. (`weakref` manual.)
+/// The newest weak reference to an object of a kind that supports them: an instance or a function. (`weakref`
+/// manual.)
 #[inline(always)]
 pub(crate) fn newest_to_clear<B: Kind>(object: u64, heap: &Heap<B>) -> Option<u64>
     requires { IsLive heap.now object }
@@ -59,7 +60,7 @@ pub(crate) fn newest_to_clear<B: Kind>(object: u64, heap: &Heap<B>) -> Option<u6
     }
 }
 
-/// A weak reference loses its referent. With a callback it waits, and is held.
+/// Clears a weak reference. One with a callback waits, and is held.
 fn lose_referent<B: Kind>(weak: u64, heap: &mut Heap<B>)
     requires few { HasFewHolds heap.old }
     requires live { IsLive heap.old weak }
@@ -94,7 +95,7 @@ pub fn callback_of<B: Kind>(heap: &Heap<B>, weak: u64) -> Option<u64>
     reference_in(heap.entry_at(weak, 0).val)
 }
 
-/// The newest weak reference that waits has its callback taken out and called; both are held.
+/// Removes and calls the callback of the newest waiting weak reference; both are held.
 pub fn call_one<B: Kind>(object: u64, heap: &mut Heap<B>) -> Turn
     requires few { HasFewHolds heap.old }
     requires live { IsLive heap.old object }
@@ -107,7 +108,7 @@ pub fn call_one<B: Kind>(object: u64, heap: &mut Heap<B>) -> Turn
     }
 }
 
-/// Calls the callback of a weak reference that waits.
+/// Calls the callback of a waiting weak reference.
 fn call_back<B: Kind>(object: u64, weak: u64, heap: &mut Heap<B>) -> Turn
     requires few { HasFewHolds heap.old }
     requires callbacks { HaveCallbacks heap.old object }
@@ -141,7 +142,7 @@ pub fn callback_frame<B: Kind>(heap: &Heap<B>, weak: u64, callback: u64) -> Fram
     }
 }
 
-/// Takes the callback of a weak reference out of it. It is held from outside then.
+/// Removes the callback from a weak reference; it is then held from outside.
 fn take_callback<B: Kind>(weak: u64, heap: &mut Heap<B>) -> u64
     requires few { HasFewHolds heap.old }
     requires live { IsLive heap.old weak }
@@ -153,7 +154,7 @@ fn take_callback<B: Kind>(weak: u64, heap: &mut Heap<B>) -> u64
     reference_in(entry.val).unwrap()
 }
 
-/// The frame of a callback has ended: the callback is given up, and then the weak reference.
+/// After the frame of a callback: gives up the callback, and then the weak reference.
 pub fn end_call<B: Kind>(object: u64, weak: u64, callback: u64, heap: &mut Heap<B>) -> Turn
     requires unheld { IsUnheld heap.old object }
     requires held { HasHolds heap.old (callback ∷ weak ∷ []) }
@@ -167,7 +168,7 @@ pub fn end_call<B: Kind>(object: u64, weak: u64, callback: u64, heap: &mut Heap<
     }
 }
 
-/// The newest weak reference that the object's own frames made loses it, without callback.
+/// Clears the newest weak reference that the object's own frames made, without callback.
 pub fn detach_one<B: Kind>(object: u64, heap: &mut Heap<B>, script: &Script) -> Turn
     requires { IsLive heap.old object }
     ensures { TakesTurn script.now heap.old object phase_of.Detaching heap.new result }

@@ -1,4 +1,4 @@
--- The blocks of a generated script, and that it is spelled and names its own texts alone.
+-- The blocks of a generated script; it is well formed and uses only its own texts.
 use Rattle.std.proofs.Common.{◌≡◌, ℕ, ◌+◌, ◌*◌, ◌<◌, ◌≤◌, ◌%◌, ◌==◌, ◌&&◌, Bool, true, false, if◌then◌else◌, List, [], ◌∷◌, ◌++◌, length, map, append_assoc, append-nil, length-append, refl, sym, ap, subst, ◌∙◌, arith, nat_lt, pos}
 use Rattle.std.specs.List.{All, list_all, flat_map, range_with_len, sum_by}
 use Rattle.std.proofs.lemmas.Bool.Decides.{nat_tests}
@@ -21,11 +21,9 @@ map_same : {X : Type 0} (xs : List X) → map (λ x. x) xs ≡ xs
 map_same [] = refl
 map_same (x ∷ xs) = ap (λ l. x ∷ l) (map_same xs)
 
--- the numbers with one more
 range_more : (a n : ℕ) → range_with_len a (n + 1) ≡ range_with_len a n ++ (a + n) ∷ []
 range_more a n = sym (map_same _) ∙ map-range_with_len_more (λ k. k) a n (a + n) refl ∙ ap (λ l. l ++ (a + n) ∷ []) (map_same _)
 
--- one block more
 pub blocks_more : (n : ℕ) → blocks_to (n + 1) ≡ blocks_to n ++ block (n + 1)
 blocks_more n =
     let number : 1 + n ≡ n + 1 = omega arith in
@@ -47,7 +45,7 @@ all_in_blocks : (P : Item → Type 0) → ((n : ℕ) → All P (block n)) → (n
 all_in_blocks P each [] = All-nil P
 all_in_blocks P each (n ∷ ns) = subst (All P) (sym (flat_map-cons block n ns)) (All-append P (block n) (flat_map block ns) (each n) (all_in_blocks P each ns))
 
--- what is true of the items of each block, of the first and of the last two is true of all
+-- a property of the items of each block and of the first and the last two holds of all
 all_items : (P : Item → Type 0) (n : ℕ) → All P beginning → All P ring → ((i : ℕ) → All P (tree i)) → All P link → All P ending → All P (generated n).items
 all_items P n b r t l e =
     All-append P (beginning ++ blocks_to n) ending (All-append P beginning (blocks_to n) b (all_in_blocks P (λ i. by_turns (All P) i r (t i) l) (range_with_len 1 n))) e
@@ -73,14 +71,14 @@ all_texts [] all = All-nil (λ n. n < 3)
 all_texts (x ∷ xs) all =
     subst (All (λ n. n < 3)) (sym (flat_map-cons item_texts x xs)) (All-append (λ n. n < 3) (item_texts x) (flat_map item_texts xs) (All-head KnownItem x xs all) (all_texts xs (All-tail KnownItem x xs all)))
 
--- it names its own texts alone
+-- it uses only its own texts
 pub generated_known : (n : ℕ) → TextsAreKnown (generated n)
 generated_known n = all_texts (generated n).items (known_items n)
 
 abbrev SpelledItem : Item → Type 0
 SpelledItem = IsSpelledItem 3
 
--- `x = list v*` with few values, and a command that has no list of values
+-- `x = list v*` with few values, and a command without a list of values
 list_spelled : (name : ℕ) (values : List Operand) → All (λ n. n < 3) (command_texts (MakeList name values)) → length values ≤ 64 → SpelledItem (Run (MakeList name values))
 list_spelled name values known few = record { known = known; few_words = few }
 
@@ -105,7 +103,6 @@ spelled_items n =
     (All-from_recursion SpelledItem link (list_spelled 0 (Name 0 ∷ []) (all_below (0 ∷ 0 ∷ []) refl) (omega arith), tt))
     (All-from_recursion SpelledItem ending (spelled (Del 0) (all_below (0 ∷ []) refl) tt, (spelled (Collect (pos 2)) (all_below [] refl) tt, tt)))
 
--- no item is a profile
 no_profiles : (n : ℕ) → All IsNoProfile (generated n).items
 no_profiles n =
     all_items IsNoProfile n (All-from_recursion IsNoProfile beginning (tt, tt)) (All-from_recursion IsNoProfile ring (tt, (tt, (tt, (tt, (tt, tt))))))
@@ -113,7 +110,7 @@ no_profiles n =
     (All-from_recursion IsNoProfile link (tt, tt))
     (All-from_recursion IsNoProfile ending (tt, (tt, tt)))
 
--- five items at most for each block
+-- at most five items for each block
 few_in_blocks : (numbers : List ℕ) → length (flat_map block numbers) ≤ 5 * length numbers
 few_in_blocks [] = omega arith
 few_in_blocks (n ∷ ns) =
@@ -124,7 +121,7 @@ few_items : (n : ℕ) → length (generated n).items ≤ 5 * n + 3
 few_items n =
     omega (arith, few_in_blocks (range_with_len 1 n), length-range_with_len 1 n, length-append beginning (blocks_to n), length-append (beginning ++ blocks_to n) ending)
 
--- it is spelled
+-- it is well formed
 pub generated_spelled : (n : ℕ) → n ≤ 10000 → IsSpelled (generated n)
 generated_spelled n few = record {
   lines = spelled_items n;

@@ -13,14 +13,13 @@ count_more p xs x = fold-append (λ a y. a + one_if (p y)) 0 xs (x ∷ [])
 sum_more : {A : Type 0} (f : A → ℕ) (xs : List A) (x : A) → sum_by f (xs ++ x ∷ []) ≡ sum_by f xs + f x
 sum_more f xs x = fold-append (λ a y. a + f y) 0 xs (x ∷ [])
 
--- one line more
 pub tally_more : (lines : List (List ℕ)) (line : List ℕ) → tally_of_lines (lines ++ line ∷ []) ≡ with_line (tally_of_lines lines) line
 tally_more lines line =
     let collected : min (sum_by collected_in (lines ++ line ∷ [])) largest ≡ min (min (sum_by collected_in lines) largest + min (collected_in line) largest) largest = omega (arith, sum_more collected_in lines line) in
     let all : length (lines ++ line ∷ []) ≡ length lines + 1 = length-append lines (line ∷ []) in
     rw (count_more (begins (codes "made ")) lines line, count_more (begins (codes "free ")) lines line, count_more (begins (codes "gc stop ")) lines line, collected, all) refl
 
--- no count is above that of the lines
+-- no count exceeds that of the lines
 pub tally_counts : (lines : List (List ℕ)) → IsCount (tally_of_lines lines)
 tally_counts lines = record {
   made = count_by-le-length (begins (codes "made ")) lines;
@@ -35,7 +34,6 @@ pub record CountedSoFar (text rest : List ℕ) (counts : Tally) : Type 0 where
   pub counted : counts ≡ tally_of_lines done
   pub few : length done + length rest ≤ length text
 
--- one line more
 pub counted_more : (text rest line behind : List ℕ) (counts next : Tally) → lines_of rest ≡ line ∷ lines_of behind → length behind < length rest → CountedSoFar text rest counts → next ≡ with_line counts line → CountedSoFar text behind next
 counted_more text rest line behind counts next cut shorter so_far is = record {
   done = so_far.done ++ line ∷ [];
@@ -44,6 +42,5 @@ counted_more text rest line behind counts next cut shorter so_far is = record {
   few = omega (arith, so_far.few, shorter, length-append so_far.done (line ∷ []));
 }
 
--- no line is left
 pub counted_all : (text rest : List ℕ) (counts : Tally) → rest ≡ [] → CountedSoFar text rest counts → counts ≡ tally_of text
 counted_all text rest counts none so_far = so_far.counted ∙ ap tally_of_lines (sym (append-nil so_far.done) ∙ ap (λ r. so_far.done ++ lines_of r) (sym none) ∙ sym so_far.lines)

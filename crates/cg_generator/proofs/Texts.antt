@@ -1,4 +1,4 @@
--- Texts of which the bytes come one after the other.
+-- Texts whose bytes arrive one by one.
 use Rattle.std.proofs.Common.{◌≡◌, ℕ, ◌+◌, ◌<◌, ◌==◌, ◌||◌, Bool, true, false, if◌then◌else◌, List, [], ◌∷◌, ◌++◌, length, append_assoc, append-nil, take, drop, take-append-drop, Some, refl, sym, ap, subst, ◌∙◌, arith}
 use Rattle.std.specs.List.{list_any}
 use Rattle.std.proofs.lemmas.Bool.Decides.{nat_tests}
@@ -42,22 +42,20 @@ or_false true b = refl
 or_false false true = refl
 or_false false false = refl
 
--- what one of two tests tells
+-- what one of two tests decides
 pub either_first : (first second now : Bool) → first ≡ true → now ≡ first → now ≡ (first || second)
 either_first first second now holds is = is ∙ rw holds refl
 
 pub either_second : (first second now : Bool) → first ≡ false → now ≡ second → now ≡ (first || second)
 either_second first second now fails is = is ∙ rw fails refl
 
--- a line that was found not to be empty
 pub not_empty : (size : ℕ) (empty : Bool) → empty ≡ (size == 0) → empty ≡ false → 0 < size
 not_empty size empty is fails = grind (arith, nat_tests, is, fails)
 
--- of no bytes
 pub seen_nothing : HasSeen [] (tally_of_lines []) false []
 seen_nothing = record { lines = []; front = []; whole = refl; ended = λ later. refl; open_line = refl; counted = refl; refusal = refl }
 
--- one byte more that ends no line
+-- one more byte that ends no line
 pub seen_byte : (text line : List ℕ) (counts : Tally) (refused : Bool) (b : ℕ) → (b == 10) ≡ false → HasSeen text counts refused line → HasSeen (text ++ b ∷ []) counts refused (line ++ b ∷ [])
 seen_byte text line counts refused b other s = record {
   lines = s.lines;
@@ -69,7 +67,6 @@ seen_byte text line counts refused b other s = record {
   refusal = s.refusal;
 }
 
--- a line has ended
 pub seen_line : (text line after : List ℕ) (counts next : Tally) (refused now : Bool) → next ≡ with_line counts line → now ≡ (refused || is_refusal line) → after ≡ [] → HasSeen text counts refused line
     → HasSeen (text ++ 10 ∷ []) next now after
 seen_line text line after counts next refused now is tells none s = record {
@@ -90,7 +87,7 @@ module _ (text line : List ℕ) (counts : Tally) (refused : Bool) (s : HasSeen t
   lines_then : lines_of text ≡ s.lines ++ lines_of line
   lines_then = ap lines_of s.whole ∙ s.ended line
 
-  -- the tally, with the line that has not ended
+  -- the tally, with the unfinished line
   pub seen_tally : (next : Tally) → 0 < length line → next ≡ with_line counts line → next ≡ tally_of text
   seen_tally next some is = by line s.open_line some is lines_then
     where
@@ -106,7 +103,7 @@ module _ (text line : List ℕ) (counts : Tally) (refused : Bool) (s : HasSeen t
       by [] h e = s.counted ∙ ap tally_of_lines (sym (append-nil s.lines) ∙ sym e)
       by (b ∷ bs) h e = absurd (omega (arith, h))
 
-  -- whether a line tells of a refusal
+  -- whether a line reports a refusal
   pub seen_refusal : (refused || is_refusal line) ≡ has_refusal text
   seen_refusal = by line s.open_line lines_then
     where
@@ -122,6 +119,6 @@ module _ (text line : List ℕ) (counts : Tally) (refused : Bool) (s : HasSeen t
           ∙ sym (list_any-append is_refusal s.lines ((b ∷ bs) ∷ []))
           ∙ ap (list_any is_refusal) (ap (λ l. s.lines ++ l) (sym (last_line b bs o)) ∙ sym e)
 
--- a front of some bytes was written
+-- a prefix of some bytes was written
 pub wrote_front : (old new bytes : List ℕ) (n : ℕ) → new ≡ old ++ take n bytes → AppendsFront (Some old) (Some new) bytes
 wrote_front old new bytes n wrote = record { front = take n bytes; rest = drop n bytes; whole = sym (take-append-drop n bytes); appended = wrote }

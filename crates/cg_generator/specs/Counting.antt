@@ -8,7 +8,7 @@ use Rattle.cg_generator.specs.Tallies.{begins, collected_in, largest, is_refusal
 abbrev pub one_if : Bool → ℕ
 one_if test = if test then 1 else 0
 
--- one line more
+-- one more line
 abbrev pub with_line : Tally → List ℕ → Tally
 with_line t line = record {
   made = t.made + one_if (begins (codes "made ") line);
@@ -18,14 +18,13 @@ with_line t line = record {
   lines = t.lines + 1;
 }
 
--- no count is above that of the lines
+-- no count exceeds that of the lines
 pub record IsCount (t : Tally) : Type 0 where
   pub made : t.made ≤ t.lines
   pub freed : t.freed ≤ t.lines
   pub stops : t.stops ≤ t.lines
 
--- What is known of a text: the tally of its lines that have ended, whether one of them tells of a refusal, and the line that
--- has not ended.
+-- What is known of a text: the tally of its finished lines, whether one of them reports a refusal, and the unfinished line.
 pub record HasSeen (text : List ℕ) (counts : Tally) (refused : Bool) (line : List ℕ) : Type 0 where
   pub lines : List (List ℕ)
   pub front : List ℕ

@@ -19,7 +19,7 @@ ring = Run (MakeList 1 []) ∷ Run (MakeList 2 (Name 1 ∷ [])) ∷ Run (Append 
 abbrev pub tree : ℕ → List Item
 tree number = Run (MakeList 1 (Int (pos number) ∷ [])) ∷ Run (MakeList 1 (Name 1 ∷ Name 1 ∷ [])) ∷ Run (MakeList 1 (Name 1 ∷ Name 1 ∷ [])) ∷ Run (Del 1) ∷ []
 
--- one list more in a chain: `c = list c`
+-- one more list in a chain: `c = list c`
 abbrev pub link : List Item
 link = Run (MakeList 0 (Name 0 ∷ [])) ∷ []
 
@@ -35,7 +35,7 @@ beginning = Run (MakeList 0 []) ∷ []
 abbrev pub ending : List Item
 ending = Run (Del 0) ∷ Run (Collect (pos 2)) ∷ []
 
--- the blocks of the numbers from 1 to a last one
+-- the blocks from 1 to this number
 abbrev pub blocks_to : ℕ → List Item
 blocks_to last = flat_map block (range_with_len 1 last)
 

@@ -5,23 +5,23 @@ use Rattle.cg_script.specs.Pieces.{lines_of}
 use Rattle.cg_script.specs.Words.{after_prefix, is_digit, decimal_value}
 use Rattle.cg_generator.specs.declared.counts.Tally.{Tally}
 
--- the last number of 64 bits
+-- the largest number of 64 bits
 abbrev pub largest : ℕ
 largest = 2 ^ 64 - 1
 
--- a line begins so
+-- a line has this prefix
 abbrev pub begins : List ℕ → List ℕ → Bool
 begins front line = is_some (after_prefix front line)
 
--- the digits at the front of some bytes and what follows them, where there is a digit
+-- the digits at the front of some bytes and what follows them, if there is a digit
 abbrev pub number_then : List ℕ → Option (List ℕ × List ℕ)
 number_then bytes = if nat_lt 0 (prefix_len is_digit bytes) then Some (take (prefix_len is_digit bytes) bytes, drop (prefix_len is_digit bytes) bytes) else None
 
--- the same behind a space
+-- the same after a space
 abbrev pub number_behind_space : List ℕ → Option (List ℕ × List ℕ)
 number_behind_space bytes = option_and_then number_then (after_prefix (codes " ") bytes)
 
--- the second of three numbers with one space between them and nothing behind them
+-- the second of three numbers with one space between them and nothing after them
 abbrev pub second_of_three : List ℕ → Option (List ℕ)
 second_of_three bytes =
     option_and_then (λ first. option_and_then (λ second. option_and_then (λ third. if length third.1 == 0 then Some second.0 else None) (number_behind_space second.1)) (number_behind_space first.1)) (number_then bytes)
@@ -30,7 +30,7 @@ second_of_three bytes =
 abbrev pub collected_digits : List ℕ → Option (List ℕ)
 collected_digits line = option_and_then second_of_three (after_prefix (codes "gc stop ") line)
 
--- its value, and 0 of a line of another form
+-- its value, and 0 for a line of another form
 abbrev pub value_or_none : Option (List ℕ) → ℕ
 value_or_none None = 0
 value_or_none (Some digits) = decimal_value digits
@@ -39,7 +39,7 @@ abbrev pub collected_in : List ℕ → ℕ
 collected_in line = value_or_none (collected_digits line)
 
 -- The tally of some lines: those that begin with `made `, with `free ` and with `gc stop `, the sum of M over the lines
--- `gc stop g M N`, which ends at 2^64 - 1, and all.
+-- `gc stop g M N`, capped at 2^64 - 1, and all lines.
 abbrev pub tally_of_lines : List (List ℕ) → Tally
 tally_of_lines lines = record {
   made = count_by (begins (codes "made ")) lines;
@@ -53,11 +53,11 @@ tally_of_lines lines = record {
 abbrev pub tally_of : List ℕ → Tally
 tally_of text = tally_of_lines (lines_of text)
 
--- a line tells that a command was refused
+-- a line reports a refused command
 abbrev pub is_refusal : List ℕ → Bool
 is_refusal line = begins (codes "refused ") line
 
--- some line of a text tells that
+-- some line of a text does
 abbrev pub has_refusal : List ℕ → Bool
 has_refusal text = list_any is_refusal (lines_of text)
 
@@ -69,7 +69,7 @@ summary_of t = codes "summary " ++ decimal t.made ++ codes " " ++ decimal t.free
 abbrev pub summary_of_text : List ℕ → List ℕ
 summary_of_text text = summary_of (tally_of text)
 
--- what contracts see of a sink that tallies: the text that was written, which it does not keep, and the faults so far
+-- what contracts see of a tallying sink: the text that was written, which it does not store, and the faults so far
 pub record Tallied : Type 0 where
   pub text : List ℕ
   pub faults : ℕ

@@ -14,7 +14,7 @@ pub struct Tally {
     pub freed: u64,
     /// The lines that begin with `gc stop `.
     pub stops: u64,
-    /// The sum of M over the lines `gc stop g M N`, 2^64 - 1 at most.
+    /// The sum of M over the lines `gc stop g M N`, at most 2^64 - 1.
     pub collected: u64,
     /// All lines.
     pub lines: u64,
@@ -29,7 +29,7 @@ pub(crate) const NONE: Tally = Tally {
     lines: 0,
 };
 
-/// One for a line that begins so.
+/// One for a line with this prefix.
 fn one_if_begins(front: &[u8], line: &[u8]) -> u64
     ensures count { result ≡ one_if (begins front.now line.now) }
     ensures few { result ≤ 1 }
@@ -37,7 +37,7 @@ fn one_if_begins(front: &[u8], line: &[u8]) -> u64
     u64::from(begins_with(front, line))
 }
 
-/// The tally with one line more.
+/// The tally with one more line.
 pub(crate) fn with_one_line(tally: Tally, line: &[u8]) -> Tally
     requires count { IsCount tally }
     requires few { tally.lines < largest }

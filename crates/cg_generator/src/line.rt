@@ -1,17 +1,17 @@
-//! The forms of the lines that are counted.
+//! The forms of counted lines.
 ghost use Rattle.std.specs.Prelude.{◌≡◌, ◌≤◌, length, min, option_map};
 ghost use Rattle.std.specs.List.{prefix_len};
 ghost use Rattle.cg_script.specs.Words.{after_prefix, is_digit, decimal_value};
 ghost use Rattle.cg_generator.specs.Tallies.{begins, number_then, number_behind_space, second_of_three, collected_digits, collected_in as collected, is_refusal as refusal, largest};
 
-/// What follows some bytes that a line begins with.
+/// What follows a prefix of a line.
 fn after<'a>(front: &[u8], line: &'a [u8]) -> Option<&'a [u8]>
     ensures { option_map (λ rest. rest.now) result ≡ after_prefix front.now line.now }
 {
     line.strip_prefix(front)
 }
 
-/// Whether a line begins so.
+/// Whether a line has this prefix.
 pub(crate) fn begins_with(front: &[u8], line: &[u8]) -> bool
     ensures { result ≡ begins front.now line.now }
 {
@@ -47,7 +47,7 @@ fn number_and_rest(bytes: &[u8]) -> Option<(&[u8], &[u8])>
     Some((&bytes[..count], &bytes[count..]))
 }
 
-/// The same behind a space.
+/// The same after a space.
 fn spaced_number(bytes: &[u8]) -> Option<(&[u8], &[u8])>
     ensures { option_map (λ parts. (parts.0.now, parts.1.now)) result ≡ number_behind_space bytes.now }
 {
@@ -55,7 +55,7 @@ fn spaced_number(bytes: &[u8]) -> Option<(&[u8], &[u8])>
     number_and_rest(rest)
 }
 
-/// The second of three numbers with one space between them, and nothing behind them.
+/// The second of three numbers with one space between them, and nothing after them.
 fn middle_of_three(bytes: &[u8]) -> Option<&[u8]>
     ensures { option_map (λ digits. digits.now) result ≡ second_of_three bytes.now }
 {
@@ -65,7 +65,7 @@ fn middle_of_three(bytes: &[u8]) -> Option<&[u8]>
     if rest.is_empty() { Some(second) } else { None }
 }
 
-/// The number that digits write, 2^64 - 1 at most.
+/// The number that digits write, at most 2^64 - 1.
 fn value(digits: &[u8]) -> u64
     ensures { result ≡ min (decimal_value digits.now) largest }
 {
@@ -85,7 +85,7 @@ fn digits_of_stop(line: &[u8]) -> Option<&[u8]>
     middle_of_three(rest)
 }
 
-/// The number of objects that a line `gc stop g M N` says were freed, and 0 of a line of another form.
+/// The number of objects that a line `gc stop g M N` says were freed, and 0 for a line of another form.
 pub(crate) fn collected_in(line: &[u8]) -> u64
     ensures { result ≡ min (collected line.now) largest }
 {
@@ -95,7 +95,7 @@ pub(crate) fn collected_in(line: &[u8]) -> u64
     }
 }
 
-/// Whether a line tells that a command was refused.
+/// Whether a line reports a refused command.
 pub(crate) fn is_refusal(line: &[u8]) -> bool
     ensures { result ≡ refusal line.now }
 {

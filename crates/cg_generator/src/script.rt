@@ -31,7 +31,6 @@ fn variable_names(alloc: Global) -> Result<Names, AllocError>
     Ok(names)
 }
 
-/// One command more.
 fn push(items: &mut Vec<Item>, command: Command) -> Result<(), AllocError>
     ensures { OnOk result (items.new.items ≡ items.old.items ++ item.Run command ∷ []) }
 {
@@ -86,7 +85,7 @@ fn push_tree(alloc: Global, items: &mut Vec<Item>, number: u32) -> Result<(), Al
     push(items, Command::Del { name: FIRST })
 }
 
-/// One list more in the chain.
+/// One more list in the chain.
 fn push_link(alloc: Global, items: &mut Vec<Item>) -> Result<(), AllocError>
     ensures { OnOk result (items.new.items ≡ items.old.items ++ link) }
 {
@@ -104,7 +103,7 @@ fn push_block(alloc: Global, items: &mut Vec<Item>, number: u32) -> Result<(), A
     }
 }
 
-/// The blocks of the numbers from 1 to a last one.
+/// The blocks from 1 to this number.
 fn push_blocks(alloc: Global, items: &mut Vec<Item>, last: u32) -> Result<(), AllocError>
     ensures { OnOk result (items.new.items ≡ items.old.items ++ blocks_to last) }
 {
@@ -114,7 +113,6 @@ fn push_blocks(alloc: Global, items: &mut Vec<Item>, last: u32) -> Result<(), Al
     Ok(())
 }
 
-/// All items.
 fn all_items(alloc: Global, blocks: u32) -> Result<Vec<Item>, AllocError>
     ensures { IfOk result (λ items. items.items ≡ beginning ++ blocks_to blocks ++ ending) }
 {
@@ -126,14 +124,14 @@ fn all_items(alloc: Global, blocks: u32) -> Result<Vec<Item>, AllocError>
     Ok(items)
 }
 
-/// The script of `blocks` blocks, 10,000 at most: a list `c`, then for each number from 1 on a ring of two lists, a tree of
-/// three or one link of a chain in turn, and at the end `del c` and `collect 2`. It answers `AllocError` for lack of memory
-/// alone. (Ours.)
+/// The script of `blocks` blocks, at most 10,000: a list `c`; then for each number from 1 on a ring of two lists, a tree of
+/// three or one link of a chain, in turn; and at the end `del c` and `collect 2`. Answers `AllocError` only if memory runs
+/// out. (Ours.)
 pub fn generated_script(alloc: Global, blocks: u32) -> Result<Script, AllocError>
     requires { blocks ≤ MOST_BLOCKS }
     ensures ok { IfOk result (λ script. script ≡ generated blocks) }
 
-    // What a run of it rests on.
+    // What a run of it requires.
     ensures spelled { IfOk result IsSpelled }
     ensures known { IfOk result TextsAreKnown }
 {

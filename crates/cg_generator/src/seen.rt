@@ -1,4 +1,4 @@
-//! What is known of a text of which the bytes come one after the other and are not kept.
+//! What is known of a text whose bytes arrive one by one and are not stored.
 ghost use Rattle.std.specs.Prelude.{◌≡◌, ◌+◌, ◌<◌, ◌≤◌, ◌++◌, ◌∷◌, ℕ, List, [], OnOk, OnErr};
 ghost use Rattle.cg_generator.specs.Tallies.{tally_of, has_refusal as some_refusal, largest};
 ghost use Rattle.cg_generator.specs.Counting.{HasSeen};
@@ -7,7 +7,7 @@ use crate::counts::{NONE, Tally, with_one_line};
 use crate::line::is_refusal;
 use std::alloc::{AllocError, Global};
 
-/// The tally of the lines that have ended, whether one of them tells of a refusal, and the line that has not ended.
+/// The tally of the finished lines, whether one of them reports a refusal, and the unfinished line.
 #[derive(Drop)]
 pub(crate) struct Seen {
     pub counts: Tally,
@@ -20,7 +20,7 @@ pub(crate) struct Seen {
 }
 
 impl Seen {
-    /// Of no bytes.
+    /// After no bytes.
     pub(crate) fn new(alloc: Global) -> Seen
         ensures { HasSeen [] result.counts result.refused result.line.items }
     {
@@ -31,7 +31,7 @@ impl Seen {
         }
     }
 
-    /// The line has ended.
+    /// Ends the line.
     fn end_line(&mut self)
         requires { self.old.counts.lines + 1 < largest }
         ensures { (text : List ℕ) → HasSeen text self.old.counts self.old.refused self.old.line.items
@@ -42,8 +42,8 @@ impl Seen {
         self.line.clear();
     }
 
-    /// One byte more. It answers `AllocError` for lack of memory for the line, or where there are 2^64 - 2 lines already,
-    /// and then nothing has changed.
+    /// Takes one more byte. Answers `AllocError` if memory for the line runs out, or after 2^64 - 2 lines; then nothing
+    /// has changed.
     pub(crate) fn take(&mut self, byte: u8) -> Result<(), AllocError>
         ensures ok { OnOk result ((text : List ℕ) → HasSeen text self.old.counts self.old.refused self.old.line.items
             → HasSeen (text ++ byte ∷ []) self.new.counts self.new.refused self.new.line.items) }
@@ -61,7 +61,7 @@ impl Seen {
         Ok(())
     }
 
-    /// The tally, with the line that has not ended where it is not empty.
+    /// The tally, with the unfinished line if it is not empty.
     pub(crate) fn tally(&self) -> Tally
         ensures { (text : List ℕ) → HasSeen text self.now.counts self.now.refused self.now.line.items → result ≡ tally_of text }
     {
@@ -71,7 +71,7 @@ impl Seen {
         }
     }
 
-    /// Whether a line tells of a refusal.
+    /// Whether a line reports a refusal.
     pub(crate) fn has_refusal(&self) -> bool
         ensures { (text : List ℕ) → HasSeen text self.now.counts self.now.refused self.now.line.items → result ≡ some_refusal text }
     {
@@ -79,5 +79,5 @@ impl Seen {
     }
 }
 
-/// The most lines that end, so that one more can be counted.
+/// The most finished lines, so that one more can be counted.
 const MOST_LINES: u64 = u64::MAX - 2;

@@ -1,4 +1,4 @@
-//! A sink that tallies the lines that it is given, and keeps none.
+//! A sink that tallies the lines written to it, and stores none.
 ghost use Rattle.std.specs.Prelude.{◌≡◌, ◌++◌, ◌∷◌, [], Some, OnOk, OnErr};
 ghost use Rattle.std.specs.Io.KnownBytes.{Appends};
 ghost use Rattle.cg_io.specs.Causes.{HasCause, AppendsFront};
@@ -11,8 +11,8 @@ use cg_io::{Sink, WriteFailed};
 use std::alloc::Global;
 use std::marker::Model;
 
-/// Counts the lines of what is written, and keeps no more of it than the line that has not ended. It tells contracts the
-/// whole text, which takes no memory.
+/// Counts the lines of what is written, and stores only the unfinished line. Contracts see the whole text, which takes
+/// no memory.
 ///
 /// A contract sees a `Tallied`: the text that was written, and the faults so far.
 #[derive(Drop)]
@@ -52,14 +52,14 @@ impl TallySink {
         self.seen.tally()
     }
 
-    /// Whether a line of what was written tells that a command was refused.
+    /// Whether a written line reports a refused command.
     pub fn has_refusal(&self) -> bool
         ensures { result ≡ some_refusal self.now.text }
     {
         self.seen.has_refusal()
     }
 
-    /// One byte more, where there is memory for its line.
+    /// Takes one more byte, if there is memory for its line.
     fn take(&mut self, byte: u8) -> Result<(), WriteFailed>
         ensures ok { OnOk result (self.new ≡ record { text = self.old.text ++ byte ∷ []; faults = self.old.faults }) }
         ensures err { OnErr result (self.new ≡ self.old) }
@@ -77,8 +77,7 @@ impl Sink for TallySink {
 
     ghost faults = { λ s. s.faults };
 
-    /// Counts the bytes. It fails where memory for a line is refused, after a front of the bytes, or where there are 2^64 - 2
-    /// lines already.
+    /// Counts the bytes. Fails if memory for a line runs out, after a prefix of the bytes, or after 2^64 - 2 lines.
     fn write(&mut self, bytes: &[u8]) -> Result<(), WriteFailed>
         ensures ok { OnOk result (Appends (Some self.old.text) (Some self.new.text) bytes.now) }
         ensures err { OnErr result (AppendsFront (Some self.old.text) (Some self.new.text) bytes.now) }

@@ -6,8 +6,8 @@ use crate::counts::Tally;
 use arrayvec::ArrayString;
 use itoa::Buffer;
 
-/// The line `summary A B C D E` of a tally, with its line feed: what was made, freed and stopped, what was collected, and
-/// the number of all lines. (Ours.)
+/// The line `summary A B C D E` of a tally, with its line feed: how many objects were made and freed, how many
+/// collections stopped, how many objects they collected, and the number of lines. (Ours.)
 pub fn summary_line(tally: &Tally) -> ArrayString<200>
     ensures { result.bytes ≡ summary_of tally.now }
 {
@@ -26,7 +26,6 @@ pub fn summary_line(tally: &Tally) -> ArrayString<200>
     text
 }
 
-/// Appends a number.
 fn push_number(text: &mut ArrayString<200>, number: u64)
     requires { length text.old.bytes + 40 ≤ 200 }
     ensures appended { text.new.bytes ≡ text.old.bytes ++ decimal number }

@@ -1,11 +1,11 @@
-//! Bytes that only contracts see. They take no memory.
+//! Bytes that only contracts see; they take no memory.
 ghost use Rattle.std.specs.Prelude.{◌≡◌, ℕ, List, [], ◌∷◌, ◌++◌};
 ghost use Rattle.std.specs.Borrow.{ftrue};
 ghost use Rattle.std.specs.Coded.{coded_list, coded_ℕ};
 
 use std::marker::Model;
 
-/// The bytes that were given so far: contracts see them, and nothing stands there at run time.
+/// The bytes given so far. Only contracts see them: nothing exists at run time.
 #[derive(Drop)]
 pub struct Told {
     pub ghost bytes: { List ℕ } by { coded_list coded_ℕ },
@@ -23,7 +23,7 @@ impl Told {
         Told {}
     }
 
-    /// These bytes, and one behind them.
+    /// These bytes, and one more.
     pub fn and(&self, _byte: &u8) -> Told
         ensures { result.bytes ≡ self.now.bytes ++ _byte.now ∷ [] }
     {

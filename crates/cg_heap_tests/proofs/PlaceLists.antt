@@ -20,7 +20,7 @@ all_live store listed p xs same = All-from_recursion (λ o. IsLive store o) xs (
     go [] h = tt
     go (y ∷ ys) h = (h y (inl refl), go ys (λ o k. h o (inr k)))
 
--- where one object stands in a place, its entries are those of the place
+-- for the only object in a place, its entries are those of the place
 pub entries_of_one : (store : Store) (listed : IsListed store) (p : Place) (is : IsSplitPlace p) (o n : ℕ) → length (list_at store p) ≡ 1 → slice_get (list_at store p) 0 ≡ Some o → length (entries_of store o) ≡ n → entry_number_at store p ≡ n
 entries_of_one store listed p is o n one first has = sym (entries_there store listed p is) ∙ known (list_at store p) one first
   where

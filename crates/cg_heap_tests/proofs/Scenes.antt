@@ -1,4 +1,4 @@
--- The scene of the tests: what it knows of its heap, after each call.
+-- The scene of the tests: its invariant about the heap, after each call.
 use Rattle.std.proofs.Common.{get_or, ◌≡◌, ℕ, ◌+◌, ◌<◌, ◌≤◌, Bool, true, false, List, [], ◌∷◌, ◌++◌, length, Option, Some, None, IsSome, remove, refl, sym, ap, ◌∙◌, subst, inl, inr, arith, length-set}
 use Rattle.std.specs.Prelude.{◌==◌, slice_get, IfSome, if◌then◌else◌, Result, Ok, Err}
 use Rattle.std.specs.Result.{OnOk, OnErr}
@@ -29,7 +29,7 @@ use Rattle.cg_heap.proofs.CallerLemmas.{lives_on, live_of_kind, kinds-rewritten,
 use Rattle.cg_heap.proofs.HoldLemmas.{outside_grows, outside-held, outside-unheld, outside-rewritten, outside-moved, outside-made, outside-gone, entry_holds, entries_hold}
 use Rattle.cg_heap.proofs.RowLemmas.{in_no_row, no_own_row, no_referent, waits_live}
 
--- Its holds are among those of the heap, no more than so many holds and objects were given, and there are so many names.
+-- Its holds are among those of the heap; at most this many holds and objects were given; and there are this many names.
 abbrev pub Backed : Store → List ℕ → ℕ → ℕ → Type 0
 Backed store held count names = ((s : ℕ) → occurrences s held ≤ outside_of store s) × (outside_total store ≤ count) × (store.last ≤ count + 1) × (length store.names ≡ names)
 
@@ -49,7 +49,7 @@ has_hold store held count names i o b at =
     let one : occurrences o (o ∷ []) ≡ 1 = occurrences-one o o ∙ ap one_if (eq-eqb o o refl) in
     omega (arith, one, one_at held i o at o, b.0 o)
 
--- one hold more, if there was memory for it
+-- one more hold, if there was memory for it
 pub pushed : (b : Bool) (xs ys : List ℕ) (v : ℕ) → ys ≡ (if b then xs ++ v ∷ [] else xs) → (s : ℕ) → occurrences s ys ≤ occurrences s xs + occurrences s (v ∷ [])
 pushed true xs ys v is s = omega (arith, ap (occurrences s) is, occurrences-append s xs (v ∷ []))
 pushed false xs ys v is s = omega (arith, ap (occurrences s) is)
@@ -59,7 +59,7 @@ pub keeps_entry : (s : ℕ) (e : Entry) → occurrences s (entry_references e) �
 keeps_entry s e = occurrences-append s (references_of_value (Some e.val)) (references_of_value (Some e.key))
 
 module _ (old new : Store) (held : List ℕ) (count names : ℕ) (b : Backed old held count names) where
-  -- an object more, held from outside, whose hold the test keeps or not
+  -- one more object, held from outside; the test keeps the hold or not
   pub backed_made : (kept : List ℕ) (serial : ℕ) (code : KindCode) (class : Option ℕ) (parts : List Entry) (referent : Option ℕ) → ((s : ℕ) → IsLive old s → s ≤ old.last) → new ≡ attached (old.last + 1) referent (made code class parts old) → serial ≡ old.last + 1
       → ((s : ℕ) → occurrences s kept ≤ occurrences s held + occurrences s (serial ∷ [])) → Backed new kept (count + 1) names
   backed_made kept serial code class parts referent below is same keeps = subst (λ (s : Store). Backed s kept (count + 1) names) (sym is) (
@@ -69,7 +69,6 @@ module _ (old new : Store) (held : List ℕ) (count names : ℕ) (b : Backed old
     b.3,
   )
 
-  -- a hold less
   pub backed_unheld : (left : List ℕ) (i o : ℕ) → slice_get held i ≡ Some o → left ≡ remove held i → new ≡ unheld (o ∷ []) old → Backed new left count names
   backed_unheld left i o at rest is =
       subst (λ (s : Store). Backed s left count names) (sym is) (subst (λ (xs : List ℕ). Backed (unheld (o ∷ []) old) xs count names) (sym rest) (
@@ -79,7 +78,6 @@ module _ (old new : Store) (held : List ℕ) (count names : ℕ) (b : Backed old
         b.3,
       ))
 
-  -- other entries of one object
   pub backed_rewritten : (o : ℕ) (es : List Entry) → new ≡ rewritten o es old → Backed new held count names
   backed_rewritten o es is = subst (λ (s : Store). Backed s held count names) (sym is) (λ s. omega (arith, b.0 s, outside-rewritten o es old s), omega (arith, b.1, total-rewritten o es old), b.2, b.3)
 
@@ -115,7 +113,7 @@ module _ (old new : Store) (held : List ℕ) (count names : ℕ) (b : Backed old
       )
       tracked false = put
 
-  -- a name with another value, whose old one is held
+  -- a name with another value; the old value is held
   pub backed_named : (name : ℕ) (was v : Option Val) → new ≡ holding (references_of_value was) (named name v old) → Backed new held (count + 1) names
   backed_named name was v is = subst (λ (s : Store). Backed s held (count + 1) names) (sym is) (
     λ s. omega (arith, b.0 s, outside_grows (references_of_value was) (named name v old) s),
@@ -128,7 +126,7 @@ module _ (old new : Store) (held : List ℕ) (count names : ℕ) (b : Backed old
   pub backed_moved : (o : ℕ) (p : Place) → new ≡ moved o p old → Backed new held count names
   backed_moved o p is = subst (λ (s : Store). Backed s held count names) (sym is) (λ s. omega (arith, b.0 s, outside-moved o p old s), omega (arith, b.1, total-moved o p old), b.2, b.3)
 
-  -- an object gone that nothing held
+  -- a freed object that nothing held
   pub backed_gone : (o : ℕ) → count_of old o ≡ 0 → new ≡ gone o old → Backed new held count names
   backed_gone o none is = subst (λ (s : Store). Backed s held count names) (sym is) (
     λ s. elim (cases_eq s o) [
@@ -142,7 +140,7 @@ module _ (old new : Store) (held : List ℕ) (count names : ℕ) (b : Backed old
     b.3,
   )
 
-  -- an entry taken out of an object, whose references are held
+  -- an entry removed from an object; its references are held
   taken : (kept : List ℕ) (o : ℕ) (es : List Entry) (e : Entry) → ((s : ℕ) → 0 < inner old s → IsLive old s) → ((s : ℕ) → occurrences s (entry_references e) ≤ inner old s) → new ≡ holding (entry_references e) (rewritten o es old)
       → ((s : ℕ) → occurrences s kept ≤ occurrences s held + occurrences s (entry_references e)) → Backed new kept (count + 2) names
   taken kept o es e live inside is keeps = subst (λ (s : Store). Backed s kept (count + 2) names) (sym is) (
@@ -175,7 +173,7 @@ module _ (old new : Store) (held : List ℕ) (count names : ℕ) (b : Backed old
       (λ s. omega (arith, (last-remove (entries_of old o) (without_last (entries_of old o)) e last).1 s, entries_hold old o s))
       is keeps
 
--- the answers of the queries tell that an object is in no row
+-- the queries answer that an object is in no row
 pub unnamed : (store : Store) → IsSound store → (o : ℕ) (code : KindCode) → IfSome (fin.get store.nodes o) (λ n. code ≡ n.code) → (code ≡ Weak → ⊥) → None ≡ slice_get (weak_references_in store.rows o) 0 → None ≡ slice_get (waiting_in store.rows o) 0 → IsInNoRow o store.rows
 unnamed store sound o code told other refers waits =
     in_no_row store.rows o

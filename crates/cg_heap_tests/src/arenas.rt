@@ -1,4 +1,4 @@
-//! Nodes that come, move and go, in an arena without a heap. The lists are found by hand.
+//! Nodes that are added, moved and removed, in an arena without a heap. The lists are worked out by hand.
 ghost use Rattle.cg_arena.specs.Nodes.{IsPlace};
 
 use cg_arena::Arena;
@@ -20,13 +20,13 @@ const PLACES: [Place; 10] = [
     Place::Gen(2),
 ];
 
-/// What stands in a place, read by `first` and `next`.
+/// The content of a place, read by `first` and `next`.
 fn serials_in(alloc: Global, arena: &Arena, place: Place) -> Result<Vec<u64>, AllocError>
     requires { IsPlace place }
 {
     let mut serials = Vec::new(alloc);
     let mut at = arena.first(place);
-    // One turn more than the size, so that a list with no end shows.
+    // One turn more than the size, so that an endless list shows.
     for _ in 0..=arena.size(place) {
         let Some(serial) = at else { break };
         serials.push(serial)?;
@@ -62,7 +62,7 @@ fn discard(arena: &mut Arena, serial: u64) {
     }
 }
 
-/// Four nodes in generation 0, two candidates.
+/// Four nodes in generation 0, and two candidates.
 fn six(alloc: Global) -> Result<Arena, AllocError> {
     let mut arena = Arena::new(alloc);
     for serial in 1..=4 {
@@ -90,7 +90,8 @@ fn assert_lists(
     Ok(())
 }
 
-/// Moves some of six. What owns an arena stands apart: with all that is asked of it, it would be proved for minutes.
+/// Moves some of six. The arena's owner is a separate function: with all these calls in it, its proof would take
+/// minutes.
 fn move_some(rt: &impl Abort, alloc: Global, arena: &mut Arena) -> Result<(), Fail> {
     assert_lists(rt, alloc, arena, &[1, 2, 3, 4], &[5, 6], &[])?;
     // From the middle, the front and the end of a list, and from an end to the same end.
@@ -104,7 +105,7 @@ fn move_some(rt: &impl Abort, alloc: Global, arena: &mut Arena) -> Result<(), Fa
     assert_lists(rt, alloc, arena, &[3], &[5, 6, 2], &[1, 4])?;
     shift(arena, 5, Place::Cand);
     assert_lists(rt, alloc, arena, &[3], &[6, 2, 5], &[1, 4])?;
-    // The only one of a list.
+    // The only member of a list.
     shift(arena, 3, Place::Gen(0));
     shift(arena, 3, Place::Cand);
     assert_lists(rt, alloc, arena, &[], &[6, 2, 5, 3], &[1, 4])?;
@@ -121,7 +122,7 @@ fn nodes_move_to_the_end(rt: HostRuntime) -> Result<(), Fail> {
 fn merge_some(rt: &impl Abort, alloc: Global, arena: &mut Arena) -> Result<(), Fail> {
     arena.merge(Place::Gen(0), Place::Cand);
     assert_lists(rt, alloc, arena, &[], &[5, 6, 1, 2, 3, 4], &[])?;
-    // An empty list is appended, and one is appended to an empty list.
+    // Appends an empty list, and appends to an empty one.
     arena.merge(Place::Gen(0), Place::Cand);
     arena.merge(Place::Cand, Place::Gen(2));
     assert_lists(rt, alloc, arena, &[], &[], &[5, 6, 1, 2, 3, 4])?;
@@ -238,10 +239,10 @@ fn counts_come_down_to_zero(rt: HostRuntime) -> Result<(), Fail> {
     Ok(())
 }
 
-/// These four choose the same one of the first 64 guesses, so that all but the one added last are looked up by their rows.
+/// These four pick the same of the first 64 guesses, so all but the last added are looked up by their rows.
 const SHARING: [u64; 4] = [5, 68, 135, 198];
 
-/// Marks some of those that share a guess.
+/// Marks some nodes that share a guess.
 fn mark_sharing(rt: &impl Abort, arena: &mut Arena) -> Result<(), AllocError> {
     for serial in SHARING {
         put(arena, serial, Place::Gen(0))?;
@@ -256,7 +257,7 @@ fn mark_sharing(rt: &impl Abort, arena: &mut Arena) -> Result<(), AllocError> {
     Ok(())
 }
 
-/// The slot of a node that is gone is another's.
+/// The slot of a removed node is reused.
 fn replace_sharing(rt: &impl Abort, arena: &mut Arena) -> Result<(), AllocError> {
     discard(arena, 198);
     put(arena, 7, Place::Gen(0))?;
@@ -281,7 +282,7 @@ fn nodes_are_found_as_guesses_grow(rt: HostRuntime) -> Result<(), Fail> {
     for serial in SHARING {
         put(&mut arena, serial, Place::Gen(1))?;
     }
-    // From the 64th node on the guesses are doubled three times.
+    // The guesses are doubled three times after the 64th node.
     for serial in 0..300 {
         put(&mut arena, serial, Place::Gen(0))?;
         let was = if SHARING.contains(&serial) {

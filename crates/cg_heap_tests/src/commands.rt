@@ -1,5 +1,5 @@
-//! What the commands that inspect tell of two lists, one in the other, as `a = list; b = list a` leaves them, where `a` alone is a
-//! name. Each is asked of a heap of its own: no clause says what a command leaves where the heap stands for no world.
+//! The inspection commands on two lists, one in the other, as `a = list; b = list a` leaves them, with `a` as the only name. Each
+//! runs on a heap of its own: no clause says what a command leaves if the heap represents no world.
 ghost use Rattle.std.specs.Prelude.{◌≡◌, ◌<◌, map, replicate, length, IfOk, IfSome};
 ghost use Rattle.std.specs.FinMap as fin;
 ghost use Rattle.cg_graph.specs.Store.{IsLive};
@@ -29,7 +29,7 @@ enum Asked {
     ReferentsOf(u64),
     /// `referrers self`, in the frame of the object's finalizer.
     ReferrersOf(u64),
-    /// `referents self`, in no frame.
+    /// `referents self`, without a frame.
     ReferentsOfNone,
     /// `referrers 5`.
     ReferrersOfNumber,
@@ -43,7 +43,7 @@ enum Answer {
     Refused(u8),
 }
 
-/// A command, whether the outer list is held, whether a collection is running, and the answer.
+/// A command, whether the outer list is held, whether a collection is under way, and the answer.
 #[derive(Clone, Copy, Drop)]
 struct Row {
     asked: Asked,
@@ -52,7 +52,7 @@ struct Row {
     answer: Answer,
 }
 
-/// A policy without a collection that is running, or with one.
+/// A policy with or without a collection under way.
 fn policy_of(running: bool) -> Policy
     ensures { IsBounded (with_one_made result.numbers) }
 {
@@ -63,7 +63,7 @@ fn policy_of(running: bool) -> Policy
     policy
 }
 
-/// The locals of the frame of an object's finalizer. It stops where the object does not live.
+/// The locals of the frame of an object's finalizer. Panics if the object does not live.
 fn locals_of<B: Kind>(rt: &impl Abort, heap: &Heap<B>, subject: Option<u64>) -> Option<Locals>
     ensures { LocalsLive heap.now result }
 {
@@ -76,7 +76,7 @@ fn locals_of<B: Kind>(rt: &impl Abort, heap: &Heap<B>, subject: Option<u64>) -> 
     })
 }
 
-/// Does a command, in the frame of an object's finalizer, if there is one.
+/// Does a command, in the frame of an object's finalizer, if any.
 fn inspect<B: Kind>(
     rt: &impl Abort,
     alloc: Global,
@@ -162,7 +162,7 @@ fn two_lists<B: Kind>(
     Ok(scene.into_heap(rt))
 }
 
-/// It stops where an answer is another.
+/// Panics if the answer is another.
 fn assert_answer(rt: &impl Abort, found: Result<Done, Refusal>, row: Row) {
     match (found, row.answer) {
         (Ok(Done::Tells(lines)), Answer::Lines(expected)) => {
@@ -185,7 +185,7 @@ fn check_row<B: Kind>(rt: &impl Abort, alloc: Global, kinds: Vec<B>, row: Row) -
     Ok(())
 }
 
-/// The outer list is held, and no collection is running.
+/// The outer list is held, and no collection is under way.
 fn told(asked: Asked, lines: &'static [Event]) -> Row {
     Row {
         asked,
@@ -205,7 +205,7 @@ fn refused(asked: Asked, running: bool, number: u8) -> Row {
 }
 
 #[test]
-fn two_lists_are_told_and_explained(rt: HostRuntime) -> Result<(), Fail> {
+fn two_lists_are_inspected(rt: HostRuntime) -> Result<(), Fail> {
     let alloc = rt.alloc();
     let rows = [
         told(

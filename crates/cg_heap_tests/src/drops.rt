@@ -1,4 +1,4 @@
-//! Keys that are dropped in large numbers. What a dictionary answers is what a plain list in order of insertion would.
+//! Keys dropped in large numbers. A dictionary answers what a plain list in insertion order would.
 ghost use Rattle.std.specs.Prelude.{◌+◌, ◌<◌, [], IfOk};
 ghost use Rattle.cg_kind.specs.Bodies.{Holds};
 ghost use Rattle.cg_kind.specs.Calls.{IsParts};
@@ -11,14 +11,14 @@ use std::alloc::{AllocError, Global};
 use std::process::Abort;
 use std::test::Fail;
 
-/// What a pair is taken by.
+/// How a pair is removed.
 #[derive(Clone, Copy, Debug, Drop)]
 enum By {
     Place,
     Key,
 }
 
-/// Takes the pair at a place by that or by its key; a search for the key must find the place.
+/// Removes the pair at a position by that or by its key; a search for the key must find the position.
 fn drop_key<K: Kind>(
     rt: &impl Abort,
     kind: &mut K,

@@ -1,4 +1,4 @@
-//! A kind that memory is refused to after its first object.
+//! A kind that runs out of memory after its first object.
 ghost use Rattle.std.specs.Prelude.{◌≡◌, map, replicate, IfOk};
 ghost use Rattle.std.specs.FinMap as fin;
 ghost use Rattle.cg_heap.specs.Boxes.{six_kinds};

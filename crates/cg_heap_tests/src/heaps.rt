@@ -1,5 +1,5 @@
-//! Whole heaps over six kinds. The expected answers come from counting references by hand, as `sys.getrefcount` of
-//! Python does.
+//! Whole heaps over six kinds. The expected answers come from counting references by hand, as Python's
+//! `sys.getrefcount` does.
 ghost use Rattle.std.specs.Prelude.{◌≡◌, ◌<◌, map, replicate};
 ghost use Rattle.std.specs.FinMap as fin;
 ghost use Rattle.cg_heap.specs.Boxes.{six_kinds};
@@ -52,7 +52,7 @@ enum Answer {
     Number(u64),
 }
 
-/// Gives a hold up, and lets the object go where that was the last. It answers whether it was.
+/// Gives up a hold, and frees the object if that was the last. Answers whether it was.
 fn give_up<B: Kind>(rt: &impl Abort, scene: &mut Scene<B>, object: u64) -> bool {
     let died = scene.release(rt, object);
     if died {
@@ -61,7 +61,7 @@ fn give_up<B: Kind>(rt: &impl Abort, scene: &mut Scene<B>, object: u64) -> bool 
     died
 }
 
-/// A step that makes an object or lets one go.
+/// A step that makes or frees an object.
 fn change_objects<B: Kind>(rt: &impl Abort, scene: &mut Scene<B>, step: Step) -> Option<Answer> {
     match step {
         Step::List => Some(Answer::Made(scene.list(rt))),
@@ -75,7 +75,7 @@ fn change_objects<B: Kind>(rt: &impl Abort, scene: &mut Scene<B>, step: Step) ->
     }
 }
 
-/// A step that puts or takes an entry.
+/// A step that adds or removes an entry.
 fn change_entries<B: Kind>(
     rt: &impl Abort,
     scene: &mut Scene<B>,
@@ -208,7 +208,7 @@ fn an_entry_that_is_taken_holds_value_and_key_from_outside(rt: HostRuntime) -> R
         (Step::List, Answer::Made(Ok(2))),
         (Step::Inst, Answer::Made(Ok(3))),
         (Step::Dict, Answer::Made(Ok(4))),
-        // A dictionary is untracked, as the garbage list is, until it holds what may be tracked.
+        // A dictionary is untracked, like the garbage list, until it holds a value that may be tracked.
         (Step::Size(Place::Untracked), Answer::Number(2)),
         (Step::Put(4, INST, LIST), Answer::Replaced(Ok(None))),
         (Step::Size(YOUNG), Answer::Number(3)),
@@ -218,7 +218,7 @@ fn an_entry_that_is_taken_holds_value_and_key_from_outside(rt: HostRuntime) -> R
         (Step::Entries, Answer::Number(1)),
         (Step::Take(4, 0), Answer::Taken(taken)),
         (Step::Live, Answer::Number(3)),
-        // And now nothing but its taker does.
+        // And now only its taker does.
         (Step::GiveUp(2), Answer::Died(true)),
         (Step::GiveUp(3), Answer::Died(true)),
         (Step::GiveUp(4), Answer::Died(true)),
@@ -240,7 +240,7 @@ fn an_entry_is_taken_by_its_key(rt: HostRuntime) -> Result<(), Fail> {
         (Step::Dict, Answer::Made(Ok(2))),
         (Step::Inst, Answer::Made(Ok(3))),
         (Step::Put(2, NUMBER, LIST), Answer::Replaced(Ok(None))),
-        // Atoms make no dictionary tracked, and itself does.
+        // Atoms do not make a dictionary tracked, but itself does.
         (Step::Size(YOUNG), Answer::Number(2)),
         (Step::Put(2, INST, Val::Int(6)), Answer::Replaced(Ok(None))),
         (
@@ -259,7 +259,7 @@ fn an_entry_is_taken_by_its_key(rt: HostRuntime) -> Result<(), Fail> {
         (Step::GiveUp(3), Answer::Died(true)),
     ];
     drive(&rt, alloc, six(alloc)?, 0, &rows)?;
-    // A kind that does not write the calls by key has the bodies of the trait.
+    // A kind that does not define the calls by key gets the trait's bodies.
     drive(&rt, alloc, six_of_one(alloc)?, 0, &rows)
 }
 
@@ -271,13 +271,13 @@ fn a_list_that_is_refused_changes_nothing(rt: HostRuntime) -> Result<(), Fail> {
         (Step::List, refused),
         (Step::Live, Answer::Number(0)),
         (Step::Size(YOUNG), Answer::Number(0)),
-        // The refusal used no serial, and the other kinds go on.
+        // The refusal used no serial, and the other kinds still work.
         (Step::Inst, Answer::Made(Ok(2))),
         (Step::List, refused),
         (Step::Size(YOUNG), Answer::Number(1)),
         (Step::Live, Answer::Number(1)),
     ];
-    // The garbage list is the one that is made.
+    // The garbage list is the only object made.
     drive(&rt, alloc, six_of_one(alloc)?, 0, &rows)
 }
 
@@ -301,7 +301,7 @@ fn weak_references_are_cleared_and_forgotten(rt: HostRuntime) -> Result<(), Fail
         (Step::Referent(5), Answer::Object(Some(2))),
         (Step::Clear(5, true), Answer::Nothing),
         (Step::Newest(2), Answer::Object(None)),
-        // What waits is met from the newest on; what was cleared without waiting is not.
+        // Waiting ones are found newest first; those cleared without waiting are not.
         (Step::Forget(2), Answer::Object(Some(5))),
         (Step::Forget(2), Answer::Object(Some(3))),
         (Step::Forget(2), Answer::Object(None)),
@@ -321,7 +321,7 @@ fn the_greatest_bound_name_is_answered(rt: HostRuntime) -> Result<(), Fail> {
         (Step::Greatest, Answer::Name(Some(3))),
         (Step::Unbind(3), Answer::Nothing),
         (Step::Greatest, Answer::Name(Some(1))),
-        // One above it is bound before it is given up, as finalizers may do.
+        // A name above it is bound before it is given up, as finalizers may do.
         (Step::Bind(2, Val::Int(8)), Answer::Nothing),
         (Step::Unbind(1), Answer::Nothing),
         (Step::Greatest, Answer::Name(Some(2))),

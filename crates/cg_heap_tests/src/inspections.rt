@@ -1,4 +1,4 @@
-//! Small graphs in a heap over six kinds. What refers to what, and the paths, are found by hand.
+//! Small graphs in a heap over six kinds. References and paths are worked out by hand.
 ghost use Rattle.std.specs.Prelude.{◌≡◌, ◌<◌, map, replicate};
 ghost use Rattle.std.specs.FinMap as fin;
 ghost use Rattle.cg_graph.specs.Store.{IsLive};
@@ -73,7 +73,7 @@ fn reason<B: Kind>(
     why_counted::<B, Brand>(alloc, heap, object, Blank::new(1))
 }
 
-/// The objects to which its entries refer.
+/// The objects that its entries refer to.
 fn forwards<B: Kind>(
     rt: &impl Abort,
     alloc: Global,
@@ -84,7 +84,7 @@ fn forwards<B: Kind>(
     referents_counted::<B, Brand>(alloc, heap, object, Blank::new(1))
 }
 
-/// The objects whose entries refer to it.
+/// The objects that refer to it.
 fn backwards<B: Kind>(
     rt: &impl Abort,
     alloc: Global,
@@ -96,7 +96,7 @@ fn backwards<B: Kind>(
 }
 
 /// Which items the lists #2 to #6 get, which of them stay held, which two the names have, which the garbage list gets, and
-/// the path by which #2 is alive then, empty where there is none.
+/// the path that then keeps #2 alive, empty if there is none.
 #[derive(Clone, Copy, Drop)]
 struct Row {
     links: &'static [(u64, u64)],
@@ -139,8 +139,8 @@ fn path_in(answer: &Why) -> &[u64] {
     }
 }
 
-/// Builds the graph of a row, and asks why the object is alive. What owns a heap stands apart: together the two would be proved
-/// for minutes.
+/// Builds the graph of a row, and asks why the object is alive. The heap's owner is a separate function: together their proof
+/// would take minutes.
 fn ask_row<B: Kind>(
     scene: &mut Scene<B>,
     rt: &impl Abort,
@@ -168,23 +168,23 @@ fn an_object_is_alive_by_a_shortest_path(rt: HostRuntime) -> Result<(), Fail> {
     let rows = [
         // A name holds #3, which holds #2.
         table_row(&[(3, 2)], &[], [2, 3], &[3, 2]),
-        // Nothing but the name holds #2: not what nobody holds, nor a cycle through it.
+        // Only the name holds #2: what nobody holds does not count, nor does a cycle through it.
         table_row(&[(3, 2)], &[], [2, 6], &[]),
         table_row(&[(2, 3), (3, 2), (2, 2)], &[], [2, 6], &[]),
-        // Two names hold it, or a name and a hold from outside.
+        // Two names hold it, or a name and an outside hold.
         table_row(&[(3, 2)], &[3], [2, 2], &[2]),
         table_row(&[(3, 2)], &[2, 3], [2, 6], &[2]),
-        // A hold from outside alone holds #4.
+        // Only an outside hold holds #4.
         table_row(&[(4, 3), (3, 2)], &[4], [2, 6], &[4, 3, 2]),
         // The garbage list names #3.
         Row {
             saved: Some(3),
             ..table_row(&[(3, 2)], &[], [2, 6], &[1, 3, 2])
         },
-        // The shorter of two paths from one holder, and from two.
+        // The shorter of two paths from one holder, and from two holders.
         table_row(&[(5, 4), (4, 3), (3, 2), (5, 2)], &[5], [2, 6], &[5, 2]),
         table_row(&[(5, 4), (4, 2), (3, 2)], &[3, 5], [2, 6], &[3, 2]),
-        // A long path, with cycles beside it.
+        // A long path next to cycles.
         table_row(
             &[(6, 6), (6, 5), (5, 6), (5, 4), (4, 3), (4, 5), (3, 2)],
             &[],
@@ -221,7 +221,7 @@ fn ask_forwards<B: Kind>(rt: &impl Abort, alloc: Global, heap: &Heap<B>) -> Resu
     Ok(())
 }
 
-/// The objects whose entries refer to each.
+/// The objects that refer to each.
 fn ask_backwards<B: Kind>(rt: &impl Abort, alloc: Global, heap: &Heap<B>) -> Result<(), Fail> {
     let rows: [(u64, &[u64]); 4] = [(2, &[5]), (3, &[2]), (4, &[2, 5]), (5, &[])];
     for (object, expected) in rows {
@@ -246,7 +246,7 @@ fn check_references<B: Kind>(rt: &impl Abort, alloc: Global, kinds: Vec<B>) -> R
 }
 
 #[test]
-fn references_are_told_forwards_and_backwards(rt: HostRuntime) -> Result<(), Fail> {
+fn referents_and_referrers_are_listed(rt: HostRuntime) -> Result<(), Fail> {
     let alloc = rt.alloc();
     check_references(&rt, alloc, six(alloc)?)
 }

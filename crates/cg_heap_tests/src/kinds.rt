@@ -42,7 +42,7 @@ pub enum Answer {
     NotDone,
 }
 
-/// The entry of a value that has no key.
+/// The entry of a value without key.
 fn item_of(val: Val) -> Entry
     ensures { result ≡ item val }
 {
@@ -65,7 +65,7 @@ fn can_put(code: KindCode, count: usize, key: Val) -> bool
     }
 }
 
-/// Puts a value under a key, where the kind has such keys.
+/// Puts a value under a key, if the kind has keys.
 pub fn put_value<K: Kind>(kind: &mut K, at: usize, key: Val, val: Val) -> Result<Answer, AllocError>
     requires { Holds (K.bodies kind.old) at }
     ensures { (place : ℕ) → Holds (K.bodies kind.old) place → Holds (K.bodies kind.new) place }
@@ -130,7 +130,7 @@ pub fn append<K: Kind>(kind: &mut K, at: usize, val: Val) -> Result<(), AllocErr
     Ok(())
 }
 
-/// Takes the first entry off, if there is one, and answers its value.
+/// Removes the first entry, if there is one, and answers its value.
 pub fn take_first<K: Kind>(kind: &mut K, at: usize) -> Option<Val>
     requires { Holds (K.bodies kind.old) at }
     ensures { (place : ℕ) → Holds (K.bodies kind.old) place → Holds (K.bodies kind.new) place }
@@ -170,7 +170,7 @@ pub fn entries<K: Kind>(alloc: Global, kind: &K, at: usize) -> Result<Vec<Entry>
     Ok(entries)
 }
 
-/// It stops where the entries of an object are not these.
+/// Panics unless these are the entries of an object.
 fn assert_entries<K: Kind>(
     rt: &impl Abort,
     alloc: Global,
@@ -228,7 +228,7 @@ pub fn make<K: Kind>(kind: &mut K, parts: &[Entry]) -> Result<usize, AllocError>
     Ok(at)
 }
 
-/// Gives the place of an object back if it is empty.
+/// Frees the object's slot if it is empty.
 fn free<K: Kind>(kind: &mut K, at: usize)
     requires { Holds (K.bodies kind.old) at }
 {
@@ -237,7 +237,7 @@ fn free<K: Kind>(kind: &mut K, at: usize)
     }
 }
 
-/// Takes an object through the steps, and looks at the entries after each. Another object beside it stays as it is.
+/// Takes an object through the steps, and checks the entries after each. A second object stays as it is.
 fn drive<K: Kind>(
     rt: &impl Abort,
     alloc: Global,
@@ -373,7 +373,7 @@ fn tuples_only_lose_their_last_item(rt: HostRuntime) -> Result<(), Fail> {
     )
 }
 
-/// The steps of a dictionary, which an instance takes as well.
+/// The steps of a dictionary, which also apply to an instance.
 fn drive_pairs<K: Kind>(rt: &impl Abort, alloc: Global, kind: &mut K) -> Result<(), Fail>
     requires { IsParts (K.kind kind.old) [] }
 {
@@ -539,7 +539,7 @@ fn weak_references_keep_one_callback(rt: HostRuntime) -> Result<(), Fail> {
     )
 }
 
-/// Makes an object of items, appends the same items to an empty one, and takes them off again.
+/// Makes an object of items, appends the same items to an empty one, and removes them.
 fn pass_through<K: Kind>(
     rt: &impl Abort,
     alloc: Global,
@@ -598,7 +598,7 @@ fn put_many<K: Kind>(rt: &impl Abort, kind: &mut K, count: u64) -> Result<(), Fa
     Ok(())
 }
 
-/// Appends items, and takes each off again.
+/// Appends items, and removes each again.
 fn append_many<K: Kind>(rt: &impl Abort, kind: &mut K, count: u32) -> Result<(), Fail>
     requires { IsParts (K.kind kind.old) [] }
 {
@@ -614,7 +614,7 @@ fn append_many<K: Kind>(rt: &impl Abort, kind: &mut K, count: u32) -> Result<(),
     Ok(())
 }
 
-/// The items of the numbers from 0 that are below the count.
+/// The items of the numbers from 0 below the count.
 fn numbers(alloc: Global, count: i64) -> Result<Vec<Entry>, AllocError>
     ensures { IfOk result (λ entries. AreItems entries.items) }
 {
@@ -638,7 +638,7 @@ fn numbers_changed(alloc: Global) -> Result<Vec<Entry>, AllocError> {
     Ok(entries)
 }
 
-/// Takes the last of these entries off.
+/// Removes the last of these entries.
 pub fn last_of(entries: &mut Vec<Entry>) -> Answer {
     match entries.pop() {
         Some(entry) => answer_of(entry),
@@ -646,7 +646,7 @@ pub fn last_of(entries: &mut Vec<Entry>) -> Answer {
     }
 }
 
-/// Appends the numbers below 200 one by one, and looks at all after each.
+/// Appends the numbers below 200 one by one, and checks all after each.
 fn append_numbers<K: Kind>(
     rt: &impl Abort,
     alloc: Global,
@@ -664,7 +664,7 @@ fn append_numbers<K: Kind>(
     Ok(())
 }
 
-/// Takes the last entry off again and again, past the end.
+/// Removes the last entry repeatedly, past the end.
 pub fn detach_each<K: Kind>(
     rt: &impl Abort,
     kind: &mut K,
@@ -680,7 +680,7 @@ pub fn detach_each<K: Kind>(
     }
 }
 
-/// Puts a number over the 70th of 200, takes the 100th, and takes all off.
+/// Replaces item 70 of 200, removes item 100, and then all.
 fn change_numbers<K: Kind>(
     rt: &impl Abort,
     alloc: Global,

@@ -1,6 +1,6 @@
-//! Tests of the crates from cg_graph to cg_commands: kinds, nodes, weak references, whole heaps, and what is asked of a heap.
+//! Tests of the crates from cg_graph to cg_commands: kinds, nodes, weak references, whole heaps, and questions about a heap.
 //!
-//! They stand apart so that those crates are checked without them. Nothing stands on this crate.
+//! A separate crate, so that those crates are checked without the tests. Nothing depends on it.
 #![tactic(auto)]
 
 #[cfg(test)]

@@ -1,4 +1,4 @@
-//! Heaps at their limits. The numbers come from the limits that the heap's calls state.
+//! Heaps at their limits. The numbers are the limits in the contracts of the heap's calls.
 ghost use Rattle.std.specs.Prelude.{◌≡◌, map, replicate};
 ghost use Rattle.std.specs.FinMap as fin;
 ghost use Rattle.cg_heap.specs.Boxes.{six_kinds};
@@ -13,14 +13,13 @@ use std::alloc::{AllocError, Global};
 use std::process::Abort;
 use std::test::Fail;
 
-/// It stops where other numbers of objects and entries live.
+/// Panics if other numbers of objects and entries live.
 fn assert_sizes<B: Kind>(rt: &impl Abort, heap: &Heap<B>, objects: u64, entries: u64) {
     assert_eq!(rt; heap.live(), objects);
     assert_eq!(rt; heap.entries(), entries);
 }
 
-/// Takes all entries of an object off. It answers the object to which the last one that was taken refers, and which is held
-/// then, if there is one.
+/// Removes all entries of an object. Answers the object that the last removed entry refers to, which is then held, if any.
 fn empty<B: Kind>(
     rt: &impl Abort,
     scene: &mut Scene<B>,
@@ -36,8 +35,8 @@ fn empty<B: Kind>(
     Ok(found)
 }
 
-/// Gives an object up that nothing else holds: its entries are taken off, and it goes. It answers the object of its first
-/// entry, which is held then, if there is one.
+/// Frees an object that nothing else holds, after removing its entries. Answers the object of its first entry, which is
+/// then held, if any.
 fn give_up<B: Kind>(
     rt: &impl Abort,
     scene: &mut Scene<B>,
@@ -50,7 +49,7 @@ fn give_up<B: Kind>(
     Ok(found)
 }
 
-/// A list of numbers. The test holds it and nothing else.
+/// A list of numbers that only the test holds.
 fn fill_one<B: Kind>(
     rt: &impl Abort,
     scene: &mut Scene<B>,
@@ -78,7 +77,7 @@ fn fill<B: Kind>(
     Ok(last)
 }
 
-/// A million lists of four numbers: one object more is refused until one is let go.
+/// A million lists of four numbers: one more object is refused until one is freed.
 fn reach_objects<B: Kind>(rt: &impl Abort, scene: &mut Scene<B>) -> Result<(), Fail> {
     let last = fill(rt, scene, 1_000_000, 4)?;
     assert_sizes(rt, &scene.heap, 1_000_000, 4_000_000);
@@ -86,14 +85,14 @@ fn reach_objects<B: Kind>(rt: &impl Abort, scene: &mut Scene<B>) -> Result<(), F
     assert_eq!(rt; scene.dict(rt), Err(HeapFault::ObjectLimit));
     assert_eq!(rt; give_up(rt, scene, last)?, None);
     assert_sizes(rt, &scene.heap, 999_999, 3_999_996);
-    // No serial was used by a refusal, and none is used again.
+    // A refusal uses no serial, and none is reused.
     assert_eq!(rt; scene.list(rt), Ok(1_000_002));
     assert_eq!(rt; scene.heap.live(), 1_000_000);
     assert_eq!(rt; scene.list(rt), Err(HeapFault::ObjectLimit));
     Ok(())
 }
 
-/// A thousand lists of four thousand numbers: one entry more is refused, an object without entries is not.
+/// A thousand lists of four thousand numbers: one more entry is refused, but not an object without entries.
 fn reach_entries<B: Kind>(rt: &impl Abort, scene: &mut Scene<B>) -> Result<(), Fail> {
     let limit = HeapFault::EntryLimit;
     let last = fill(rt, scene, 1000, 4000)?;
@@ -107,7 +106,7 @@ fn reach_entries<B: Kind>(rt: &impl Abort, scene: &mut Scene<B>) -> Result<(), F
     Ok(())
 }
 
-/// Lists of which each holds the one before, which nothing else holds. It answers the last one.
+/// Lists that each hold the previous one, which nothing else holds. Answers the last one.
 fn chain<B: Kind>(rt: &impl Abort, scene: &mut Scene<B>, lists: u32) -> Result<u64, HeapFault> {
     let mut last = scene.list(rt)?;
     'links: for _ in 1..lists {
@@ -118,7 +117,7 @@ fn chain<B: Kind>(rt: &impl Abort, scene: &mut Scene<B>, lists: u32) -> Result<u
     Ok(last)
 }
 
-/// They are given up from the last on. It answers what is left of them.
+/// Frees them, last first. Answers what is left of them.
 fn unchain<B: Kind>(
     rt: &impl Abort,
     scene: &mut Scene<B>,
@@ -135,7 +134,7 @@ fn unchain<B: Kind>(
     Ok(left)
 }
 
-/// A long chain, made and given up.
+/// Makes a long chain and frees it.
 fn give_up_chain<B: Kind>(rt: &impl Abort, scene: &mut Scene<B>) -> Result<(), Fail> {
     let last = chain(rt, scene, 300_000)?;
     assert_sizes(rt, &scene.heap, 300_000, 299_999);
@@ -147,7 +146,7 @@ fn give_up_chain<B: Kind>(rt: &impl Abort, scene: &mut Scene<B>) -> Result<(), F
     Ok(())
 }
 
-/// Each call that may be refused succeeds where there is memory.
+/// Each call that may be refused succeeds if there is memory.
 fn call_each<B: Kind>(rt: &impl Abort, scene: &mut Scene<B>) {
     assert_eq!(rt; scene.heap.live(), 0);
     assert_eq!(rt; scene.list(rt), Ok(2));
@@ -162,7 +161,7 @@ fn call_each<B: Kind>(rt: &impl Abort, scene: &mut Scene<B>) {
     assert_sizes(rt, &scene.heap, 3, 3);
 }
 
-/// What is tried on a heap.
+/// The experiments on a heap.
 #[derive(Clone, Copy)]
 enum Trial {
     Objects,
@@ -183,7 +182,8 @@ fn attempt<B: Kind>(rt: &impl Abort, scene: &mut Scene<B>, trial: Trial) -> Resu
     }
 }
 
-/// Tries it on a new heap, which it is lent: a function that owned the heap beside all it asks of it would be proved for minutes.
+/// Runs one on a new heap, which it borrows: the proof of a function that owned the heap and made all these calls would take
+/// minutes.
 fn check<B: Kind>(rt: &impl Abort, alloc: Global, kinds: Vec<B>, trial: Trial) -> Result<(), Fail>
     requires kinds { map B.kind kinds.items ≡ six_kinds }
     requires empty { map B.bodies kinds.items ≡ replicate 6 fin.empty }
@@ -205,7 +205,7 @@ fn four_million_entries_are_the_most(rt: HostRuntime) -> Result<(), Fail> {
 }
 
 #[test]
-fn a_long_chain_is_given_up(rt: HostRuntime) -> Result<(), Fail> {
+fn a_long_chain_is_freed(rt: HostRuntime) -> Result<(), Fail> {
     let alloc = rt.alloc();
     check(&rt, alloc, six(alloc)?, Trial::Chain)
 }

@@ -1,4 +1,4 @@
-//! Items that leave at the front of a long list, as those of a queue do.
+//! Items removed at the front of a long list, as in a queue.
 ghost use Rattle.std.specs.Prelude.{[], IfOk};
 ghost use Rattle.cg_kind.specs.Bodies.{Holds};
 ghost use Rattle.cg_kind.specs.Calls.{IsParts};
@@ -11,8 +11,7 @@ use std::alloc::{AllocError, Global};
 use std::process::Abort;
 use std::test::Fail;
 
-/// The whole numbers from one to before another, which are the items of a list: appended one by one, and taken off in the same
-/// order.
+/// The whole numbers from one to below another, as the items of a list: appended one by one, and removed in the same order.
 #[derive(Clone, Copy, Debug, PartialEq, Drop)]
 struct Numbers {
     first: i64,
@@ -39,7 +38,7 @@ fn append_some<K: Kind>(
     Ok(Numbers { next, ..numbers })
 }
 
-/// Looks at all numbers.
+/// Checks all numbers.
 fn look<K: Kind>(rt: &impl Abort, kind: &K, at: usize, numbers: Numbers)
     requires { Holds (K.bodies kind.now) at }
 {
@@ -51,7 +50,7 @@ fn look<K: Kind>(rt: &impl Abort, kind: &K, at: usize, numbers: Numbers)
     assert_eq!(rt; number, numbers.next);
 }
 
-/// Takes numbers off, and checks the rest after each.
+/// Removes numbers, and checks the rest after each.
 fn take_each<K: Kind>(
     rt: &impl Abort,
     kind: &mut K,
@@ -71,7 +70,7 @@ fn take_each<K: Kind>(
     left
 }
 
-/// So many numbers are taken off in each turn, and then one is appended.
+/// Each turn removes this many numbers, and then appends one.
 fn take_and_append<K: Kind>(
     rt: &impl Abort,
     kind: &mut K,
@@ -110,11 +109,11 @@ fn queue_up<K: Kind>(rt: &impl Abort, kind: &mut K) -> Result<(), Fail>
 }
 
 #[test]
-fn numbers_leave_at_the_front_as_they_came(rt: HostRuntime) -> Result<(), Fail> {
+fn a_queue_is_first_in_first_out(rt: HostRuntime) -> Result<(), Fail> {
     queue_up(&rt, &mut ListKind::new(rt.alloc()))
 }
 
-/// A list of the numbers from 10 to 99, of which the first ten have left at the front.
+/// A list of the numbers from 10 to 99, with the first ten removed at the front.
 fn ninety<K: Kind>(rt: &impl Abort, kind: &mut K) -> Result<usize, AllocError>
     requires { IsParts (K.kind kind.old) [] }
     ensures { IfOk result (λ at. Holds (K.bodies kind.new) at) }
@@ -125,7 +124,7 @@ fn ninety<K: Kind>(rt: &impl Abort, kind: &mut K) -> Result<usize, AllocError>
     Ok(at)
 }
 
-/// What leaves at the front moves the places of the others.
+/// Removals at the front shift the positions of the others.
 fn change_ninety<K: Kind>(rt: &impl Abort, kind: &mut K) -> Result<(), Fail>
     requires { IsParts (K.kind kind.old) [] }
 {

@@ -21,13 +21,13 @@ use std::alloc::{AllocError, Global};
 use std::marker::Model;
 use std::process::Abort;
 
-/// No more holds and objects than this are given, far below what the heap asks.
+/// The most holds and objects, far below the heap's limits.
 const MOST_GIVEN: u64 = 2_000_000_000;
 
-/// A heap and the holds that a test has. At most `count` holds and objects were given.
+/// A heap and the holds of a test. At most `count` holds and objects were given.
 ///
-/// What the heap asks of a caller and the test does not know is asserted when it runs: each call stops where its object
-/// does not live or is of another kind.
+/// What the heap requires and the test does not know is asserted at run time: each call panics if its object does not
+/// live or is of another kind.
 #[derive(Drop)]
 pub struct Scene<B: Kind> {
     pub heap: Heap<B>,
@@ -53,14 +53,14 @@ impl<B: Kind> Model for Scene<B> {
         × (outside_total a.heap ≤ a.count) × (a.heap.last ≤ a.count + 1) × (length a.heap.names ≡ a.names) };
 }
 
-/// Where a hold stands.
+/// The position of a hold.
 fn place_of_hold(held: &[u64], object: u64) -> Option<usize>
     ensures { IfSome result (λ i. slice_get held.now i ≡ Some object) }
 {
     held.iter().position(|hold| *hold == object)
 }
 
-/// A hold more for each reference of an entry.
+/// One more hold for each reference of an entry.
 fn keep(held: &mut Vec<u64>, entry: Entry) -> Result<(), AllocError>
     ensures { (s : ℕ) → occurrences s held.new.items ≤ occurrences s held.old.items + occurrences s (entry_references entry) }
 {
@@ -78,7 +78,7 @@ fn keep_value(held: &mut Vec<u64>, val: Val) -> Result<(), AllocError>
     Ok(())
 }
 
-/// It stops where something stands in the places that collections use.
+/// Panics if the places that collections use are not empty.
 pub fn assert_idle<B: Kind>(rt: &impl Abort, heap: &Heap<B>)
     ensures { IsIdle heap.now }
 {
@@ -89,7 +89,7 @@ pub fn assert_idle<B: Kind>(rt: &impl Abort, heap: &Heap<B>)
     assert!(rt; heap.size(Place::Pend) == 0);
 }
 
-/// It stops where the value refers to an object that does not live.
+/// Panics if the value refers to an object that does not live.
 fn assert_value<B: Kind>(rt: &impl Abort, heap: &Heap<B>, val: Val)
     ensures { IsLiveValue heap.now val }
 {
@@ -98,7 +98,7 @@ fn assert_value<B: Kind>(rt: &impl Abort, heap: &Heap<B>, val: Val)
     }
 }
 
-/// It stops where the referent of a new object does not live.
+/// Panics if the referent of a new object does not live.
 fn assert_referent<B: Kind>(rt: &impl Abort, heap: &Heap<B>, referent: Option<u64>)
     ensures { IfSome referent (λ s. IsLive heap.now s) }
 {
@@ -107,7 +107,7 @@ fn assert_referent<B: Kind>(rt: &impl Abort, heap: &Heap<B>, referent: Option<u6
     }
 }
 
-/// It stops where the object is no list.
+/// Panics if the object is no list.
 fn assert_list<B: Kind>(rt: &impl Abort, heap: &Heap<B>, object: u64)
     ensures { HasCode heap.now object code.List }
 {
@@ -118,7 +118,7 @@ fn assert_list<B: Kind>(rt: &impl Abort, heap: &Heap<B>, object: u64)
     }
 }
 
-/// It stops where something holds the object.
+/// Panics if the object is held.
 fn assert_unheld<B: Kind>(rt: &impl Abort, heap: &Heap<B>, object: u64)
     requires { IsLive heap.now object }
     ensures { count_of heap.now object ≡ 0 }
@@ -135,7 +135,7 @@ fn is_weak(kind: KindCode) -> bool
     }
 }
 
-/// It stops where the object is no dictionary and no instance.
+/// Panics if the object is no dictionary and no instance.
 fn assert_pairs<B: Kind>(rt: &impl Abort, heap: &Heap<B>, object: u64)
     ensures put { (key : Val) → CanPutIn heap.now object key }
     ensures take { CanTake heap.now object }
@@ -148,7 +148,7 @@ fn assert_pairs<B: Kind>(rt: &impl Abort, heap: &Heap<B>, object: u64)
     }
 }
 
-/// It stops where the object is a weak reference, or in a row.
+/// Panics if the object is a weak reference, or in a row.
 fn assert_in_no_row<B: Kind>(rt: &impl Abort, heap: &Heap<B>, object: u64)
     requires { IsLive heap.now object }
     ensures { IsInNoRow object heap.now.rows }
@@ -190,7 +190,7 @@ impl<B: Kind> Scene<B> {
         self.names
     }
 
-    /// The heap alone, of which the holds are known no more.
+    /// The heap alone; the test's holds are no longer known.
     pub fn into_heap(self, rt: &impl Abort) -> Heap<B>
         ensures few { HasFewHolds result }
         ensures last { result.last < 9223372036854775808 }
@@ -200,12 +200,12 @@ impl<B: Kind> Scene<B> {
         self.heap
     }
 
-    /// The holds of the test stay the heap's, and are given up no more.
+    /// The heap keeps the test's holds, which are never given up.
     pub fn forget_holds(&mut self) {
         self.held.clear();
     }
 
-    /// Makes an object without entries, which is held.
+    /// Makes an object without entries, and holds it.
     pub fn make(
         &mut self,
         rt: &impl Abort,
@@ -227,7 +227,7 @@ impl<B: Kind> Scene<B> {
         }
     }
 
-    /// Makes an object of one item, which is held.
+    /// Makes an object of one item, and holds it.
     pub fn make_of(
         &mut self,
         rt: &impl Abort,
@@ -269,7 +269,7 @@ impl<B: Kind> Scene<B> {
         self.make_of(rt, KindCode::List, None, val)
     }
 
-    /// Gives a hold up. It answers whether nothing holds the object then.
+    /// Gives up a hold. Answers whether the object is then unheld.
     pub fn release(&mut self, rt: &impl Abort, object: u64) -> bool {
         let Some(i) = place_of_hold(&self.held, object) else {
             panic!(rt; "#{object} is not held");
@@ -278,7 +278,7 @@ impl<B: Kind> Scene<B> {
         self.heap.unhold(object)
     }
 
-    /// Gives up all holds but some.
+    /// Gives up all holds except some.
     pub fn release_others(
         &mut self,
         rt: &impl Abort,
@@ -318,7 +318,7 @@ impl<B: Kind> Scene<B> {
         self.heap.append(list, val)
     }
 
-    /// Puts a value under a key, and answers the one that it replaces.
+    /// Puts a value under a key, and answers the old one.
     pub fn put(
         &mut self,
         rt: &impl Abort,
@@ -335,7 +335,7 @@ impl<B: Kind> Scene<B> {
         Ok(replaced)
     }
 
-    /// Takes the entry at a position. Its references are held from now on.
+    /// Removes the entry at a position. Its references are then held.
     pub fn take(&mut self, rt: &impl Abort, object: u64, i: usize) -> Result<Entry, AllocError> {
         assert!(rt; self.count < MOST_GIVEN);
         assert_pairs(rt, &self.heap, object);
@@ -347,7 +347,7 @@ impl<B: Kind> Scene<B> {
         Ok(entry)
     }
 
-    /// Takes the entry under a key, if there is one. Its references are held from now on.
+    /// Removes the entry under a key, if any. Its references are then held.
     pub fn take_key(
         &mut self,
         rt: &impl Abort,
@@ -367,7 +367,7 @@ impl<B: Kind> Scene<B> {
         }
     }
 
-    /// Takes the last entry off, if there is one. Its references are held from now on.
+    /// Removes the last entry, if any. Its references are then held.
     pub fn detach(&mut self, rt: &impl Abort, object: u64) -> Result<Option<Entry>, AllocError> {
         assert!(rt; self.count < MOST_GIVEN && self.heap.has(object));
         self.heap.sound();
@@ -381,7 +381,7 @@ impl<B: Kind> Scene<B> {
         }
     }
 
-    /// Lets an object go. It stops where something holds it, it has entries, or it is in a row.
+    /// Frees an object. Panics if it is held, has entries, or is in a row.
     pub fn free(&mut self, rt: &impl Abort, object: u64) {
         assert!(rt; self.heap.has(object));
         assert!(rt; self.heap.len(object) == 0);
@@ -390,7 +390,7 @@ impl<B: Kind> Scene<B> {
         self.heap.free(object);
     }
 
-    /// The object goes to the end of a place.
+    /// Moves the object to the end of a place.
     pub fn move_to(&mut self, rt: &impl Abort, object: u64, place: Place)
         requires { IsPlace place }
     {
@@ -398,7 +398,7 @@ impl<B: Kind> Scene<B> {
         self.heap.move_to(object, place);
     }
 
-    /// Gives a name a value. The hold of its old value stays the heap's.
+    /// Gives a name a value. The heap keeps the hold of its old value.
     pub fn bind(&mut self, rt: &impl Abort, name: u32, val: Val) {
         assert!(rt; name < self.names && self.count < MOST_GIVEN);
         assert_value(rt, &self.heap, val);
@@ -406,7 +406,7 @@ impl<B: Kind> Scene<B> {
         self.count += 1;
     }
 
-    /// Takes the value of a name. Its hold stays the heap's.
+    /// Removes the value of a name. The heap keeps its hold.
     pub fn unbind(&mut self, rt: &impl Abort, name: u32) {
         assert!(rt; name < self.names && self.count < MOST_GIVEN);
         self.heap.unbind(name);
@@ -426,14 +426,14 @@ impl<B: Kind> Scene<B> {
         self.heap.save(object);
     }
 
-    /// A weak reference loses its referent.
+    /// Clears a weak reference.
     pub fn clear_weak(&mut self, rt: &impl Abort, weak: u64, wait: bool) {
         assert!(rt; self.heap.has(weak));
         assert!(rt; self.heap.referent_of(weak).is_some());
         self.heap.clear_weak(weak, wait);
     }
 
-    /// The newest weak reference that waits with an object does so no longer.
+    /// The newest weak reference that waits with an object stops waiting.
     pub fn forget_newest(&mut self, rt: &impl Abort, object: u64) -> Option<u64> {
         assert!(rt; self.heap.has(object));
         let weak = self.heap.newest_waiting(object)?;

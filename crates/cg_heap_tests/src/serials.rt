@@ -1,12 +1,12 @@
-//! Serials near one another in an index table. It chooses a group by the low bits of a hash, and tells those of a group apart by a
-//! tag, which is the byte above bit 24, and at least 1.
+//! Nearby serials in an index table. The table chooses a group by the low bits of a hash, and separates the members of a group by
+//! a tag, the byte above bit 24, at least 1.
 
 use cg_serial::serial_hashing;
 use std::hash::BuildHasher;
 use std::process::Abort;
 use std::test::Fail;
 
-/// What a group is chosen by.
+/// The bits that choose a group.
 fn group_bits(serial: u64) -> u64 {
     serial_hashing().hash_one(serial) & 0x00ff_ffff
 }
@@ -15,7 +15,7 @@ fn tag(serial: u64) -> u64 {
     (serial_hashing().hash_one(serial) >> 24).max(1)
 }
 
-/// Eight serials from a multiple of eight on.
+/// Eight consecutive serials from a multiple of eight.
 fn assert_eight_differ(rt: &impl Abort, first: u64) {
     assert!(rt; first < 1 << 40);
     for i in 0..8u64 {

@@ -1,4 +1,4 @@
-//! Small graphs in a heap over six kinds, split. What is to be left is found by hand, and what is kept by the plain search.
+//! Small graphs in a heap over six kinds, split. What is left is worked out by hand, and what is kept by the plain search.
 ghost use Rattle.std.specs.Prelude.{◌≡◌, ◌<◌, ◌≤◌, ◌+◌, map, replicate, IfOk};
 ghost use Rattle.std.specs.List.{All};
 ghost use Rattle.std.specs.FinMap as fin;
@@ -37,7 +37,8 @@ enum Graph {
     KeyAndCell,
 }
 
-/// A graph, the objects that stay held from outside, whether all objects are candidates before, and what is unreachable.
+/// A graph, the objects that stay held from outside, whether all objects are candidates before, and the unreachable
+/// ones.
 #[derive(Clone, Copy, Drop)]
 struct Row {
     graph: Graph,
@@ -112,7 +113,7 @@ fn push_edges<B: Kind>(edges: &mut Vec<Edge>, heap: &Heap<B>, object: u64) -> Re
     Ok(())
 }
 
-/// The members that are held more often than edges lead to them.
+/// The members with more holds than edges.
 fn held_beyond<B: Kind>(
     alloc: Global,
     heap: &Heap<B>,
@@ -146,7 +147,7 @@ fn reached_plainly<B: Kind>(
     reach_plain(alloc, &edges, members, &held)
 }
 
-/// Splits the place. It answers what is left, what is kept, and what the plain search finds, each rising.
+/// Splits the place. Answers what is left, what is kept, and what the plain search finds, each rising.
 fn split_place<B: Kind, L: Ledger>(
     rt: &impl Abort,
     alloc: Global,
@@ -173,8 +174,8 @@ fn split_place<B: Kind, L: Ledger>(
     Ok((left, kept, reached))
 }
 
-/// A heap with a graph of which some objects are held, and no other. What owns a heap stands apart from what asks much of one:
-/// together they would be proved for minutes.
+/// A heap with only this graph, and some held objects. The heap's owner is a separate function: together with the many calls
+/// its proof would take minutes.
 fn heap_of<B: Kind>(
     rt: &impl Abort,
     alloc: Global,
@@ -190,7 +191,7 @@ fn heap_of<B: Kind>(
     Ok(scene.into_heap(rt))
 }
 
-/// Builds a graph, and gives all holds up but some.
+/// Builds a graph, and gives up all holds except some.
 fn set<B: Kind>(
     rt: &impl Abort,
     alloc: Global,
@@ -203,7 +204,8 @@ fn set<B: Kind>(
     Ok(())
 }
 
-/// Splits the place of a row, and compares what is kept with the plain search, and what is left with the row.
+/// Splits the place of a row, and checks what is kept against the plain search, and what is left against the
+/// row.
 fn split_as_row<B: Kind, L: Ledger>(
     rt: &impl Abort,
     alloc: Global,
@@ -242,8 +244,7 @@ fn check_row<B: Kind, L: Ledger>(
     split_as_row(rt, alloc, &mut heap, &mut steps, row)
 }
 
-/// Splits generation 0, where one object with three entries stands, and nothing among the candidates. It stops where that
-/// is not so.
+/// Splits generation 0, which has one object with three entries; there are no candidates. Panics otherwise.
 fn split_one_of_three<B: Kind, L: Ledger>(rt: &impl Abort, heap: &mut Heap<B>, steps: &mut Steps<L>)
     ensures least { steps.old + 3 ≤ steps.new }
     ensures most { steps.new ≤ steps.old + 6 }
@@ -272,7 +273,7 @@ fn look_at_three_in<B: Kind, L: Ledger>(
     Ok(())
 }
 
-/// The same in a heap of its own: each of its entries is looked at, and none more than twice.
+/// The same in a heap of its own: each entry is looked at, at most twice.
 fn look_at_three<B: Kind, L: Ledger>(
     rt: &impl Abort,
     alloc: Global,

@@ -1,5 +1,5 @@
-//! Dictionaries about the size at which their pairs leave the list for the map, and past it. What they answer is what a plain list in
-//! order of insertion would.
+//! Dictionaries around the size at which their pairs move from the list to the map. They answer what a plain list in insertion
+//! order would.
 ghost use Rattle.std.specs.Prelude.{[]};
 ghost use Rattle.cg_kind.specs.Bodies.{Holds};
 ghost use Rattle.cg_kind.specs.Calls.{IsParts};
@@ -24,7 +24,7 @@ fn put_plainly(entries: &mut Vec<Entry>, key: Val, val: Val) -> Result<(), Alloc
     Ok(())
 }
 
-/// Takes the entry of a key out of a plain list of entries.
+/// Removes the entry of a key from a plain list of entries.
 fn take_plainly(entries: &mut Vec<Entry>, key: Val) -> Option<Entry> {
     'entries: for i in 0..entries.len() {
         if entries[i].key == key {
@@ -34,7 +34,7 @@ fn take_plainly(entries: &mut Vec<Entry>, key: Val) -> Option<Entry> {
     None
 }
 
-/// The next number at random.
+/// The next random number.
 fn next(draw: u64) -> u64 {
     draw.wrapping_mul(6_364_136_223_846_793_005)
         .wrapping_add(1_442_695_040_888_963_407)
@@ -58,8 +58,8 @@ fn assert_has<K: Kind>(
     Ok(())
 }
 
-/// Puts a value under a key of an object and of a plain list. A refusal leaves the object as it was, and then the put is
-/// done again.
+/// Puts a value under a key of an object and of a plain list. A refusal leaves the object unchanged; then the put is
+/// repeated.
 fn put_both<K: Kind>(
     rt: &impl Abort,
     alloc: Global,
@@ -83,7 +83,7 @@ fn put_both<K: Kind>(
     Ok(())
 }
 
-/// Takes the entry at a place out of an object and out of a plain list, where there is one.
+/// Removes the entry at a position from an object and from a plain list, if there is one.
 fn take_both<K: Kind>(kind: &mut K, at: usize, plain: &mut Vec<Entry>, place: usize)
     requires { Holds (K.bodies kind.old) at }
     ensures { Holds (K.bodies kind.new) at }
@@ -94,7 +94,7 @@ fn take_both<K: Kind>(kind: &mut K, at: usize, plain: &mut Vec<Entry>, place: us
     }
 }
 
-/// Takes the entry of a key out of an object and out of a plain list, where there is one.
+/// Removes the entry of a key from an object and from a plain list, if there is one.
 fn take_key_of_both<K: Kind>(
     rt: &impl Abort,
     kind: &mut K,
@@ -114,7 +114,7 @@ fn take_key_of_both<K: Kind>(
     Ok(())
 }
 
-/// So many keys are put, a value is replaced, the first key goes and comes again.
+/// Puts this many keys, replaces a value, and removes and re-adds the first key.
 fn go_over<K: Kind>(rt: &impl Abort, alloc: Global, kind: &mut K, count: i64) -> Result<(), Fail>
     requires { IsParts (K.kind kind.old) [] }
 {
@@ -142,7 +142,7 @@ fn one_key_too_many_for_a_list_keeps_the_order(rt: HostRuntime) -> Result<(), Fa
     'counts: for count in 23..=27 {
         go_over(&rt, alloc, &mut dicts, count)?;
     }
-    // With this many keys, enough lie behind the first for its drop to note the order down.
+    // With this many keys, enough follow the first for its drop to record the order.
     'more: for count in 45..=49 {
         go_over(&rt, alloc, &mut dicts, count)?;
     }
@@ -151,7 +151,7 @@ fn one_key_too_many_for_a_list_keeps_the_order(rt: HostRuntime) -> Result<(), Fa
     go_over(&rt, alloc, &mut instances, 46)
 }
 
-/// Steps at random: how many, over how many keys, and after each how many of them all entries are looked at.
+/// Random steps: how many, over how many keys, and after how many of them all entries are checked.
 #[derive(Clone, Copy, Drop)]
 struct RandomWalk {
     steps: u32,
@@ -159,7 +159,7 @@ struct RandomWalk {
     between_looks: u64,
 }
 
-/// One step at random, of a dictionary and of a plain list.
+/// One random step on a dictionary and on a plain list.
 fn step<K: Kind>(
     rt: &impl Abort,
     alloc: Global,
@@ -184,7 +184,7 @@ fn step<K: Kind>(
     }
 }
 
-/// Takes an object without entries through steps at random, and compares it with a plain list. It answers the list.
+/// Takes an object without entries through random steps, and compares it with a plain list. Answers the list.
 fn walk<K: Kind>(
     rt: &impl Abort,
     alloc: Global,
@@ -224,7 +224,7 @@ fn steps_about_the_limit_of_a_list_are_those_of_a_plain_list(rt: HostRuntime) ->
     Ok(())
 }
 
-/// A long walk over many keys, after which all are taken off.
+/// A long walk over many keys, which are then all removed.
 fn walk_and_empty<K: Kind>(rt: &impl Abort, alloc: Global, kind: &mut K) -> Result<(), Fail>
     requires { IsParts (K.kind kind.old) [] }
 {
@@ -265,7 +265,7 @@ fn put_tenfold<K: Kind>(
     Ok(())
 }
 
-/// Takes keys.
+/// Removes keys.
 fn take_keys<K: Kind>(
     rt: &impl Abort,
     kind: &mut K,
@@ -283,7 +283,7 @@ fn take_keys<K: Kind>(
     Ok(())
 }
 
-/// Takes some keys of 48, puts two again, and takes one more.
+/// Removes some keys of 48, puts two again, and removes one more.
 fn take_and_put_again<K: Kind>(rt: &impl Abort, alloc: Global, kind: &mut K) -> Result<(), Fail>
     requires { IsParts (K.kind kind.old) [] }
 {
@@ -291,11 +291,11 @@ fn take_and_put_again<K: Kind>(rt: &impl Abort, alloc: Global, kind: &mut K) -> 
     let mut plain = Vec::new(alloc);
     let keys = Vec::from_iter(alloc, 0..48i64)?;
     put_tenfold(rt, alloc, kind, at, &mut plain, keys.as_slice())?;
-    // The newest goes while the map keeps the order, the others from an order that the oldest brought.
+    // The newest goes while the map has the order, the others from an order that the oldest recorded.
     take_keys(rt, kind, at, &mut plain, &[47, 0, 12, 1, 46])?;
     put_tenfold(rt, alloc, kind, at, &mut plain, &[12, 0])?;
     take_keys(rt, kind, at, &mut plain, &[44])?;
-    // The keys that are left: 2 to 45 without 12 and 44, and then 12 and 0.
+    // The remaining keys: 2 to 45 without 12 and 44, then 12 and 0.
     assert_eq!(rt; plain.len(), 44);
     assert_has(rt, alloc, kind, at, plain.as_slice())
 }
@@ -306,8 +306,8 @@ fn keys_that_come_again_go_last(rt: HostRuntime) -> Result<(), Fail> {
     take_and_put_again(&rt, alloc, &mut DictKind::new(alloc))
 }
 
-/// So many keys are put, and then these values, as keys and as values. They come out as they went in, from the map's own
-/// order, and from another once the first keys are gone.
+/// Puts this many keys, and then these values, as keys and as values. They come out unchanged, from the map's own order,
+/// and from another one after the first keys are gone.
 fn pass_through<K: Kind>(
     rt: &impl Abort,
     alloc: Global,

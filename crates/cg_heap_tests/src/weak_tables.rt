@@ -1,4 +1,5 @@
-//! Weak references that come, wait and go, in a table without a heap. The walks are found by hand.
+//! Weak references that are added, wait and leave, in a table without a heap. The walks are worked out by
+//! hand.
 ghost use Rattle.std.specs.Prelude.{◌<◌};
 ghost use Rattle.std.specs.List.{All};
 
@@ -8,7 +9,7 @@ use std::marker::Model;
 use std::process::Abort;
 use std::test::Fail;
 
-/// A table whose weak references get the numbers from `next` on, as a heap gives them.
+/// A table that numbers its weak references from `next` on, as a heap does.
 #[derive(Drop)]
 struct Numbered {
     table: WeakTable,
@@ -75,7 +76,7 @@ impl Numbered {
     fn walk(&self, alloc: Global, referent: u64) -> Result<Vec<u64>, AllocError> {
         let mut met = Vec::new(alloc);
         let mut at = self.table.newest_of(referent);
-        // One turn more than there are numbers, so that a walk with no end shows.
+        // One turn more than there are numbers, so that an endless walk shows.
         for _ in 0..=self.next {
             let Some(weak) = at else { break };
             met.push(weak)?;
@@ -106,16 +107,17 @@ fn six(alloc: Global) -> Result<Numbered, AllocError> {
     Ok(numbered)
 }
 
-/// Clears some of six, and attaches two. What owns a table stands apart: with all that is asked of it, it would be proved for long.
+/// Clears some of six, and attaches two. The table's owner is a separate function: with all these calls in it, its proof would
+/// take long.
 fn clear_and_attach(rt: &impl Abort, alloc: Global, numbered: &mut Numbered) -> Result<(), Fail> {
     assert_walks(rt, alloc, numbered, [&[16, 14, 13, 11], &[15, 12], &[]])?;
-    // From the middle, the newest end and the oldest end; the one of another object stays.
+    // From the middle, the newest end and the oldest end; that of another object stays.
     numbered.clear(14, false);
     assert_walks(rt, alloc, numbered, [&[16, 13, 11], &[15, 12], &[]])?;
     numbered.clear(16, true);
     numbered.clear(11, false);
     assert_walks(rt, alloc, numbered, [&[13], &[15, 12], &[]])?;
-    // A new one is the newest; one of an object that had none is alone.
+    // A new one is the newest; that of an object without one is alone.
     numbered.attach_reserved(1)?;
     numbered.attach(3)?;
     assert_walks(rt, alloc, numbered, [&[17, 13], &[15, 12], &[18]])?;
@@ -155,9 +157,9 @@ fn a_weak_reference_has_its_referent_until_it_is_cleared(rt: HostRuntime) -> Res
 }
 
 #[test]
-fn those_that_wait_are_forgotten_newest_first(rt: HostRuntime) -> Result<(), Fail> {
+fn waiting_ones_are_forgotten_newest_first(rt: HostRuntime) -> Result<(), Fail> {
     let mut numbered = six(rt.alloc())?;
-    // Set waiting in an order that is neither rising nor falling.
+    // They begin to wait in an order that neither rises nor falls.
     for weak in [14, 16, 11, 13, 12] {
         numbered.clear(weak, true);
     }
@@ -187,7 +189,7 @@ fn many(alloc: Global) -> Result<Numbered, AllocError> {
 #[test]
 fn many_are_cleared_newest_first(rt: HostRuntime) -> Result<(), Fail> {
     let mut numbered = many(rt.alloc())?;
-    // As in a death: all are cleared, every other one waits, and these are called.
+    // As in a death: all are cleared, every other one waits, and those are called.
     for weak in (1..=MANY).rev() {
         assert_eq!(&rt; numbered.table.newest_of(1), Some(weak));
         numbered.clear(weak, weak % 2 == 0);
@@ -203,7 +205,7 @@ fn many_are_cleared_newest_first(rt: HostRuntime) -> Result<(), Fail> {
 #[test]
 fn many_are_cleared_from_the_middle(rt: HostRuntime) -> Result<(), Fail> {
     let mut numbered = many(rt.alloc())?;
-    // Those whose number is no multiple of 4 wait, from the oldest on, or leave.
+    // Those whose number is not a multiple of 4 wait, oldest first, or leave.
     for weak in 1..=MANY {
         if weak % 4 != 0 {
             numbered.clear(weak, weak % 4 == 1);

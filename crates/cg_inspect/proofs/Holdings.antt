@@ -1,4 +1,4 @@
--- How often an object is held, as it is counted: its in-degree less the references of all entries.
+-- How often roots hold an object, as it is computed: its in-degree less the references of all entries.
 use Rattle.std.proofs.Common.{◌≡◌, refl, sym, ◌∙◌, ap, subst, ℕ, ◌≢◌, ◌+◌, ◌-◌, ◌<◌, ◌≤◌, ◌⊎◌, inl, inr, Bool, true, false, List, [], ◌∷◌, ◌++◌, length, map, take, drop, Option, Some, None, IsTrue, get_or, take_all, arith, append_assoc}
 use Rattle.std.specs.Prelude.{◌==◌, ◌||◌, ◌↔◌, flat_map, slice_get, option_map, if◌then◌else◌}
 use Rattle.std.proofs.lemmas.Bool.{eq-eqb, ne_eqb, cases_eq, cases_lt}
@@ -25,7 +25,6 @@ use Rattle.cg_inspect.specs.Search.{Findings, objects_in, Finds, IsStart, IsTrai
 use Rattle.cg_inspect.proofs.Objects.{entries_are, holdings-serials, live_serial, in_range}
 use Rattle.cg_inspect.proofs.Trails.{next_taken, get_below, get_in, start_more, start_same, trail_of, few_found, spread_more}
 
--- the references of one entry more
 pub references_next : (es : List Entry) (i : ℕ) (e : Entry) → slice_get es i ≡ Some e → references (take (i + 1) es) ≡ (references (take i es) ++ references_of_value (Some e.val)) ++ references_of_value (Some e.key)
 references_next es i e at = references_in_turn es i e at
 
@@ -33,7 +32,7 @@ pub listed_next : (es : List Entry) (i : ℕ) (e : Entry) (listed half now : Lis
     → now ≡ references (take (i + 1) es)
 listed_next es i e listed half now at so val key = key ∙ ap (λ (l : List ℕ). l ++ references_of_value (Some e.key)) (val ∙ ap (λ (l : List ℕ). l ++ references_of_value (Some e.val)) so) ∙ sym (references_next es i e at)
 
--- whether the first entries hold an object, and one entry more
+-- whether the first entries hold an object, and with one more
 includes_append : (xs ys : List ℕ) (o : ℕ) → includes (xs ++ ys) o ≡ (includes xs o || includes ys o)
 includes_append xs ys o = list_any-append (λ x. x == o) xs ys
 
@@ -49,7 +48,7 @@ held_by_one es i e o at here =
     (subst (λ (l : List ℕ). Includes l o) (sym (references_split es i e at))
     (Includes-append_right (references (take i es)) (entry_references e ++ references (drop (i + 1) es)) o (Includes-append_left (entry_references e) (references (drop (i + 1) es)) o (Includes-of (entry_references e) o here))))
 
--- Numbers, one after the other.
+-- Numbers, one by one.
 pub numbers_none : (number : ℕ → ℕ) (numbers : List (ℕ × ℕ)) → AreNumbers number [] numbers
 numbers_none number numbers o m = absurd m
 
@@ -68,7 +67,6 @@ numbers_lowered number objects refs more old new are lowered o m =
     lowered o ∙ ap (option_map (λ n. n - occurrences o more)) (are o m)
     ∙ ap Some (omega (arith, occurrences-append o refs more))
 
--- the references of one object more
 pub flat_next : (f : ℕ → List ℕ) (xs : List ℕ) (i x : ℕ) → slice_get xs i ≡ Some x → flat_map f (take (i + 1) xs) ≡ flat_map f (take i xs) ++ f x
 flat_next f xs i x at = ap (flat_map f) (next_taken xs i x at) ∙ flat_append (take i xs) (x ∷ []) ∙ ap (λ (l : List ℕ). flat_map f (take i xs) ++ l) (append-nil (f x))
   where
@@ -87,7 +85,7 @@ module _ (store : Store) where
   abbrev held : List ℕ
   held = flat_map (λ p. references (entries_of store p)) (serials (objects_of store))
 
-  -- the in-degree less all references of entries is what names, garbage root and outside hold
+  -- the in-degree less all references of entries is what roots hold
   pub holdings-less : (o : ℕ) → count_of store o - occurrences o held ≡ holdings_but_entries store o
   holdings-less o =
       let e = ap (occurrences o) (holdings-serials store) in
@@ -105,7 +103,7 @@ module _ (store : Store) where
       are o m ∙ ap Some (ap (λ (l : List ℕ). count_of store o - occurrences o (flat_map (λ p. references (entries_of store p)) l)) (whole ∙ all) ∙ holdings-less o)
 
   module _ (live : (s : ℕ) → 0 < inner store s → IsLive store s) where
-    -- what is held otherwise lives
+    -- what roots hold lives
     pub held_lives : (object o : ℕ) → HeldElse store object o → IsLive store o
     held_lives object o h = go (cases_pos (outside_of store o))
       where
@@ -128,7 +126,7 @@ module _ (store : Store) where
     pub referent_lives : (p o : ℕ) → Includes (references (entries_of store p)) o → IsLive store o
     referent_lives p o m = live o (omega (arith, occurs (references (entries_of store p)) o m, entries_hold store p o))
 
-    -- the arrows of an object are its references
+    -- the edges of an object are its references
     pub arrows_out : (o p : ℕ) → Includes (arrows_of store) (record { from = o; to = p }) → Includes (references (entries_of store o)) p
     arrows_out o p m = go (objects_of store) (λ x k. k) m
       where
@@ -150,7 +148,7 @@ module _ (store : Store) where
         edges_of_objects (objects_of store) o p x.0 x.1 x.2
         (subst (λ es. Includes (references es) p) (entries_are store x.0 x.1) (subst (λ q. Includes (references (entries_of store q)) p) (sym x.2) m))
 
--- one object more gives up what its entries refer to
+-- one more object lowers the numbers of what its entries refer to
 pub lowered_next : (store : Store) (xs refs objects : List ℕ) (i : ℕ) (old new : List (ℕ × ℕ)) → i < length xs → AreNumbers (λ o. count_of store o - occurrences o (flat_map (λ p. references (entries_of store p)) (take i xs))) objects old
     → refs ≡ references (entries_of store (get_or xs i 0)) → AreLowered refs old new → AreNumbers (λ o. count_of store o - occurrences o (flat_map (λ p. references (entries_of store p)) (take (i + 1) xs))) objects new
 lowered_next store xs refs objects i old new low are is lowered =
@@ -164,7 +162,7 @@ pub lowered_all : (store : Store) (objects : List ℕ) (i : ℕ) (numbers : List
     → AreNumbers (λ o. count_of store o - occurrences o (flat_map (λ p. references (entries_of store p)) (take i objects))) objects numbers → AreNumbers (holdings_but_entries store) objects numbers
 lowered_all store objects i numbers all end are = numbers_at_last store objects (take i objects) numbers all (take_all i objects end) are
 
--- Which of the first objects are held otherwise, and of one more.
+-- Which of the first objects roots hold, and with one more.
 abbrev pub HeldAmong : Store → ℕ → List ℕ → ℕ → Type 0
 HeldAmong store object done o = HeldElse store object o × Includes done o
 

@@ -1,4 +1,4 @@
--- How many entries are looked at: those of some objects, of all objects, and of those that a search finds.
+-- How many entries are looked at: those of some objects, of all objects, and of those found by a search.
 use Rattle.std.proofs.Common.{◌≡◌, refl, ◌∙◌, ap, ℕ, ◌+◌, ◌<◌, ◌≤◌, inl, inr, List, [], ◌∷◌, length, map, take, get_or, Option, Some, sum_by, arith}
 use Rattle.std.specs.Prelude.{slice_get}
 use Rattle.std.proofs.lemmas.List.{take_more, take-append-le, map-append, length-map}
@@ -32,7 +32,6 @@ module _ (store : Store) where
             go xs (λ y m. h y (inr m)),
           )
 
-  -- one object more
   pub looked_more : (objects : List ℕ) (i old before now : ℕ) → i < length objects → before ≤ old + sum_by entry_count (take i objects)
       → now ≤ before + length (entries_of store (get_or objects i 0)) → now ≤ old + sum_by entry_count (take (i + 1) objects)
   looked_more objects i old before now low so more =
@@ -46,13 +45,13 @@ module _ (store : Store) where
       omega (arith, so, sum_by-take-le entry_count objects i, sum)
 
   module _ (live : (s : ℕ) → 0 < inner store s → IsLive store s) (object : ℕ) (found : Findings) (place : ℕ) (h : HasSpread (HeldElse store object) (arrows_of store) found place) where
-    -- what was found is some of all objects, each once
+    -- the objects found are among all objects, each once
     pub searched_all : (i old now : ℕ) → now ≤ old + sum_by entry_count (take i (objects_in found)) → now ≤ old + entry_number_in_all store
     searched_all i old now so =
         let some = sum_by-some entry_count (objects_in found) (serials (objects_of store)) h.once (λ o m. live_serial store o (found_lives store live object found place h o m)) in
         omega (arith, so, some, sum_by-take-le entry_count (objects_in found) i, all_entries)
 
-    -- one that was found more, which finds others
+    -- one more object found, which finds others
     module _ (holder : ℕ) (by : Option ℕ) (at : slice_get found place ≡ Some (holder, by)) (old before now : ℕ) (so : before ≤ old + sum_by entry_count (take place (objects_in found))) (more : now ≤ before + length (entries_of store holder)) where
       pub searched_more : now ≤ old + sum_by entry_count (take (place + 1) (objects_in found))
       searched_more =

@@ -1,5 +1,4 @@
--- The live objects, as the lists of the places have them, sorted, are the objects of the store; and what their serials tell
--- of them.
+-- The live objects, as the sorted lists of the places, are the objects of the store; and what a lookup by serial gives.
 use Rattle.std.proofs.Common.{◌≡◌, ◌≢◌, refl, sym, ◌∙◌, ap, subst, ℕ, zero, suc, ◌+◌, ◌<◌, ◌≤◌, inl, inr, Bool, true, false, cond, T, List, [], ◌∷◌, ◌++◌, length, map, take, get_or, Option, Some, None, IsSome, arith, append_assoc, take_all}
 use Rattle.std.specs.Prelude.{◌==◌, ◌&&◌, sum_by, filter, flat_map, option_map}
 use Rattle.std.specs.FinMap as fin
@@ -36,12 +35,11 @@ use Rattle.cg_trial.proofs.Objects.{once_key, found, finds}
 use Rattle.cg_inspect.specs.Inspection.{IsIdle, idle_lists}
 use Rattle.cg_inspect.proofs.Trails.{in_get, get_in, get_below}
 
--- numbers that rise
 abbrev pub Ascends : List ℕ → Type 0
 Ascends [] = Unit {0}
 Ascends (x ∷ xs) = ((y : ℕ) → Includes xs y → x < y) × Ascends xs
 
--- two rising lists of the same numbers are one
+-- two rising lists of the same numbers are equal
 same_ascending : (xs ys : List ℕ) → Ascends xs → Ascends ys → ((n : ℕ) → Includes xs n → Includes ys n) → ((n : ℕ) → Includes ys n → Includes xs n) → xs ≡ ys
 same_ascending [] [] a b into back = refl
 same_ascending [] (y ∷ ys) a b into back = absurd (back y (inl refl))
@@ -58,7 +56,7 @@ same_ascending (x ∷ xs) (y ∷ ys) a b into back =
     first (inr k) (inl e) = e
     first (inr k) (inr m) = let low = b.0 x k in let high = a.0 y m in absurd (omega (arith, low, high))
 
--- numbers in order, each once, rise
+-- sorted numbers without repetition rise
 rises : (xs : List ℕ) → IsNonDecreasing xs → ((o : ℕ) → occurrences o xs ≤ 1) → Ascends xs
 rises [] order once = tt
 rises (x ∷ xs) order once = (
@@ -140,7 +138,7 @@ module _ (store : Store) where
           Includes-map (λ (z : Object). z.serial) (objects_of store) (object (o, n))
           (Includes-map object (fin.entries store.nodes) (o, n) (finds (fin.entries store.nodes) o n (sym (fin.get-entries store.nodes o) ∙ at)))
 
-  -- which of the objects refer to one, told by their serials
+  -- which of the objects refer to one, by their serials
   pub filter-serials : (target : ℕ) → filter (λ s. includes (references (entries_of store s)) target) (serials (objects_of store)) ≡ serials (filter (refers_to target) (objects_of store))
   filter-serials target = go (objects_of store) (λ x m. m)
     where
@@ -155,7 +153,7 @@ module _ (store : Store) where
           step true e = ap (λ l. x.serial ∷ l) e
           step false e = e
 
-  -- what the entries of all objects hold, told by their serials
+  -- what the entries of all objects hold, by their serials
   pub holdings-serials : flat_map (λ o. references (entries_of store o)) (serials (objects_of store)) ≡ entry_holdings (graph_of (objects_of store))
   holdings-serials = go (objects_of store) (λ x m. m)
     where
@@ -257,7 +255,7 @@ in_range xs i low = let r = get_below xs i low in subst (Includes xs) (sym (get_
 pub live_at : (store : Store) (xs : List ℕ) (i : ℕ) → xs ≡ serials (objects_of store) → i < length xs → IsLive store (get_or xs i 0)
 live_at store xs i all low = serial_lives store (get_or xs i 0) (subst (λ (ys : List ℕ). Includes ys (get_or xs i 0)) all (in_range xs i low))
 
--- there are as many as nodes, and no more than the limit
+-- there are as many as nodes, and at most the limit
 pub few_objects : (store : Store) (xs : List ℕ) → object_number store ≤ 1000000 → xs ≡ serials (objects_of store) → length xs ≤ 1000001
 few_objects store xs most all =
     let same = ap length all in
@@ -267,7 +265,7 @@ few_objects store xs most all =
     count [] = refl
     count (e ∷ es) = omega (arith, sum_by-cons {X = ℕ × Node} (λ f. one f.1) e es, count es)
 
--- what passes a test among the first, and one more
+-- what passes a test among the first, and with one more
 module _ (test : ℕ → Bool) (xs listed new : List ℕ) (i : ℕ) (low : i < length xs) (so : listed ≡ filter test (take i xs)) where
   pub filter_yes : test (get_or xs i 0) ≡ true → new ≡ listed ++ get_or xs i 0 ∷ [] → new ≡ filter test (take (i + 1) xs)
   filter_yes passes is =

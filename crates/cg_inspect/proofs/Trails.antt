@@ -1,4 +1,4 @@
--- The search by breadth: each turn keeps what is true of it, and at its end the trails are the shortest paths.
+-- The breadth-first search: each turn keeps its invariant, and at the end the trails are shortest paths.
 use Rattle.std.proofs.Common.{◌≡◌, ◌≢◌, refl, sym, ◌∙◌, ap, subst, ℕ, zero, suc, ◌+◌, ◌<◌, ◌≤◌, ◌⊎◌, inl, inr, Bool, true, false, cond, List, [], ◌∷◌, ◌++◌, length, map, reverse, take, Option, Some, None, arith, length-append, append_assoc}
 use Rattle.std.specs.Prelude.{◌==◌, slice_get, sum_by, nat_eq, is_some, position}
 use Rattle.std.specs.List.{position_from}
@@ -69,7 +69,7 @@ pub taken_all : {X : Type 0} (xs : List X) → take (length xs) xs ≡ xs
 taken_all [] = refl
 taken_all (x ∷ xs) = ap (λ ys. x ∷ ys) (taken_all xs)
 
--- where each stands once, a member has one place
+-- without repetition, a member has one position
 pub one_place : (xs : List ℕ) (i k o : ℕ) → occurrences o xs ≤ 1 → slice_get xs i ≡ Some o → slice_get xs k ≡ Some o → i ≡ k
 one_place [] i k o once h l = absurd (cc)
 one_place (x ∷ xs) zero zero o once h l = refl
@@ -94,7 +94,7 @@ pub length-objects_in : (found : Findings) → length (objects_in found) ≡ len
 length-objects_in [] = refl
 length-objects_in (e ∷ found) = ap suc (length-objects_in found)
 
--- Trails that lengthen.
+-- Longer trails.
 pub lengthen_append : (ts us : List (List ℕ)) → Lengthen ts → Lengthen us → ((t u : List ℕ) → Includes ts t → Includes us u → length t ≤ length u) → Lengthen (ts ++ us)
 lengthen_append [] us a b h = b
 lengthen_append (t ∷ ts) us a b h =
@@ -111,7 +111,7 @@ lengthen_get (v ∷ ts) a zero (suc k) t u h l less = let e = ap length (same_so
 lengthen_get (v ∷ ts) a (suc i) zero t u h l less = absurd (omega (arith, less))
 lengthen_get (v ∷ ts) a (suc i) (suc k) t u h l less = lengthen_get ts a.1 i k t u h l (omega (arith, less))
 
--- An object that was found has a trail.
+-- An object found has a trail.
 pub trail_of : (found : Findings) (trails : List (List ℕ)) → HaveTrails found trails → (o : ℕ) → Includes (objects_in found) o → (t : List ℕ) × Includes trails t × IsTrailOf o t
 trail_of found trails have o m =
     let named = Includes-map_cases (λ (e : ℕ × Option ℕ). e.0) found o m in
@@ -123,7 +123,7 @@ trail_of found trails have o m =
     ends None t p i by e = subst (IsTrailOf o) (sym by) e
     ends (Some j) t p i by e = subst (IsTrailOf o) (sym by.1.2) e
 
--- the trail of the one at a place
+-- the trail of the one at a position
 pub trail_at : (found : Findings) (trails : List (List ℕ)) → HaveTrails found trails → (i o : ℕ) (h : Option ℕ) → slice_get found i ≡ Some (o, h) → (rest : List ℕ) × (slice_get trails i ≡ Some (o ∷ rest))
 trail_at found trails have i o h at = let r = have.each i (o, h) at in go h r.0 r.1 r.2
   where
@@ -131,7 +131,7 @@ trail_at found trails have i o h at = let r = have.each i (o, h) at in go h r.0 
     go None t is by = ([], is ∙ ap Some by)
     go (Some j) t is by = (by.1.0, is ∙ ap Some by.1.2)
 
--- a trail at a place is that of an object that was found
+-- a trail at a position is that of an object found
 pub found_of : (found : Findings) (trails : List (List ℕ)) → HaveTrails found trails → (i o : ℕ) (t : List ℕ) → slice_get trails i ≡ Some t → IsTrailOf o t → slice_get (objects_in found) i ≡ Some o
 found_of found trails have i o t at ends =
     let low = slice_get_within trails i t at in
@@ -144,7 +144,7 @@ abbrev trailed : List ℕ → ℕ × Option ℕ → List ℕ
 trailed t e = e.0 ∷ t
 
 module _ (Held : ℕ → Type 0) (arrows : List Edge) where
-  -- At first each trail is an object alone.
+  -- At first each trail is a single object.
   pub spread_first : (found : Findings) → IsStart Held found → HasSpread Held arrows found 0
   spread_first found start = record {
     trails = map alone found;
@@ -174,7 +174,7 @@ module _ (Held : ℕ → Type 0) (arrows : List Edge) where
       by i o None e = refl
       by i o (Some j) e = absurd (cc)
 
-  -- One turn: what the object at the place refers to is found.
+  -- One turn: what the object at the position refers to is found.
   module _ (found new : Findings) (place o : ℕ) (holder : Option ℕ) (refs : List ℕ) (h : HasSpread Held arrows found place) (at : slice_get found place ≡ Some (o, holder))
       (into : (r : ℕ) → Includes refs r → Includes arrows (record { from = o; to = r })) (out : (r : ℕ) → Includes arrows (record { from = o; to = r }) → Includes refs r)
       (finds : Finds found refs (Some place) new) where
@@ -268,7 +268,7 @@ module _ (Held : ℕ → Type 0) (arrows : List Edge) where
             let n = ap length e in
             (r.0, r.1, r.2, omega (arith, n, at_most r.0 r.1))
 
-  -- At the end no path is shorter than the trail of an object.
+  -- At the end no path is shorter than an object's trail.
   module _ (found : Findings) (h : IsOver Held arrows found) where
     closed_all : (t : List ℕ) → Includes h.trails t → (o : ℕ) → LeadsOn arrows t o → (u : List ℕ) × Includes h.trails u × IsTrailOf o u × (length u ≤ suc (length t))
     closed_all t m = h.closed t (subst (λ (ts : List (List ℕ)). Includes ts t) (sym (taken_all h.trails) ∙ ap (λ n. take n h.trails) h.have.many) m)
@@ -313,7 +313,7 @@ module _ (Held : ℕ → Type 0) (arrows : List Edge) where
         (subst (λ (l : List ℕ). IsPath Held arrows l p) (sym (reverse_onto (q ∷ t) p []))
         (path_last (reverse (q ∷ t)) q p (trail_leads (q ∷ t) q along_it.1 refl) along_it.0))
 
-    -- the trail of an object that was found is a shortest path
+    -- the trail of an object found is a shortest path
     pub shortest_path : (object place : ℕ) (path : List ℕ) → slice_get (objects_in found) place ≡ Some object
         → ((trails : List (List ℕ)) → HaveTrails found trails → (t : List ℕ) → slice_get trails place ≡ Some t → path ≡ reverse t) → IsShortestPath Held arrows path object
     shortest_path object place path at back =
@@ -341,7 +341,7 @@ module _ (Held : ℕ → Type 0) (arrows : List Edge) where
             let head : e.0.0 ≡ object = same_some e.0.0 object (sym (get_map (λ (x : ℕ × Option ℕ). x.0) found place e.0 e.1) ∙ at) in
             subst (IsTrailOf object) same head
 
--- Going back along a trail: what is left of it is the trail of the holder at the cursor.
+-- Going back along a trail: the rest is the trail of the holder at the cursor.
 abbrev pub IsLeft : List (List ℕ) → Option ℕ → List ℕ → Type 0
 IsLeft all None rest = rest ≡ []
 IsLeft all (Some place) rest = slice_get all place ≡ Some rest
@@ -363,7 +363,7 @@ back_first found last path cursor none is low =
     subst (λ (p : List ℕ). HasGoneBack found last p cursor) (sym none)
     (subst (λ (c : Option ℕ). HasGoneBack found last [] c) (sym is) (record { within = low; left = λ trails have trail at. (trail, at, refl) }))
 
--- the holder of one that was found stands before it
+-- the holder of an object found comes before it
 pub back_lower : (found : Findings) (trails : List (List ℕ)) → HaveTrails found trails → (place o : ℕ) (holder : Option ℕ) → slice_get found place ≡ Some (o, holder) → (ahead_of holder < ahead_of (Some place)) × IsWithin found holder
 back_lower found trails have place o holder at = let r = have.each place (o, holder) at in go holder r.0 r.2
   where
@@ -396,7 +396,7 @@ back_end found last path cursor gone none trails have trail at =
     let r = (subst (λ (c : Option ℕ). HasGoneBack found last path c) none gone).left trails have trail at in
     sym (append-nil path) ∙ ap (λ (l : List ℕ). path ++ l) (sym r.1) ∙ r.2
 
--- What is found, one after the other.
+-- What is found, one by one.
 pub finds_none : (found : Findings) (holder : Option ℕ) → Finds found [] holder found
 finds_none found holder = record { more = []; is = sym (append-nil found); only = λ e m. absurd m; all = λ o m. absurd m; once = λ h. h }
 
@@ -453,7 +453,7 @@ finds_more old mid new refs object holder a b = record {
   once = λ h. b.once (a.once h);
 }
 
--- What is found at first, one after the other.
+-- What is found at first, one by one.
 pub start_none : (Held : ℕ → Type 0) → ((o : ℕ) → ¬ Held o) → IsStart Held []
 start_none Held none = record { only = λ e m. absurd m; all = λ o h. absurd (none o h); once = λ o. omega arith }
 
@@ -472,7 +472,7 @@ start_more Held Now old new object a f now into out = record {
 pub start_same : (Held Now : ℕ → Type 0) (found : Findings) → IsStart Held found → ((o : ℕ) → Held o → Now o) → ((o : ℕ) → Now o → Held o) → IsStart Now found
 start_same Held Now found a into out = record { only = λ e m. let r = a.only e m in (into e.0 r.0, r.1); all = λ o h. a.all o (out o h); once = a.once }
 
--- No more are found than there are objects.
+-- At most as many are found as there are objects.
 pub few_found : (found : Findings) (objects : List ℕ) → AreOnce found → ((o : ℕ) → Includes (objects_in found) o → Includes objects o) → length found ≤ length objects
 few_found found objects once within = omega (arith, sum_by-some (λ o. 1) (objects_in found) objects once within, ones (objects_in found), ones objects, length-objects_in found)
   where
@@ -480,7 +480,7 @@ few_found found objects once within = omega (arith, sum_by-some (λ o. 1) (objec
     ones [] = refl
     ones (x ∷ xs) = omega (arith, sum_by-cons {X = ℕ} (λ o. 1) x xs, ones xs)
 
--- A look-up finds an object that was found, and only such a one.
+-- A look-up finds exactly the objects found.
 pub looked_up : (found : Findings) (object : ℕ) → is_some (lookup (nat_eq object) found) ≡ true → Includes (objects_in found) object
 looked_up [] object h = absurd (cc)
 looked_up (e ∷ found) object h = go (cases_eq object e.0) h (looked_up found object)
@@ -503,7 +503,7 @@ pub nothing : {X : Type 0} (x : Option X) → is_some x ≡ false → x ≡ None
 nothing None h = refl
 nothing (Some x) h = absurd (cc)
 
--- the place that a look-up tells
+-- the position that a look-up gives
 placed_from : (object k : ℕ) (xs : List ℕ) (j : ℕ) → position_from (nat_eq object) k xs ≡ Some j → (i : ℕ) × (j ≡ k + i) × (slice_get xs i ≡ Some object)
 placed_from object k [] j h = absurd (cc)
 placed_from object k (x ∷ xs) j h = go (cases_eq object x) h (placed_from object (k + 1) xs j)

@@ -1,5 +1,4 @@
--- What is asked of a heap where no collection is on: what roots hold, and why an object is alive.
--- (Ours.)
+-- Questions about a heap while no collection is under way: what roots hold, and why an object is alive. (Ours.)
 use Rattle.std.specs.Prelude.{◌≡◌, ℕ, ◌+◌, List, [], ◌∷◌, ◌++◌, length, sum_by}
 use Rattle.cg_value.specs.declared.Place.TheVariants.{Untracked, Gen, Frozen, Cand, Seen, Back, Legacy, Pend}
 use Rattle.cg_graph.specs.declared.Edge.{Edge}
@@ -10,7 +9,7 @@ use Rattle.cg_graph.specs.Store.{Store, list_at, objects_of, outside_of}
 use Rattle.cg_inspect.specs.declared.reason.Why.{Why}
 use Rattle.cg_inspect.specs.declared.reason.Why.TheVariants as reason
 
--- No collection is on: nothing stands in the places that collections use.
+-- No collection is under way: the places that collections use are empty.
 pub record IsIdle (store : Store) : Type 0 where
   pub candidates : list_at store Cand ≡ []
   pub seen : list_at store Seen ≡ []
@@ -30,11 +29,11 @@ entry_number_in_all store = sum_by (λ x. length x.entries) (objects_of store)
 abbrev pub holdings_but_entries : Store → ℕ → ℕ
 holdings_but_entries store o = occurrences o (name_holdings store.names) + occurrences o (1 ∷ []) + outside_of store o
 
--- a root other than the name that is asked about holds an object
+-- a root other than the given name holds an object
 abbrev pub HeldElse : Store → ℕ → ℕ → Type 0
 HeldElse store object = IsHeldElse (holdings_but_entries store) object
 
--- one arrow for each reference of an entry
+-- one edge for each reference of an entry
 abbrev pub arrows_of : Store → List Edge
 arrows_of store = edges (graph_of (objects_of store))
 

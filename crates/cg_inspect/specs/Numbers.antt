@@ -1,5 +1,5 @@
--- A number of each object, by which it is found out how often it is held. (Developer guide, "identifying reference cycles":
--- `gc_refs`, which is a count less the references that were met.)
+-- A number for each object, to compute how often it is held. (Developer guide, "identifying reference cycles": `gc_refs`,
+-- the count less the references seen.)
 use Rattle.std.specs.Prelude.{◌≡◌, ℕ, ◌-◌, List, Option, Some, nat_eq, option_map}
 use Rattle.std.specs.Map.{lookup}
 use Rattle.cg_graph.specs.Member.{Includes}
@@ -13,6 +13,6 @@ number_of numbers o = lookup (nat_eq o) numbers
 abbrev pub AreNumbers : (ℕ → ℕ) → List ℕ → List (ℕ × ℕ) → Type 0
 AreNumbers number objects numbers = (o : ℕ) → Includes objects o → number_of numbers o ≡ Some (number o)
 
--- each number is lower by the occurrences of its object among the references
+-- each number is lowered by the occurrences of its object among the references
 abbrev pub AreLowered : List ℕ → List (ℕ × ℕ) → List (ℕ × ℕ) → Type 0
 AreLowered refs old new = (o : ℕ) → number_of new o ≡ option_map (λ n. n - occurrences o refs) (number_of old o)

@@ -40,10 +40,10 @@ fn has_reference<B: Kind, L: Ledger>(
     false
 }
 
-/// The objects that have the object among their references, by rising serial, and each once, however often it refers to
-/// it. (`gc` manual, `gc.get_referrers`; unlike there, untracked objects are told too.)
+/// The objects that refer to an object, by rising serial, each once however often it refers. (`gc` manual,
+/// `gc.get_referrers`; unlike there, untracked objects are included.)
 ///
-/// No collection is on. Each entry is looked at once at most. It answers `AllocError` only where memory runs out.
+/// No collection may be under way. Looks at each entry at most once. Answers `AllocError` only if memory runs out.
 pub fn referrers<B: Kind, L: Ledger>(
     alloc: Global,
     heap: &Heap<B>,

@@ -9,7 +9,7 @@ use cg_value::Val;
 use std::alloc::{AllocError, Global};
 use std::sync::ledger::Ledger;
 
-/// Appends the object that a value refers to, if it does.
+/// Appends the object that a value refers to, if any.
 fn push_reference(listed: &mut Vec<u64>, value: Val) -> Result<(), AllocError>
     ensures { OnOk result (listed.new.items ≡ listed.old.items ++ references_of_value (Some value)) }
 {
@@ -19,10 +19,10 @@ fn push_reference(listed: &mut Vec<u64>, value: Val) -> Result<(), AllocError>
     Ok(())
 }
 
-/// The objects that a live object refers to, in the order of its entries and by the value before the key in each; one
-/// that stands there twice is told twice. (`gc` manual, `gc.get_referents`.)
+/// The objects that a live object refers to, in entry order, with the value before the key in each entry; an object
+/// that occurs twice is listed twice. (`gc` manual, `gc.get_referents`.)
 ///
-/// Each entry is looked at once. It answers `AllocError` only where memory runs out.
+/// Looks at each entry once. Answers `AllocError` only if memory runs out.
 pub fn referents<B: Kind, L: Ledger>(
     alloc: Global,
     heap: &Heap<B>,

@@ -17,7 +17,7 @@ use indexmap::IndexMap;
 use std::alloc::{AllocError, Global};
 use std::sync::ledger::Ledger;
 
-/// A number of each object.
+/// A number for each object.
 type Numbers = IndexMap<u64, u64, SerialHashing>;
 
 /// Gives the object a number.
@@ -44,7 +44,7 @@ fn in_degrees<B: Kind>(
     Ok(numbers)
 }
 
-/// The number of the object is one lower.
+/// Lowers the number of the object by one.
 fn lower(numbers: &mut Numbers, object: u64) -> Result<(), AllocError>
     ensures { OnOk result (AreLowered (object ∷ []) numbers.old.entries numbers.new.entries) }
 {
@@ -55,7 +55,7 @@ fn lower(numbers: &mut Numbers, object: u64) -> Result<(), AllocError>
     Ok(())
 }
 
-/// Each of these references lowers the number of its object by one.
+/// Each of these references lowers its object's number by one.
 fn lower_all(numbers: &mut Numbers, references: &[u64]) -> Result<(), AllocError>
     ensures { OnOk result (AreLowered references.now numbers.old.entries numbers.new.entries) }
 {
@@ -65,7 +65,7 @@ fn lower_all(numbers: &mut Numbers, references: &[u64]) -> Result<(), AllocError
     Ok(())
 }
 
-/// How often roots hold each live object. The objects are all live ones.
+/// How often roots hold each live object. `objects` are all the live ones.
 fn other_holdings<B: Kind, L: Ledger>(
     alloc: Global,
     heap: &Heap<B>,
@@ -84,7 +84,7 @@ fn other_holdings<B: Kind, L: Ledger>(
     Ok(numbers)
 }
 
-/// Whether the holder is held more often than by the name that is asked about, which holds the object.
+/// Whether a root other than the given name holds the object; the name holds it.
 fn is_held_else(numbers: &Numbers, holder: u64, object: u64) -> bool
     ensures { (n : ℕ) → number_of numbers.now.entries holder ≡ Some n → IsTrue result ↔ (occurrences holder (object ∷ []) < n) }
 {
@@ -95,8 +95,8 @@ fn is_held_else(numbers: &Numbers, holder: u64, object: u64) -> bool
     }
 }
 
-/// Which objects are held by a root, and than by the name that is asked about, which holds the object.
-/// The objects are all live ones.
+/// Which objects are held by a root other than the given name, which holds its object. `objects` are all the
+/// live ones.
 pub fn held_else<B: Kind, L: Ledger>(
     alloc: Global,
     heap: &Heap<B>,

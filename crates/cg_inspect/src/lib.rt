@@ -1,13 +1,13 @@
-//! What an object refers to, what refers to it, and why it is alive: three questions about a heap, which change nothing.
+//! What an object refers to, what refers to it, and why it is alive: three questions about a heap that change nothing.
 //!
-//! They help to find leaks. (`gc` manual, `gc.get_referents` and `gc.get_referrers`; `why` is ours.) They may
-//! be asked where no collection is on.
+//! They help to find leaks. (`gc` manual, `gc.get_referents` and `gc.get_referrers`; `why` is ours.) They require that
+//! no collection is under way.
 //!
 //! - `live`: all live objects, by rising serial.
 //! - `forwards`, `backwards`: what an object refers to, and what refers to it.
 //! - `holders`: which objects are held by a root.
-//! - `search`: what they lead to, the nearest first.
-//! - `path`: the path that was found; `reason`: the answer.
+//! - `search`: what is reachable from them, nearest first.
+//! - `path`: a shortest path; `reason`: the answer.
 #![tactic(auto)]
 
 mod backwards;

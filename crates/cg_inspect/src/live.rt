@@ -30,7 +30,7 @@ fn append_place<B: Kind>(
     Ok(())
 }
 
-/// The objects of the places that have some where no collection is on.
+/// The objects of the places that may be occupied while no collection is under way.
 fn placed_objects<B: Kind>(alloc: Global, heap: &Heap<B>) -> Result<Vec<u64>, AllocError>
     ensures { IfOk result (λ objects. objects.items ≡ idle_lists heap.now) }
 {

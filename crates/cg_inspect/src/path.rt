@@ -11,7 +11,7 @@ use cg_kind::Kind;
 use std::alloc::{AllocError, Global};
 use std::sync::ledger::Ledger;
 
-/// The path by which the object at a place was found.
+/// The path that found the object at a place.
 fn path_back(alloc: Global, found: &Found, last: usize) -> Result<Vec<u64>, AllocError>
     requires trails { (trails : List (List ℕ)) × HaveTrails found.now.entries trails }
     requires within { last < length found.now.entries }
@@ -30,14 +30,13 @@ fn path_back(alloc: Global, found: &Found, last: usize) -> Result<Vec<u64>, Allo
     Ok(path)
 }
 
-/// Why the object is alive, but for one name that holds it: a shortest path, from an object that is held
-/// by a name, by the garbage root or from outside the heap. `Unreachable` comes exactly where there is none. (Ours.)
+/// Why the object is alive, apart from one name that holds it: a shortest path of holders from an object held by a root, which
+/// is a name, the garbage root or a hold from outside the heap. `Unreachable` exactly if there is none. (Ours.)
 ///
-/// Where something else than an entry and one name holds the object, the path is the object alone. Which of several
-/// shortest paths is answered is free.
+/// If a root other than the name holds the object, the path is the object alone. Any of several shortest paths may be answered.
 ///
-/// No collection is on. Each entry is looked at twice at most: to find out what is held otherwise, and in the search. It answers
-/// `AllocError` only where memory runs out.
+/// No collection may be under way. Looks at each entry at most twice: to find what roots hold, and in the search. Answers
+/// `AllocError` only if memory runs out.
 pub fn why<B: Kind, L: Ledger>(
     alloc: Global,
     heap: &Heap<B>,

@@ -3,9 +3,9 @@
 /// Why an object is alive.
 #[derive(Debug, PartialEq, Eq, Drop)]
 pub enum Why {
-    /// The first of the path is held by a root, each next is a reference of the one before, and the last
-    /// is the object.
+    /// The first object is held by a root, each further one by its predecessor, and the last is the object
+    /// itself.
     Path(Vec<u64>),
-    /// No path leads to the object.
+    /// No path from a root leads to the object.
     Unreachable,
 }

@@ -1,4 +1,4 @@
-//! A search by breadth: what is held otherwise comes first, and then what it leads to, the nearest first.
+//! A breadth-first search: first what roots hold, then what is reachable from that, nearest first.
 ghost use Rattle.std.specs.Prelude.{◌≡◌, ◌+◌, ◌*◌, ◌≤◌, ◌∷◌, [], Some, IfOk, OnOk, slice_get};
 ghost use Rattle.cg_graph.specs.Object.{serials};
 ghost use Rattle.cg_graph.specs.Store.{objects_of};
@@ -14,11 +14,10 @@ use indexmap::IndexMap;
 use std::alloc::{AllocError, Global};
 use std::sync::ledger::Ledger;
 
-/// The objects that were found, in the order in which they were, each with the place of its holder among them; one that is
-/// held by a root has none.
+/// The objects found, in order, each with the position of its holder among them; None for one held by a root.
 pub type Found = IndexMap<u64, Option<usize>, SerialHashing>;
 
-/// Adds the object, where it was not found before.
+/// Adds the object if it is new.
 pub fn find(found: &mut Found, object: u64, holder: Option<usize>) -> Result<(), AllocError>
     ensures { OnOk result (Finds found.old.entries (object ∷ []) holder found.new.entries) }
 {
@@ -28,7 +27,7 @@ pub fn find(found: &mut Found, object: u64, holder: Option<usize>) -> Result<(),
     Ok(())
 }
 
-/// Adds those of the references that were not found before.
+/// Adds those of the references that are new.
 fn find_all(found: &mut Found, references: &[u64], holder: usize) -> Result<(), AllocError>
     ensures { OnOk result (Finds found.old.entries references.now (Some holder) found.new.entries) }
 {
@@ -38,7 +37,7 @@ fn find_all(found: &mut Found, references: &[u64], holder: usize) -> Result<(), 
     Ok(())
 }
 
-/// The object that was found at a place, and the place of its holder.
+/// The object found at a position, and the position of its holder.
 pub fn found_at(found: &Found, at: usize) -> Option<(u64, Option<usize>)>
     ensures { result ≡ slice_get found.now.entries at }
 {
@@ -48,8 +47,8 @@ pub fn found_at(found: &Found, at: usize) -> Option<(u64, Option<usize>)>
     }
 }
 
-/// Finds what is held by a root, and than by the name that is asked about, which holds the object; and
-/// all that it leads to. The objects are all live ones.
+/// Finds what is held by a root other than the given name, which holds its object, and all that is reachable
+/// from that. `objects` are all the live ones.
 pub fn search<B: Kind, L: Ledger>(
     alloc: Global,
     heap: &Heap<B>,

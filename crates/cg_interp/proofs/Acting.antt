@@ -1,4 +1,4 @@
--- The actions of a death, one after the other, in one turn.
+-- The actions of a death within one turn.
 use Rattle.std.proofs.Common.{◌≡◌, ◌≢◌, refl, sym, ◌∙◌, ap, subst, ℕ, ◌+◌, ◌*◌, ◌-◌, ◌<◌, ◌≤◌, false, inl, inr, List, [], ◌∷◌, ◌++◌, Option, None, Some, length, arith, map}
 use Rattle.std.specs.Prelude.{filter, option_to_list}
 use Rattle.std.proofs.lemmas.List.{length-map, length-reverse}
@@ -39,7 +39,7 @@ use Rattle.cg_interp.proofs.Lawfully.{few_holds, few_objects, dying_sound}
 use Rattle.cg_interp.proofs.Quietly.{stays, quietly, comes_then, stays_so, goes_to_then, gives_death_then, plain_turns_then}
 use Rattle.cg_interp.proofs.Sizes.{IsSmall}
 
--- a death on top makes no detection
+-- a death on top makes no reachability pass
 shown_detects_none : (release : Option Release) (o : ℕ) (phase : Phase) (waiting : List ℕ) (below : List Activity) → released_first release (death_activities o phase waiting) ≢ [] → detects (released_first release (death_activities o phase waiting) ++ below) ≡ false
 shown_detects_none (Some release) o phase waiting below some = refl
 shown_detects_none None o phase_of.Finalizer waiting below some = refl
@@ -58,7 +58,7 @@ death_detects_none script e death w stands =
     ap detects (stands.shows.is ∙ ap (λ l. l ++ stands.shows.below) stands.shows.shows.1)
     ∙ shown_detects_none death.release death.object death.phase stands.shows.shows.0 stands.shows.below (λ none. stands.shows.some (stands.shows.shows.1 ∙ none))
 
--- How far a death is from its end: the passes that it has not reached count more than all that can be left in one.
+-- How far a death is from its end: each pass still to come counts more than all that can be left in one.
 abbrev pub actions_left : Death → Store → ℕ
 actions_left death store = (8 - pass_of death.phase) * 30000000 + number_left death.object death.phase death.release store
 
@@ -97,7 +97,7 @@ act_falls death after old new little same (inr less) =
     let moved = ap (λ o. number_left o after.phase after.release new) same in
     omega (arith, less.0, less_left, moved)
 
--- A death has come so far, whatever else is under way.
+-- A death has come this far, whatever the other activities.
 abbrev pub CameTo : Script → Store → Death → Store → Death → Type 0
 CameTo script store death now left = (e : State) (w : World) → StandsFor script (under (activity.Dying death) (over store e)) w → StaysKept script e.first_budget w → ComesTo script w (under (activity.Dying left) (over now e))
 
@@ -108,7 +108,6 @@ module _ (script : Script) (store now : Store) (death left : Death) (came : Came
   pub acting_now : IsActing script store death → IsActing script now left
   acting_now (e, w, few, stands, kept) = let come = came e w stands kept in (e, come.after, few, come.stands, stays_so script w come.after come.goes (IsKept script e.first_budget) kept)
 
-  -- the next action
   module _ (new : Store) (after : Death) (answer : DeathStep) (steps : DeathSteps script now (on_stack left now) new (on_stack after new) answer) (settled : IsSettled left → IsSettled after) (object : after.object ≡ left.object)
       (falls : answer ≡ answer_of.Continue → DeathFalls left now after new) (rows : AreRows now) where
     pub came_on : answer ≡ answer_of.Continue → IsGoing after → AreRows new → CameTo script store death new after
@@ -119,11 +118,10 @@ module _ (script : Script) (store now : Store) (death left : Death) (came : Came
         let on = death_continues script (over now e) top left after answer come.after come.stands sound steps settled (inl (going, refl)) refl is refl rows rows_after object falls in
         comes_then script w come.after come.goes top (record { after = on.after; goes = quietly script come.after on.after (death_detects_none script (over now e) left come.after come.stands) on.goes; stands = on.stands })
 
-    -- it is the last one
     pub last_action : HasCause left new answer → (e : State) (w : World) → StandsFor script (under (activity.Dying death) (over store e)) w → StaysKept script e.first_budget w → LastAction script w e new after answer
     last_action cause e w stands kept = record { store = now; death = left; comes = came e w stands kept; steps = steps; settled = settled; object = object; falls = falls; cause = cause; rows = rows }
 
--- what an action needs
+-- what an action requires
 module _ (script : Script) (store : Store) (death : Death) (sound : IsSound store) where
   pub act_few : IsActing script store death → HasFewHolds store
   act_few (e, w, few, stands, kept) = few_holds script e.first_budget store w stands.represents (kept [] tt).lawful few (few_objects store sound.objects)
@@ -134,7 +132,7 @@ module _ (script : Script) (store : Store) (death : Death) (sound : IsSound stor
   pub act_ready : IsActing script store death → IsReadyForDeath death store
   act_ready (e, w, few, stands, kept) = death_may_step script (over store e) death w e.first_budget stands (kept [] tt).lawful sound.rows sound.well
 
--- The last action was done, and the engine has what is left of the death on top.
+-- The last action was done, and the engine has the rest of the death on top.
 module _ (script : Script) (w : World) (e new : State) (now : Store) (after : Death) (answer : DeathStep) (kept : StaysKept script e.first_budget w) (last : LastAction script w e now after answer)
     (store : new.store ≡ now) (put : StaysOn after e.activities new.activities) (budget : new.budget ≡ e.budget) where
   abbrev mid : World
@@ -169,7 +167,7 @@ module _ (script : Script) (w : World) (e new : State) (now : Store) (after : De
       plain_turns_then script w mid last.comes.goes plain final turned_to
       (death_calls script (over last.store e) new last.death after answer mid last.comes.stands sound_there steps_there last.settled put budget spec final turned_to is policy starts)
 
--- a death calls no function as a command does
+-- a death does not call functions as a command does
 pub calls_none : (phase : Phase) (sort : FrameSort) → CallsAt phase sort → sort ≢ sort_of.Call
 calls_none phase_of.Finalizer sort calls is = let clash : sort_of.Del ≡ sort_of.Call = sym calls ∙ is in cc
 calls_none phase_of.Calling sort calls is = let clash : sort_of.Callback ≡ sort_of.Call = sym calls ∙ is in cc

@@ -1,4 +1,4 @@
--- What was done is what the machine may do for the command.
+-- What was done is allowed by the machine for the command.
 use Rattle.std.proofs.Common.{◌≡◌, refl, sym, ◌∙◌, ap, subst, cond, ℕ, Bool, true, false, List, [], ◌∷◌, Option, None, Some, inl, inr, Result, Ok, Err}
 use Rattle.std.specs.Prelude.{◌==◌, if◌then◌else◌, is_some, option_to_list}
 use Rattle.std.proofs.lemmas.Bool.{eq-eqb}
@@ -45,7 +45,7 @@ use Rattle.cg_graph.specs.Value.{item, entry_references}
 use Rattle.cg_value.specs.declared.Val.TheVariants as val_of
 use Rattle.cg_graph.proofs.Members.{either}
 
--- what holds of each effect holds of this one
+-- a property of each effect holds of this one
 of_effect : (P : Effect → Type 0) (r : Result Effect ℕ) (e : Effect) → r ≡ Ok e → Each P r → P e
 of_effect P r e is each = subst (Each P) is each
 
@@ -56,7 +56,6 @@ module _ (script : Script) (w : World) (r : Result Effect ℕ) where
   by_memory : (lines : List Event) (given_up : List ℕ) (after : World) → r ≡ Ok (ChangesEffect true lines given_up after) → DoesEffect script w r (refused no_memory w).0 (refused no_memory w).1
   by_memory lines given_up after is = subst (λ q. DoesEffect script w q (refused no_memory w).0 (refused no_memory w).1) (sym is) (inr (refl, (refl, refl)))
 
-  -- a refusal
   pub refusal_may : (refusal : Refusal) → Refuses refusal r → DoesEffect script w r (refused (number_of refusal) w).0 (refused (number_of refusal) w).1
   refusal_may refusal_of.NoName h = by_refusal _ h
   refusal_may refusal_of.WrongKind h = by_refusal _ h
@@ -74,37 +73,33 @@ module _ (script : Script) (w : World) (r : Result Effect ℕ) where
   refusal_may refusal_of.EntryLimit h = by_refusal _ h
   refusal_may refusal_of.InCollection h = by_refusal _ h
 
-  -- a change
   pub change_may : (wants : Bool) (lines : List Event) (given_up : List ℕ) (after : World) → r ≡ Ok (ChangesEffect wants lines given_up after) → DoesEffect script w r lines (push (Releasing given_up) after)
   change_may wants lines given_up after is = subst (λ q. DoesEffect script w q lines (push (Releasing given_up) after)) (sym is) (inl (refl, refl))
 
-  -- an explanation
   pub explain_may : (o : ℕ) (lines : List Event) → r ≡ Ok (ExplainsEffect o) → Explanation w o lines → DoesEffect script w r lines (push (Releasing []) w)
   explain_may o lines is because = subst (λ q. DoesEffect script w q lines (push (Releasing []) w)) (sym is) (inl (because, refl))
 
-  -- a call
   pub call_may : (f : ℕ) → r ≡ Ok (CallsEffect f) → DoesEffect script w r (start_frame script (call_of f w) w).0 (start_frame script (call_of f w) w).1
   call_may f is = subst (λ q. DoesEffect script w q (start_frame script (call_of f w) w).0 (start_frame script (call_of f w) w).1) (sym is) (refl, refl)
 
-  -- the end of what the command stands in
+  -- the end of the command's frame or script
   pub quit_may : r ≡ Ok QuitsEffect → DoesEffect script w r [] (with_stack (without_commands w.stack) w)
   quit_may is = subst (λ q. DoesEffect script w q [] (with_stack (without_commands w.stack) w)) (sym is) (refl, refl)
 
-  -- a collection that is asked for
+  -- a requested collection
   module _ (g : ℕ) (is : r ≡ Ok (CollectsEffect g)) where
     collects : (busy : Bool) (events : List Event) (after : World) → is_collecting w ≡ busy → Yields (if busy then (Collected 0 ∷ [], w) else ([], push (new_collection g true w) w)) events after → DoesEffect script w r events after
     collects busy events after same yields =
         subst (λ q. DoesEffect script w q events after) (sym is)
         (subst (λ b. Yields (if b then (Collected 0 ∷ [], w) else ([], push (new_collection g true w) w)) events after) (sym same) yields)
 
-    -- where one is running none starts
+    -- if one is under way, none starts
     pub busy_may : is_collecting w ≡ true → DoesEffect script w r (Collected 0 ∷ []) w
     busy_may busy = collects true (Collected 0 ∷ []) w busy (refl, refl)
 
     pub idle_may : is_collecting w ≡ false → DoesEffect script w r [] (push (new_collection g true w) w)
     idle_may idle = collects false [] (push (new_collection g true w) w) idle (refl, refl)
 
--- an object of the world is found by its serial
 member_at : (objects : List Object) (x : Object) → Includes objects x → is_in_map objects x.serial ≡ true
 member_at [] x m = absurd m
 member_at (y ∷ objects) x (inl e) = ap (λ b. is_some (cond b (Some y) (object_at objects x.serial))) (eq-eqb y.serial x.serial (ap (λ (z : Object). z.serial) e))
@@ -114,7 +109,7 @@ member_at (y ∷ objects) x (inr m) = go (y.serial == x.serial) (member_at objec
     go true h = refl
     go false h = h
 
--- a function that is called is there
+-- a called function lives
 abbrev IsThere : World → Effect → Type 0
 IsThere w (ChangesEffect wants_memory lines given_up after) = Unit {0}
 IsThere w (CallsEffect f) = is_in_map w.objects f ≡ true
@@ -128,7 +123,7 @@ shape_there w command e (StartsCollection g low) = tt
 shape_there w command e Ends = tt
 shape_there w command e s = tt
 
--- the release of what was given up stands on top
+-- the release of what was given up is on top
 pub change_stands : (script : Script) (top : Own) (e : State) (given_up : Entry) (release : Release) (after : World) → references_left release ≡ entry_references given_up → Changes script top e given_up after
     → StandsFor script (under (activity.Releasing release) (under top e)) (releasing given_up after)
 change_stands script top e given_up release after is changes = record {
@@ -140,21 +135,21 @@ change_stands script top e given_up release after is changes = record {
   collecting = changes.collecting;
 }
 
--- what a change comes to once it has given up what it gives up
+-- the result of a change, after it gave up what it gives up
 pub runs_to : (script : Script) (w : World) (command : Command) (top : Own) (e : State) (line : Option Event) (changed : World) → CommandStep script w command (option_to_list line) changed
     → (result : Option Turned) → GivesUp script changed top e line result → RunsTo script w command top e result
 runs_to script w command top e line changed may None (none, comes) = record { changed = changed; may = subst (λ l. CommandStep script w command (option_to_list l) changed) none may; comes = comes }
 runs_to script w command top e line changed may (Some answer) (is, comes) = inr (inr (record { line = line; is = is; changes = record { changed = changed; may = may; comes = comes } }))
 
--- A command tells lines, and the machine may tell them: its world is as before, with nothing to be given up on top.
+-- A command prints lines that the machine may print: its world is as before, with an empty release on top.
 pub record Told (script : Script) (top : Own) (e : State) (w : World) (command : Command) (lines : List Event) : Type 0 where
   pub after : World
   pub may : CommandStep script w command lines (push (Releasing []) after)
   pub changes : Changes script top e (item val_of.None) after
 
--- a command was performed
+-- a command was done
 module _ (script : Script) (e : State) (top : Own) (w : World) (command : Command) (before : Store) (was : Policy) where
-  -- and changed what it had to: it leaves the rest of the world as it was
+  -- and made its change: it leaves the rest of the world
   pub changed : (line : Option Event) (given_up : Entry) → (p : IsPerformed script top e w command before was (Ok (done_of.Changed line given_up))) → Changes script top e given_up p.answers.heap.after
   changed line given_up p =
       let after : World = p.answers.heap.after in
@@ -170,7 +165,7 @@ module _ (script : Script) (e : State) (top : Own) (w : World) (command : Comman
         collecting = ap (λ (q : Policy). q.running) policy ∙ under_way script (top ∷ e.activities) after.stack shows;
       }
 
-  -- the same without a line, which is a change with no line due
+  -- the same without a line
   gives : (given_up : Entry) → IsPerformed script top e w command before was (Ok (done_of.Gives given_up)) → IsPerformed script top e w command before was (Ok (done_of.Changed None given_up))
   gives given_up p = record {
     stood = p.stood;
@@ -186,7 +181,7 @@ module _ (script : Script) (e : State) (top : Own) (w : World) (command : Comman
       same (Ok QuitsEffect) = refl
       same (Err number) = refl
 
-  -- what such a change leaves: the world, in which its references are to be given up
+  -- what such a change leaves: the world where its references are to be given up
   module _ (given_up : Entry) (p : IsPerformed script top e w command before was (Ok (done_of.Gives given_up))) where
     abbrev pub left : World
     left = p.answers.heap.after
@@ -201,11 +196,11 @@ module _ (script : Script) (e : State) (top : Own) (w : World) (command : Comman
     pub left_sound : StaysSound script (releasing given_up left)
     left_sound = stays_sound script e.first_budget (releasing given_up left) (p.kept [] (releasing given_up left) left_may)
 
-  -- where heap and policy are as before the engine stands for the same world
+  -- if heap and policy are as before, the engine represents the same world
   pub as_before : StandsFor script (under top (record e { store = before; policy = was })) w → e.store ≡ before → e.policy ≡ was → StandsFor script (under top e) w
   as_before stood store policy = same_engine script (under top (record e { store = before; policy = was })) (under top e) w stood store policy refl refl
 
-  -- and tells lines: it leaves the world as it was
+  -- and prints lines: it leaves the world
   pub told : (lines : List Event) → IsPerformed script top e w command before was (Ok (done_of.Tells lines)) → Told script top e w command lines
   told lines p = either p.answers.heap.0 lists explains
     where

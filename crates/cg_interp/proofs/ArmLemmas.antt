@@ -1,4 +1,4 @@
--- What each activity needs when it is on top, from the laws on the world for which the engine stands.
+-- What each activity requires when it is on top, from the laws on the world that the engine represents.
 use Rattle.std.proofs.Common.{◌≡◌, ◌≢◌, sym, ◌∙◌, ap, subst, ℕ, [], ◌∷◌, ◌++◌, length, length-append, arith, append-nil}
 use Rattle.std.specs.FinMap as fin
 use Rattle.cg_script.specs.declared.Script.{Script}
@@ -26,18 +26,18 @@ release_held script e release w stands =
     subst (HasHolds e.store) (append-nil (references_left release))
     (held_on_top e.store w stands.represents (Releasing (references_left release) ∷ []) stands.shows.below (stands.shows.is ∙ ap (λ l. l ++ stands.shows.below) stands.shows.shows))
 
--- what a death holds is held, and it may take a step
+-- what a death holds is held, and it may make a step
 pub death_held : (script : Script) (e : State) (death : Death) (w : World) → StandsFor script (under (activity.Dying death) e) w → HasHolds e.store (held_by death e.store)
 death_held script e death w stands = death_is_held e.store w stands.represents death stands.shows.below (death_on_top script e death w stands)
 
 pub death_may_step : (script : Script) (e : State) (death : Death) (w : World) (budget : ℕ) → StandsFor script (under (activity.Dying death) e) w → IsLawful script budget w → AreRows e.store → ((s : ℕ) → IsWellMadeAt (fin.get e.store.nodes s)) → IsReadyForDeath death e.store
 death_may_step script e death w budget stands lawful rows well = death_ready script budget e.store w stands.represents lawful rows well death stands.shows.shows.2 (death_inside script e death w stands)
 
--- the death that is handed out is sound
+-- the death that is answered is sound
 pub given_sound : (script : Script) (w : World) (o budget : ℕ) (given : State) → StaysKept script budget w → (gives : GivesDeath script w o given) → DyingIsSound (begin_death o gives.before)
 given_sound script w o budget given stays gives = subst DyingIsSound gives.goes.ends (dying_sound script budget _ (stays gives.goes.steps gives.goes.run).lawful)
 
--- Something is always under way: the script's own commands, or its shutdown, stand at the bottom.
+-- Something is always on the stack: the script's own commands, or its shutdown, are at the bottom.
 pub something_under_way : (script : Script) (e : State) (w : World) (budget : ℕ) → StandsFor script e w → IsLawful script budget w → e.activities ≢ []
 something_under_way script e w budget stands lawful none =
     let empty : w.stack ≡ [] = subst (λ l. ShowsAll script l w.stack) none stands.shows in

@@ -1,4 +1,4 @@
--- What a command leaves on top of the stack: the activity that it stood in, which may have lost the rest of its commands.
+-- What a command leaves on top of the stack: its own activity, perhaps without its remaining commands.
 use Rattle.std.proofs.Common.{◌≡◌, refl, sym, ◌∙◌, ap, subst, ℕ, ◌||◌, List, [], ◌∷◌, ◌++◌, Option, None, Some}
 use Rattle.std.specs.Prelude.{unwrap_or, option_and_then, option_map, IsSome, IfSome}
 use Rattle.std.specs.FinMap as fin
@@ -22,7 +22,7 @@ use Rattle.cg_interp.specs.declared.caller.Runner.TheVariants as runner_is
 use Rattle.cg_interp.specs.Callers.{caller_activity, with_next, without_rest_in_frame, activity_at, left_when_stopped}
 use Rattle.cg_interp.proofs.Standing.{IsPlain, plain_frame, plain_script, replaced, spelled}
 
--- Another activity with the same holds comes in the place of the one on top.
+-- Another activity with the same holds replaces the top one.
 module _ (script : Script) (old new : State) (top top_after : Own) (a b : Activity) (f : List Activity → List Activity) (w : World)
     (plain_a : IsPlain a) (plain_b : IsPlain b) (same : holds b ≡ holds a) (turns : (below : List Activity) → f (a ∷ below) ≡ b ∷ below)
     (shown : (tops : List Activity) → ActivityShows script top tops → tops ≡ a ∷ []) (shows : ActivityShows script top_after (b ∷ [])) (alike : is_collecting top_after ≡ is_collecting top) where
@@ -79,7 +79,7 @@ module _ (script : Script) (old new : State) (w : World) where
       → StandsFor script new (with_stack (without_commands w.stack) w)
   stops caller = stops_by caller.runner caller.next
 
--- the procedure of a function, which the heap keeps beside it
+-- the procedure of a function, which the heap stores with it
 pub procedure_known : (store : Store) (w : World) (f : ℕ) (class : Option ℕ) → Represents store w → IsLive store f → IfSome (fin.get store.nodes f) (λ n. class ≡ n.class) → procedure_of w f ≡ unwrap_or class 0
 procedure_known store w f class r live told =
     ap (λ x. unwrap_or (option_and_then (λ (x : Object). x.class) x) 0) (ap (λ os. object_at os f) (sym r.objects) ∙ object-at store f)
@@ -89,7 +89,7 @@ procedure_known store w f class r live told =
     known None there told = absurd (cc)
     known (Some n) there told = ap (λ k. unwrap_or k 0) (sym told)
 
--- another engine with the same parts stands for the same worlds
+-- another engine with the same parts represents the same worlds
 pub same_engine : (script : Script) (old new : State) (w : World) → StandsFor script old w → new.store ≡ old.store → new.policy ≡ old.policy → new.activities ≡ old.activities → new.budget ≡ old.budget → StandsFor script new w
 same_engine script old new w stands store policy activities budget = record {
   represents = subst (λ st. Represents st w) (sym store) stands.represents;

@@ -1,4 +1,4 @@
--- How a collection begins above the activity that was on top.
+-- How a collection begins above the top activity.
 use Rattle.std.proofs.Common.{◌≡◌, refl, sym, ◌∙◌, ap, subst, ℕ, ◌≤◌, Bool, false, inl, inr, List, [], ◌∷◌, ◌++◌, length, Option, None, Some, arith}
 use Rattle.cg_value.specs.declared.Place.TheVariants.{Pend}
 use Rattle.cg_script.specs.declared.Script.{Script}
@@ -28,13 +28,13 @@ use Rattle.cg_interp.proofs.CollectReady.{clear_at_start, idle_without}
 use Rattle.cg_interp.proofs.UnderWay.{runs_in}
 use Rattle.cg_inspect.specs.Inspection.{IsIdle}
 
--- the collection of the machine that begins, which a collection with nothing given up stands for
+-- the machine's new collection, which a collection with nothing to give up represents
 starts_there : (asked : Bool) (d : Collection) (first : machine.Collection) (below : List Activity) (release : Option Release) (q : Option machine.CollectPhase) → Collecting first ∷ below ≡ released_over release (collecting asked d q) ++ below → q ≡ Some first.phase
 starts_there asked d first below None None is = let longer : length (Collecting first ∷ below) ≡ length below = ap length is in absurd (omega (arith, longer))
 starts_there asked d first below None (Some p) is = let same : collection_of asked d p ≡ first = cc in ap Some (ap (λ (x : machine.Collection). x.phase) same)
 starts_there asked d first below (Some r) q is = absurd (cc)
 
--- where the machine is to start no line is left
+-- when the machine is about to start, no line is left
 none_at_start : (script : Script) (asked : Bool) (d : Collection) (p : Phase) (pending : List ℕ) (store : Store) → machine_phase p pending ≡ Some machine.Start → lines_left script asked d p store ≡ []
 none_at_start script asked d (phase_of.Sizes zero one two frozen) pending store is = absurd (cc)
 none_at_start script asked d (phase_of.Telling next) pending store is = absurd (cc)
@@ -51,7 +51,7 @@ module _ (script : Script) (asked : Bool) (g : ℕ) (top : Own) (e : State) (w :
   abbrev begins_as : machine.Collection
   begins_as = record { generation = g; flags = w.numbers.flags; asked = asked; collected = 0; phase = machine.Start }
 
-  -- what is wanted
+  -- what is required
   pub small_before : (budget : ℕ) → IsSpelled script → budget ≤ 100000 → IsKept script budget (push (new_collection g asked w) w) → AreSmall e.policy.numbers
   small_before budget spelled low kept = subst AreSmall (sym stands.numbers) (small_numbers script budget (push (new_collection g asked w) w) spelled kept.few low)
 
@@ -78,11 +78,11 @@ module _ (script : Script) (asked : Bool) (g : ℕ) (top : Own) (e : State) (w :
     };
   })
 
--- Where no collection runs nothing stands in the places of collections.
+-- If no collection is under way, the places of collections are empty.
 pub idle_in : (script : Script) (budget : ℕ) (top : Own) (e : State) (w : World) → StandsFor script (under top e) w → IsSound e.store → IsKept script budget w → e.policy.running ≡ false → IsIdle e.store
 idle_in script budget top e w stands sound kept none = idle_without e.store w sound stands.represents.objects kept.apart (sym (runs_in script (under top e) w stands) ∙ none)
 
--- An engine at which a collection is to begin above its top.
+-- An engine with a collection about to begin on top.
 abbrev pub IsAtStart : Bool → ℕ → Own → State → Type 0
 IsAtStart asked g top e = (script : Script) × IsSpelled script × IsFit script e × (w : World) × StandsFor script (under top e) w × StaysKept script e.first_budget (push (new_collection g asked w) w)
 

@@ -1,4 +1,4 @@
--- What a collection on top holds, how many collections are under way, and that there is room for a step.
+-- What a collection on top holds, how many collections are under way, and room for a step.
 use Rattle.std.proofs.Common.{◌≡◌, refl, sym, ◌∙◌, ap, subst, ℕ, ◌+◌, ◌<◌, ◌≤◌, Bool, true, false, cond, List, [], ◌∷◌, ◌++◌, length, length-append, Option, None, Some, arith}
 use Rattle.std.specs.Prelude.{◌-◌, flat_map, count_by, map, drop}
 use Rattle.std.specs.FinMap as fin
@@ -36,7 +36,7 @@ use Rattle.cg_interp.specs.Turns.{IsFit}
 use Rattle.cg_interp.proofs.Lawfully.{at_least, few_holds, few_objects}
 use Rattle.cg_interp.proofs.CollectReady.{phase_there}
 
--- the heap once the lines that are left are told has the same nodes
+-- the heap after the remaining lines are printed has the same nodes
 nodes_after : (p : Phase) (store : Store) → (store_after p store).nodes ≡ store.nodes
 nodes_after (phase_of.Living next) store = refl
 nodes_after (phase_of.Detaching next) store = refl
@@ -76,7 +76,6 @@ few_holds_after script budget p store w sound r lawful low =
     let few = few_holds script budget (store_after p store) w r lawful low (few_objects (store_after p store) number) in
     subst (λ m. total (λ (n : Node). n.outside) m < 2147483646) (nodes_after p store) few
 
--- as many objects
 pub objects_after : (p : Phase) (store : Store) (w : World) → Represents (store_after p store) w → length w.objects ≡ length (objects_of store)
 objects_after p store w r = ap length (sym r.objects) ∙ each p
   where
@@ -90,7 +89,7 @@ objects_after p store w r = ap length (sym r.objects) ∙ each p
     each (phase_of.Unlinking member weak) = entries (store_after (phase_of.Unlinking member weak) store).rows store.rows (fin.entries store.nodes)
     each p = refl
 
--- There is room on the stack, above what lies below a collection.
+-- The stack has room above what lies below a collection.
 pub room_above : (script : Script) (e : State) (p : Phase) (w : World) (tops below : List Activity) → Represents (store_after p e.store) w → ShowsAll script e.activities below → w.stack ≡ tops ++ below → IsLawful script e.first_budget w → IsFit script e → 4 < e.room
 room_above script e p w tops below r over top lawful fit =
     omega (
@@ -130,7 +129,7 @@ one_collection : (release : Option Release) (c : machine.Collection) → count_b
 one_collection None c = omega (arith, count_more (Collecting c) [])
 one_collection (Some release) c = omega (arith, count_more (Releasing (references_left release)) (Collecting c ∷ []), count_more (Collecting c) [])
 
--- a collection that has handed out is one
+-- a collection that answered a frame or a death is one
 pub counts_one : (asked : Bool) (c : Collection) (tops : List Activity) → HasHandedOut asked c tops → count_by is_collection tops ≡ 1
 counts_one asked c tops out =
     let (q, is) = phase_there c.phase (list_at out.then Pend) out.handing.runs in
@@ -144,7 +143,7 @@ counts_alike script (activity.Shutdown started) tops is = ap (count_by is_collec
 counts_alike script (activity.Dying death) tops (waiting, is, settled) = ap (count_by is_collection) is ∙ release_is_none death.release (death_activities death.object death.phase waiting) ∙ death_is_none death.object death.phase waiting
 counts_alike script (activity.Collecting asked c) tops out = counts_one asked c tops out
 
--- as many collections on the stack as among the activities
+-- the stack and the activities have the same number of collections
 pub count_same : (script : Script) (activities : List Own) (stack : List Activity) → ShowsAll script activities stack → count_by is_collection stack ≡ count_by is_collecting activities
 count_same script [] stack is = ap (count_by is_collection) is
 count_same script (a ∷ activities) stack shows =

@@ -1,4 +1,4 @@
--- What the machine goes on to after each answer of a step of a collection, and what is wanted before a step and within it.
+-- What the machine goes on to after each answer of a collection's step, and what is required before and within a step.
 use Rattle.std.proofs.Common.{◌≡◌, refl, sym, subst, ℕ, ◌+◌, ◌<◌, Bool, true, false, List, [], ◌∷◌, IsSome, arith}
 use Rattle.std.specs.Prelude.{IfSome}
 use Rattle.cg_script.specs.declared.Script.{Script}
@@ -36,7 +36,7 @@ use Rattle.cg_interp.proofs.CollectTurns.{stands_for_step, stands_before, goes_o
 abbrev pub engine_of : Store → Policy → Stacked → ℕ → ℕ → State
 engine_of store policy stack budget first_budget = record { store = store; policy = policy; activities = stack.activities; room = stack.room; budget = budget; first_budget = first_budget }
 
--- what a step of a collection wants
+-- what a step of a collection requires
 pub record MayStep (script : Script) (c : Collection) (e : State) : Type 0 where
   pub few : HasFewHolds e.store
   pub held : HasHolds e.store (held_by c)
@@ -55,7 +55,7 @@ module _ (script : Script) (asked : Bool) (c : Collection) (e : State) where
         small = subst AreSmall (sym k.shows.numbers) (small_at script e.first_budget next.world next.spelled kept.few next.fit.first_budget c.phase c.generation);
       }
 
-  -- and room for the activities that it may put on the stack
+  -- room for the activities that it may push
   pub room_for_step : CollectsNext script asked c e → 1 < e.room
   room_for_step next =
       let kept : IsKept script e.first_budget next.world = next.kept [] tt in
@@ -64,7 +64,7 @@ module _ (script : Script) (asked : Bool) (c : Collection) (e : State) where
       omega (arith, much)
 
 module _ (script : Script) (asked : Bool) (c : Collection) (e : State) where
-  -- what a step answers, by the lines that are left
+  -- what a step answers, by the remaining lines
   pub answered : (left : List Event) (w : World) (k : Collects script asked c e left w) → IsKept script e.first_budget w → (d : Collection) (new : State) (answer : Rattle.cg_collect.specs.declared.answer.CollectStep.CollectStep)
       → CollectSteps script c e.store e.policy d new.store new.policy answer → CollectAnswer script asked w k.below left d new.store new.policy answer
   answered left w k kept d new answer steps =
@@ -77,7 +77,6 @@ module _ (script : Script) (asked : Bool) (c : Collection) (e : State) where
     pub turns_telling : (event : Event) → IsReadyForCollection script d mid.store → CollectSteps script c e.store e.policy d mid.store mid.policy (answer_of.Emit event) → CollectTurns script asked c e mid (turned.Line event)
     turns_telling event ready steps w left k stays = goes_on_telling script asked c e left w k d mid top budget ready event (answered left w k (stays [] tt) d mid (answer_of.Emit event) steps)
 
-    -- a frame
     module _ (spec : FrameSpec) (h : HandsOut d mid.store) (steps : CollectSteps script c e.store e.policy d mid.store mid.policy (answer_of.Frame spec)) where
       pub turns_with_frame : (new : State) (answer : Turned) → ((w : World) → StandsFor script mid w → Makes script (start_frame script spec w) new answer) → CollectTurns script asked c e new answer
       turns_with_frame new answer starts w left k stays =
@@ -96,7 +95,6 @@ module _ (script : Script) (asked : Bool) (c : Collection) (e : State) where
           function_lives script e.first_budget spec mid.store next.world gave.before (subst (λ st. Represents st gave.before) (store_in_run d.phase mid.store h.runs) gave.shows.represents) gave.goes next.kept
           (omega (arith, some, gave.keeps.budget, next.collects.budget))
 
-    -- a death
     module _ (o : ℕ) (h : HandsOut d mid.store) (steps : CollectSteps script c e.store e.policy d mid.store mid.policy (answer_of.Died o)) where
       pub turns_with_death : IsSome d.release → (new : State) → ((w : World) → StandsFor script mid w → StandsFor script new (begin_death o w)) → CollectTurns script asked c e new turned.Quiet
       turns_with_death gives new begins w left k stays =
@@ -114,7 +112,6 @@ module _ (script : Script) (asked : Bool) (c : Collection) (e : State) where
             sound_at_death script e.first_budget next.world gave.before o next.kept gave.goes,
           )
 
-  -- its end
   pub turns_to_end : (d : Collection) (new : State) (collected set_aside : ℕ) (answer : Turned) → new.activities ≡ e.activities → new.budget ≡ e.budget → CollectSteps script c e.store e.policy d new.store new.policy (answer_of.Finished collected set_aside)
       → (asked ≡ true → answer ≡ turned.Line (Collected (collected + set_aside))) → (asked ≡ false → answer ≡ turned.Quiet) → CollectTurns script asked c e new answer
   turns_to_end d new collected set_aside answer activities budget steps telling quiet w left k stays =

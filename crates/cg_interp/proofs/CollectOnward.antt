@@ -1,4 +1,4 @@
--- The steps of a collection, one after the other, in one turn.
+-- The steps of a collection within one turn.
 use Rattle.std.proofs.Common.{◌≡◌, ◌≢◌, refl, sym, ◌∙◌, ap, subst, ℕ, ◌⊎◌, Bool, false, inl, inr, List, [], ◌∷◌, ◌++◌, length, Option, None, append_assoc, append-nil, arith}
 use Rattle.cg_script.specs.declared.Script.{Script}
 use Rattle.cg_graph.specs.Store.{Store}
@@ -44,7 +44,7 @@ use Rattle.cg_interp.proofs.Keeping.{still_fit}
 use Rattle.cg_interp.proofs.NextDetections.{none_after, same_next}
 use Rattle.cg_interp.proofs.Quietly.{none-append, alone, none_made, some_after}
 
--- Where no detection is next none is made.
+-- If no reachability pass comes next, none is made.
 undetected_phase : (g : ℕ) (phase : machine.CollectPhase) → detection_at g phase ≡ None → is_detection phase ≡ false
 undetected_phase g machine.Start none = absurd (cc)
 undetected_phase g machine.Split none = absurd (cc)
@@ -68,24 +68,23 @@ undetected (Dying d ∷ below) none = refl
 undetected (Collecting c ∷ below) none = undetected_phase c.generation c.phase none
 undetected (ShuttingDown started ∷ below) none = refl
 
--- A collection on top makes none where its stage tells of none.
+-- A collection on top makes none unless its stage says so.
 detects_none : (script : Script) (asked : Bool) (c : Collection) (e : State) (left : List Event) (w : World) → Collects script asked c e left w → detection_by c.generation (stage_of c) ≡ None → detects w.stack ≡ false
 detects_none script asked c e left w k none =
     undetected w.stack
     (sym (same_next script (under (activity.Collecting asked c) e) left w (inr (record { asked = asked; collection = c; rest = e.activities; top = refl; collects = k }))) ∙ none)
 
--- A step that leaves a collection between two detections makes none.
+-- A step that leaves a collection between two passes makes none.
 made_none : (g : ℕ) (phase : Phase) (detected : Option Detected) (left : Stage) → LeavesStage phase left → left ≡ stage.Between → detection_by g (stage_at phase detected) ≡ None
 made_none g phase_of.Start detected left leaves is = absurd (let clash : stage.AfterFirst ≡ stage.Between = sym leaves ∙ is in cc)
 made_none g phase_of.Split detected left leaves is = absurd (let clash : stage.AfterSecond ≡ stage.Between = sym leaves ∙ is in cc)
 made_none g phase detected left leaves is = none_after g detected
 
--- Steps without a detection, and steps after them.
+-- Steps without a pass, and then more steps.
 alone_then : (w : World) (steps more : List StepTaken) → MakesNoDetection w steps → (steps ≡ []) ⊎ (detects (last_world w steps).stack ≡ false) → MakesDetectionsAlone (last_world w steps) more → MakesDetectionsAlone w (steps ++ more)
 alone_then w steps more none (inl nothing) by_itself = subst (λ l. MakesDetectionsAlone w (l ++ more)) (sym nothing) (subst (λ l. MakesDetectionsAlone (last_world w l) more) nothing by_itself)
 alone_then w steps more none (inr next) by_itself = alone w (steps ++ more) (none-append w steps more none (none_made (last_world w steps) more by_itself next))
 
--- no lines at all
 none_each : {X : Type 0} (xs ys : List X) → xs ++ ys ≡ [] → (xs ≡ []) × (ys ≡ [])
 none_each [] ys none = (refl, none)
 none_each (x ∷ xs) ys none = absurd (cc)
@@ -93,7 +92,7 @@ none_each (x ∷ xs) ys none = absurd (cc)
 some_before : {X : Type 0} (x : X) (xs before more : List X) → before ≡ x ∷ xs → before ++ more ≢ []
 some_before x xs before more is none = absurd (let first = (none_each before more none).0 in let clash : x ∷ xs ≡ [] = sym is ∙ first in cc)
 
--- nearer to its end, one step after another
+-- nearer to its end, by several steps
 falls_then : (a b c : Collection) (first mid last : Store) → CollectFalls a first b mid → CollectFalls b mid c last → CollectFalls a first c last
 falls_then a b c first mid last (inl later) (inl still) = inl (omega (arith, later, still))
 falls_then a b c first mid last (inl later) (inr (same, less)) = inl (omega (arith, later, same))
@@ -104,7 +103,7 @@ moved_then : (a b c : Collection) (first mid last : Store) → HasNotMoved a fir
 moved_then a b c first mid last (inl (same, also)) falls = subst (λ (x : Collection). CollectFalls x first c last) (sym same) (subst (λ st. CollectFalls b st c last) (sym also) falls)
 moved_then a b c first mid last (inr fell) falls = falls_then a b c first mid last fell falls
 
--- What holds of all worlds from one on holds from those that it comes to.
+-- A property of all worlds from one on holds of those reached from it.
 kept_then : (script : Script) (budget : ℕ) (w : World) (steps : List StepTaken) → Run script w steps → StaysKept script budget w → StaysKept script budget (last_world w steps)
 kept_then script budget w steps run kept more next = subst (IsKept script budget) (last_world-append w steps more) (kept (steps ++ more) (Run-append script w steps more run next))
 
@@ -131,7 +130,6 @@ module _ (script : Script) (asked : Bool) (w : World) (left : List Event) (d : C
       let (first, printed) = none_each left (events_of on.steps) none in
       (first, record { after = ends.after; goes = subst (λ es. Goes script w (es ++ lines) ends.after) printed (goes_then lines ends.after ends.goes); ended = ends.ended })
 
-  -- By what the collection was at first.
   module _ (c : Collection) (e new : State) (far : HasNotMoved c e.store d at.store ⊎ CollectFalls c e.store d at.store) where
     nearer_then : (activities : List Activity) → IsNearer (activity.Collecting asked d ∷ at.activities) at.store activities new.store → IsNearer (activity.Collecting asked c ∷ e.activities) e.store activities new.store
     nearer_then [] near = tt
@@ -163,7 +161,7 @@ module _ (script : Script) (asked : Bool) (w : World) (left : List Event) (d : C
         by [] none (inl moves) = inl (some_after on.steps more.goes.steps moves)
         by [] none (inr rests) = inr (advances_then more.still (ap (λ l. left ++ events_of l) none ∙ append-nil left) rests)
 
-    -- What is answered from there is answered from here.
+    -- What is answered from there, is answered from here.
     turned_then : (answer : Turned) → TurnsWith script (Advances (under (activity.Collecting asked d) at) still new) mid still new answer → TurnsWith script (Advances (under (activity.Collecting asked c) e) left new) w left new answer
     turned_then turned.Quiet more = goes_on_then [] more
     turned_then (turned.Line event) more = goes_on_then (event ∷ []) more
@@ -184,7 +182,7 @@ module _ (script : Script) (c : Collection) (store : Store) (policy : Policy) (d
   came_keeps : (e : State) → TurnKeeps (over_both store policy e) (over_both now policy_now e)
   came_keeps e = record { objects = came.objects.objects; room = omega arith; names = ap length came.objects.names; first_budget = refl }
 
-  -- so the next step may be taken
+  -- so it may make the next step
   pub next_there : (asked : Bool) (e : State) → CollectsNext script asked c (over_both store policy e) → CollectsNext script asked d (over_both now policy_now e)
   next_there asked e next =
       let on = came.goes asked e next.world next.left next.collects next.kept in
@@ -200,14 +198,14 @@ module _ (script : Script) (c : Collection) (store : Store) (policy : Policy) (d
   pub may_step_there : (asked : Bool) (e : State) → CollectsNext script asked c (over_both store policy e) → IsSound now → MayStep script d (over_both now policy_now e)
   may_step_there asked e next sound = may_step script asked d (over_both now policy_now e) (next_there asked e next) sound
 
-  -- and what it answers is answered to the turn
+  -- and the turn answers what it answers
   pub turns_there : (asked : Bool) (e new : State) (answer : Turned) → CollectTurns script asked d (over_both now policy_now e) new answer → CollectTurns script asked c (over_both store policy e) new answer
   turns_there asked e new answer turns w left k kept =
       let on = came.goes asked e w left k kept in
       turned_then script asked w left d (over_both now policy_now e) on c (over_both store policy e) new came.far answer
       (turns (last_world w on.steps) (left ++ events_of on.steps) on.collects (kept_then script e.first_budget w on.steps on.run kept))
 
-  -- It goes on by a step that tells nothing and makes no detection.
+  -- It goes on by a step without a line and without a pass.
   module _ (next : Collection) (after : Store) (policy_after : Policy) (answer : CollectStep) (is : answer ≡ answer_of.Continue) (steps : CollectSteps script d now policy_now next after policy_after answer) (ready : KeepsReady script next after answer)
       (leaves : LeavesStage d.phase (stage_of next)) (between : stage_of next ≡ stage.Between) where
     on_then : (asked : Bool) (e : State) (w : World) (left : List Event) → CollectsOn script asked w left d (over_both now policy_now e) → StaysKept script e.first_budget w → CollectsOn script asked w left next (over_both after policy_after e)
@@ -236,7 +234,7 @@ module _ (script : Script) (c : Collection) (store : Store) (policy : Policy) (d
       goes = λ asked e w left k kept. on_then asked e w left (came.goes asked e w left k kept) kept;
     }
 
--- The last step was made, from an engine as it was before that.
+-- The last step was made, from an engine that was unchanged before.
 module _ (script : Script) (asked : Bool) (c : Collection) (e : State) (d : Collection) (mid : State) (answer : CollectStep) (last : LastStep script c e.store e.policy d mid.store mid.policy answer) where
   abbrev pub before_last : State
   before_last = over_both last.store_before last.policy_before e

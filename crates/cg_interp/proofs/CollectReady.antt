@@ -1,5 +1,5 @@
--- What a collection needs of the heap follows from what the laws say of where objects stand: where one begins, and where one
--- goes on after a frame or a death.
+-- What a collection requires of the heap follows from the laws on where objects are: when it begins, and when it goes on
+-- after a frame or a death.
 use Rattle.std.proofs.Common.{◌≡◌, ◌≢◌, refl, sym, ◌∙◌, ap, subst, ℕ, ◌+◌, ◌≤◌, ◌⊎◌, Bool, true, false, not, cond, inl, inr, List, [], ◌∷◌, ◌++◌, length, Option, None, Some, IsSome}
 use Rattle.std.specs.Prelude.{◌==◌, filter, drop, slice_get}
 use Rattle.std.specs.FinMap as fin
@@ -36,7 +36,7 @@ use Rattle.cg_machine.specs.Holdings.{is_collecting}
 use Rattle.cg_script.specs.declared.Script.{Script}
 use Rattle.cg_machine.specs.Program.{profile_of}
 
--- what a collection of the stack waits with is among all that waits
+-- what a collection on the stack waits with is among all that waits
 waits_among : (stack : List Activity) (c : machine.Collection) (q : ℕ) → Includes stack (Collecting c) → Includes (collection_waits c.phase) q → Includes (all_waits stack) q
 waits_among [] c q on m = absurd on
 waits_among (a ∷ stack) c q (inl same) m = Includes-append_left (waits_of a) (all_waits stack) q (subst (λ b. Includes (waits_of b) q) (sym same) m)
@@ -54,13 +54,13 @@ module _ (store : Store) (w : World) (sound : IsSound store) (same : objects_of 
   garbage_untracked : place_of store 1 ≡ Untracked
   garbage_untracked = let (n, got, code) = sound.root in ap place_in got ∙ (apart.garbage (object_from store.rows 1 n) (there 1 n got) refl).untracked
 
-  -- a place where no object of the world stands
+  -- a place without an object of the world
   empty_where : (p : Place) → ((x : Object) → Includes w.objects x → x.place ≢ p) → IsEmptyAt store p
   empty_where p nobody = empty_at store sound.listed p (λ o live at.
       let (n, got) = node_of_live store o live in
       nobody (object_from store.rows o n) (there o n got) (sym (ap place_in got) ∙ at))
 
-  -- the garbage list names none that is condemned or set aside
+  -- the garbage list names no condemned or uncollectable object
   unsaved : (p : Place) → IsFound p → IsUnsaved store p
   unsaved p found o m refers =
       let at = where_is store sound.listed p o m in
@@ -78,14 +78,14 @@ module _ (store : Store) (w : World) (sound : IsSound store) (same : objects_of 
   in_late_phase : ((x : Object) → Includes w.objects x → IsInLatePhase x) → IsApartUnseen store
   in_late_phase each = (set_apart (λ x m. (each x m).back), empty_where Seen (λ x m. (each x m).seen))
 
-  -- Where a collection is to start nothing is set apart.
+  -- Before a collection starts, nothing is partitioned.
   pub clear_at_start : (c : machine.Collection) → Includes w.stack (Collecting c) → c.phase ≡ machine.Start → IsClear store
   clear_at_start c on start = record { candidates = none Cand tt; seen = none Seen tt; back = none Back tt; legacy = none Legacy tt; pending = none Pend tt; garbage = garbage_untracked }
     where
       none : (p : Place) → IsOfCollection p → IsEmptyAt store p
       none p own = empty_where p (λ x m at. (subst (λ q. StandsRightly q x) start (apart.phases c on x m)) (subst IsOfCollection (sym at) own))
 
-  -- Where none is on the stack nothing stands in the places of collections.
+  -- If none is on the stack, the places of collections are empty.
   pub idle_without : is_collecting w ≡ false → IsIdle store
   idle_without none = record { candidates = nobody Cand tt; seen = nobody Seen tt; back = nobody Back tt; legacy = nobody Legacy tt; pending = nobody Pend tt }
     where
@@ -101,7 +101,7 @@ module _ (store : Store) (w : World) (sound : IsSound store) (same : objects_of 
         let is = orderly.waiting q waits (object_from store.rows q n) (there q n got) refl in
         ((n, got, is.code), subst IsSome (sym (callback-at store q ∙ ap (λ x. callback_in (entries_in x)) got)) (not_none (callback_in n.entries) is.callback))
 
-    -- A collection that has handed out a frame or a death is ready again, by what its phase says of the stack.
+    -- A collection that answered a frame or a death is ready again, by what its phase says of the stack.
     module _ (c : machine.Collection) (on : Includes w.stack (Collecting c)) (waits : CollectionWaits c.phase (list_at store Pend)) where
       rightly : (phase : machine.CollectPhase) → c.phase ≡ phase → (x : Object) → Includes w.objects x → StandsRightly phase x
       rightly phase is x m = subst (λ q. StandsRightly q x) is (apart.phases c on x m)
@@ -130,7 +130,7 @@ module _ (store : Store) (w : World) (sound : IsSound store) (same : objects_of 
       ready_again g (phase_of.AfterTurn o) then runs spares is = let phase : c.phase ≡ machine.AfterTurn o = cc in (in_late_phase (rightly (machine.AfterTurn o) phase), spares)
       ready_again g p then runs spares is = absurd runs
 
--- a list without a serial, without it once more
+-- a list without a serial, and without it again
 abbrev others : ℕ → List ℕ → List ℕ
 others weak xs = filter (λ q. not (q == weak)) xs
 
@@ -142,7 +142,7 @@ others_again weak (x ∷ xs) = go (x == weak) refl (others_again weak xs)
     go true e again = again
     go false e again = ap (λ b. cond (not b) (x ∷ others weak (others weak xs)) (others weak (others weak xs))) e ∙ ap (λ l. x ∷ l) again
 
--- what waits besides one that was given up, whether it still stands before the others or not
+-- what waits besides the one that was given up, whether or not that still comes first
 others_same : (weak : ℕ) (then now : List ℕ) → (now ≡ filter (λ q. not (q == weak)) then) ⊎ (now ≡ weak ∷ filter (λ q. not (q == weak)) then) → filter (λ q. not (q == weak)) then ≡ filter (λ q. not (q == weak)) now
 others_same weak then now (inl e) = sym (ap (filter (λ q. not (q == weak))) e ∙ others_again weak then)
 others_same weak then now (inr e) =
@@ -153,7 +153,7 @@ others_same weak then now (inr e) =
     ∙ others_again weak then
     )
 
--- The phase of the machine is the same by what waits now.
+-- The machine's phase is the same, given what waits now.
 same_phase : (p : Phase) (then now : List ℕ) (q : machine.CollectPhase) → MayRun p → machine_phase p then ≡ Some q → CollectionWaits q now → machine_phase p then ≡ machine_phase p now
 same_phase (phase_of.AfterCallback weak) then now q runs is waits =
     let phase : q ≡ machine.AfterCallback weak (drop 1 then) = cc in
@@ -168,7 +168,7 @@ same_phase (phase_of.Turn o) then now q runs is waits = refl
 same_phase (phase_of.AfterTurn o) then now q runs is waits = refl
 same_phase p then now q runs is waits = absurd runs
 
--- As many wait, so the number of collected objects is small as before.
+-- As many wait, so the number of collected objects stays small.
 few_again : (n : ℕ) (p : Phase) (then now : Store) (q : machine.CollectPhase) → MayRun p → machine_phase p (list_at then Pend) ≡ Some q → CollectionWaits q (list_at then Pend) → CollectionWaits q (list_at now Pend) → HasFewCollected n p then → HasFewCollected n p now
 few_again n (phase_of.AfterCallback weak) then now q runs is waited waits few =
     let phase : q ≡ machine.AfterCallback weak (drop 1 (list_at then Pend)) = cc in
@@ -198,7 +198,7 @@ no_walk : (profile : ℕ) (p : Phase) (store : Store) → MayRun p → HasItsWal
 no_walk profile (phase_of.WeakClearing member weak) store runs = absurd runs
 no_walk profile p store runs = tt
 
--- the collection is among what is shown, with what it gives up above it
+-- the collection is among the activities represented, with what it gives up above it
 pub shown_there : (asked : Bool) (c : Collection) (pending : List ℕ) (q : machine.CollectPhase) → machine_phase c.phase pending ≡ Some q → Includes (shown_with asked c pending) (Collecting (collection_of asked c q))
 shown_there asked c pending q is = subst (λ x. Includes (released_over c.release (collecting asked c x)) (Collecting (collection_of asked c q))) (sym is) (by c.release)
   where
@@ -206,7 +206,8 @@ shown_there asked c pending q is = subst (λ x. Includes (released_over c.releas
     by None = inl refl
     by (Some r) = inr (inl refl)
 
--- After a frame or a death a collection stands for what it stood for, by the heap as it is, and may take its next step.
+-- After a frame or a death, a collection represents what it did before, with the current heap, and may make its next
+-- step.
 pub record Resumes (script : Script) (asked : Bool) (c : Collection) (store : Store) (tops : List Activity) : Type 0 where
   pub shown : tops ≡ on_stack asked c store
   pub ready : IsReadyForCollection script c store

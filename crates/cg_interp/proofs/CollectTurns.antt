@@ -1,4 +1,4 @@
--- The turns of a collection on top: what a step of it answers is a turn of the engine.
+-- The turns of a collection on top: the answer of its step is the answer of a turn.
 use Rattle.std.proofs.Common.{◌≡◌, ◌≢◌, refl, sym, ◌∙◌, ap, subst, ℕ, ◌+◌, ◌-◌, ◌<◌, ◌≤◌, ◌⊎◌, Bool, true, false, inl, inr, List, [], ◌∷◌, ◌++◌, length, length-append, Option, None, Some, IsSome, arith, append-nil}
 use Rattle.std.specs.Prelude.{◌==◌, ◌*◌, if◌then◌else◌, is_some, flat_map, IfSome}
 use Rattle.std.proofs.lemmas.Bool.{ne_eqb}
@@ -41,7 +41,7 @@ use Rattle.cg_interp.proofs.Lawfully.{dying_sound, total_fits, is_live}
 use Rattle.cg_interp.proofs.CollectReady.{resumes, phase_there, shown_there}
 use Rattle.cg_interp.proofs.CollectHolds.{count_same, count_own, none_counted, none_found}
 
--- In a phase in which frames and deaths run no line is left, and heap and numbers are those of the world.
+-- In a phase in which frames and deaths run, no line is left, and heap and numbers are those of the world.
 pub store_in_run : (p : Phase) (store : Store) → MayRun p → store_after p store ≡ store
 store_in_run (phase_of.Living next) store runs = absurd runs
 store_in_run (phase_of.Detaching next) store runs = absurd runs
@@ -68,7 +68,7 @@ runs_in_machine : (p : Phase) → MayRun p → is_some (machine_phase p []) ≡ 
 runs_in_machine p runs = ap is_some (phase_there p [] runs).1
 
 module _ (script : Script) (asked : Bool) (c : Collection) (e : State) (left : List Event) (w : World) where
-  -- A collection that came back on top goes on.
+  -- A collection that is back on top goes on.
   came_back : IsSound e.store → IsKept script e.first_budget w → StandsFor script (under (activity.Collecting asked c) e) w → left ≡ [] → Collects script asked c e left w
   came_back sound kept stands none =
       let s : ShowsTop script (activity.Collecting asked c) (ShowsAll script e.activities) w.stack = stands.shows in
@@ -101,7 +101,7 @@ module _ (script : Script) (asked : Bool) (c : Collection) (e : State) (left : L
       (subst (λ d. Collects script on.asked d e left w) same (subst (λ l. Collects script on.asked on.collection (record e { activities = l }) left w) rest on.collects))
 
   module _ (k : Collects script asked c e left w) where
-    -- heap and policy stand for the world, as a step wants
+    -- heap and policy represent the world, as a step requires
     pub stands_for_step : IsKept script e.first_budget w → CollectionStands asked c e.store e.policy w k.below
     stands_for_step kept = record {
       shows = k.shows;
@@ -112,7 +112,7 @@ module _ (script : Script) (asked : Bool) (c : Collection) (e : State) (left : L
       alone = count_same script e.activities k.below k.over ∙ none_counted e.activities k.alone;
     }
 
-    -- it goes on, of an engine with the same activities
+    -- it goes on, in an engine with the same activities
     pub still_collects : (d : Collection) (new : State) → new.activities ≡ e.activities → new.budget ≡ e.budget → IsReadyForCollection script d new.store
         → (told : List Event) (went : WentOn script asked w k.below left told d new.store new.policy) → Collects script asked d new (lines_left script asked d d.phase new.store) went.after
     still_collects d new same budget ready told went = record {
@@ -132,7 +132,7 @@ module _ (script : Script) (asked : Bool) (c : Collection) (e : State) (left : L
         on_top : (told : List Event) (went : WentOn script asked w k.below left told d new.store new.policy) → StandsWith script new (lines_left script asked d d.phase new.store) went.after
         on_top told went = inr (record { asked = asked; collection = d; rest = e.activities; top = top; collects = still_collects d (record new { activities = e.activities }) refl budget ready told went })
 
-        -- Without a step of the machine it told a line of those that were left, or comes nearer to its end.
+        -- Without a step of the machine it printed one of the remaining lines, or is nearer to its end.
         goes_on : (told : List Event) → (went : WentOn script asked w k.below left told d new.store new.policy)
             → (left ≡ told ++ lines_left script asked d d.phase new.store → Advances (under (activity.Collecting asked c) e) left new (lines_left script asked d d.phase new.store))
             → GoesOnTo script (Advances (under (activity.Collecting asked c) e) left new) w left told new
@@ -158,7 +158,7 @@ module _ (script : Script) (asked : Bool) (c : Collection) (e : State) (left : L
         pub goes_on_telling : (event : Event) → WentOn script asked w k.below left (event ∷ []) d new.store new.policy → GoesOnTo script (Advances (under (activity.Collecting asked c) e) left new) w left (event ∷ []) new
         goes_on_telling event went = goes_on (event ∷ []) went (λ same. let longer : length left ≡ length (event ∷ lines_left script asked d d.phase new.store) = ap length same in inl (omega (arith, longer)))
 
-      -- It hands out a frame or a death: the engine stands for the world before that.
+      -- It answers a frame or a death: the engine represents the world before that.
       pub stands_before : (before : World) → HandsOut d new.store → CollectionShows asked d new.store new.policy before k.below → before.budget ≡ w.budget → before.outcome ≡ w.outcome → StandsFor script new before
       stands_before before h shows spent outcome =
           let r : Represents new.store before = subst (λ st. Represents st before) (store_in_run d.phase new.store h.runs) shows.represents in
@@ -186,7 +186,6 @@ module _ (script : Script) (asked : Bool) (c : Collection) (e : State) (left : L
             collecting = shows.running ∙ runs_in_machine d.phase h.runs ∙ sym (ap any_collecting top);
           }
 
-    -- It is over.
     module _ (new : State) (activities : new.activities ≡ e.activities) (budget : new.budget ≡ e.budget) (collected set_aside : ℕ) (f : HasFinished asked w k.below left collected set_aside new.store new.policy) where
       stands_after : StandsFor script new w
       stands_after = record {
@@ -233,7 +232,7 @@ module _ (script : Script) (asked : Bool) (c : Collection) (e : State) (left : L
               subst (TurnsWith script (Advances (under (activity.Collecting asked c) e) left new) w left new) (sym (quiet same))
               (ends_telling [] told (inr (ap length (sym told), none_on_top new.activities (ap any_collecting activities ∙ k.alone))))
 
--- A frame that starts, by whether the budget is spent.
+-- A frame that starts, or a spent budget.
 abbrev entered : Script → FrameSpec → World → World
 entered script spec w = record w {
   budget = w.budget - 1;
@@ -243,7 +242,7 @@ entered script spec w = record w {
 abbrev started : Script → FrameSpec → World → Bool → Transition
 started script spec w b = if b then (BudgetSpent ∷ [], record w { outcome = BudgetIsSpent }) else (Enter spec.sort spec.subject ∷ [], entered script spec w)
 
--- It tells a line.
+-- It prints a line.
 starts_telling : (script : Script) (spec : FrameSpec) (w : World) → (start_frame script spec w).0 ≡ [] → ⊥
 starts_telling script spec w = go (w.budget == 0)
   where
@@ -251,7 +250,7 @@ starts_telling script spec w = go (w.budget == 0)
     go true e = cc
     go false e = cc
 
--- A transition that tells these lines, one at least, was made where no line was left.
+-- A transition with these lines, at least one, was made when no line was left.
 tells_with : (script : Script) (may_rest : List Event → Type 0) (w : World) (left : List Event) (transition : Transition) (e : State) (told : List Event) → left ≡ [] → Goes script w transition.0 transition.1 → (transition.0 ≡ [] → ⊥) → transition.0 ≡ told → StandsFor script e transition.1
     → GoesOnTo script may_rest w left told e
 tells_with script may_rest w left transition e told none goes tells is stands = record {
@@ -264,7 +263,7 @@ tells_with script may_rest w left transition e told none goes tells is stands = 
   stands = inl (stands, refl);
 }
 
--- the same by what is answered
+-- the same, by the answer
 pub makes_with : (script : Script) (may_rest : List Event → Type 0) (w : World) (left : List Event) (transition : Transition) (e : State) (answer : Turned) → left ≡ [] → Goes script w transition.0 transition.1 → (transition.0 ≡ [] → ⊥) → Makes script transition e answer
     → TurnsWith script may_rest w left e answer
 makes_with script may_rest w left transition e turned.Quiet none goes tells makes = absurd (tells makes.0)
@@ -278,7 +277,7 @@ pub starts_with : (script : Script) (may_rest : List Event → Type 0) (w : Worl
     → TurnsWith script may_rest w left e answer
 starts_with script may_rest w left spec before e answer none goes makes = makes_with script may_rest w left (start_frame script spec before) e answer none goes (starts_telling script spec before) makes
 
--- how much a collection stands for
+-- how many activities a collection represents
 at_most_two : (asked : Bool) (c : Collection) (store : Store) → length (on_stack asked c store) ≤ 2
 at_most_two asked c store = by c.release (machine_phase c.phase (list_at store Pend))
   where
@@ -295,7 +294,7 @@ two_there asked c store runs gives = let (q, is) = phase_there c.phase (list_at 
     by None gives q = absurd (cc)
     by (Some r) gives q = refl
 
--- A death that is handed out was begun by a step.
+-- A death that it answers was begun by a step.
 pub death_moves : (script : Script) (asked : Bool) (c d : Collection) (old new : Store) (w before : World) (below : List Activity) (o : ℕ) → w.stack ≡ on_stack asked c old ++ below → before.stack ≡ on_stack asked d new ++ below → MayRun d.phase → IsSome d.release
     → (goes : Goes script w [] (begin_death o before)) → goes.steps ≢ []
 death_moves script asked c d old new w before below o top now runs gives goes none =
@@ -323,7 +322,7 @@ dies_with script may_rest w before left o e none goes moves stands = record {
   stands = inl (stands, refl);
 }
 
--- what the laws say of the world after a frame or a death says what is wanted before it
+-- what the laws say of the world after a frame or a death gives what is required before it
 pub sound_at_death : (script : Script) (budget : ℕ) (w before : World) (o : ℕ) → StaysKept script budget w → Goes script w [] (begin_death o before) → DyingIsSound (begin_death o before)
 sound_at_death script budget w before o stays goes = dying_sound script budget (begin_death o before) (subst (IsKept script budget) goes.ends (stays goes.steps goes.run)).lawful
 

@@ -1,4 +1,4 @@
--- The number that falls with each step of the machine, from an engine that stands for its world: it does not read which
+-- The number that each step of the machine lowers, for an engine that represents its world: it does not depend on which
 -- weak references wait.
 use Rattle.std.proofs.Common.{◌≡◌, refl, sym, ◌∙◌, ap, ℕ, ◌+◌, ◌*◌, suc, Bool, true, false, inl, inr, List, [], ◌∷◌, ◌++◌, Option, None, Some, arith}
 use Rattle.std.specs.Prelude.{flat_map, nat_lt, ◌||◌}
@@ -31,7 +31,7 @@ use Rattle.cg_interp.specs.declared.activity.Activity.TheVariants as activity
 use Rattle.cg_interp.specs.Engines.{State, ActivityShows, ShowsAll, commands_from, frame_of, released_first, death_shown}
 use Rattle.cg_interp.specs.Collecting.{StandsWith}
 
--- the activities of the machine, as if no weak reference waited
+-- the machine's activities, as if no weak reference waited
 abbrev pub shown : Script → Activity → List machine.Activity
 shown script (activity.Script next) = TopLevel (commands_from next (commands_of script.items)) ∷ []
 shown script (activity.Frame locals procedure next) = Framed (frame_of script locals procedure next) ∷ []
@@ -40,7 +40,7 @@ shown script (activity.Shutdown started) = ShuttingDown started ∷ []
 shown script (activity.Dying death) = death_shown death []
 shown script (activity.Collecting asked c) = shown_with asked c []
 
--- the heap once a collection on top has told the lines that it has left
+-- the heap after a collection on top has printed its remaining lines
 abbrev pub store_told : List Activity → Store → Store
 store_told [] store = store
 store_told (activity.Script next ∷ below) store = store
@@ -60,7 +60,7 @@ lines_of script (activity.Shutdown started ∷ below) store = []
 lines_of script (activity.Dying death ∷ below) store = []
 lines_of script (activity.Collecting asked c ∷ below) store = lines_left script asked c c.phase store
 
--- a world for which an engine stands, as far as the number reads it
+-- a world that an engine represents, as far as the number depends on it
 abbrev pub world_from : Script → State → World
 world_from script e = record {
   objects = objects_of (store_told e.activities e.store);
@@ -72,7 +72,7 @@ world_from script e = record {
   outcome = Running;
 }
 
--- Where frames and deaths run no line is left.
+-- Where frames and deaths run, no line is left.
 nothing_left : (script : Script) (asked : Bool) (c : Collection) (phase : Phase) (store : Store) → MayRun phase → lines_left script asked c phase store ≡ []
 nothing_left script asked c (phase_of.AfterCallback weak) store runs = refl
 nothing_left script asked c (phase_of.AfterFinalizing o) store runs = refl
@@ -91,7 +91,7 @@ told_already (phase_of.Turn o) store runs = refl
 told_already (phase_of.AfterTurn o) store runs = refl
 told_already _ store runs = absurd runs
 
--- So there is none in an engine that stands for a world, and its heap is that of the world.
+-- So an engine that represents a world has none, and its heap is that of the world.
 no_lines : (script : Script) (activities : List Activity) (stack : List machine.Activity) (store : Store) → ShowsAll script activities stack → lines_of script activities store ≡ []
 no_lines script [] stack store s = refl
 no_lines script (activity.Script next ∷ below) stack store s = refl
@@ -110,12 +110,12 @@ same_store script (activity.Shutdown started ∷ below) stack store s = refl
 same_store script (activity.Dying death ∷ below) stack store s = refl
 same_store script (activity.Collecting asked c ∷ below) stack store s = told_already c.phase store s.shows.handing.runs
 
--- The lines that an engine has left are read off it.
+-- The engine determines its remaining lines.
 pub lines_are : (script : Script) (e : State) (left : List Event) (w : World) → StandsWith script e left w → left ≡ lines_of script e.activities e.store
 lines_are script e left w (inl (stands, none)) = none ∙ sym (no_lines script e.activities w.stack e.store stands.shows)
 lines_are script e left w (inr top) = top.collects.lines ∙ ap (λ list. lines_of script list e.store) (sym top.top)
 
--- A sum over the activities that does not read which weak references wait with a death, or with a collection.
+-- A sum over the activities that does not depend on which weak references wait.
 record IsBlind (f : machine.Activity → ℕ) : Type 0 where
   deaths : (o : ℕ) (phase : dying.Phase) (waiting : List ℕ) → tally f (death_activities o phase waiting) ≡ tally f (death_activities o phase [])
   collections : (asked : Bool) (c : Collection) (phase : Phase) (pending : List ℕ) → tally f (collecting asked c (machine_phase phase pending)) ≡ tally f (collecting asked c (machine_phase phase []))
@@ -197,7 +197,7 @@ module _ (f : machine.Activity → ℕ) (blind : IsBlind f) (script : Script) wh
         tally-append f (shown script a) (flat_map (shown script) activities),
       )
 
-  -- the same where a collection is on top
+  -- the same with a collection on top
   same_on_top : (asked : Bool) (c : Collection) (pending : List ℕ) (rest : List Activity) (stack below : List machine.Activity) → stack ≡ shown_with asked c pending ++ below → ShowsAll script rest below
       → tally f stack ≡ tally f (flat_map (shown script) (activity.Collecting asked c ∷ rest))
   same_on_top asked c pending rest stack below is over =
@@ -220,15 +220,15 @@ any_starting (x ∷ xs) = go (is_starting x) (any_starting xs)
     go true e = sym (lt-ltb 0 (1 + tally starting xs) (omega arith))
     go false e = let same : tally starting xs ≡ 0 + tally starting xs = omega arith in e ∙ ap (nat_lt 0) same
 
--- A collection that is to start counts the same, whatever the numbers are.
+-- A collection that is about to start counts the same, whatever the numbers are.
 due_alike : (s t : Bool) → s ≡ t → (m n : Numbers) → (s ≡ false → m ≡ n) → due_rank (is_due m) s ≡ due_rank (is_due n) t
 due_alike true true same m n numbers = refl
 due_alike true false same m n numbers = absurd (cc)
 due_alike false true same m n numbers = absurd (cc)
 due_alike false false same m n numbers = ap (λ (k : Numbers). due_rank (is_due k) false) (numbers refl)
 
--- A world that has what the engine tells of it, and a stack with the same sums, has its number. Where a collection is to start,
--- the numbers of the policy are not read.
+-- A world with the engine's parts and a stack with the same sums has its number. If a collection is about to start, the
+-- policy's numbers do not count.
 module _ (script : Script) (e : State) (w : World) (objects : w.objects ≡ objects_of (store_told e.activities e.store)) (names : w.names ≡ e.store.names) (numbers : list_any is_starting w.stack ≡ false → w.numbers ≡ e.policy.numbers) (budget : w.budget ≡ e.budget) (running : w.outcome ≡ Running)
     (alike : (f : machine.Activity → ℕ) → IsBlind f → tally f w.stack ≡ tally f (flat_map (shown script) e.activities)) where
   same_summary : summary script w ≡ summary script (world_from script e)
@@ -256,21 +256,21 @@ module _ (script : Script) (e : State) (w : World) (objects : w.objects ≡ obje
   same : number_of script w ≡ number_of script (world_from script e)
   same = ap number same_summary
 
--- the numbers of the policy are those of the world, unless a collection is to start
+-- the policy's numbers are those of the world, unless a collection is about to start
 begun_numbers : (asked : Bool) (c : Collection) (phase : Phase) (release : Option Release) (pending : List ℕ) (below : List machine.Activity) (generation : ℕ) (numbers : Numbers)
     → list_any is_starting (released_over release (collecting asked c (machine_phase phase pending)) ++ below) ≡ false → numbers_at phase generation numbers ≡ numbers
 begun_numbers asked c phase_of.Start None pending below generation numbers none = absurd (let no : true ≡ false = none in cc)
 begun_numbers asked c phase_of.Start (Some release) pending below generation numbers none = absurd (let no : true ≡ false = none in cc)
 begun_numbers asked c _ release pending below generation numbers none = refl
 
--- the heap once the lines that are left are told has the same names
+-- the heap after the remaining lines are printed has the same names
 names_after : (phase : Phase) (store : Store) → (store_after phase store).names ≡ store.names
 names_after (phase_of.Living next) store = refl
 names_after (phase_of.Detaching next) store = refl
 names_after (phase_of.Unlinking member weak) store = refl
 names_after phase store = refl
 
--- the number of a world for which an engine stands once its lines are told
+-- the number of a world that an engine represents after its lines are printed
 pub same_number : (script : Script) (e : State) (left : List Event) (w : World) → StandsWith script e left w → number_of script w ≡ number_of script (world_from script e)
 same_number script e left w (inl (stands, none)) =
     same script e w (sym stands.represents.objects ∙ ap objects_of (sym (same_store script e.activities w.stack e.store stands.shows))) (sym stands.represents.names) (λ none. sym stands.numbers) stands.budget stands.running

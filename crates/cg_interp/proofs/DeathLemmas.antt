@@ -36,7 +36,7 @@ use Rattle.cg_interp.specs.Engines.{State, StandsFor, ShowsAll, released_first, 
 use Rattle.cg_interp.specs.Turns.{DyingIsSound, Makes, Turns, GoesTo, GivesDeath, StaysOn}
 use Rattle.cg_interp.proofs.DeathMoves.{no_fall, no_death_on_top}
 
--- a death as an activity, by the weak references that wait in the heap
+-- a death as an activity, given the weak references that wait in the heap
 shown_by : (o : ℕ) (phase : Phase) (release : Option Release) (store : Store) → activities o phase release store ≡ released_first release (death_activities o phase (waiting_for store o))
 shown_by o phase None store = refl
 shown_by o phase (Some release) store = refl
@@ -76,7 +76,7 @@ none_waits script e o w stands sound =
     let found = stands.represents.no_others r m waits in
     was_not_dying o w sound found.0 found.1 (found.2 ∙ is)))
 
--- its death is on top then
+-- then its death is on top
 pub dies : (script : Script) (old new : State) (o : ℕ) (death : Death) (w : World) → StandsFor script old w → Represents new.store (begin_death o w) → on_stack death new.store ≡ death_of o Finalizer ∷ [] → IsSettled death → new.policy ≡ old.policy → new.activities ≡ activity.Dying death ∷ old.activities → new.budget ≡ old.budget
     → StandsFor script new (begin_death o w)
 dies script old new o death w stands represents shown settled policy top budget = record {
@@ -89,7 +89,7 @@ dies script old new o death w stands represents shown settled policy top budget 
   collecting = ap (λ (p : Policy). p.running) policy ∙ stands.collecting ∙ ap any_collecting (sym top);
 }
 
--- The world tells which weak references wait with a dying object: those of the heap.
+-- The world knows which weak references wait with a dying object: those of the heap.
 waits_known : (store : Store) (w : World) (o : ℕ) (phase : Phase) (waiting : List ℕ) → Represents store w → ((d : machine.Death) → Includes (death_activities o phase waiting) (Dying d) → Includes w.stack (Dying d))
     → death_activities o phase waiting ≡ death_activities o phase (waiting_for store o)
 waits_known store w o phase_of.Finalizer waiting r inside = refl
@@ -107,7 +107,7 @@ within : (release : Option Release) (rest below : List Activity) (a : Activity) 
 within None rest below a m = Includes-append_left rest below a m
 within (Some release) rest below a m = inr (Includes-append_left rest below a m)
 
--- the object whose death is handed out is another one
+-- the object whose death is answered is another one
 pub another_dies : (death : Death) (new : Store) (answer : DeathStep) (o : ℕ) → HasCause death new answer → answer ≡ answer_of.Died o → o ≢ death.object
 another_dies death new answer o cause is = (subst (HasCause death new) is cause).1
 
@@ -123,7 +123,7 @@ starts_moves script spec w steps prints = by (w.budget == 0) _ _ prints
     by true spent entered is = prints_moves steps BudgetSpent [] is
     by false spent entered is = prints_moves steps (Enter spec.sort spec.subject) [] is
 
--- a transition that the machine came to
+-- a transition that the machine reached
 comes : (script : Script) (w : World) (e : State) (t : Transition) (answer : Turned) → (goes : Goes script w t.0 t.1) → goes.steps ≢ [] → Makes script t e answer → Turns script w e answer
 comes script w e t turned.Quiet goes moves makes = record { after = t.1; goes = record { steps = goes.steps; run = goes.run; prints = goes.prints ∙ makes.0; ends = goes.ends; alone = goes.alone }; moves = moves; stands = makes.1 }
 comes script w e t (turned.Line event) goes moves makes = record { after = t.1; goes = record { steps = goes.steps; run = goes.run; prints = goes.prints ∙ makes.0; ends = goes.ends; alone = goes.alone }; moves = moves; stands = makes.1 }
@@ -134,7 +134,7 @@ comes script w e t turned.Spent goes moves makes = record { after = t.1; goes = 
 
 -- what of a death on top is on the stack
 module _ (script : Script) (e : State) (death : Death) (w : World) (stands : StandsFor script (under (activity.Dying death) e) w) where
-  -- it is what the heap tells
+  -- it is what the heap says
   pub tops_shown : stands.shows.tops ≡ on_stack death e.store
   tops_shown =
       stands.shows.shows.1
@@ -153,7 +153,6 @@ module _ (script : Script) (e : State) (death : Death) (w : World) (stands : Sta
   pub something_shown : on_stack death e.store ≢ []
   something_shown none = stands.shows.some (tops_shown ∙ none)
 
--- a death on top
 module _ (script : Script) (old new : State) (death after_death : Death) (answer : DeathStep) (w : World) (stands : StandsFor script (under (activity.Dying death) old) w) (sound : DyingIsSound w)
     (steps : DeathSteps script old.store (on_stack death old.store) new.store (on_stack after_death new.store) answer) (settles : IsSettled death → IsSettled after_death) (put : StaysOn after_death old.activities new.activities) (budget : new.budget ≡ old.budget) where
   rest : List Activity
@@ -192,11 +191,11 @@ module _ (script : Script) (old new : State) (death after_death : Death) (answer
     };
   }
 
-  -- where no step was taken the world is the same
+  -- without a step the world is the same
   stayed : (after : World) (taken : List StepTaken) → last_world w taken ≡ after → taken ≡ [] → w ≡ after
   stayed after taken ends none = sym (ap (last_world w) none) ∙ ends
 
-  -- and so is what of the death is on the stack
+  -- and so is the death's part of the stack
   same_top : (after : World) → after.stack ≡ on_stack after_death new.store ++ rest → w ≡ after → on_stack death old.store ≡ on_stack after_death new.store
   same_top after top same = append_cancel_right (on_stack death old.store) (on_stack after_death new.store) rest (sym at ∙ ap (λ (v : World). v.stack) same ∙ top)
 
@@ -244,7 +243,7 @@ module _ (script : Script) (old new : State) (death after_death : Death) (answer
         stands = handed policy gave.hands.before gave.hands.represents gave.hands.top gave.keeps;
       }
 
-  -- a frame that starts from the world in which it is handed out
+  -- a frame that starts from the world where it is answered
   pub death_calls : (spec : FrameSpec) (final : State) (turned_to : Turned) → answer ≡ answer_of.Frame spec → new.policy ≡ old.policy
       → ((u : World) → StandsFor script new u → Makes script (start_frame script spec u) final turned_to) → Turns script w final turned_to
   death_calls spec final turned_to is policy starts = go (subst (DeathAnswer script w new.store (on_stack after_death new.store ++ rest)) is says)

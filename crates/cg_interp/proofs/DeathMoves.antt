@@ -1,4 +1,4 @@
--- A step of a death changes the world: what of it is on the stack, or what the heap stands for.
+-- A step of a death changes the world: its part of the stack, or what the heap represents.
 use Rattle.std.proofs.Common.{◌≡◌, ◌≢◌, refl, sym, ◌∙◌, ap, ℕ, Bool, true, false, cond, inl, inr, List, [], ◌∷◌, Option, None, Some, map, length, arith}
 use Rattle.std.specs.Prelude.{filter, reverse, option_map, unwrap_or, ◌⊎◌, ◌==◌}
 use Rattle.std.specs.FinMap as fin
@@ -22,7 +22,7 @@ use Rattle.cg_death.specs.Deaths.{on_stack, DeathFalls}
 use Rattle.cg_death.specs.Falls.{pass_of, own_holds, still_released}
 use Rattle.cg_death.proofs.CallerLemmas.{rows_of_world}
 
--- the entries of an object are those of the objects
+-- the entries of an object are the same in both
 entries_agree : (store : Store) (o : ℕ) → object_entries_of (objects_of store) o ≡ entries_of store o
 entries_agree store o = ap (λ x. unwrap_or (option_map (λ (x : Object). x.entries) x) []) (object-at store o) ∙ known (fin.get store.nodes o)
   where
@@ -30,7 +30,7 @@ entries_agree store o = ap (λ x. unwrap_or (option_map (λ (x : Object). x.entr
     known None = refl
     known (Some n) = refl
 
--- where a weak reference waits with an object there is its row
+-- if a weak reference waits with an object, it has a row
 a_row_waits : (o : ℕ) (rows : List Row) → (filter (waits_with o) rows ≡ []) ⊎ ((r : Row) × Includes rows r × (r.waits ≡ true) × (r.referent ≡ o))
 a_row_waits o [] = inl refl
 a_row_waits o (r ∷ rows) = go (waits_with o r) refl (a_row_waits o rows)
@@ -41,9 +41,9 @@ a_row_waits o (r ∷ rows) = go (waits_with o r) refl (a_row_waits o rows)
     go false e (inl none) = inl (ap (λ b. cond b (r ∷ filter (waits_with o) rows) (filter (waits_with o) rows)) e ∙ none)
     go false e (inr q) = inr (q.0, inr q.1, q.2, q.3)
 
--- Two heaps that stand for the same world agree on what waits, on weak references and on entries.
+-- Two heaps that represent the same world agree on waiting weak references, on all weak references and on entries.
 module _ (a b : Store) (w : World) (in_a : Represents a w) (in_b : Represents b w) (o : ℕ) where
-  -- what waits in one of them is known by the world
+  -- the world knows what waits in one of them
   by_death : (d : machine.Death) → Includes w.stack (Dying d) → d.object ≡ o → waiting_for a o ≡ waiting_for b o
   by_death d m is = ap (waiting_for a) (sym is) ∙ sym (in_a.deaths d m) ∙ in_b.deaths d m ∙ ap (waiting_for b) is
 
@@ -62,7 +62,7 @@ module _ (a b : Store) (w : World) (in_a : Represents a w) (in_b : Represents b 
   pub same_weak : AreRows a → AreRows b → weak_references_in a.rows o ≡ weak_references_in b.rows o
   same_weak rows_a rows_b = sym (rows_of_world a w in_a rows_a o) ∙ rows_of_world b w in_b rows_b o
 
--- How far a death is, as the stack shows it.
+-- How far a death is, according to the stack.
 pass_shown : List Activity → ℕ
 pass_shown [] = 8
 pass_shown (TopLevel commands ∷ below) = 0
@@ -113,7 +113,7 @@ under_release [] = []
 under_release (Releasing references ∷ below) = below
 under_release (a ∷ below) = a ∷ below
 
--- What it shows is what it is.
+-- The stack shows how far it is.
 record IsShown (o : ℕ) (phase : Phase) (waiting : List ℕ) : Type 0 where
   pass : pass_shown (death_activities o phase waiting) ≡ pass_of phase
   own : holds_shown (death_activities o phase waiting) ≡ own_holds phase
@@ -133,7 +133,7 @@ is_shown o phase_of.Detaching waiting = record { pass = refl; own = refl; none =
 is_shown o phase_of.Emptying waiting = record { pass = refl; own = refl; none = refl; under = refl }
 is_shown o phase_of.Over waiting = record { pass = refl; own = refl; none = refl; under = refl }
 
--- the same with what is given up above it
+-- the same with references to give up above it
 record AreShown (o : ℕ) (phase : Phase) (release : Option Release) (store : Store) : Type 0 where
   pass : pass_shown (under_release (activities o phase release store)) ≡ pass_of phase
   own : holds_shown (under_release (activities o phase release store)) ≡ own_holds phase
@@ -144,7 +144,7 @@ unfolding under_release released_shown
 are_shown o phase None store = let s = is_shown o phase (waiting_for store o) in record { pass = ap pass_shown s.under ∙ s.pass; own = ap holds_shown s.under ∙ s.own; released = s.none }
 are_shown o phase (Some release) store = let s = is_shown o phase (waiting_for store o) in record { pass = s.pass; own = s.own; released = refl }
 
--- Nothing falls where the stack shows the same, in the same world.
+-- Nothing falls if the stack is the same, in the same world.
 pub no_fall : (death after : Death) (old new : Store) (w : World) → Represents old w → Represents new w → AreRows old → AreRows new → after.object ≡ death.object → on_stack death old ≡ on_stack after new → DeathFalls death old after new → ⊥
 no_fall death after old new w in_old in_new rows_old rows_new same stacks falls = by falls
   where
@@ -181,7 +181,7 @@ object_shown : List Activity → ℕ
 object_shown (Dying d ∷ below) = d.object
 object_shown stack = 0
 
--- a death of another object was not on top
+-- the death of another object was not on top
 pub no_death_on_top : (death : Death) (store : Store) (q : ℕ) (rest : List Activity) → q ≢ death.object → death_of q Finalizer ∷ rest ≡ on_stack death store → ⊥
 unfolding object_shown pass_shown
 no_death_on_top death store q rest other is = by death.phase death.release is

@@ -1,5 +1,5 @@
--- The number that falls in the run of an engine: with each turn the machine makes a step, or a line that a collection has
--- left is told, or the collection comes nearer to its end.
+-- The number that falls in a run of the engine: in each turn the machine makes a step, or a remaining line of a
+-- collection is printed, or the collection comes nearer to its end.
 use Rattle.std.proofs.Math.Nat.{mul-le-mul_right, mul-le-mul_left}
 use Rattle.std.proofs.Common.{◌≡◌, ◌≢◌, refl, sym, ap, ℕ, suc, ◌+◌, ◌*◌, ◌-◌, ◌<◌, ◌≤◌, ◌⊎◌, Bool, true, false, inl, inr, not, List, [], ◌∷◌, ◌++◌, length, map, Option, Some, None, length-append, sum_by, arith}
 use Rattle.std.specs.Prelude.{◌==◌, nat_eq, if◌then◌else◌, option_to_list, filter}
@@ -54,7 +54,7 @@ some_pass = omega arith
 some_way : 0 < 17 * pass_limit
 some_way = omega (arith, some_pass)
 
--- how far a collection on top is from its end; 0 where none is on top
+-- how far a collection on top is from its end; 0 without one
 abbrev pub way_left : List Activity → Store → ℕ
 way_left [] store = 0
 way_left (activity.Script next ∷ below) store = 0
@@ -64,7 +64,7 @@ way_left (activity.Shutdown started ∷ below) store = 0
 way_left (activity.Dying death ∷ below) store = 0
 way_left (activity.Collecting asked c ∷ below) store = (16 - pass_of c.phase) * pass_limit + (left_in_pass c.phase store + still_released c.release)
 
--- The number that falls: first that of the machine, then the lines that are left, then the way of the collection.
+-- The number that falls: first the machine's, then the remaining lines, then the distance of the collection.
 abbrev pub falling : Script → State → ℕ
 falling script e =
     number_of script (world_from script e) * (lines_limit * (17 * pass_limit)) + length (lines_of script e.activities e.store) * (17 * pass_limit) + way_left e.activities e.store
@@ -113,7 +113,7 @@ below_limit : (xs : List Event) (n : ℕ) → length xs ≤ n → n ≤ 30000000
 unfolding lines_limit
 below_limit xs n few low = omega (arith, few, low)
 
--- products of what is small
+-- products of small numbers
 product : (a b x y : ℕ) → a ≤ b → x ≤ y → a * x ≤ b * y
 product a b x y h k = omega (arith, mul-le-mul_right x h, mul-le-mul_left b k)
 
@@ -121,7 +121,7 @@ sum_few : (f : ℕ → ℕ) (most : ℕ) → ((o : ℕ) → f o ≤ most) → (x
 sum_few f most few [] = omega arith
 sum_few f most few (o ∷ xs) = omega (arith, sum_by-cons f o xs, few o, sum_few f most few xs)
 
--- rows go, and none comes
+-- rows are removed, and none is added
 without_rows-le : (weaks : List ℕ) (rows : List Row) → length (without_rows weaks rows) ≤ length rows
 without_rows-le weaks rows = omega (arith, length-filter (λ r. not (includes weaks r.weak)) rows, count_by-le-length (λ r. not (includes weaks r.weak)) rows)
 
@@ -267,7 +267,7 @@ module _ (store : Store) (small : IsSmall store) where
   few_lines script (activity.Dying death ∷ below) = some_lines
   few_lines script (activity.Collecting asked c ∷ below) = lines_few script asked c c.phase
 
--- A collection that comes nearer to its end has less of its way left.
+-- A collection that comes nearer to its end has a smaller distance.
 passes_few : (phase : Phase) → pass_of phase < 16
 passes_few phase_of.Start = omega arith
 passes_few _ = omega arith
@@ -317,7 +317,7 @@ module _ (lines_most way_most : ℕ) where
   third_falls n m lines more way further less same nearer =
       omega (arith, product n m (lines_most * way_most) (lines_most * way_most) less (omega arith), ap (λ l. l * way_most) same, nearer)
 
--- A turn that goes on makes the number smaller.
+-- A turn that goes on lowers the number.
 module _ (script : Script) (old new : State) (w : World) (left told : List Event) (stands : StandsWith script old left w) (sound : Sound w) (small : IsSmall new.store) (turn : GoesOnTo script (Advances old left new) w left told new) where
   abbrev before : ℕ
   before = number_of script (world_from script old)

@@ -1,4 +1,4 @@
--- Room for the death of the object that a command makes, and what is left of it after the command.
+-- Room for the death of the object that a command makes, and what is left of it afterwards.
 use Rattle.std.proofs.Common.{◌≡◌, refl, sym, ◌∙◌, ap, subst, ℕ, ◌+◌, ◌*◌, ◌≤◌, Bool, true, false, List, [], ◌∷◌, length, arith, sum_by}
 use Rattle.std.specs.Prelude.{if◌then◌else◌, is_ok, OnOk, Result, Ok, Err}
 use Rattle.std.proofs.lemmas.List.{length-map}
@@ -20,16 +20,15 @@ ones (e ∷ es) = let rest = ones es in omega (arith, rest, sum_by-cons (λ (e :
 pub objects-number : (store : Store) → length (objects_of store) ≤ object_number store + 1
 objects-number store = omega (arith, length-map (fin.entries store.nodes) (λ (e : ℕ × Node). object_from store.rows e.0 e.1), ones (fin.entries store.nodes))
 
--- what is true at `Ok`
 pub when_ok : {T E P : Type 0} (r : Result T E) → is_ok r ≡ true → OnOk r P → P
 when_ok (Ok x) is holds = holds
 when_ok (Err e) is holds = absurd (cc)
 
--- room for all that was wanted is room for one more
+-- room for everything requested is room for one more
 pub room_for_one_more : (store : Store) (first_budget count high : ℕ) → count ≡ object_number store → first_budget + 2 * (count + 1 + 1) + 8 ≤ high → first_budget + 2 * (length (objects_of store) + 1) + 8 ≤ high
 room_for_one_more store first_budget count high counted room = omega (arith, objects-number store, counted, room)
 
--- a command of which the heap says how far it grew
+-- a command whose growth the heap reports
 pub fit_after : (room : Bool) (old inside : State) → inside ≡ old → (store : Store) (policy : Policy) → GrowsBy room inside.store store → (room ≡ true → HasRoomForOneMore old) → StaysFit old (record inside { store = store; policy = policy })
 fit_after room old inside same store policy grows one_more = record {
   fit = λ script fit.

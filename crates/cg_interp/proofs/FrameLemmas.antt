@@ -1,4 +1,4 @@
--- How a frame starts and ends: what the engine does is the machine's transition.
+-- How a frame starts and ends: the engine makes the machine's transition.
 use Rattle.std.proofs.Common.{◌≡◌, ◌≢◌, refl, sym, ◌∙◌, ap, subst, ℕ, ◌+◌, ◌-◌, ◌<◌, Bool, true, false, List, [], ◌∷◌, ◌++◌, Option, None, Some, arith, cond}
 use Rattle.std.specs.Prelude.{option_to_list, if◌then◌else◌, ◌==◌, IfSome, OnSome}
 use Rattle.std.proofs.lemmas.Bool.{ne_eqb, eq-eqb, eqb-true}
@@ -43,7 +43,6 @@ pub when_called : (P C : Type 0) (called : Option ℕ) → OnSome called C → (
 when_called P C None call p = tt
 when_called P C (Some f) call p = p call
 
--- a frame starts
 module _ (script : Script) (old new : State) (spec : FrameSpec) (w : World) (stands : StandsFor script old w) where
   chosen : Bool → Transition
   chosen b =
@@ -84,12 +83,11 @@ module _ (script : Script) (old new : State) (spec : FrameSpec) (w : World) (sta
       anywhere : Represents old.store w → Represents old.store (record w { budget = w.budget - 1 })
       anywhere r = record { objects = r.objects; next_serial = r.next_serial; names = r.names; outside = r.outside; deaths = r.deaths; no_others = r.no_others; collection = r.collection }
 
--- A frame is on top: what the stack of the world is.
+-- A frame is on top: the top of the world's stack.
 pub top_of : (script : Script) (locals : Locals) (procedure : ℕ) (next : Option ℕ) (rest : List Activity → Type 0) (stack : List Activity) → ShowsTop script (activity.Frame locals procedure next) rest stack
     → (below : List Activity) × rest below × (stack ≡ Framed (frame_of script locals procedure next) ∷ below)
 top_of script locals procedure next rest stack s = (s.below, s.over, s.is ∙ ap (λ l. l ++ s.below) s.shows)
 
--- a frame ends
 module _ (script : Script) (old new : State) (locals : Locals) (procedure : ℕ) (next : Option ℕ) (w : World) (none : commands_from next (body_of script procedure) ≡ []) (stands : StandsFor script (under (activity.Frame locals procedure next) old) w) where
   abbrev frame : Frame
   frame = frame_of script locals procedure next

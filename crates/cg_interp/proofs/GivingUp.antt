@@ -1,4 +1,4 @@
--- References that are given up one after the other, in one turn.
+-- References given up within one turn.
 use Rattle.std.proofs.Common.{◌≡◌, refl, ◌∙◌, ap, ℕ, ◌<◌, false, [], ◌++◌, length}
 use Rattle.cg_script.specs.declared.Script.{Script}
 use Rattle.cg_graph.specs.Store.{Store}
@@ -17,15 +17,15 @@ use Rattle.cg_interp.proofs.Quietly.{stays, quietly, comes_then, stays_so, goes_
 use Rattle.cg_interp.proofs.ReleaseLemmas.{continues, ends, gives_death, no_line}
 use Rattle.cg_interp.proofs.ArmLemmas.{release_held}
 
--- a release on top makes no detection
+-- a release on top makes no reachability pass
 pub release_detects_none : (script : Script) (release : Release) (e : State) (w : World) → StandsFor script (under (activity.Releasing release) e) w → detects w.stack ≡ false
 release_detects_none script release e w stands = ap detects (stands.shows.is ∙ ap (λ l. l ++ stands.shows.below) stands.shows.shows)
 
--- So much of a release was given up, over whatever else is under way.
+-- This much of a release was given up, whatever the other activities.
 abbrev pub GaveUp : Store → Release → Store → Release → Type 0
 GaveUp store release now left = (script : Script) (e : State) (w : World) → StandsFor script (under (activity.Releasing release) (over store e)) w → StaysSound script w → ComesTo script w (under (activity.Releasing left) (over now e))
 
--- there is a world of a run with the release on top
+-- a world of a run has the release on top
 abbrev pub IsReleasing : Store → Release → Type 0
 IsReleasing store release = (script : Script) × (e : State) × (w : World) × StandsFor script (under (activity.Releasing release) (over store e)) w × StaysSound script w
 

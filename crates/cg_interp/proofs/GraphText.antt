@@ -1,4 +1,4 @@
--- The members of a graph, as they are written one after the other.
+-- The members of a graph, written one by one.
 use Rattle.std.proofs.Common.{◌≡◌, refl, sym, ◌∙◌, ap, subst, ℕ, zero, suc, ◌+◌, ◌<◌, ◌⊎◌, inl, inr, true, false, Bool, List, [], ◌∷◌, ◌++◌, Option, None, Some, take, drop, length, append_assoc, append-nil, codes, arith}
 use Rattle.std.specs.Prelude.{flat_map, slice_get, decimal, Result, Ok, Err, OnErr}
 use Rattle.std.proofs.lemmas.Grind.{flat_map-append}
@@ -28,7 +28,7 @@ use Rattle.cg_collect.specs.Starting.{has_legacy_in}
 use Rattle.cg_interp.specs.Graphs.{among, member_in, member_line, generations_below}
 use Rattle.cg_interp.proofs.LineByLine.{after_front, longer_front}
 
--- a fact of any error, and what follows from one
+-- a property of any error, and what follows from one
 pub given_err : {T E : Type 0} (r : Result T E) (Q : Type 0) → Q → OnErr r Q
 given_err (Ok x) Q q = tt
 given_err (Err x) Q q = q
@@ -37,7 +37,7 @@ pub on_err : {T E : Type 0} (r : Result T E) (P Q : Type 0) → (P → Q) → On
 on_err (Ok x) P Q f p = tt
 on_err (Err x) P Q f p = f p
 
--- bytes that were written, a front of some more, and what would follow
+-- bytes that were written, a prefix of some more, and what would follow
 pub cut_between : (a b c : Option (List ℕ)) (xs ys zs whole : List ℕ) → whole ≡ xs ++ (ys ++ zs) → Appends a b xs → AppendsFront b c ys → AppendsFront a c whole
 cut_between a b c xs ys zs whole is wrote part = subst (AppendsFront a c) (sym is) (after_front a b c xs (ys ++ zs) wrote (longer_front b c ys zs part))
 
@@ -59,7 +59,6 @@ module _ (store : Store) (d : Detection) where
     abbrev key : List ℕ
     key = references_of_value (Some e.key)
 
-    -- an entry more
     pub entry_more : (a b c k : Option (List ℕ)) → Appends a b (r (references (take i es))) → Appends b c (r value) → Appends c k (r key) → Appends a k (r (references (take (i + 1) es)))
     entry_more a b c k so first second =
         subst (Appends a k)
@@ -72,7 +71,7 @@ module _ (store : Store) (d : Detection) where
         ∙ r-append (references (take i es)) (value ++ (key ++ references (drop (i + 1) es)))
         ∙ ap (λ t. r (references (take i es)) ++ t) (r-append value (key ++ references (drop (i + 1) es)) ∙ ap (λ t. r value ++ t) (r-append key (references (drop (i + 1) es))))
 
-    -- where the one of its value was cut, and where that of its key was
+    -- where the one of its value was cut off, and where that of its key was
     pub value_cut : (a b c : Option (List ℕ)) → Appends a b (r (references (take i es))) → AppendsFront b c (r value) → AppendsFront a c (r (references es))
     value_cut a b c so part = cut_between a b c (r (references (take i es))) (r value) (r key ++ r (references (drop (i + 1) es))) (r (references es)) whole so part
 
@@ -82,7 +81,7 @@ module _ (store : Store) (d : Detection) where
         (whole ∙ sym (append_assoc (r (references (take i es))) (r value) (r key ++ r (references (drop (i + 1) es)))))
         (Appends-trans a b c _ _ so first) part
 
--- Something is written for each object of a place: how far that is.
+-- Each object of a place is written: how far this is.
 pub record WritesAlong (store : Store) (place : Place) (f : ℕ → List ℕ) (cursor : Option ℕ) (before now : Option (List ℕ)) : Type 0 where
   pub done : List ℕ
   pub along : Along store place cursor done

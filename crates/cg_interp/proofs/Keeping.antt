@@ -1,4 +1,4 @@
--- That a turn keeps what an engine has room for.
+-- A turn keeps the engine within its room.
 use Rattle.std.proofs.Common.{◌≡◌, refl, ◌∙◌, ap, subst, ◌+◌, ◌≤◌, ◌∷◌, length, arith}
 use Rattle.cg_graph.specs.Store.{Store, objects_of}
 use Rattle.cg_script.specs.declared.Script.{Script}
@@ -7,7 +7,6 @@ use Rattle.cg_interp.specs.declared.activity.Activity.{Activity}
 use Rattle.cg_interp.specs.Engines.{State, over, under}
 use Rattle.cg_interp.specs.Turns.{TurnKeeps, IsFit, StaysFit, HasMoreRoom}
 
--- one after the other
 pub keeps_then : (old mid new : State) → TurnKeeps old mid → TurnKeeps mid new → TurnKeeps old new
 keeps_then old mid new first next = record {
   objects = omega (arith, first.objects, next.objects);
@@ -16,7 +15,7 @@ keeps_then old mid new first next = record {
   first_budget = next.first_budget ∙ first.first_budget;
 }
 
--- another heap without an object more
+-- another heap without a new object
 pub keeps_over : (old : State) (store : Store) → MakesNone old.store store → TurnKeeps old (over store old)
 keeps_over old store none = record { objects = none.objects; room = omega arith; names = ap length none.names; first_budget = refl }
 
@@ -31,11 +30,10 @@ still_fit old new keeps = record {
   first_budget = keeps.first_budget;
 }
 
--- as it does where nothing was done yet
+-- as if nothing was done yet
 pub fit_here : (e : State) → StaysFit e e
 fit_here e = record { fit = λ script fit. fit; first_budget = refl }
 
--- one after the other
 pub fit_then : (old mid new : State) → StaysFit old mid → StaysFit mid new → StaysFit old new
 fit_then old mid new first next = record { fit = λ script fit. next.fit script (first.fit script fit); first_budget = next.first_budget ∙ first.first_budget }
 
@@ -50,7 +48,7 @@ roomier_fit old new more = record {
   first_budget = more.first_budget;
 }
 
--- without its top, whose room is free
+-- without its top, whose room is free again
 pub popped_fit : (inside old new : State) (top : Activity) → inside ≡ old → new.store ≡ inside.store → inside.activities ≡ top ∷ new.activities → new.room ≡ inside.room + 1 → new.first_budget ≡ inside.first_budget → StaysFit old new
 popped_fit inside old new top same store is room first_budget = subst (λ e. StaysFit e new) same (still_fit inside new (record {
   objects = omega (arith, ap (λ st. length (objects_of st)) store);
@@ -59,11 +57,11 @@ popped_fit inside old new top same store is room first_budget = subst (λ e. Sta
   first_budget = first_budget;
 }))
 
--- with its top counted too
+-- counting its top too
 pub under_fit : (script : Script) (top : Activity) (e : State) → IsFit script e → IsFit script (under top e)
 under_fit script top e fit = record { names = fit.names; first_budget = fit.first_budget; room = omega (arith, fit.room) }
 
--- another heap without an object more, and one activity on top, where there is room
+-- another heap without a new object, and one activity on top, if there is room
 pub keeps_pushed : (inside old new : State) (top : Activity) → inside ≡ old → MakesNone inside.store new.store → new.activities ≡ top ∷ inside.activities → inside.room ≤ new.room + 1 → new.first_budget ≡ inside.first_budget → TurnKeeps old new
 keeps_pushed inside old new top same none is room first_budget = subst (λ e. TurnKeeps e new) same (record {
   objects = none.objects;

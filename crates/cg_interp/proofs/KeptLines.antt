@@ -1,4 +1,4 @@
--- The lines that a run wrote keep the promises of every run.
+-- The written lines of a run keep the promises of every run.
 use Rattle.std.proofs.Common.{◌≡◌, refl, sym, ◌∙◌, append-nil, ℕ, List, [], ◌∷◌, ◌++◌, Option, None, Some, arith}
 use Rattle.std.specs.Io.KnownBytes.{Appends, Keeps}
 use Rattle.cg_script.specs.declared.Script.{Script}
@@ -21,7 +21,7 @@ none_kept = record { finalizers = λ n. omega arith; dead = λ n front back is. 
     none [] n back is = absurd (cc)
     none (event ∷ front) n back is = absurd (cc)
 
--- known bytes that stay grow by none
+-- known bytes that do not change are followed by none
 appends_none : (before now : Option (List ℕ)) → Keeps before now → Appends before now []
 appends_none None now kept = tt
 appends_none (Some xs) None kept = absurd kept

@@ -1,4 +1,4 @@
--- What the laws of the machine say of a world for which an engine stands.
+-- What the laws of the machine say of a world that an engine represents.
 use Rattle.std.proofs.Common.{◌≡◌, ◌≢◌, refl, sym, ◌∙◌, ap, ℕ, ◌+◌, ◌<◌, ◌≤◌, Bool, true, false, cond, inl, inr, List, [], ◌∷◌, Option, None, Some, map, length, length-append, arith, sum_by}
 use Rattle.std.specs.Prelude.{◌==◌, count_by, flat_map, option_map, is_some}
 use Rattle.std.specs.FinMap as fin
@@ -28,7 +28,6 @@ use Rattle.cg_interp.specs.declared.activity.Activity.{Activity as Own}
 use Rattle.cg_interp.specs.Engines.{State, StandsFor, ShowsAll, under}
 use Rattle.cg_interp.specs.Turns.{DyingIsSound, StaysSound, IsFit}
 
--- one activity more to be counted
 count_more : (o : ℕ) (a : Activity) (below : List Activity) → count_by (is_death_of o) (a ∷ below) ≡ cond (is_death_of o a) 1 0 + count_by (is_death_of o) below
 count_more o a below = sum_by-cons (λ (b : Activity). cond {A = ℕ} (is_death_of o b) 1 0) a below
 
@@ -63,14 +62,14 @@ dying_once o (Dying d ∷ below) others = go (d.object == o) refl (dying_once o 
         let zero : cond {A = ℕ} (d.object == o) 1 0 ≡ 0 = ap (λ b. cond {A = ℕ} b 1 0) e in
         omega (arith, count_more o (Dying d) below, rest, zero)
 
--- what holds of the deaths of a lawful world
+-- what holds of the deaths in a lawful world
 pub dying_sound : (script : Script) (budget : ℕ) (w : World) → IsLawful script budget w → DyingIsSound w
 dying_sound script budget w lawful = record { unheld = lawful.unheld; once = λ o. dying_once o w.stack lawful.orderly.others }
 
 pub stays_sound : (script : Script) (budget : ℕ) (w : World) → StaysKept script budget w → StaysSound script w
 stays_sound script budget w stays steps run = dying_sound script budget (last_world w steps) (stays steps run).lawful
 
--- each activity stands for one of the machine at least
+-- each activity represents at least one of the machine
 pub at_least : (script : Script) (activities : List Own) (stack : List Activity) → ShowsAll script activities stack → length activities ≤ length stack
 at_least script [] stack is = omega arith
 at_least script (top ∷ activities) stack shows = by shows.tops shows.some (ap length shows.is ∙ length-append shows.tops shows.below) (at_least script activities shows.below shows.over)
@@ -86,7 +85,7 @@ has_room script top e w stands lawful fit =
     let same : length (objects_of e.store) ≡ length w.objects = ap length stands.represents.objects in
     omega (arith, shown, same, lawful.bounded.height, fit.room)
 
--- An object of the world is found there, and lives in the heap.
+-- An object of the world is found in the heap, and lives there.
 pub in_map : (objects : List Object) (o : ℕ) → Includes (serials objects) o → is_in_map objects o ≡ true
 in_map [] o m = absurd m
 in_map (x ∷ objects) o m = go (x.serial == o) refl m (in_map objects o)
@@ -99,7 +98,7 @@ in_map (x ∷ objects) o m = go (x.serial == o) refl m (in_map objects o)
 pub is_live : (store : Store) (w : World) (o : ℕ) → Represents store w → Includes (serials w.objects) o → IsLive store o
 is_live store w o represents m = lives_in_heap store w represents o (in_map w.objects o m)
 
--- Where nothing has an outside hold there is none.
+-- If nothing has an outside hold, there is none.
 zeroed : Node → Node
 zeroed n = record n { outside = 0 }
 
@@ -118,7 +117,7 @@ none_outside store none =
     nothing [] = refl
     nothing (e ∷ es) = omega (arith, sum_by-cons (λ (e : ℕ × Node). 0) e es, nothing es)
 
--- Where each outside hold is one of a list there are no more than that.
+-- If each outside hold is in a list, there are at most that many.
 pub total_fits : (held : List ℕ) (store : Store) → ((s : ℕ) → outside_of store s ≡ occurrences s held) → outside_total store ≤ length held
 total_fits [] store is = let none : outside_total store ≡ 0 = none_outside store is in omega (arith, none)
 total_fits (o ∷ held) store is =
@@ -127,14 +126,13 @@ total_fits (o ∷ held) store is =
     let rest : outside_total (unheld (o ∷ []) store) ≤ length held = total_fits held (unheld (o ∷ []) store) (λ s. omega (arith, outside-unheld (o ∷ []) store s, is s, sum_by-cons (λ r. cond {A = ℕ} (r == s) 1 0) o held, sum_by-cons {X = ℕ} (λ r. cond {A = ℕ} (r == s) 1 0) o [])) in
     omega (arith, total-unheld_one o store some, rest)
 
--- so a heap that stands for a lawful world has few
+-- so a heap that represents a lawful world has few
 pub few_holds : (script : Script) (budget : ℕ) (store : Store) (w : World) → Represents store w → IsLawful script budget w → budget ≤ 100000 → length (objects_of store) ≤ 1000001 → HasFewHolds store
 few_holds script budget store w represents lawful low few =
     let held : outside_total store ≤ length (flat_map holds w.stack) = total_fits (flat_map holds w.stack) store represents.outside in
     let same : length (objects_of store) ≡ length w.objects = ap length represents.objects in
     omega (arith, held, same, lawful.bounded.holds, low, few)
 
--- as many as in every heap
 pub few_objects : (store : Store) → object_number store ≤ 1000000 → length (objects_of store) ≤ 1000001
 few_objects store low = let nodes : total one store.nodes ≡ length (objects_of store) = each (fin.entries store.nodes) in omega (arith, low, nodes)
   where

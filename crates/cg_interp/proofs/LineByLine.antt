@@ -1,4 +1,4 @@
--- Lines that are written one after the other.
+-- Lines written one by one.
 use Rattle.std.proofs.Common.{◌≡◌, refl, sym, ◌∙◌, ap, subst, ℕ, zero, suc, ◌<◌, List, [], ◌∷◌, ◌++◌, length, take, drop, get_or, Option, inl, append_assoc, arith}
 use Rattle.std.specs.Prelude.{flat_map}
 use Rattle.std.proofs.lemmas.Grind.{flat_map-append}
@@ -10,7 +10,7 @@ use Rattle.cg_graph.proofs.Members.{Includes-append_right}
 use Rattle.cg_machine.specs.declared.event.Event.{Event}
 use Rattle.cg_machine.specs.Lines.{line}
 
--- bytes that were written, and then a front of some more
+-- bytes that were written, and then a prefix of some more
 pub after_front : (a b c : Option (List ℕ)) (bs cs : List ℕ) → Appends a b bs → AppendsFront b c cs → AppendsFront a c (bs ++ cs)
 after_front a b c bs cs p q = record {
   front = bs ++ q.front;
@@ -19,7 +19,7 @@ after_front a b c bs cs p q = record {
   appended = Appends-trans a b c bs q.front p q.appended;
 }
 
--- a front of some bytes is a front of these and more
+-- a prefix of some bytes is a prefix of these and more
 pub longer_front : (a b : Option (List ℕ)) (bs cs : List ℕ) → AppendsFront a b bs → AppendsFront a b (bs ++ cs)
 longer_front a b bs cs p = record {
   front = p.front;
@@ -41,7 +41,7 @@ module _ (events : List Event) (i : ℕ) (d : Event) (within : i < length events
   pub is_one : Includes events next
   is_one = subst (λ l. Includes l next) (sym (up_to_next events i d within)) (Includes-append_right (take i events) (next ∷ drop (suc i) events) next (inl refl))
 
-  -- where it was cut, a front of the lines of all was written
+  -- after a cut, a prefix of all lines was written
   pub wrote_part : (names : List (List ℕ)) (before mid now : Option (List ℕ)) → Appends before mid (flat_map (line names) (take i events)) → AppendsFront mid now (line names next) → AppendsFront before now (flat_map (line names) events)
   wrote_part names before mid now wrote part =
       let rest : List ℕ = flat_map (line names) (drop (suc i) events) in

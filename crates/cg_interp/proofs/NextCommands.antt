@@ -1,4 +1,4 @@
--- The commands from a number on: one that is there comes next, and past the end there is none.
+-- The commands from a number on: the first of them comes next, and after the last there is none.
 use Rattle.std.proofs.Common.{◌≡◌, ◌∙◌, sym, ap, ℕ, ◌+◌, ◌<◌, ◌≤◌, inl, inr, List, [], ◌∷◌, length, drop, get_or, Option, Some, None, ◌⊎◌}
 use Rattle.std.specs.Prelude.{slice_get}
 use Rattle.std.proofs.lemmas.Option.{slice_get_cases, slice_get_within, get_or_from_slice_get}
@@ -7,7 +7,7 @@ use Rattle.std.proofs.Math.ListN.{drop_of_length-le}
 use Rattle.cg_interp.specs.Engines.{commands_from}
 use Rattle.cg_script.specs.declared.command.Command.{Command}
 
--- the commands from one that is there on, and from past the end on
+-- the commands from an existing one on, and from past the end on
 pub next_there : (commands : List Command) (n : ℕ) (c : Command) → n < length commands → c ≡ get_or commands n c → commands_from (Some n) commands ≡ c ∷ drop (n + 1) commands
 next_there commands n c within is = drop_more commands n c within ∙ ap (λ x. x ∷ drop (n + 1) commands) (sym is)
 

@@ -1,4 +1,4 @@
--- What is on top of an engine tells which detection the machine makes next.
+-- The top of an engine determines the machine's next reachability pass.
 use Rattle.std.proofs.Common.{◌≡◌, ◌≢◌, refl, sym, ◌∙◌, ap, subst, ℕ, ◌≤◌, Bool, true, false, ◌||◌, inl, inr, List, [], ◌∷◌, ◌++◌, Option, None, Some, length, arith}
 use Rattle.cg_script.specs.declared.Script.{Script}
 use Rattle.cg_graph.specs.Store.{Store, list_at}
@@ -33,13 +33,13 @@ use Rattle.cg_interp.specs.Collecting.{StandsWith, CollectsOnTop}
 use Rattle.cg_interp.specs.Graphs.{detection_by, detection_on, AreOfGenerations}
 use Rattle.cg_interp.specs.Recorded.{detection_at, next_detection}
 
--- after a detection none is next
+-- after a pass none comes next
 pub none_after : (g : ℕ) (detected : Option Detected) → detection_by g (stage_after detected) ≡ None
 none_after g None = refl
 none_after g (Some detected_of.First) = refl
 none_after g (Some detected_of.Second) = refl
 
--- the detection of a phase of the machine, if there is one
+-- the pass of a phase of the machine, if any
 abbrev shown_next : ℕ → Option machine.CollectPhase → Option Detection
 shown_next g None = None
 shown_next g (Some phase) = detection_at g phase
@@ -49,19 +49,19 @@ by_phase g phase_of.Start detected pending = refl
 by_phase g phase_of.Split detected pending = refl
 by_phase g phase detected pending = none_after g detected
 
--- where something is given up, none is
+-- when something is given up, there is none
 none_giving : (g : ℕ) (phase : Phase) (detected : Option Detected) → MayGiveUp phase → detection_by g (stage_at phase detected) ≡ None
 none_giving g phase_of.Start detected may = absurd may
 none_giving g phase_of.Split detected may = absurd may
 none_giving g phase detected may = none_after g detected
 
--- nor where frames and deaths run
+-- nor when frames and deaths run
 none_running : (g : ℕ) (phase : Phase) (detected : Option Detected) → MayRun phase → detection_by g (stage_at phase detected) ≡ None
 none_running g phase_of.Start detected may = absurd may
 none_running g phase_of.Split detected may = absurd may
 none_running g phase detected may = none_after g detected
 
--- A collection on top tells it, where what it stands for is there.
+-- A collection on top determines it, where what it represents is there.
 module _ (asked : Bool) (c : Collection) (pending : List ℕ) (below : List machine.Activity) where
   of_phase : (m : Option machine.CollectPhase) → (collecting asked c m ≡ [] → next_detection below ≡ None) → shown_next c.generation m ≡ next_detection (collecting asked c m ++ below)
   of_phase None none = sym (none refl)
@@ -75,7 +75,7 @@ module _ (asked : Bool) (c : Collection) (pending : List ℕ) (below : List mach
   pub collection_next : GivesUpIn c.phase c.release → (shown_with asked c pending ≡ [] → next_detection below ≡ None) → detection_by c.generation (stage_of c) ≡ next_detection (shown_with asked c pending ++ below)
   collection_next may none = of_release c.release may none
 
--- what else is on top makes none
+-- other activities make none
 dying_none : (o : ℕ) (phase : DeathPhase) (waiting : List ℕ) (below : List machine.Activity) → death_activities o phase waiting ≢ [] → next_detection (death_activities o phase waiting ++ below) ≡ None
 dying_none o death_phase.Over waiting below some = absurd (some refl)
 dying_none o phase waiting below some = refl
@@ -107,7 +107,7 @@ none_below script (top ∷ rest) stack shown other = top_none script (ShowsAll s
     first_false false b e = refl
     first_false true b e = absurd (cc)
 
--- one that has handed out a frame or a death makes none
+-- one that answered a frame or a death makes none
 handed_none : (script : Script) (asked : Bool) (c : Collection) (rest : List machine.Activity → Type 0) (stack : List machine.Activity) → ShowsTop script (activity.Collecting asked c) rest stack
     → (detection_by c.generation (stage_of c) ≡ None) × (next_detection stack ≡ None)
 handed_none script asked c rest stack t =
@@ -115,7 +115,7 @@ handed_none script asked c rest stack t =
     let none : detection_by c.generation (stage_of c) ≡ None = none_running c.generation c.phase c.detected h.handing.runs in
     (none, ap next_detection (t.is ∙ ap (λ l. l ++ t.below) h.shown) ∙ sym (collection_next asked c (list_at h.then Pend) t.below h.handing.gives_up (λ e. absurd (t.some (h.shown ∙ e)))) ∙ none)
 
--- What is next by what is on top of an engine is what is next in the world that it stands for.
+-- What comes next by the engine's top comes next in the world that it represents.
 module _ (script : Script) (e : State) (left : List Event) (w : World) where
   in_stack : (activities : List Activity) (stack : List machine.Activity) → ShowsAll script activities stack → detection_on activities ≡ next_detection stack
   in_stack [] stack none = sym (ap next_detection none)
@@ -136,7 +136,7 @@ module _ (script : Script) (e : State) (left : List Event) (w : World) where
   same_next (inl s) = in_stack e.activities w.stack s.0.shows
   same_next (inr t) = ap detection_on t.top ∙ on_top t
 
-  -- its generation is one of the three
+  -- its generation is 0, 1 or 2
   by_generation : (g : ℕ) (s : Stage) → g ≤ 2 → AreOfGenerations (detection_by g s)
   by_generation g stage.BeforeFirst few = few
   by_generation g stage.BeforeSecond few = tt
@@ -157,7 +157,7 @@ module _ (script : Script) (e : State) (left : List Event) (w : World) where
   of_generations (inl s) = in_generations e.activities w.stack s.0.shows
   of_generations (inr t) = subst (λ (l : List Activity). AreOfGenerations (detection_on l)) (sym t.top) (by_generation t.collection.generation (stage_of t.collection) t.collects.ready.generation)
 
--- no detection is next where the collection on top, if one is there, has handed out
+-- no pass comes next if the collection on top, if any, answered a frame or a death
 pub standing_none : (script : Script) (activities : List Activity) (stack : List machine.Activity) → ShowsAll script activities stack → detection_on activities ≡ None
 standing_none script [] stack t = refl
 standing_none script (activity.Script next ∷ rest) stack t = refl
@@ -193,7 +193,7 @@ same_after : (store : Store) (d : Detection) → store_after (phase_for d) store
 same_after store (First g) = refl
 same_after store Second = refl
 
--- A collection on top is about to make a detection: nothing is given up, and no line is left.
+-- A collection on top is about to make a pass: nothing is given up, and no line is left.
 pub record AtDetection (e : State) (d : Detection) (left : List Event) (w : World) : Type 0 where
   pub asked : Bool
   pub collection : Collection
@@ -220,7 +220,7 @@ at_detection script e left w d (inr t) next =
       represents = subst (λ (s : Store). Represents s w) (ap (λ (p : Phase). store_after p e.store) is ∙ same_after e.store d) t.collects.shows.represents;
     }
 
--- From one to the same the machine has moved.
+-- If the two are equal, the machine has moved.
 nearer_no : (d : Detection) (store now : Store) → ComesNearer store (phase_for d) None now (phase_for d) None → ⊥
 nearer_no (First g) store now (inl less) = absurd (omega (arith, less))
 nearer_no (First g) store now (inr (same, less)) = absurd (omega (arith, less))

@@ -1,4 +1,4 @@
--- The engine of a run that opens stands for the world in which runs begin.
+-- The engine at the start of a run represents the machine's first world.
 use Rattle.std.proofs.Common.{◌≡◌, false, refl, sym, ◌∙◌, ap, subst, ℕ, ◌+◌, ◌≤◌, inl, inr, List, [], ◌∷◌, length, map, None, Some, arith}
 use Rattle.std.proofs.lemmas.Bool.{cases_eq}
 use Rattle.std.proofs.lemmas.List.{length-replicate}
@@ -18,7 +18,7 @@ use Rattle.cg_policy.specs.Policy.{Policy}
 use Rattle.cg_interp.specs.Engines.{State, StandsFor, ShowsAll, any_collecting}
 use Rattle.cg_interp.specs.Turns.{IsFit}
 
--- the first heap has the garbage list alone
+-- the first heap has only the garbage list
 no_entries : (es : List (ℕ × Node)) → length es ≡ 0 → es ≡ []
 no_entries [] e = refl
 no_entries (x ∷ es) e = absurd (omega (arith, e))

@@ -1,4 +1,4 @@
--- What goes on without a line and without a detection: one such way after another, and what comes after it.
+-- Going on without a line and without a reachability pass: in sequence, and what follows.
 use Rattle.std.proofs.Common.{◌≡◌, ◌≢◌, refl, sym, ◌∙◌, ap, subst, ℕ, false, inl, List, [], ◌∷◌, ◌++◌, append-nil}
 use Rattle.cg_graph.proofs.Members.{either}
 use Rattle.cg_script.specs.declared.Script.{Script}
@@ -23,19 +23,19 @@ pub none-append : (w : World) (steps more : List StepTaken) → MakesNoDetection
 none-append w [] more none later = later
 none-append w (step ∷ steps) more none later = (none.0, none-append step.world steps more none.1 later)
 
--- each detection is made alone where there is none
+-- each pass is alone if there is none
 pub alone : (w : World) (steps : List StepTaken) → MakesNoDetection w steps → MakesDetectionsAlone w steps
 alone w [] none = tt
 alone w (step ∷ []) none = tt
 alone w (step ∷ next ∷ steps) none = none
 
--- there is none where the first step makes none
+-- there is none if the first step makes none
 pub none_made : (w : World) (steps : List StepTaken) → MakesDetectionsAlone w steps → detects w.stack ≡ false → MakesNoDetection w steps
 none_made w [] by_itself first = tt
 none_made w (step ∷ []) by_itself first = (first, tt)
 none_made w (step ∷ next ∷ steps) by_itself first = by_itself
 
--- one step at least
+-- at least one step
 pub some_after : {X : Type 0} (xs ys : List X) → ys ≢ [] → xs ++ ys ≢ []
 some_after [] ys some none = some none
 some_after (x ∷ xs) ys some none = cc
@@ -90,11 +90,11 @@ module _ (script : Script) where
     pub comes_then : (e : State) → ComesTo script mid e → ComesTo script w e
     comes_then e next = record { after = next.after; goes = then next.after next.goes; stands = next.stands }
 
-    -- what holds of all worlds from there on
+    -- what holds of all worlds reached from there
     pub stays_so : (P : World → Type 0) → ((steps : List StepTaken) → Run script w steps → P (last_world w steps)) → (more : List StepTaken) → Run script mid more → P (last_world mid more)
     stays_so P all more run = subst P (ends_on more) (all (goes.steps ++ more) (run_on more run))
 
-    -- or in any way, from a world that makes no detection next
+    -- or in any way, from a world that makes no pass next
     module _ (next : detects mid.stack ≡ false) where
       pub goes_then : (events : List Event) (after : World) → Goes script mid events after → Goes script w events after
       goes_then events after more = record {
@@ -142,7 +142,7 @@ module _ (script : Script) where
       plain_turns_then e (turned.Left n) ends = ends_then (Left n ∷ End ∷ []) _ ends
       plain_turns_then e turned.Spent ends = ends_then (BudgetSpent ∷ []) _ ends
 
-      -- what a turn answers from there on it answers from here on
+      -- what a turn answers from there, it answers from here
       pub turns_then : (left : List Event) (e : State) (answer : Turned) → TurnsWith script (λ still. ⊥) mid left e answer → TurnsWith script (λ still. ⊥) w left e answer
       turns_then left e turned.Quiet turns = goes_on_then left [] e turns
       turns_then left e (turned.Line event) turns = goes_on_then left (event ∷ []) e turns
@@ -151,11 +151,11 @@ module _ (script : Script) where
       turns_then left e (turned.Left n) (none, ends) = (none, ends_then (Left n ∷ End ∷ []) _ ends)
       turns_then left e turned.Spent (none, ends) = (none, ends_then (BudgetSpent ∷ []) _ ends)
 
-  -- nothing has been done yet
+  -- nothing was done yet
   pub comes_here : (top : Activity) (e : State) → ComesFrom script top e top e
   comes_here top e w stands kept = record { after = w; goes = stays w; stands = stands }
 
-  -- One activity was on top, and now another is, of an engine that stayed fit.
+  -- The top activity is replaced in an engine that stays fit.
   module _ (top mid_top : Activity) (old mid : State) (comes : ComesFrom script top old mid_top mid) (fit : StaysFit old mid) where
     kept_then : (w : World) (stands : StandsFor script (under top old) w) (kept : StaysKept script old.first_budget w) → StaysKept script mid.first_budget (comes w stands kept).after
     kept_then w stands kept =

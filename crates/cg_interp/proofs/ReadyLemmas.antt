@@ -1,4 +1,4 @@
--- That a death on top may take a step: what it needs of the heap follows from what the laws say of the world.
+-- A death on top may make a step: what it requires of the heap follows from the laws on the world.
 use Rattle.std.proofs.Common.{◌≡◌, ◌≢◌, refl, sym, ◌∙◌, ap, subst, ℕ, ◌≤◌, Bool, true, false, not, cond, inl, inr, List, [], ◌∷◌, ◌++◌, Option, None, Some, IsSome, map, length, arith}
 use Rattle.std.specs.Prelude.{◌==◌, ◌&&◌, filter, find, reverse, flat_map, option_map, unwrap_or}
 use Rattle.std.specs.List.{All}
@@ -40,7 +40,7 @@ use Rattle.cg_death.specs.Deaths.{IsReadyForDeath, IsUnheldDuring, IsSettledAt, 
 use Rattle.cg_death.proofs.CallerLemmas.{unheld_in_heap, newer_in_heap, no_referent_in_heap}
 use Rattle.cg_interp.proofs.Lawfully.{in_map, is_live}
 
--- what an activity gives the stack gives
+-- what an activity holds, the stack holds
 in_flat : (f : Activity → List ℕ) (stack : List Activity) (a : Activity) (q : ℕ) → Includes stack a → Includes (f a) q → Includes (flat_map f stack) q
 in_flat f [] a q m n = absurd m
 in_flat f (b ∷ stack) a q (inl same) n = Includes-append_left (f b) (flat_map f stack) q (subst (λ c. Includes (f c) q) (sym same) n)
@@ -50,7 +50,7 @@ in_flat f (b ∷ stack) a q (inr m) n = Includes-append_right (f b) (flat_map f 
 stack_held : (w : World) (q : ℕ) → Includes (flat_map holds w.stack) q → Includes (holdings w) q
 stack_held w q m = Includes-append_right (name_holdings w.names ++ (1 ∷ []) ++ entry_holdings (graph_of w.objects)) (flat_map holds w.stack) q m
 
--- what is looked for among some rows is not found only where none is so
+-- a search among rows finds nothing only if no row passes
 none_found : (p : Row → Bool) (rows : List Row) (r : Row) → Includes rows r → p r ≡ true → option_map (λ (x : Row). x.referent) (find p rows) ≡ None → ⊥
 none_found p [] r m is e = m
 none_found p (x ∷ rows) r m is e = go (p x) refl m e (λ n f. none_found p rows r n is f)
@@ -61,7 +61,7 @@ none_found p (x ∷ rows) r m is e = go (p x) refl m e (λ n f. none_found p row
     go false px (inl same) found rest = absurd (let clash : false ≡ true = sym px ∙ ap p same ∙ is in cc)
     go false px (inr n) found rest = rest n found
 
--- where nothing passes nothing is left
+-- if nothing passes, nothing is left
 none_left : (o : ℕ) (objects : List Object) → ((x : Object) → Includes objects x → x.referent ≢ Some o) → filter (is_reference_to o) objects ≡ []
 none_left o [] none = refl
 none_left o (x ∷ objects) none = go (is_reference_to o x) refl (none_left o objects (λ y m. none y (inr m)))
@@ -78,7 +78,7 @@ all_rows : (P : Row → Type 0) (rows : List Row) → ((r : Row) → Includes ro
 all_rows P [] each = All-nil P
 all_rows P (r ∷ rows) each = All-cons P r rows (each r (inl refl)) (all_rows P rows (λ q m. each q (inr m)))
 
--- the one entry of a weak reference with a callback
+-- the single entry of a weak reference with a callback
 one_callback : (entries : List Entry) → AreItems entries → length entries ≤ 1 → callback_in entries ≢ None → (f : ℕ) × (entries ≡ item (Ref f) ∷ [])
 one_callback [] items few some = absurd (some refl)
 one_callback (e ∷ f ∷ entries) items few some = absurd (omega (arith, few))
@@ -103,7 +103,7 @@ module _ (script : Script) (budget : ℕ) (store : Store) (w : World) (represent
   waits_are_held : (q : ℕ) → Includes (all_waits w.stack) q → Includes (holdings w) q
   waits_are_held q m = stack_held w q (waits_held w.stack q m)
 
-  -- a row that waits is that of a weak reference that waits
+  -- a waiting row is that of a waiting weak reference
   row_waits : (r : Row) → Includes store.rows r → r.waits ≡ true → Includes (all_waits w.stack) r.weak
   row_waits r m waits =
       let found = represents.no_others r m waits in
@@ -119,7 +119,7 @@ module _ (script : Script) (budget : ℕ) (store : Store) (w : World) (represent
     unheld_now : (phase : DyingPhase) → Includes w.stack (death_of o phase) → occurrences o (holdings w) ≡ 0 → IsUnheld store o
     unheld_now phase m none = unheld_in_heap store w represents o (in_map w.objects o (lives phase m)) none
 
-    -- each that waits has its callback
+    -- each waiting one has its callback
     callbacks : Includes w.stack (death_of o (machine.Calling (waiting_for store o))) → HaveCallbacks store o
     callbacks m q waits =
         let on_stack : Includes (all_waits w.stack) q = in_flat waits_of w.stack (death_of o (machine.Calling (waiting_for store o))) q m waits in
@@ -130,7 +130,7 @@ module _ (script : Script) (budget : ℕ) (store : Store) (w : World) (represent
         let one = one_callback found.0.entries single.0 single.1 is.callback in
         (one.0, ap entries_in found.1 ∙ one.1)
 
-    -- no row is that of an object that is emptied, nor has it as referent
+    -- no row is that of an emptied object, or refers to it
     no_row : Includes w.stack (death_of o machine.Emptying) → occurrences o (holdings w) ≡ 0 → IsInNoRow o store.rows
     no_row m none = in_no_row store.rows o (all_rows (λ r. r.weak ≢ o) store.rows own) (no_referent_in_heap store w represents rows o none_refers (sym (represents.deaths (record { object = o; phase = machine.Emptying }) m)))
       where
@@ -151,7 +151,7 @@ module _ (script : Script) (budget : ℕ) (store : Store) (w : World) (represent
             go false e =
                 none_found (λ x. (x.weak == o) && not x.waits) store.rows r i (ap (λ b. (r.weak == o) && not b) e ∙ ap (λ b. b && true) (eq-eqb r.weak o same)) no_referent
 
-    -- what a phase needs, where its death is on the stack
+    -- what a phase requires, with its death on the stack
     ready_at : (phase : Phase) → ((a : Activity) → Includes (death_activities o phase (waiting_for store o)) a → Includes w.stack a) → IsReadyForDeathAt store o phase
     ready_at phase_of.Finalizer on = unheld_now machine.Finalizer (on _ (inl refl)) (lawful.unheld _ (on _ (inl refl)))
     ready_at phase_of.AfterFinalizer on = tt
@@ -167,7 +167,7 @@ module _ (script : Script) (budget : ℕ) (store : Store) (w : World) (represent
     ready_at phase_of.Emptying on = (unheld_now machine.Emptying (on _ (inl refl)) (lawful.unheld _ (on _ (inl refl))), no_row (on _ (inl refl)) (lawful.unheld _ (on _ (inl refl))))
     ready_at phase_of.Over on = tt
 
-    -- while references are given up nothing holds it
+    -- while references are given up it is unheld
     unheld_during : (phase : Phase) (release : Option Release) → IsSettledAt phase release → ((a : Activity) → Includes (death_activities o phase (waiting_for store o)) a → Includes w.stack a) → IsUnheldDuring store o release
     unheld_during phase None settled on = tt
     unheld_during phase_of.Calling (Some release) settled on = unheld_now (machine.Calling (waiting_for store o)) (on _ (inl refl)) (lawful.unheld _ (on _ (inl refl)))

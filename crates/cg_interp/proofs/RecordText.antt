@@ -1,4 +1,4 @@
--- What is written of the graphs of a run, one after the other, is the text of its records.
+-- What is written of the graphs of a run, in order, is the text of its records.
 use Rattle.std.proofs.Common.{◌≡◌, refl, sym, ◌∙◌, ap, ℕ, Bool, true, false, List, [], ◌∷◌, ◌++◌, Option, None, Some, append_assoc, codes}
 use Rattle.std.specs.Prelude.{flat_map}
 use Rattle.cg_io.specs.Causes.{AppendsFront}
@@ -12,7 +12,7 @@ use Rattle.cg_interp.specs.Graphs.{taken_while, begins_record, closing}
 use Rattle.cg_interp.specs.Recorded.{Picture, second_of, records_of}
 use Rattle.cg_interp.specs.Recording.{picture_text, text_if_taken, text_so_far, unfinished_so_far}
 
--- what is written from some graphs on to the end
+-- what is written from some graphs to the end
 abbrev pub text_to_end : Bool → List Picture → List ℕ
 text_to_end unfinished pictures = text_so_far unfinished pictures ++ (closing (unfinished_so_far unfinished pictures) ++ codes "end\n")
 
@@ -32,7 +32,7 @@ assoc_front n o x l = simp (append_assoc)
 text-cons : (r : Rec) (records : List Rec) → text (r ∷ records) ≡ record_text r ++ text records
 text-cons r records = append_assoc (record_text r) (flat_map record_text records) (codes "end\n")
 
--- a record whose second graph is the next one, and the records of the graphs from there on
+-- a record whose second graph comes next, and the records of the graphs from there
 abbrev begun : ℕ → Graph → List Picture → List Rec
 begun g graph pictures = recorded g graph (second_of pictures) ∷ records_of pictures
 
@@ -83,7 +83,7 @@ text_to_end-append b ps qs =
     ∙ ap (λ u. (text_so_far b ps ++ text_so_far (unfinished_so_far b ps) qs) ++ (closing u ++ codes "end\n")) (unfinished-append b ps qs)
     ∙ append_assoc (text_so_far b ps) (text_so_far (unfinished_so_far b ps) qs) (closing (unfinished_so_far (unfinished_so_far b ps) qs) ++ codes "end\n")
 
--- A front of what is written from here on is a front of the text of all records.
+-- A prefix of what is written from here on is a prefix of the text of all records.
 pub front_of_all : (before now : Option (List ℕ)) (ps qs : List Picture) (more rest : List ℕ) → AppendsFront before now (text_so_far false ps ++ more) → text_to_end (unfinished_so_far false ps) qs ≡ more ++ rest
     → AppendsFront before now (text (records_of (ps ++ qs)))
 front_of_all before now ps qs more rest wrote is = record {

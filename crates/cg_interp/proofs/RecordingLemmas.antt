@@ -1,4 +1,4 @@
--- A run whose records are written, one turn on.
+-- A run whose records are written, after one more turn.
 use Rattle.std.proofs.Common.{◌≡◌, ◌≢◌, refl, sym, ◌∙◌, ap, subst, ℕ, ◌<◌, Bool, true, false, cond, ◌||◌, inl, inr, List, [], ◌∷◌, ◌++◌, Option, None, Some, append_assoc, append-nil, codes}
 use Rattle.std.specs.List.{list_any}
 use Rattle.std.proofs.lemmas.List.Folds.{list_any-append}
@@ -46,7 +46,7 @@ use Rattle.cg_machine.proofs.Ending.{sound_after}
 pub recorded_start : (script : Script) (budget : ℕ) (e : State) (before : Option (List ℕ)) → StandsFor script e (opening script budget) → RecordedSo script budget before e false before
 recorded_start script budget e before stands = record { ran = record { steps = []; told = []; left = []; run = tt; lines = refl; stands = inl (stands, refl); written = tt }; pictures = []; shows = refl; unrefused = refl; is = refl; written = Appends-nil before }
 
--- what is told of a turn that tells how the run stands
+-- the answer of a turn with the state of the run
 told_some : (b : Bool) (s t : Standing) → cond b None (Some s) ≡ Some t → (b ≡ false) × (s ≡ t)
 told_some true s t e = absurd (cc)
 told_some false s t e = (refl, (let f : s ≡ t = cc in f))
@@ -55,7 +55,7 @@ both_false : (a b : Bool) → a ≡ false → b ≡ false → (a || b) ≡ false
 both_false a b e f = rw (e, f) refl
 
 module _ (law : NoRunIsStuck) (script : Script) (budget : ℕ) (before now : Option (List ℕ)) where
-  -- A front of what is written from a run on is a front of the records of a whole run.
+  -- A prefix of what is written from a run on is a prefix of the records of a whole run.
   pub part_of_records : (steps : List StepTaken) (ps : List Picture) (more : List ℕ) → IsRun script budget steps → RunShows script (opening script budget) steps ps → AppendsFront before now (text_so_far false ps ++ more)
       → ((others : List StepTaken) (outcome : Outcome) → IsWholeRun script budget outcome (steps ++ others) → (qs : List Picture) × (rest : List ℕ) × RunShows script (last_world (opening script budget) steps) others qs × (text_to_end (unfinished_so_far false ps) qs ≡ more ++ rest))
       → WroteRecordsPart script budget before now
@@ -77,7 +77,7 @@ module _ (law : NoRunIsStuck) (script : Script) (budget : ℕ) (before now : Opt
       part_of_records steps ps [] run shows (subst (AppendsFront before now) (sym (append-nil (text_so_far false ps))) wrote)
       (λ others outcome whole. let some = some_shown script (last_world (opening script budget) steps) others in (some.0, text_to_end (unfinished_so_far false ps) some.0, some.1, refl))
 
--- all of some bytes are a front of them
+-- some bytes are a prefix of themselves
 all_front : (a b : Option (List ℕ)) (bs : List ℕ) → Appends a b bs → AppendsFront a b bs
 all_front a b bs wrote = record { front = bs; rest = []; whole = sym (append-nil bs); appended = wrote }
 
@@ -85,14 +85,14 @@ all_front a b bs wrote = record { front = bs; rest = []; whole = sym (append-nil
 pub nothing_recorded : NoRunIsStuck → (script : Script) (budget : ℕ) (before now : Option (List ℕ)) → Appends before now [] → WroteRecordsPart script budget before now
 nothing_recorded law script budget before now kept = part_so_far law script budget before now [] [] tt refl (all_front before now [] kept)
 
--- what is told of a turn, by whether a command was refused
+-- the answer of a turn, by whether a command was refused
 pub told_none : (b : Bool) (s : Standing) → b ≡ true → None ≡ cond b None (Some s)
 told_none b s e = ap (λ k. cond k None (Some s)) (sym e)
 
 pub told_known : (b : Bool) (s t : Standing) → b ≡ false → t ≡ s → Some t ≡ cond b None (Some s)
 told_known b s t e same = ap Some same ∙ ap (λ k. cond k None (Some s)) (sym e)
 
--- a turn, with what was written before it and after it
+-- a turn, with what was written before and after it
 module _ (script : Script) (old : State) (unfinished : Bool) (w : World) (l : List Event) (e : State) (before mid now : Option (List ℕ)) (d : Option Detection) (is : d ≡ recorded_next unfinished old) (answer : Turned)
     (turns : TurnsWith script (Advances old l e) w l e answer) (begun : Appends before mid (text_before script old.store unfinished d)) where
   pub records_turn : (then : Bool) (told : Option Standing) → told ≡ told_after answer → then ≡ unfinished_after unfinished d → Appends mid now (text_after e.store d) → RecordsTurn script old unfinished w l e then told before now
@@ -111,7 +111,7 @@ module _ (script : Script) (old : State) (unfinished : Bool) (w : World) (l : Li
     written = subst (λ k. AppendsFront before now (text_of_turn script old.store e.store unfinished k)) is (after_front before mid now _ _ begun part);
   })
 
--- the same in every world that the engine stands for
+-- the same in every world that the engine represents
 pub cuts_all : (script : Script) (old : State) (unfinished : Bool) (e : State) (before mid now : Option (List ℕ)) (d : Option Detection) → d ≡ recorded_next unfinished old → (answer : Turned)
     → ((w : World) (l : List Event) → StandsWith script old l w → StaysKept script old.first_budget w → TurnsWith script (Advances old l e) w l e answer) → Appends before mid (text_before script old.store unfinished d) → AppendsFront mid now (text_after e.store d)
     → (w : World) (l : List Event) → StandsWith script old l w → StaysKept script old.first_budget w → CutsRecord script old unfinished w l e before now
@@ -128,7 +128,7 @@ module _ (law : NoRunIsStuck) (script : Script) (budget : ℕ) (before : Option 
   abbrev kept : StaysKept script e.first_budget so_far
   kept = kept_so_far script budget None e None so.ran laws first_budget
 
-  -- so a turn may be taken
+  -- so it may take a turn
   pub turn_may_be_recorded : IsSpelled script → IsFit script e → IsAtAnyTurn script e
   turn_may_be_recorded spelled fit = record { spelled = spelled; fit = fit; world = so_far; left = left; stands = so.ran.stands; kept = kept }
 
@@ -155,7 +155,7 @@ module _ (law : NoRunIsStuck) (script : Script) (budget : ℕ) (before : Option 
     wrote_longer : Appends now now' (text_of_turn script e.store e'.store unfinished (recorded_next unfinished e)) → Appends before now' (text_so_far false pictures)
     wrote_longer wrote = subst (Appends before now') (sym text_longer) (Appends-trans before now now' _ _ so.written wrote)
 
-    -- a front of what is recorded of it was written
+    -- a prefix of its records was written
     cut_longer : AppendsFront now now' (text_of_turn script e.store e'.store unfinished (recorded_next unfinished e)) → WroteRecordsPart script budget before now'
     cut_longer wrote = part_so_far law script budget before now' longer pictures runs_longer shows_longer (subst (AppendsFront before now') (sym text_longer) (after_front before now now' _ _ so.written wrote))
 
@@ -179,7 +179,7 @@ module _ (law : NoRunIsStuck) (script : Script) (budget : ℕ) (before : Option 
       written = wrote_longer wrote;
     }
 
-    -- or has ended, and the end of the records is written
+    -- or it has ended, and the end of the records is written
     whole_longer : (lines : List Event) (outcome : Outcome) → left ≡ [] → events ≡ lines → after.outcome ≡ outcome → outcome ≢ Running → list_any wants_memory lines ≡ false → (then : Bool) → then ≡ unfinished_after unfinished (recorded_next unfinished e)
         → Appends now now' (text_of_turn script e.store e'.store unfinished (recorded_next unfinished e)) → (now'' : Option (List ℕ)) → Appends now' now'' (closing then ++ codes "end\n") → WroteRecords script budget outcome before now''
     whole_longer lines outcome none told ended over unrefused then is wrote now'' end = record {
@@ -194,7 +194,7 @@ module _ (law : NoRunIsStuck) (script : Script) (budget : ℕ) (before : Option 
       written = subst (Appends before now'') (sym (all_written pictures ∙ ap (λ u. text_so_far false pictures ++ (closing u ++ codes "end\n")) (sym (still_longer then is)))) (Appends-trans before now' now'' _ _ (wrote_longer wrote) end);
     }
 
-    -- or only a front of that end
+    -- or only a prefix of that end
     end_longer : (then : Bool) → then ≡ unfinished_after unfinished (recorded_next unfinished e) → Appends now now' (text_of_turn script e.store e'.store unfinished (recorded_next unfinished e)) → (now'' : Option (List ℕ)) → after.outcome ≢ Running
         → AppendsFront now' now'' (closing then ++ codes "end\n") → WroteRecordsPart script budget before now''
     end_longer then is wrote now'' over end = record {
@@ -214,7 +214,7 @@ module _ (law : NoRunIsStuck) (script : Script) (budget : ℕ) (before : Option 
       by (inl s) = s.0.running
       by (inr t) = t.collects.running
 
-  -- Where it was cut before the turn was taken, the machine makes the detection next, in some way.
+  -- Where it was cut off before the turn, the machine makes the pass next, in some way.
   module _ (now' : Option (List ℕ)) (listed : IsListed e.store) where
     nothing_more : AppendsFront before now' (text_so_far false so.pictures ++ []) → WroteRecordsPart script budget before now'
     nothing_more wrote = part_so_far law script budget before now' so.ran.steps so.pictures so.ran.run so.shows (subst (AppendsFront before now') (append-nil (text_so_far false so.pictures)) wrote)
@@ -259,7 +259,7 @@ module _ (law : NoRunIsStuck) (script : Script) (budget : ℕ) (before : Option 
               | inr is ↦ graph_cut d next is (subst Begun is here)
             ]
 
-  -- A turn, with what is recorded of it, makes what was recorded longer, or ends it.
+  -- A recorded turn extends what was recorded, or ends it.
   module _ (e' : State) (then : Bool) (now' : Option (List ℕ)) (listed : IsListed e.store) (listed' : IsListed e'.store) where
     abbrev pub Recorded : Option Standing → Type 0
     Recorded told = (w : World) (l : List Event) → StandsWith script e l w → StaysKept script e.first_budget w → RecordsTurn script e unfinished w l e' then told now now'
@@ -293,7 +293,7 @@ module _ (law : NoRunIsStuck) (script : Script) (budget : ℕ) (before : Option 
         go (turned.Left n) s none g still wrote = absurd (cc)
         go turned.Spent s none g still wrote = absurd (cc)
 
-    -- where the run has ended, and the end of the records is written
+    -- the run has ended, and the end of the records is written
     module _ (now'' : Option (List ℕ)) (end : Appends now' now'' (closing then ++ codes "end\n")) where
       ends : (lines : List Event) (outcome : Outcome) → outcome ≢ Running → list_any wants_memory lines ≡ false → left ≡ [] → RunEndsWith script so_far lines outcome → then ≡ unfinished_after unfinished (recorded_next unfinished e)
           → Appends now now' (text_of_turn script e.store e'.store unfinished (recorded_next unfinished e)) → WroteRecords script budget outcome before now''
@@ -323,7 +323,7 @@ module _ (law : NoRunIsStuck) (script : Script) (budget : ℕ) (before : Option 
           go (turned.Left n) s g still wrote = absurd (cc)
           go turned.Spent s (none, k) still wrote = ends (BudgetSpent ∷ []) BudgetIsSpent (λ n. cc) refl none k still wrote
 
-    -- or a front of it
+    -- or a prefix of it
     pub recorded_end_cut : (told : Option Standing) (s : Standing) → told ≡ Some s → s ≢ standing.Running → Recorded told → (now'' : Option (List ℕ)) → AppendsFront now' now'' (closing then ++ codes "end\n") → WroteRecordsPart script budget before now''
     recorded_end_cut told s is over t now'' end = let h = here told t in go h.answer ((told_some _ _ _ (sym h.is ∙ is)).1) h.turns h.still h.written
       where
@@ -340,7 +340,7 @@ module _ (law : NoRunIsStuck) (script : Script) (budget : ℕ) (before : Option 
         go (turned.Left n) e (none, k) still wrote = ends (Left n ∷ End ∷ []) Ended (λ m. cc) k still wrote
         go turned.Spent e (none, k) still wrote = ends (BudgetSpent ∷ []) BudgetIsSpent (λ n. cc) k still wrote
 
-    -- a front of what is recorded of any turn
+    -- a prefix of any turn's records
     turned_cut : (answer : Turned) → Turned_so answer → AppendsFront now now' (text_of_turn script e.store e'.store unfinished (recorded_next unfinished e)) → WroteRecordsPart script budget before now'
     turned_cut turned.Quiet g wrote = cut_longer e' now' g.events g.after g.goes (on_shown [] g) wrote
     turned_cut (turned.Line event) g wrote = cut_longer e' now' g.events g.after g.goes (on_shown (event ∷ []) g) wrote
@@ -349,11 +349,11 @@ module _ (law : NoRunIsStuck) (script : Script) (budget : ℕ) (before : Option 
     turned_cut (turned.Left n) (none, k) wrote = cut_longer e' now' (Left n ∷ End ∷ []) k.after k.goes (end_shown (Left n ∷ End ∷ []) Ended (λ m. cc) k) wrote
     turned_cut turned.Spent (none, k) wrote = cut_longer e' now' (BudgetSpent ∷ []) k.after k.goes (end_shown (BudgetSpent ∷ []) BudgetIsSpent (λ n. cc) k) wrote
 
-    -- where a command was refused for want of memory
+    -- a command was refused for memory
     pub recorded_refused : (told : Option Standing) → Recorded told → WroteRecordsPart script budget before now'
     recorded_refused told t = let h = here told t in turned_cut h.answer h.turns (all_front now now' _ h.written)
 
-    -- where a line was cut short
+    -- a line was cut off
     pub recorded_cut : ((w : World) (l : List Event) → StandsWith script e l w → StaysKept script e.first_budget w → CutsRecord script e unfinished w l e' now now') → WroteRecordsPart script budget before now'
     recorded_cut cut = by (cut so_far left so.ran.stands kept)
       where
@@ -361,7 +361,7 @@ module _ (law : NoRunIsStuck) (script : Script) (budget : ℕ) (before : Option 
         by (inl wrote) = cut_before now' listed wrote
         by (inr t) = turned_cut t.answer t.turns t.written
 
-    -- Each turn that goes on makes the number smaller.
+    -- Each turn that goes on lowers the number.
     pub recorded_falls : (told : Option Standing) → IsSmall e'.store → told ≡ Some standing.Running → Recorded told → falling script e' < falling script e
     recorded_falls told small is t = let h = here told t in go h.answer ((told_some _ _ _ (sym h.is ∙ is)).1) h.turns
       where

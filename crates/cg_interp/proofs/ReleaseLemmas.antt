@@ -1,4 +1,4 @@
--- A release on top: what it answers, as what the machine does.
+-- A release on top: its answer is the machine's step.
 use Rattle.std.proofs.Common.{◌≡◌, ◌≢◌, refl, sym, ◌∙◌, ap, subst, ℕ, ◌+◌, ◌<◌, Bool, true, false, cond, List, [], ◌∷◌, ◌++◌, Option, None, Some, length, arith, drop, length-drop}
 use Rattle.cg_script.specs.declared.Script.{Script}
 use Rattle.std.specs.Prelude.{◌==◌, if◌then◌else◌, option_map, IsSome}
@@ -27,12 +27,12 @@ use Rattle.cg_interp.specs.Turns.{GoesTo, GivesDeath, DyingIsSound, StaysSound}
 pub stack_moves : (w after : World) (steps : List StepTaken) → last_world w steps ≡ after → (w.stack ≡ after.stack → ⊥) → steps ≢ []
 stack_moves w after steps ends other none = other (ap (λ (v : World). v.stack) (sym (ap (last_world w) none) ∙ ends))
 
--- what goes on has given up a reference
+-- a release that goes on has given up a reference
 pub fewer : (left : List ℕ) (left_after : List ℕ) (store : Store) → left_after ≡ drop 1 left → answer_of.Continue ≡ release_answer left store → length left_after < length left
 fewer [] left_after store now is = let n : answer_of.Continue ≡ answer_of.Gone = is in absurd (cc)
 fewer (o ∷ left) left_after store now is = let same : length left_after ≡ length (drop 1 (o ∷ left)) = ap length now in omega (arith, same, length-drop 1 (o ∷ left))
 
--- an object whose death is to begin is held by nothing, and lives
+-- an object whose death is to begin is unheld and lives
 pub unheld_then : (left : List ℕ) (old new : Store) (o : ℕ) → HasHolds old left → new ≡ once_released left old → answer_of.Died o ≡ release_answer left new → IsUnheld new o
 unheld_then [] old new o holds now is = absurd (let clash : answer_of.Died o ≡ answer_of.Gone = is in cc)
 unheld_then (q ∷ left) old new o holds now is = go (count_of new q == 0) refl is
@@ -129,10 +129,10 @@ module _ (script : Script) (old new : State) (release after_release : Release) (
       by (answer_of.Died o) s not_on not_gone not_died = not_died o refl
       by answer_of.Gone s not_on not_gone not_died = not_gone refl
 
--- the death that a release hands out has begun
+-- the death that a release answers has begun
 pub death_begun : (script : Script) (w : World) (o : ℕ) (given new : State) → (gives : GivesDeath script w o given) → StandsFor script new (begin_death o gives.before) → GoesTo script w [] new
 death_begun script w o given new gives stands = record { after = begin_death o gives.before; goes = gives.goes; moves = gives.moves; stands = stands }
 
--- and what holds of the deaths of every run holds then
+-- and then the laws on deaths hold
 pub still_sound : (script : Script) (w : World) (o : ℕ) (given : State) → StaysSound script w → (gives : GivesDeath script w o given) → DyingIsSound (begin_death o gives.before)
 still_sound script w o given stays gives = subst DyingIsSound gives.goes.ends (stays gives.goes.steps gives.goes.run)

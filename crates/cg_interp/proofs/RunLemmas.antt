@@ -1,4 +1,4 @@
--- The run of an engine, one turn on: its steps, its text, and the number that falls.
+-- A run of the engine, after one more turn: its steps, its text, and the number that falls.
 use Rattle.std.proofs.Common.{◌≡◌, ◌≢◌, refl, sym, ◌∙◌, ap, subst, ℕ, ◌<◌, inl, List, [], ◌∷◌, ◌++◌, Option, append-nil, append_assoc}
 use Rattle.std.specs.Prelude.{flat_map}
 use Rattle.std.proofs.lemmas.Grind.{flat_map-append}
@@ -37,8 +37,7 @@ use Rattle.cg_interp.proofs.Falling.{falling, turn_falls}
 use Rattle.cg_interp.specs.Turns.{RunEndsWith, IsFit}
 use Rattle.cg_interp.proofs.LineByLine.{after_front, longer_front}
 
--- A turn goes somewhere: what it prints besides the lines that were left is the event that is due, and the lines that are
--- left now.
+-- A turn goes on: what it prints after the lines that were left is the answered event, and the lines that are left now.
 pub record Went (script : Script) (w : World) (left : List Event) (answer : Turned) : Type 0 where
   pub events : List Event
   pub after : World
@@ -54,7 +53,7 @@ went script may_rest w left e turned.Ended (none, t) = record { events = End ∷
 went script may_rest w left e (turned.Left n) (none, t) = record { events = Left n ∷ End ∷ []; after = t.after; still = []; goes = t.goes; lines = ap (λ l. l ++ Left n ∷ End ∷ []) none }
 went script may_rest w left e turned.Spent (none, t) = record { events = BudgetSpent ∷ []; after = t.after; still = []; goes = t.goes; lines = ap (λ l. l ++ BudgetSpent ∷ []) none }
 
--- so its line can be printed, where all lines can
+-- so its line can be printed, if all lines can
 pub told_printable : (script : Script) (may_rest : List Event → Type 0) (w : World) (left : List Event) (e : State) (answer : Turned) → TurnsWith script may_rest w left e answer → StaysPrintable script left w
     → (event : Event) → Includes (events_told answer) event → IsPrintable script.names event
 told_printable script may_rest w left e answer turns all event m =
@@ -62,7 +61,7 @@ told_printable script may_rest w left e answer turns all event m =
     all g.goes.steps g.goes.run event
     (subst (λ es. Includes (left ++ es) event) (sym g.goes.prints) (subst (λ es. Includes es event) (sym g.lines) (Includes-append_left (events_told answer) g.still event m)))
 
--- a front of what a run has printed is a front of the text of a whole run
+-- a prefix of what a run has printed is a prefix of the text of a whole run
 part_of_whole : FrontsBeginWholeTexts → (script : Script) (budget : ℕ) (steps : List StepTaken) (before now : Option (List ℕ)) → IsRun script budget steps → AppendsFront before now (text_of script steps)
     → WrotePart script budget before now
 part_of_whole law script budget steps before now run wrote =
@@ -85,7 +84,7 @@ has_laws kept printable script budget known spelled = record {
   printable = λ steps run. printable script budget steps known spelled.short run;
 }
 
--- So an engine may run that was made for a script and a budget.
+-- So the engine made for a script and a budget may run.
 pub may_run : WorldsStayKept → LinesArePrintable → (script : Script) (heap : Store) (budget : ℕ) → MayOpen script heap budget → (e : State) → StandsFor script e (opening script budget) → IsFit script e → e.first_budget ≡ budget → MayRun script e
 may_run kept printable script heap budget may e stands fit first_budget = record {
   spelled = may.spelled;
@@ -96,7 +95,7 @@ may_run kept printable script heap budget may e stands fit first_budget = record
 
 -- What ran so far, and the laws.
 module _ (script : Script) (budget : ℕ) (before : Option (List ℕ)) (e : State) (now : Option (List ℕ)) (ran : Ran script budget before e now) (laws : HasLaws script budget) (first_budget : e.first_budget ≡ budget) where
-  -- the world that it left
+  -- the world after it
   abbrev pub so_far : World
   so_far = world_after script budget ran.steps
 
@@ -112,7 +111,7 @@ module _ (script : Script) (budget : ℕ) (before : Option (List ℕ)) (e : Stat
       laws.printable (ran.steps ++ more) (Run-append script (opening script budget) ran.steps more ran.run run) event
       (subst (λ es. Includes es event) (sym (lines_on more)) (Includes-append_right ran.told (ran.left ++ events_of more) event m))
 
-  -- so a turn may be taken
+  -- so it may take a turn
   pub turn_may_be_taken : IsSpelled script → IsFit script e → MayWrite script e
   turn_may_be_taken spelled fit = record {
     at = record { spelled = spelled; fit = fit; world = so_far; left = ran.left; stands = ran.stands; kept = kept_so_far };
@@ -122,7 +121,7 @@ module _ (script : Script) (budget : ℕ) (before : Option (List ℕ)) (e : Stat
   abbrev text : List Event → List ℕ
   text es = flat_map (line script.names) es
 
-  -- the machine goes on, and tells some lines
+  -- the machine goes on, and prints some lines
   module _ (events tell still : List Event) (after : World) (goes : Goes script so_far events after) (lines : ran.left ++ events ≡ tell ++ still) where
     abbrev pub longer : List StepTaken
     longer = ran.steps ++ goes.steps
@@ -166,7 +165,7 @@ module _ (script : Script) (budget : ℕ) (before : Option (List ℕ)) (e : Stat
         let front : AppendsFront before now' (text (ran.told ++ tell)) = subst (AppendsFront before now') (sym told_longer) (after_front before now now' _ _ ran.written wrote) in
         part_of_whole law script budget longer before now' run_longer (subst (AppendsFront before now') (sym all) (longer_front before now' (text (ran.told ++ tell)) (text still) front))
 
-  -- A turn with its lines makes what ran longer, or ends it.
+  -- A turn with its lines extends the run, or ends it.
   module _ (e' : State) (now' : Option (List ℕ)) where
     abbrev pub Wrote : Standing → Type 0
     Wrote stands = (w : World) (left : List Event) → StandsWith script e left w → StaysKept script e.first_budget w → WritesTurn script e w left e' stands now now'
@@ -216,14 +215,14 @@ module _ (script : Script) (budget : ℕ) (before : Option (List ℕ)) (e : Stat
         go (turned.Left n) is g wrote = absurd (cc)
         go turned.Spent is (none, ends) wrote = ran_whole (BudgetSpent ∷ []) (BudgetSpent ∷ []) [] ends.after ends.goes (ap (λ l. l ++ BudgetSpent ∷ []) none) BudgetIsSpent now' refl ends.ended (λ n. cc) wrote
 
-    -- where a line was cut short
+    -- a line was cut off
     pub ran_cut : FrontsBeginWholeTexts → ((w : World) (left : List Event) → StandsWith script e left w → StaysKept script e.first_budget w → CutsTurn script e w left e' now now') → WrotePart script budget before now'
     ran_cut law cut =
         let t = cut so_far ran.left ran.stands kept_so_far in
         let g = went script (Advances e ran.left e') so_far ran.left e' t.answer t.turns in
         ran_part g.events (events_told t.answer) g.still g.after g.goes g.lines law now' t.written
 
-    -- Each turn that goes on makes the number smaller.
+    -- Each turn that goes on lowers the number.
     pub falls_on : (stands : Standing) → IsSmall e'.store → stands ≡ standing.Running → Wrote stands → falling script e' < falling script e
     falls_on stands small runs t = let h = t so_far ran.left ran.stands kept_so_far in go h.answer (h.is ∙ runs) h.turns
       where

@@ -1,4 +1,4 @@
--- The seat of the collection, and the activities that the slots stand for with what lies in it.
+-- The seat of the collection, and the activities that the slots represent with its content.
 use Rattle.std.proofs.Common.{◌≡◌, refl, sym, ◌∙◌, ap, ℕ, ◌+◌, Bool, true, false, cond, ◌||◌, List, [], ◌∷◌, ◌++◌, length, Option, None, Some, ◌≤◌, arith}
 use Rattle.std.specs.Prelude.{count_by, map, reverse, option_to_list}
 use Rattle.std.proofs.lemmas.List.{map-append, reverse-append}
@@ -19,7 +19,7 @@ neither false false idle = (refl, refl)
 neither false true idle = absurd (cc)
 neither true b idle = absurd (cc)
 
--- a slot that is not that of the collection is the same activity whatever lies in the seat
+-- a slot other than the collection's is the same activity with any seat
 alike : (one other : Option Collection) (top : Slot) → takes_seat top ≡ false → filled one top ≡ filled other top
 alike one other (slot.Script next) not = refl
 alike one other (slot.Frame locals procedure next) not = refl
@@ -28,14 +28,14 @@ alike one other (slot.Shutdown started) not = refl
 alike one other (slot.Dying death) not = refl
 alike one other (slot.Collecting asked) not = absurd (cc)
 
--- so are several of which none is that of the collection
+-- so are several without the collection's slot
 refilled : (one other : Option Collection) (slots : List Slot) → count_by takes_seat slots ≡ 0 → map (filled one) slots ≡ map (filled other) slots
 refilled one other [] none = refl
 refilled one other (top ∷ slots) none =
     let both = none_of (takes_seat top) (count_by takes_seat slots) (sym (sum_by-cons (λ s. cond (takes_seat s) 1 0) top slots) ∙ none) in
     ap (λ a. a ∷ map (filled one) slots) (alike one other top both.0) ∙ ap (λ l. filled other top ∷ l) (refilled one other slots both.1)
 
--- with a collection in the seat its slot, and no other, is a collection
+-- with a seated collection, exactly its slot is a collection
 collects : (c : Collection) (top : Slot) → is_collecting (filled (Some c) top) ≡ takes_seat top
 collects c (slot.Script next) = refl
 collects c (slot.Frame locals procedure next) = refl
@@ -44,7 +44,7 @@ collects c (slot.Shutdown started) = refl
 collects c (slot.Dying death) = refl
 collects c (slot.Collecting asked) = refl
 
--- so none is that of the collection where no collection is under way
+-- so if no collection is under way, no slot is the collection's
 none_takes : (c : Collection) (slots : List Slot) → any_collecting (reverse (map (filled (Some c)) slots)) ≡ false → count_by takes_seat slots ≡ 0
 none_takes c [] idle = refl
 none_takes c (top ∷ slots) idle =
@@ -55,7 +55,7 @@ none_takes c (top ∷ slots) idle =
     let rest = none_takes c slots both.0 in
     omega (arith, not, rest, sum_by-cons (λ s. cond (takes_seat s) 1 0) top slots)
 
--- where no collection is under way, the seat is empty
+-- if no collection is under way, the seat is empty
 pub vacant : (slots : List Slot) (seat : Option Collection) → IsSeatOf slots seat → any_collecting (reverse (map (filled seat) slots)) ≡ false → seat ≡ None
 vacant slots None is idle = refl
 vacant slots (Some c) is idle = let none = none_takes c slots idle in absurd (omega (arith, is, none))
@@ -64,7 +64,7 @@ at_most_one : (seat : Option Collection) → length (option_to_list seat) ≤ 1
 at_most_one None = omega arith
 at_most_one (Some c) = omega arith
 
--- what a slot on top stands for, and those below it with the seat as it is without that one
+-- what a slot on top represents, and those below it with the seat without that one
 module _ (slots : List Slot) (top : Slot) (without with : Option Collection) (seats : Seats top without with) where
   topmost : (takes_seat top ≡ true → count_by takes_seat slots ≡ 0) → reverse (map (filled with) (slots ++ top ∷ [])) ≡ filled with top ∷ reverse (map (filled without) slots)
   topmost none =

@@ -1,4 +1,4 @@
--- The graphs that a run shows, as runs grow.
+-- The graphs that a run shows, for longer and longer runs.
 use Rattle.std.proofs.Common.{◌≡◌, ◌≢◌, refl, sym, ◌∙◌, ap, subst, ℕ, false, List, [], ◌∷◌, ◌++◌, map, Option, None, Some, append_assoc}
 use Rattle.cg_script.specs.declared.Script.{Script}
 use Rattle.cg_machine.specs.World.{World, Activity, TopLevel, Framed, Releasing, Dying, Collecting, ShuttingDown, CollectPhase, Start, WeakClearing, WeakCalling, AfterCallback, AfterRelease, Finalizing, AfterFinalizing, Split, Turns, Turn, AfterTurn, Ending}
@@ -10,18 +10,17 @@ use Rattle.cg_records.specs.Reading.{graph}
 use Rattle.cg_interp.specs.declared.graphs.Detection.{Detection}
 use Rattle.cg_interp.specs.Recorded.{Picture, picture, detection_at, next_detection, candidates, lost_at, legacy_at, member_among, IsGraphOf, ShowsStep, RunShows}
 
--- a run, and more steps
 pub shows-append : (script : Script) (w : World) (steps more : List StepTaken) (ps qs : List Picture) → RunShows script w steps ps → RunShows script (last_world w steps) more qs → RunShows script w (steps ++ more) (ps ++ qs)
 shows-append script w [] more ps qs none then = subst (λ (l : List Picture). RunShows script w more (l ++ qs)) (sym none) then
 shows-append script w (step ∷ steps) more ps qs (now, later, is, shown, rest) then =
     (now, later ++ qs, ap (λ (l : List Picture). l ++ qs) is ∙ append_assoc now later qs, shown, shows-append script step.world steps more later qs rest then)
 
--- a graph of each detection, with its members in any order
+-- a graph of each pass, with its members in any order
 pub graph_by : (script : Script) (d : Detection) (w after : World) (order : List ℕ) → SameMembers order (candidates d w)
     → IsGraphOf script d w after (graph (map (member_among script w (candidates d w)) order) (lost_at d after) (legacy_at d after))
 graph_by script d w after order all = record { order = order; all = all; members = refl; lost = λ o. refl; legacy = λ o. refl }
 
--- each step shows something
+-- each step shows some graphs
 step_shown : (script : Script) (w after : World) (d : Option Detection) → (ps : List Picture) × ShowsStep script w after d ps
 step_shown script w after None = ([], refl)
 step_shown script w after (Some d) =
@@ -36,7 +35,7 @@ some_shown script w (step ∷ steps) =
     let later = some_shown script step.world steps in
     (now.0 ++ later.0, (now.0, later.0, refl, now.1, later.1))
 
--- where no detection is made, nothing is shown
+-- where no pass is made, nothing is shown
 phase_none : (g : ℕ) (phase : CollectPhase) → is_detection phase ≡ false → detection_at g phase ≡ None
 phase_none g Start e = absurd (cc)
 phase_none g (WeakClearing waiting) e = refl
@@ -68,13 +67,13 @@ pub shows_none : (script : Script) (w : World) (steps : List StepTaken) → Make
 shows_none script w [] none = refl
 shows_none script w (step ∷ steps) (here, later) = ([], [], refl, step_none script w step.world (next_detection w.stack) (none_next w.stack here), shows_none script step.world steps later)
 
--- Steps of which one alone may be a detection, from a world that makes none next, show nothing.
+-- Steps with at most one pass, made alone, from a world that makes none next, show nothing.
 pub alone_none : (script : Script) (w : World) (steps : List StepTaken) → MakesDetectionsAlone w steps → next_detection w.stack ≡ None → RunShows script w steps []
 alone_none script w [] alone next = refl
 alone_none script w (step ∷ []) alone next = ([], [], refl, step_none script w step.world (next_detection w.stack) next, refl)
 alone_none script w (step ∷ one ∷ steps) alone next = shows_none script w (step ∷ one ∷ steps) alone
 
--- From a world that makes a detection next, such steps are that one.
+-- From a world that makes a pass next, such steps are just that one.
 pub one_alone : (w : World) (steps : List StepTaken) (d : Detection) → MakesDetectionsAlone w steps → next_detection w.stack ≡ Some d → steps ≢ [] → (step : StepTaken) × (steps ≡ step ∷ [])
 one_alone w [] d alone next some = absurd (some refl)
 one_alone w (step ∷ []) d alone next some = (step, refl)

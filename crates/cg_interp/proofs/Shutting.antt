@@ -1,4 +1,4 @@
--- A turn of the shutdown: the greatest bound name is given up, the last collection starts, or what is left is told.
+-- A turn of the shutdown: it gives up the greatest bound name, starts the last collection, or reports what is left.
 use Rattle.std.proofs.Common.{◌≡◌, refl, sym, ◌∙◌, ap, subst, ℕ, zero, suc, ◌+◌, ◌<◌, ◌≤◌, Bool, true, false, cond, List, [], ◌∷◌, ◌++◌, length, drop, Option, None, Some, arith}
 use Rattle.std.specs.Prelude.{slice_get, option_and_then, count_by}
 use Rattle.std.proofs.lemmas.List.{length-set}
@@ -36,7 +36,7 @@ use Rattle.cg_interp.proofs.Standing.{plain_shutdown, replaced, spelled}
 use Rattle.cg_interp.proofs.StepLemmas.{turns}
 use Rattle.cg_death.proofs.ObjectNumbers.{none-held}
 
--- What the machine finds is bound, and what is bound is not above it.
+-- What the machine finds is bound, and no bound name is above it.
 abbrev FoundFrom : ℕ → List (Option Val) → Option ℕ → Type 0
 FoundFrom n names None = (k : ℕ) → ¬ IsBound names k
 FoundFrom n names (Some m) = (k : ℕ) × (m ≡ n + k) × IsBound names k × ((j : ℕ) → IsBound names j → j ≤ k)
@@ -92,7 +92,7 @@ greatest_from-below n (x ∷ names) name is = go (greatest_from (n + 1) names) r
 pub greatest_below : (names : List (Option Val)) (name : ℕ) → greatest_from 0 names ≡ Some name → name < length names
 greatest_below names name is = let below = greatest_from-below 0 names name is in omega (arith, below)
 
--- past the last name none is bound
+-- no name after the last is bound
 pub none_past : (names : List (Option Val)) (k : ℕ) → k ≡ length names → greatest_from k (drop k names) ≡ None
 none_past names k is = ap (greatest_from k) (ap (λ m. drop m names) is ∙ past names)
   where
@@ -100,7 +100,7 @@ none_past names k is = ap (greatest_from k) (ap (λ m. drop m names) is ∙ past
     past [] = refl
     past (x ∷ names) = past names
 
--- Nothing stands below the shutdown.
+-- Nothing is below the shutdown.
 alone : (started : Bool) (below : List Activity) → IsOverTopLevel (ShuttingDown started ∷ below) → below ≡ []
 alone started below over = by over.others over.bottom over.nowhere_else
   where
@@ -111,7 +111,6 @@ alone started below over = by over.others over.bottom over.nowhere_else
         let own : cond {A = ℕ} (is_top_level a) 1 0 ≡ 1 = ap (λ b. cond {A = ℕ} (is_top_level b) 1 0) (sym same) in
         absurd (omega (arith, none, own, sum_by-cons (λ x. cond {A = ℕ} (is_top_level x) 1 0) a others))
 
--- the shutdown is on top
 module _ (script : Script) (e : State) (started : Bool) (w : World) (stands : StandsFor script (under (activity.Shutdown started) e) w) where
   pub shutdown_at : w.stack ≡ ShuttingDown started ∷ stands.shows.below
   shutdown_at = stands.shows.is ∙ ap (λ l. l ++ stands.shows.below) stands.shows.shows
@@ -130,14 +129,12 @@ module _ (script : Script) (e : State) (started : Bool) (w : World) (stands : St
     abbrev next_world : Transition
     next_world = shut_down started name stands.shows.below w
 
-    -- the step of the machine
     pub shuts : StepOf script w w.stack next_world.0 next_world.1
     shuts =
         let here : greatest_bound w ≡ name = ap (greatest_from 0) (sym stands.represents.names) ∙ found in
         subst (λ st. StepOf script w st next_world.0 next_world.1) (sym shutdown_at)
         (subst (λ n. Yields (shut_down started n stands.shows.below w) next_world.0 next_world.1) (sym here) (refl, refl))
 
--- A name is given up.
 module _ (script : Script) (e new : State) (name : ℕ) (was : Option Val) (release : Release) (w : World) (stands : StandsFor script (under (activity.Shutdown false) e) w) where
   abbrev gave_up : World
   gave_up = push (Releasing (given_up_by w name)) (bound w name None)
@@ -172,7 +169,7 @@ module _ (script : Script) (e new : State) (name : ℕ) (was : Option Val) (rele
       was_live : (s : ℕ) → 0 < occurrences s (references_of_value was) → IsLive e.store s
       was_live s there = sound.live s (omega (arith, there, name_holds e.store name was at s))
 
--- No name is bound: the last collection starts above the shutdown, which knows that it has.
+-- No name is bound: the last collection starts above the shutdown, which records it.
 module _ (script : Script) (e : State) (w : World) (stands : StandsFor script (under (activity.Shutdown false) e) w) where
   pub starts_last : World
   starts_last = with_stack (ShuttingDown true ∷ stands.shows.below) w
@@ -193,14 +190,14 @@ module _ (script : Script) (e : State) (w : World) (stands : StandsFor script (u
   unfolding starts_last
   last_steps none = shuts script e false w stands None none
 
--- What is left is told.
+-- What is left is printed.
 pub tells_left : (script : Script) (e : State) (w : World) (number : ℕ) → StandsFor script (under (activity.Shutdown true) e) w → IsSound e.store → number ≡ object_number e.store → Turns script w e (turned.Left number)
 tells_left script e w number stands sound is =
     let same : live w ≡ number = live-number e.store w stands.represents sound ∙ sym is in
     turns script w e (Left (live w) ∷ End ∷ [], record w { outcome = Ended }) (turned.Left number) stands.running (shuts script e true w stands (greatest_from 0 e.store.names) refl)
     (ap (λ n. Left n ∷ End ∷ []) same, refl)
 
--- A turn that gives up a name keeps what an engine has room for.
+-- A turn that gives up a name keeps the engine within its room.
 pub keeps_unbound : (inside old new : State) → inside ≡ old → (refs : List ℕ) (name : ℕ) → new.store ≡ held refs (named name None inside.store) → length new.activities ≡ length inside.activities + 2 → inside.room ≤ new.room + 2 → new.first_budget ≡ inside.first_budget → TurnKeeps old new
 keeps_unbound inside old new same refs name store two room first_budget = subst (λ e. TurnKeeps e new) same (record {
   objects = omega (arith, ap (λ st. length (objects_of st)) store, (none-held refs (named name None inside.store)).objects);

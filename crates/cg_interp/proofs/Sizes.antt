@@ -1,4 +1,4 @@
--- How long the lists of a heap are, its rows, and the entries of an object.
+-- Bounds on the lists of a heap, its rows, and the entries of an object.
 use Rattle.std.proofs.Common.{◌≡◌, refl, sym, ap, subst, ℕ, zero, suc, ◌+◌, ◌<◌, ◌≤◌, Bool, true, false, cond, List, [], ◌∷◌, length, map, Option, Some, None, IsSome, length-append, arith}
 use Rattle.std.specs.Prelude.{◌==◌, All}
 use Rattle.std.specs.FinMap as fin
@@ -26,13 +26,13 @@ use Rattle.cg_collect.proofs.Standing.{node_of_live, object_there}
 use Rattle.cg_collect.proofs.WalkTurns.{list_few}
 use Rattle.cg_interp.proofs.Lawfully.{few_objects}
 
--- what is true of every heap
+-- exposes the heap's invariant to proofs
 pub record IsSmall (store : Store) : Type 0 where
   pub lists : (p : Place) → length (list_at store p) ≤ 1000001
   pub rows : length store.rows ≤ 1000001
   pub entries : (o : ℕ) → length (entries_of store o) ≤ 5000001
 
--- different serials of objects are no more than the objects
+-- there are at most as many different serials as objects
 different_few : (store : Store) → IsSound store → (xs : List ℕ) → ((s : ℕ) → occurrences s xs ≤ 1) → ((s : ℕ) → 0 < occurrences s xs → IsLive store s) → length xs ≤ 1000001
 different_few store sound xs once live =
     let fits = fewer_times xs (serials (objects_of store)) (λ s. go s (occurrences s xs) refl) in
@@ -47,7 +47,7 @@ different_few store sound xs once live =
     go s zero e = omega (arith, e)
     go s (suc n) e = let some = once s in let more = there s (live s (omega (arith, e))) in omega (arith, some, more)
 
--- Rows stand by rising weak reference, so each is that of another.
+-- Rows rise by weak reference, so each belongs to another one.
 above_all : (r : Row) (rows : List Row) → All (λ (x : Row). r.weak < x.weak) rows → (s : ℕ) → Includes (map (λ (x : Row). x.weak) rows) s → r.weak < s
 above_all r rows above s m =
     let (x, inside, is) = Includes-map_cases (λ (x : Row). x.weak) rows s m in
@@ -76,7 +76,7 @@ rows_few store sound =
     subst (IsLive store) is (subst IsSome (sym got) refl)) in
     omega (arith, few, length-map store.rows (λ (r : Row). r.weak))
 
--- The garbage list names different objects.
+-- The garbage list has no duplicates.
 saved_length : (es : List Entry) → All IsSaved es → length (references es) ≡ length es
 saved_length [] h = refl
 saved_length (e ∷ es) h =

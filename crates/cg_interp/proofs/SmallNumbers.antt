@@ -1,4 +1,4 @@
--- The numbers of the collector stay small in every run of a script that is spelled.
+-- The collector's numbers stay small in every run of a well-formed script.
 use Rattle.std.proofs.Common.{ℕ, ◌+◌, ◌*◌, ◌<◌, ◌≤◌, Bool, true, false, length, arith}
 use Rattle.std.specs.Prelude.{◌==◌, ◌^◌, if◌then◌else◌}
 use Rattle.std.proofs.lemmas.Nat.{mul-le}
@@ -14,7 +14,7 @@ use Rattle.cg_collect.specs.Numbers.{AreSmall}
 use Rattle.cg_collect.specs.Answers.{numbers_at}
 use Rattle.cg_interp.proofs.SpelledLemmas.{short_bodies, few_commands}
 
--- the pending number is bounded by a square
+-- a square bounds the pending number
 below_square : (pending square : ℕ) → pending ≤ 16 * square → square ≤ 40000400001 * 40000400001 → pending < 2 ^ 126
 below_square pending square low high = omega (arith, low, high)
 

@@ -1,4 +1,4 @@
--- What is true of the commands of a script that is spelled, and how many objects a run of it can make.
+-- The commands of a well-formed script, and how many objects a run of it can make.
 use Rattle.std.proofs.Common.{◌≡◌, refl, sym, ◌∙◌, ap, subst, ℕ, ◌<◌, ◌≤◌, inl, inr, List, [], ◌∷◌, ◌++◌, Option, None, Some, length, arith}
 use Rattle.std.specs.Prelude.{slice_get, option_map, unwrap_or, IfSome}
 use Rattle.std.specs.List.{All}
@@ -25,13 +25,12 @@ use Rattle.cg_interp.specs.Engines.{State, StandsFor, frame_of, under}
 use Rattle.cg_interp.specs.Callers.{AreDoable}
 use Rattle.cg_interp.proofs.Lawfully.{is_live}
 
--- what holds of all holds of one
+-- a property of all holds of one
 of_all : {X : Type 0} (P : X → Type 0) (xs : List X) (x : X) → All P xs → Includes xs x → P x
 of_all P [] x all m = absurd m
 of_all P (y ∷ xs) x all (inl same) = subst P same (All-head P y xs all)
 of_all P (y ∷ xs) x all (inr m) = of_all P xs x (All-tail P y xs all) m
 
--- the commands outside procedures are lines
 command_line : (items : List Item) (c : Command) → Includes (commands_of items) c → Includes items (Run c)
 command_line [] c m = absurd m
 command_line (Budget n ∷ items) c m = inr (command_line items c m)
@@ -42,7 +41,6 @@ command_line (Def p ∷ items) c m = inr (command_line items c m)
 command_line (Run d ∷ items) c (inl same) = inl (ap Run same)
 command_line (Run d ∷ items) c (inr m) = inr (command_line items c m)
 
--- and so are the procedures
 procedure_line : (items : List Item) (p : Proc) → Includes (procedures items) p → Includes items (Def p)
 procedure_line [] p m = absurd m
 procedure_line (Budget n ∷ items) p m = inr (procedure_line items p m)
@@ -53,7 +51,6 @@ procedure_line (Run c ∷ items) p m = inr (procedure_line items p m)
 procedure_line (Def q ∷ items) p (inl same) = inl (ap Def same)
 procedure_line (Def q ∷ items) p (inr m) = inr (procedure_line items p m)
 
--- no more commands than lines
 pub few_commands : (items : List Item) → length (commands_of items) ≤ length items
 few_commands [] = omega arith
 few_commands (Budget n ∷ items) = omega (arith, few_commands items)
@@ -68,7 +65,7 @@ module _ (script : Script) (spelled : IsSpelled script) where
   pub script_doable : (names : ℕ) → names ≡ length script.names → AreDoable names (commands_of script.items)
   script_doable names same c m = subst (λ n. IsSpelledCommand n c) (sym same) (of_all (IsSpelledItem (length script.names)) script.items (Run c) spelled.lines (command_line script.items c m))
 
-  -- what holds of an empty body and of each procedure's holds of the body of a number
+  -- a property of an empty body and of each procedure's holds of the body with a number
   of_body : (P : List Command → Type 0) (number : ℕ) → P [] → ((p : Proc) → Includes (procedures script.items) p → P p.body) → P (body_of script number)
   of_body P number none each = by (slice_get (procedures script.items) number) refl
     where
@@ -89,7 +86,7 @@ module _ (script : Script) (spelled : IsSpelled script) where
   pub low_serials : (budget : ℕ) (store : Store) (w : World) → Represents store w → IsLawful script budget w → budget ≤ 100000 → store.last < 9223372036854775808
   low_serials budget store w represents lawful low = omega (arith, lawful.serials 400000 short_bodies, represents.next_serial, few_commands script.items, spelled.few_lines, low)
 
--- what a frame on top has as locals lives
+-- the locals of the top frame live
 pub locals_are_live : (script : Script) (budget : ℕ) (e : State) (locals : Locals) (procedure : ℕ) (next : Option ℕ) (w : World) → StandsFor script (under (activity.Frame locals procedure next) e) w → IsLawful script budget w
     → LocalsLive e.store (Some locals)
 locals_are_live script budget e locals procedure next w stands lawful = (is_live e.store w locals.subject stands.represents (lawful.locals.subjects (frame_of script locals procedure next) on), by locals.func refl)

@@ -1,4 +1,4 @@
--- What a heap stands for, where an activity is put on top of the stack, taken from it, or replaced.
+-- What a heap represents when an activity is pushed, popped, or replaced.
 use Rattle.std.proofs.Common.{◌≡◌, refl, sym, ◌∙◌, ap, subst, ℕ, ◌+◌, ◌<◌, inr, List, [], ◌∷◌, ◌++◌, Option, None, Some, arith, append-nil, Bool}
 use Rattle.std.specs.Prelude.{flat_map, option_map}
 use Rattle.std.specs.FinMap as fin
@@ -18,7 +18,7 @@ use Rattle.cg_machine.specs.Run.{StepOf}
 use Rattle.cg_machine.specs.Represents.{Represents, Goes}
 use Rattle.cg_machine.proofs.Representing.{Matches, matches, represents}
 
--- nothing is held by no references
+-- no references hold nothing
 pub held-none : (store : Store) → held [] store ≡ store
 held-none store = λ i. record store { nodes = same_map (held [] store).nodes store.nodes (λ q. get-mapped (λ s n. more 0 n) store.nodes q ∙ known (fin.get store.nodes q)) i }
   where
@@ -43,7 +43,7 @@ plain_shutdown started = record { no_death = λ d e. cc; no_collection = λ c e.
 pub plain_release : (references : List ℕ) → IsPlain (Releasing references)
 plain_release references = record { no_death = λ d e. cc; no_collection = λ c e. cc }
 
--- A plain activity more, or one less, is seen in the holds alone.
+-- One plain activity more or less changes only the holds.
 module _ (store : Store) (w : World) (a : Activity) (plain : IsPlain a) (below : List Activity) where
   pub pushed : Matches store (with_stack below w) → Matches store (with_stack (a ∷ below) w)
   pushed m = record {
@@ -65,7 +65,7 @@ module _ (store : Store) (w : World) (a : Activity) (plain : IsPlain a) (below :
     collection = λ c i. m.collection c (inr i);
   }
 
--- The heap stands for a world without a plain activity that holds nothing, and with another one on top that holds what
+-- The heap represents a world without a plain activity that holds nothing, and with another one on top that holds what
 -- the first one held.
 pub replaced : (store : Store) (w : World) (a b : Activity) (below : List Activity) → IsPlain a → IsPlain b → holds b ≡ holds a → Represents store (with_stack (a ∷ below) w) → Represents store (with_stack (b ∷ below) w)
 replaced store w a b below plain_a plain_b same r =

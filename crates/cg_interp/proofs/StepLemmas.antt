@@ -1,4 +1,4 @@
--- A step of the script or of a frame: the next command, or a collection that is due before it.
+-- A step of the script or of a frame: the next command, or a due collection before it.
 use Rattle.std.proofs.Common.{◌≡◌, refl, sym, ◌∙◌, ap, subst, ℕ, true, false, List, [], ◌∷◌, ◌++◌, Option, None, Some, inl, take, drop, Bool, length, arith, ◌+◌, ◌<◌, get_or}
 use Rattle.std.specs.Prelude.{option_to_list}
 use Rattle.std.proofs.lemmas.List.{take-append-drop}
@@ -47,7 +47,7 @@ use Rattle.cg_interp.proofs.SpelledLemmas.{script_doable, body_doable, low_seria
 use Rattle.cg_interp.proofs.UnderWay.{policy_is}
 use Rattle.cg_machine.specs.Shutdown.{after_commands}
 
--- What the policy finds due is what the machine finds due.
+-- What is due by the policy is due by the machine.
 pub due_in : (script : Script) (e : State) (w : World) (answer : Option ℕ) → StandsFor script e w → answer ≡ due_of e.policy → due w ≡ answer
 due_in script e w answer stands is = ap due_of (sym (policy_is script e w stands)) ∙ sym is
 
@@ -55,7 +55,7 @@ pub none_due_in : (script : Script) (e : State) (w : World) (answer : Option ℕ
 none_due_in script e w None stands is never = due_in script e w None stands is
 none_due_in script e w (Some g) stands is never = absurd (never g refl)
 
--- a transition that the machine may make is what a turn answers
+-- a transition that the machine may make answers a turn
 pub turns : (script : Script) (w : World) (e : State) (t : Transition) (answer : Turned) → w.outcome ≡ Running → StepOf script w w.stack t.0 t.1 → Makes script t e answer → Turns script w e answer
 turns script w e t turned.Quiet running step makes = record { after = t.1; goes = one_step script w [] t.1 running (subst (λ es. StepOf script w w.stack es t.1) makes.0 step); moves = λ n. absurd (cc); stands = makes.1 }
 turns script w e t (turned.Line event) running step makes = record { after = t.1; goes = one_step script w (event ∷ []) t.1 running (subst (λ es. StepOf script w w.stack es t.1) makes.0 step); moves = λ n. absurd (cc); stands = makes.1 }
@@ -66,11 +66,11 @@ turns script w e t turned.Spent running step makes = record { after = t.1; goes 
 
 -- A step of the machine comes first.
 module _ (script : Script) (w mid : World) (running : w.outcome ≡ Running) where
-  -- what stays kept stays so after it
+  -- what is kept stays kept after it
   pub kept_after : (budget : ℕ) (events : List Event) → StepOf script w w.stack events mid → StaysKept script budget w → StaysKept script budget mid
   kept_after budget events step kept steps run = kept (record { events = events; world = mid } ∷ steps) (record { running = running; step = step }, run)
 
-  -- where it starts a collection, no line is due
+  -- if it starts a collection, there is no line
   pub begins_collection : (e : State) → StepOf script w w.stack [] mid → StandsWith script e [] mid → TurnsWith script (λ still. ⊥) w [] e turned.Quiet
   begins_collection e step stands = record {
     events = [];
@@ -82,7 +82,8 @@ module _ (script : Script) (w mid : World) (running : w.outcome ≡ Running) whe
     stands = stands;
   }
 
--- A command is done from the world without it: what the machine may do for the command is its step. That makes no detection.
+-- A command is done from the world without it: what the machine allows for the command is its step, without a reachability
+-- pass.
 module _ (script : Script) (w without : World) (c : Command) (running : w.outcome ≡ Running) (plain : detects w.stack ≡ false)
     (step : (events : List Event) (after : World) → CommandStep script without c events after → StepOf script w w.stack events after) where
   -- what it gives up is given up in the same turn
@@ -117,7 +118,7 @@ module _ (script : Script) (w without : World) (c : Command) (running : w.outcom
   pub command_keeps : (budget : ℕ) → StaysKept script budget w → StaysKeptAfter script budget without c
   command_keeps budget kept events after may = kept_after script w after running budget events (step events after may) kept
 
--- what is left was there before
+-- the rest was there before
 still_there : {X : Type 0} (n : ℕ) (xs : List X) (x : X) → Includes (drop n xs) x → Includes xs x
 still_there n xs x m = subst (λ l. Includes l x) (take-append-drop n xs) (Includes-append_right (take n xs) (drop n xs) x m)
 
@@ -125,26 +126,23 @@ pub is_there : (commands rest : List Command) (next : Option ℕ) (c : Command) 
 is_there commands rest None c is = absurd (cc)
 is_there commands rest (Some n) c is = still_there n commands c (subst (λ l. Includes l c) (sym is) (inl refl))
 
--- the command that has the turn in the body of a procedure
+-- the current command in the body of a procedure
 pub comes_next : (script : Script) (locals : Locals) (procedure : ℕ) (next : Option ℕ) (c : Command) (after : ℕ) (body : List Command) → body ≡ body_of script procedure → commands_from next body ≡ c ∷ commands_from (Some after) body → ComesNext script (frame_caller locals procedure (Some after)) next c
 comes_next script locals procedure next c after body is turn = subst (λ l. commands_from next l ≡ c ∷ commands_from (Some after) l) is turn
 
--- the command that has the turn, and a caller that goes on behind it
+-- the current command, and a caller that advances past it
 pub comes_next_at : (script : Script) (locals : Locals) (procedure n : ℕ) (c : Command) (body : List Command) (caller : Caller) → caller ≡ frame_caller locals procedure (Some (n + 1)) → body ≡ body_of script procedure → n < length body → c ≡ get_or body n c → ComesNext script caller (Some n) c
 comes_next_at script locals procedure n c body caller frame is within at = subst (λ k. ComesNext script k (Some n) c) (sym frame) (comes_next script locals procedure (Some n) c (n + 1) body is (next_there body n c within at))
 
--- The script is on top.
 module _ (script : Script) (e : State) (next : Option ℕ) (w : World) (stands : StandsFor script (under (activity.Script next) e) w) where
   script_at : (commands : List Command) → commands_from next (commands_of script.items) ≡ commands → w.stack ≡ TopLevel commands ∷ stands.shows.below
   script_at commands is = stands.shows.is ∙ ap (λ l. l ++ stands.shows.below) stands.shows.shows ∙ ap (λ cs. TopLevel cs ∷ stands.shows.below) is
 
-  -- a collection is due
   pub script_collects : (g : ℕ) → due w ≡ Some g → StepOf script w w.stack [] (push (new_collection g false w) w)
   script_collects g is =
       subst (λ st. StepOf script w st [] (push (new_collection g false w) w)) (sym (script_at _ refl))
       (subst (λ d. TopLevelStep script w d (commands_from next (commands_of script.items)) stands.shows.below [] (push (new_collection g false w) w)) (sym is) (refl, refl))
 
-  -- no command is left
   module _ (none : due w ≡ None) (is : commands_from next (commands_of script.items) ≡ []) (declared : Bool) (same : declares_shutdown script.items ≡ declared) where
     abbrev next_world : Transition
     next_world = after_commands declared stands.shows.below w
@@ -155,7 +153,7 @@ module _ (script : Script) (e : State) (next : Option ℕ) (w : World) (stands :
         (subst (λ d. TopLevelStep script w d [] stands.shows.below next_world.0 next_world.1) (sym none)
         (subst (λ b. Yields (after_commands b stands.shows.below w) next_world.0 next_world.1) (sym same) (refl, refl)))
 
-    -- the run ends, or the shutdown comes in the place of the script
+    -- the run ends, or the shutdown replaces the script
     pub commands_end : (new : State) (answer : Turned) → Makes script next_world new answer → Turns script w new answer
     commands_end new answer makes = turns script w new next_world answer stands.running steps_on makes
 
@@ -172,12 +170,10 @@ module _ (script : Script) (e : State) (next : Option ℕ) (w : World) (stands :
     collecting = ap (λ (p : Policy). p.running) policy ∙ stands.collecting ∙ sym (ap any_collecting activities);
   }
 
-  -- the next command is known
   module _ (after : Option ℕ) (c : Command) (is : commands_from next (commands_of script.items) ≡ c ∷ commands_from after (commands_of script.items)) where
     abbrev rest : List Command
     rest = commands_from after (commands_of script.items)
 
-    -- the world without that command
     pub script_goes_on : World
     script_goes_on = with_stack (TopLevel rest ∷ stands.shows.below) w
 
@@ -196,13 +192,13 @@ module _ (script : Script) (e : State) (next : Option ℕ) (w : World) (stands :
     unfolding script_goes_on
     script_locals = refl
 
-    -- where no collection is due, it is done
+    -- if no collection is due, it is done
     pub script_does : due w ≡ None → (events : List Event) (done : World) → CommandStep script script_goes_on c events done → StepOf script w w.stack events done
     unfolding script_goes_on
     script_does none events done may =
         subst (λ st. StepOf script w st events done) (sym (script_at (c ∷ rest) is)) (subst (λ d. TopLevelStep script w d (c ∷ rest) stands.shows.below events done) (sym none) may)
 
--- A frame is on top, and its next command is known.
+-- A frame is on top, with a known next command.
 module _ (script : Script) (e : State) (locals : Locals) (procedure : ℕ) (next after : Option ℕ) (c : Command) (w : World)
     (stands : StandsFor script (under (activity.Frame locals procedure next) e) w) (is : commands_from next (body_of script procedure) ≡ c ∷ commands_from after (body_of script procedure)) where
   abbrev running_frame : Frame
@@ -220,11 +216,9 @@ module _ (script : Script) (e : State) (locals : Locals) (procedure : ℕ) (next
       (subst (λ cs. FrameStep script w running_frame cs stands.shows.below events done) (sym is)
       (subst (λ d. CommandInFrame script w d running_frame c frame_after.commands stands.shows.below events done) (sym same) step))
 
-  -- a collection is due
   pub frame_collects : (g : ℕ) → due w ≡ Some g → StepOf script w w.stack [] (push (new_collection g false w) w)
   frame_collects g same = frame_steps (Some g) [] (push (new_collection g false w) w) same (refl, refl)
 
-  -- the world without that command
   pub frame_goes_on : World
   frame_goes_on = with_stack (Framed frame_after ∷ stands.shows.below) w
 
@@ -243,20 +237,18 @@ module _ (script : Script) (e : State) (locals : Locals) (procedure : ℕ) (next
   unfolding frame_goes_on
   frame_locals = refl
 
-  -- where no collection is due, it is done
+  -- if no collection is due, it is done
   pub frame_does : due w ≡ None → (events : List Event) (done : World) → CommandStep script frame_goes_on c events done → StepOf script w w.stack events done
   unfolding frame_goes_on
   frame_does none events done may = frame_steps None events done none may
 
--- The world without the command from which a caller has gone on, which is done from there. Where no collection is due it is the
--- step of the machine.
+-- The world without the command that a caller has advanced past. If no collection is due, doing it is the machine's step.
 pub record Without (script : Script) (caller : Caller) (c : Command) (e : State) (w : World) : Type 0 where
   pub world : World
   pub stands : StandsFor script (under (caller_activity caller) e) world
   pub locals : HasLocals (caller_locals caller) world
   pub does : due w ≡ None → (events : List Event) (done : World) → CommandStep script world c events done → StepOf script w w.stack events done
 
--- A caller is on top.
 module _ (script : Script) (e : State) (w : World) where
   pub runner_detects_none : (r : Runner) (next : Option ℕ) → StandsFor script (under (activity_at r next) e) w → detects w.stack ≡ false
   runner_detects_none runner_is.Script next stands = ap detects (stands.shows.is ∙ ap (λ l. l ++ stands.shows.below) stands.shows.shows)
@@ -265,7 +257,7 @@ module _ (script : Script) (e : State) (w : World) where
   pub caller_detects_none : (caller : Caller) → StandsFor script (under (caller_activity caller) e) w → detects w.stack ≡ false
   caller_detects_none caller = runner_detects_none caller.runner caller.next
 
-  -- its next command is known, from which it has gone on
+  -- its next command is known; it has advanced past it
   module _ (next : Option ℕ) (c : Command) where
     without_by : (r : Runner) (after : Option ℕ) → ComesNext script (record { runner = r; next = after }) next c → StandsFor script (under (activity_at r next) e) w → Without script (record { runner = r; next = after }) c e w
     without_by runner_is.Script after is stands = record {
@@ -284,7 +276,6 @@ module _ (script : Script) (e : State) (w : World) where
     pub without_command : (caller : Caller) → ComesNext script caller next c → StandsFor script (under (caller_activity (with_next next caller)) e) w → Without script caller c e w
     without_command caller = without_by caller.runner caller.next
 
-    -- a collection is due
     collects_by : (r : Runner) (after : Option ℕ) → ComesNext script (record { runner = r; next = after }) next c → StandsFor script (under (activity_at r next) e) w → (g : ℕ) → due w ≡ Some g → StepOf script w w.stack [] (push (new_collection g false w) w)
     collects_by runner_is.Script after is stands = script_collects script e next w stands
     collects_by (runner_is.Frame locals procedure) after is stands = frame_collects script e locals procedure next after c w stands is
@@ -308,7 +299,7 @@ module _ (script : Script) (e : State) (w : World) where
   pub caller_live : (budget : ℕ) (next : Option ℕ) (caller : Caller) → StandsFor script (under (caller_activity (with_next next caller)) e) w → IsLawful script budget w → LocalsLive e.store (caller_locals caller)
   caller_live budget next caller = live_by budget next caller.runner
 
-  -- what a command may rest on
+  -- what a command may assume
   pub may_command : (top : Own) → StandsFor script (under top e) w → IsKept script e.first_budget w → IsSound e.store → IsSpelled script → IsFit script e → MayCommand e
   may_command top stands kept sound spelled fit = record {
     few = few_holds script e.first_budget e.store w stands.represents kept.lawful fit.first_budget (few_objects e.store sound.objects);
@@ -318,7 +309,7 @@ module _ (script : Script) (e : State) (w : World) where
     room = omega (arith, has_room script top e w stands kept.lawful fit);
   }
 
--- The command from which a caller has gone on was done.
+-- The command that a caller has advanced past was done.
 module _ (script : Script) (caller : Caller) (next : Option ℕ) (c : Command) (old new : State) (is : ComesNext script caller next c) (w : World) (stands : StandsFor script (under (caller_activity (with_next next caller)) old) w) (kept : StaysKept script old.first_budget w) (none : due w ≡ None) where
   without : Without script caller c old w
   without = without_command script old w next c caller is stands
@@ -337,7 +328,7 @@ module _ (script : Script) (caller : Caller) (next : Option ℕ) (c : Command) (
   abbrev top_after : Own
   top_after = caller_activity caller
 
-  -- what it came to is what the step of its caller comes to
+  -- its result is the result of its caller's step
   pub comes : RunsTo script at_command.0 c top_after new None → ComesTo script w (under top_after new)
   unfolding without at_command
   comes changes = command_comes script w without.world c stands.running (caller_detects_none script old w (with_next next caller) stands) (without.does none) (under top_after new) changes

@@ -1,4 +1,4 @@
--- What a turn answers where no collection has a line left.
+-- The answer of a turn when no collection has a line left.
 use Rattle.std.proofs.Common.{◌≡◌, refl, sym, inl, append-nil, List, [], ◌∷◌, ◌++◌}
 use Rattle.cg_graph.proofs.Members.{either}
 use Rattle.cg_script.specs.declared.Script.{Script}
@@ -10,7 +10,7 @@ use Rattle.cg_interp.specs.Engines.{State}
 use Rattle.cg_interp.specs.Turns.{Turns, GoesTo}
 use Rattle.cg_interp.specs.Telling.{TurnsWith, GoesOnTo}
 
--- a step was taken, and no line is left to tell
+-- a step was made, and no line is left to print
 goes_on : (script : Script) (may_rest : List Event → Type 0) (w : World) (e : State) (events : List Event) → GoesTo script w events e → events ≡ events ++ [] → GoesOnTo script may_rest w [] events e
 goes_on script may_rest w e events goes same = record {
   events = events;
@@ -22,7 +22,7 @@ goes_on script may_rest w e events goes same = record {
   stands = inl (goes.stands, refl);
 }
 
--- What is answered without a line left is answered with none left, whether the machine may rest or not.
+-- An answer without remaining lines is one with zero remaining lines, whether or not the machine may rest.
 pub turns_told : (script : Script) (may_rest : List Event → Type 0) (w : World) (e : State) (answer : Turned) → Turns script w e answer → TurnsWith script may_rest w [] e answer
 turns_told script may_rest w e turned.Quiet goes = goes_on script may_rest w e [] goes refl
 turns_told script may_rest w e (turned.Line event) goes = goes_on script may_rest w e (event ∷ []) goes refl
@@ -34,7 +34,7 @@ turns_told script may_rest w e turned.Spent ends = (refl, ends)
 pub turns_plainly : (script : Script) (w : World) (e : State) (answer : Turned) → Turns script w e answer → TurnsWith script (λ still. ⊥) w [] e answer
 turns_plainly script w e answer turns = turns_told script (λ still. ⊥) w e answer turns
 
--- where the machine does not rest it may be allowed to
+-- a turn that does not rest is one that may
 moving : (script : Script) (may_rest : List Event → Type 0) (w : World) (left told : List Event) (e : State) → GoesOnTo script (λ still. ⊥) w left told e → GoesOnTo script may_rest w left told e
 moving script may_rest w left told e goes = record {
   events = goes.events;

@@ -1,4 +1,4 @@
--- What a turn shows is what is recorded of it.
+-- What a turn shows is what it records.
 use Rattle.std.proofs.Common.{◌≡◌, ◌≢◌, refl, sym, ◌∙◌, ap, subst, ℕ, Bool, true, false, ◌⊎◌, inl, inr, List, [], ◌∷◌, ◌++◌, map, Option, None, Some, append_assoc, append-nil, codes}
 use Rattle.std.specs.Prelude.{flat_map}
 use Rattle.std.proofs.lemmas.Grind.{flat_map-append}
@@ -32,7 +32,7 @@ use Rattle.cg_interp.proofs.Shown.{alone_none, one_alone, shows_one}
 use Rattle.cg_interp.proofs.WorldGraphs.{graph_is, stands_alike, members_alike}
 use Rattle.cg_interp.proofs.NextDetections.{same_next, at_detection, no_advance}
 
--- A step that makes a detection ends no run.
+-- A step with a reachability pass ends no run.
 module _ (script : Script) (w after : World) (events : List Event) (d : Detection) where
   phase_runs : (c : Collection) (phase : CollectPhase) (below : List Activity) → detection_at c.generation phase ≡ Some d → PhaseStep script c phase below w events after → after.outcome ≡ w.outcome
   phase_runs c Start below next step = ap (λ (v : World). v.outcome) step.world
@@ -60,7 +60,7 @@ module _ (script : Script) (w after : World) (events : List Event) (d : Detectio
   detection_runs : next_detection w.stack ≡ Some d → Step script w events after → after.outcome ≡ Running
   detection_runs next step = stack_runs w.stack next step.step ∙ step.running
 
--- the lists of a heap in which rows are still to go
+-- the lists of a heap with rows still to be removed
 later_list : (phase : Phase) (store : Store) (p : Place) → list_at (store_after phase store) p ≡ list_at store p
 later_list (phase_of.Living next) store p = refl
 later_list (phase_of.Detaching next) store p = refl
@@ -73,7 +73,7 @@ later_listed (phase_of.Detaching next) store l = record { ten = l.ten; placed = 
 later_listed (phase_of.Unlinking member weak) store l = record { ten = l.ten; placed = l.placed; once = l.once }
 later_listed phase store l = l
 
--- who stands at a place of an engine's heap stands there in its world
+-- the objects in a place of an engine's heap are those of its world
 pub alike_now : (script : Script) (e : State) (left : List Event) (w : World) → StandsWith script e left w → IsListed e.store → (p : Place) → SameMembers (list_at e.store p) (serials_at w.objects p)
 alike_now script e left w (inl s) listed p = stands_alike e.store w listed s.0.represents p
 alike_now script e left w (inr t) listed p =
@@ -117,7 +117,7 @@ still_after unfinished (First g) = refl
 still_after true Second = refl
 still_after false Second = refl
 
--- The text of a graph of a detection begins with what is written before its step.
+-- The text of a pass's graph begins with what is written before its step.
 assoc_begun : (h m l e : List ℕ) → h ++ ((m ++ l) ++ e) ≡ (h ++ m) ++ (l ++ e)
 assoc_begun h m l e = simp (append_assoc)
 
@@ -148,7 +148,7 @@ pub record TurnShows (script : Script) (w : World) (steps : List StepTaken) (e e
   pub still : unfinished_after unfinished (recorded_next unfinished e) ≡ unfinished_so_far unfinished pictures
 
 module _ (script : Script) (e e' : State) (unfinished : Bool) (left : List Event) (w : World) (stands : StandsWith script e left w) (listed : IsListed e.store) where
-  -- without a detection nothing
+  -- without a pass nothing
   shows_nothing : (events : List Event) (after : World) (goes : Goes script w events after) → detection_on e.activities ≡ None → TurnShows script w goes.steps e e' unfinished
   shows_nothing events after goes none = record {
     pictures = [];
@@ -157,7 +157,6 @@ module _ (script : Script) (e e' : State) (unfinished : Bool) (left : List Event
     still = ap (λ (d : Option Detection). unfinished_after unfinished (taken unfinished d)) none;
   }
 
-  -- with one its graph
   shows_graph : (d : Detection) (step : StepTaken) → detection_on e.activities ≡ Some d → IsGraphOf script d w step.world (graph_in script d e.store e'.store) → TurnShows script w (step ∷ []) e e' unfinished
   shows_graph d step next is = record {
     pictures = picture d (graph_in script d e.store e'.store) ∷ [];
@@ -169,7 +168,6 @@ module _ (script : Script) (e e' : State) (unfinished : Bool) (left : List Event
     still = ap (λ (k : Option Detection). unfinished_after unfinished (taken unfinished k)) next ∙ still_after unfinished d;
   }
 
-  -- a turn that goes on
   pub shown_on : (told : List Event) (g : GoesOnTo script (Advances e left e') w left told e') → IsListed e'.store → TurnShows script w g.goes.steps e e' unfinished
   shown_on told g listed' = by (detection_on e.activities) refl
     where
@@ -192,7 +190,7 @@ module _ (script : Script) (e e' : State) (unfinished : Bool) (left : List Event
           (shows_graph d one.0 next (subst (λ (v : World). IsGraphOf script d w v (graph_in script d e.store e'.store)) (sym ends)
           (graph_is script d e.store w e'.store g.after listed at.represents (alike_now script e' g.still g.after g.stands listed'))))
 
-  -- a turn that ends the run makes no detection
+  -- a turn that ends the run makes no pass
   pub shown_end : (lines : List Event) (outcome : Outcome) (k : RunEndsWith script w lines outcome) → w.outcome ≡ Running → outcome ≢ Running → TurnShows script w k.goes.steps e e' unfinished
   shown_end lines outcome k runs over = by (detection_on e.activities) refl
     where

@@ -1,4 +1,4 @@
--- A turn of what is on top, as a turn of the engine.
+-- A turn of the top activity is a turn of the engine.
 use Rattle.std.proofs.Common.{◌≡◌, ◌≢◌, sym, ◌∙◌, ap, subst, ℕ, true, false, inl, inr, List, [], ◌∷◌}
 use Rattle.cg_script.specs.declared.Script.{Script}
 use Rattle.cg_graph.proofs.Members.{either}
@@ -18,7 +18,7 @@ use Rattle.cg_interp.proofs.ArmLemmas.{something_under_way}
 use Rattle.cg_interp.proofs.CallerLemmas.{same_engine}
 use Rattle.cg_interp.proofs.Telling.{turns_moving}
 
--- With anything but a collection on top no line is left.
+-- With anything but a collection on top, no line is left.
 pub stands_plainly : (script : Script) (top : Own) (e : State) (left : List Event) (w : World) → is_collecting top ≡ false → StandsWith script (under top e) left w → StandsFor script (under top e) w × (left ≡ [])
 stands_plainly script top e left w plain stands = either stands (λ plainly. plainly) (λ (on_top : CollectsOnTop script (under top e) left w).
     let heads : (top ∷ e.activities) ≡ activity.Collecting on_top.asked on_top.collection ∷ on_top.rest = on_top.top in
@@ -32,7 +32,7 @@ turns_any script top old new answer plain turns w left stands kept =
     let plainly = stands_plainly script top old left w plain stands in
     subst (λ l. TurnsWith script (Advances (under top old) l new) w l new answer) (sym plainly.1) (turns_moving script (Advances (under top old) [] new) w [] new answer (turns w plainly.0 kept))
 
--- another engine with the same parts, where a collection on top may have lines left
+-- another engine with the same parts, even if a collection on top has lines left
 pub stands_alike : (script : Script) (old new : State) (left : List Event) (w : World) → new.store ≡ old.store → new.policy ≡ old.policy → new.activities ≡ old.activities → new.budget ≡ old.budget → StandsWith script old left w → StandsWith script new left w
 stands_alike script old new left w store policy activities budget stands = either stands
     (λ plainly. inl (same_engine script old new w plainly.0 store policy activities budget, plainly.1))

@@ -1,4 +1,4 @@
--- A collection is under way in an engine exactly where one is on the stack of the machine.
+-- A collection is under way in an engine exactly if one is on the machine's stack.
 use Rattle.std.proofs.Common.{◌≡◌, refl, sym, ◌∙◌, ap, ℕ, Bool, true, false, ◌||◌, List, [], ◌∷◌, Option, None, Some}
 use Rattle.std.specs.List.{list_any}
 use Rattle.std.proofs.lemmas.List.Folds.{list_any-append}
@@ -34,7 +34,7 @@ death_is_none o death_phase.Detaching waiting = refl
 death_is_none o death_phase.Emptying waiting = refl
 death_is_none o death_phase.Over waiting = refl
 
--- nor is what is given up
+-- nor is a release
 release_is_none : (release : Option Release) (rest : List Activity) → list_any is_collection (released_first release rest) ≡ list_any is_collection rest
 release_is_none None rest = refl
 release_is_none (Some release) rest = refl
@@ -67,7 +67,7 @@ running_is_one asked c (phase_of.Saved next number) pending runs = absurd runs
 running_is_one asked c (phase_of.Stopping number) pending runs = absurd runs
 running_is_one asked c (phase_of.Over number) pending runs = absurd runs
 
--- what one activity stands for
+-- what one activity represents
 shown : (script : Script) (a : Own) (tops : List Activity) → ActivityShows script a tops → list_any is_collection tops ≡ is_collecting a
 shown script (activity.Script next) tops shows = ap (list_any is_collection) shows
 shown script (activity.Frame locals procedure next) tops shows = ap (list_any is_collection) shows
@@ -79,14 +79,14 @@ shown script (activity.Collecting asked c) tops shows =
     ap (list_any is_collection) shows.shown ∙ release_over_is_none c.release (collecting asked c (machine_phase c.phase (list_at shows.then Pend)))
     ∙ running_is_one asked c c.phase (list_at shows.then Pend) shows.handing.runs
 
--- what several stand for
+-- what several represent
 pub under_way : (script : Script) (activities : List Own) (stack : List Activity) → ShowsAll script activities stack → list_any is_collection stack ≡ any_collecting activities
 under_way script [] stack shows = ap (list_any is_collection) shows
 under_way script (top ∷ activities) stack shows =
     ap (list_any is_collection) shows.is ∙ list_any-append is_collection shows.tops shows.below
     ∙ (λ i. shown script top shows.tops shows.shows i || under_way script activities shows.below shows.over i)
 
--- The policy of an engine is that of each world for which it stands.
+-- The policy of an engine is that of each world that it represents.
 pub runs_in : (script : Script) (e : State) (w : World) → StandsFor script e w → e.policy.running ≡ collecting_in w
 runs_in script e w stands = stands.collecting ∙ sym (under_way script e.activities w.stack stands.shows)
 

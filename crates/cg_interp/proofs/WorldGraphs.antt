@@ -1,4 +1,4 @@
--- A graph as a heap has it is one of the world that the heap stands for.
+-- A graph by the heap is one of the world that the heap represents.
 use Rattle.std.proofs.Common.{◌≡◌, refl, sym, ◌∙◌, ap, subst, ℕ, zero, suc, ◌+◌, ◌<◌, ◌≤◌, ◌⊎◌, Bool, true, false, cond, inl, inr, List, [], ◌∷◌, ◌++◌, map, Option, None, Some, IsSome, arith}
 use Rattle.std.specs.Prelude.{filter, ◌==◌, nat_le, if◌then◌else◌, is_some, option_and_then}
 use Rattle.std.specs.FinMap as fin
@@ -32,7 +32,7 @@ use Rattle.cg_interp.specs.declared.graphs.Detection.TheVariants.{First, Second}
 use Rattle.cg_interp.specs.Graphs.{is_candidate_at, generations_below, candidates_in, member_in, lost_in, legacy_in, graph_in}
 use Rattle.cg_interp.specs.Recorded.{candidates, lost_at, legacy_at, member_among, IsGraphOf}
 
--- the candidates are those that stand where the detection looks
+-- the candidates are in the places that the pass examines
 abbrev stands_so : Detection → Object → Bool
 stands_so d x = is_candidate_at d x.place
 
@@ -49,7 +49,7 @@ pub candidates_are : (d : Detection) (w : World) → candidates d w ≡ serials 
 candidates_are (First g) w = merged_serials g w.objects
 candidates_are Second w = refl
 
--- no detection looks at what is untracked
+-- no pass examines untracked objects
 untracked_no : (d : Detection) → is_candidate_at d Untracked ≡ false
 untracked_no (First g) = refl
 untracked_no Second = refl
@@ -59,7 +59,7 @@ lives_or : (n : Option Node) → IsSome n ⊎ (place_in n ≡ Untracked)
 lives_or None = inr refl
 lives_or (Some n) = inl refl
 
--- a place that a first detection looks at is a generation up to its own
+-- a place that a first pass examines is a generation up to its own
 same_gen : (g : ℕ) (p : Place) → same_place (merged_place g p) (Gen g) ≡ true → (i : ℕ) × (i ≤ g) × (p ≡ Gen i)
 same_gen g Untracked e = absurd (cc)
 same_gen g (Gen i) e = go (nat_le i g) refl
@@ -78,7 +78,7 @@ gen_same : (g i : ℕ) → i ≤ g → same_place (merged_place g (Gen i)) (Gen 
 gen_same g i le = let yes : nat_le i g ≡ true = grind (arith, nat_tests, le) in ap (λ b. same_place (if b then Gen g else Gen i) (Gen g)) yes ∙ eq-eqb g g refl
 
 module _ (store : Store) (listed : IsListed store) where
-  -- who stands in the generations below one
+  -- the objects in the generations below one
   below_at : (n o : ℕ) → Includes (generations_below store n) o → (i : ℕ) × (i < n) × IsLive store o × (place_of store o ≡ Gen i)
   below_at zero o m = absurd m
   below_at (suc n) o m =
@@ -143,7 +143,7 @@ module _ (store : Store) (listed : IsListed store) where
   once_looked (First g) o = once_below (g + 1) o
   once_looked Second o = once_at store listed Cand o
 
-  -- the candidates of the heap are those of its objects
+  -- the candidates of the heap are among its objects
   candidates_found : (d : Detection) → SameMembers (candidates_in store d) (found d)
   candidates_found d =
       same_times (candidates_in store d) (found d) (once_looked d) (once_among store (stands_so d))
@@ -194,11 +194,11 @@ module _ (script : Script) (d : Detection) (store : Store) (w : World) (listed :
   pub members_alike : map (member_in script store d) (candidates_in store d) ≡ map (member_among script w (candidates d w)) (candidates_in store d)
   members_alike = map_alike (member_in script store d) (member_among script w (candidates d w)) (candidates_in store d) (λ o m. member_alike o)
 
--- who stands at a place, in the heap and in the world
+-- the objects in a place, in the heap and in the world
 pub stands_alike : (store : Store) (w : World) → IsListed store → Represents store w → (p : Place) → SameMembers (list_at store p) (serials_at w.objects p)
 stands_alike store w listed rep p = λ o. list_has store listed p o ∙ ap (λ (os : List Object). occurrences o (serials_at os p)) rep.objects
 
--- the graph of a detection
+-- the graph of a pass
 pub graph_is : (script : Script) (d : Detection) (store : Store) (w : World) (now : Store) (after : World) → IsListed store → Represents store w → ((p : Place) → SameMembers (list_at now p) (serials_at after.objects p))
     → IsGraphOf script d w after (graph_in script d store now)
 graph_is script d store w now after listed rep alike = record {

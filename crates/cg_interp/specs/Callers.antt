@@ -1,4 +1,4 @@
--- The activities that have commands, and what a command leaves. (Ours.)
+-- The activities with commands, and what a command leaves. (Ours.)
 use Rattle.std.specs.Prelude.{◌≡◌, ◌<◌, ℕ, true, false, ◌⊎◌, List, [], ◌∷◌, Option, None, Some, Result, option_to_list}
 use Rattle.cg_value.specs.declared.Entry.{Entry}
 use Rattle.cg_script.specs.declared.Script.{Script}
@@ -60,11 +60,11 @@ caller_activity caller = activity_at caller.runner caller.next
 abbrev pub caller_locals : Caller → Option Locals
 caller_locals caller = locals_in caller.runner
 
--- the commands that a caller has left
+-- the remaining commands of a caller
 abbrev pub commands_left : Script → Caller → List Command
 commands_left script caller = commands_from caller.next (commands_in script caller.runner)
 
--- the same caller with another next command, or with none left
+-- the same caller with another next command, or with none
 abbrev pub with_next : Option ℕ → Caller → Caller
 with_next next caller = record { runner = caller.runner; next = next }
 
@@ -75,17 +75,17 @@ script_caller next = record { runner = runner_is.Script; next = next }
 abbrev pub frame_caller : Locals → ℕ → Option ℕ → Caller
 frame_caller locals procedure next = record { runner = runner_is.Frame locals procedure; next = next }
 
--- what is left to it once a frame is stopped: of a frame nothing
+-- what is left after a stop: of a frame nothing
 abbrev pub left_when_stopped : Runner → Option ℕ → Option ℕ
 left_when_stopped runner_is.Script next = next
 left_when_stopped (runner_is.Frame locals procedure) next = None
 
--- the same caller without a command left, if it is a frame
+-- the same caller without commands, if it is a frame
 abbrev pub without_rest_in_frame : Caller → Caller
 without_rest_in_frame caller = with_next (left_when_stopped caller.runner caller.next) caller
 
--- What a command may rest on: few references are held from outside, few objects were made, nothing stands in the places of a
--- collection where none runs, and there is room for a caller, a release and a death.
+-- What a command may assume: few references are held from outside, few objects were made, a collection's places are empty if
+-- none is under way, and there is room for a caller, a release and a death.
 pub record MayCommand (e : State) : Type 0 where
   pub few : HasFewHolds e.store
   pub last : e.store.last < 9223372036854775808
@@ -93,8 +93,8 @@ pub record MayCommand (e : State) : Type 0 where
   pub idle : e.policy.running ≡ false → IsIdle e.store
   pub room : 2 < e.room
 
--- A command left this world: the heap stands for it with the release of what was given up on top, the policy has its numbers,
--- and the activities stand for the rest of its stack.
+-- A command left this world: the heap represents it with the release of what was given up on top, the policy has its numbers,
+-- and the activities represent the rest of its stack.
 pub record Changes (script : Script) (top : Activity) (e : State) (given_up : Entry) (after : World) : Type 0 where
   pub represents : Represents e.store (push (Releasing (entry_references given_up)) after)
   pub shows : ShowsAll script (top ∷ e.activities) after.stack
@@ -115,31 +115,32 @@ transition_of_change lines given_up after = (lines, releasing given_up after)
 abbrev pub call_of : ℕ → World → FrameSpec
 call_of f w = record { sort = Call; proc = procedure_of w f; subject = f; func = Some f }
 
--- A command was done: the machine may make this transition, and the engine made it.
+-- A command was done: the machine may make this transition, and the engine did.
 pub record Does (script : Script) (w : World) (command : Command) (e : State) (answer : Turned) : Type 0 where
   pub transition : Transition
   pub may : CommandStep script w command transition.0 transition.1
   pub makes : Makes script transition e answer
 
--- A command asked for a collection, which has begun: the machine made the step of the command, and no line is due.
+-- A command asked for a collection, which has begun: the machine made the command's step, without a line.
 pub record StartsCollection (script : Script) (w : World) (command : Command) (e : State) (answer : Turned) : Type 0 where
   pub generation : ℕ
   pub may : CommandStep script w command [] (push (new_collection generation true w) w)
   pub quiet : answer ≡ turned.Quiet
   pub stands : StandsWith script e [] (push (new_collection generation true w) w)
 
--- what a turn answers with this line due, or none
+-- the answer of a turn with this line, or without one
 abbrev pub told : Option Event → Turned
 told None = turned.Quiet
 told (Some event) = turned.Line event
 
--- A command was done, and what it gives up was given up: the machine made its step, with these lines, and went on quietly.
+-- A command was done, and what it gives up was given up: the machine made its step, with these lines, and then went on
+-- quietly.
 pub record ChangesOn (script : Script) (w : World) (command : Command) (lines : List Event) (e : State) : Type 0 where
   pub changed : World
   pub may : CommandStep script w command lines changed
   pub comes : ComesTo script changed e
 
--- the same where a line at most is due
+-- the same with at most one line
 pub record TellsChange (script : Script) (w : World) (command : Command) (e : State) (answer : Turned) : Type 0 where
   pub line : Option Event
   pub is : answer ≡ told line
@@ -149,27 +150,27 @@ pub record TellsChange (script : Script) (w : World) (command : Command) (e : St
 abbrev pub DoesAny : Script → World → Command → State → Turned → Type 0
 DoesAny script w command e answer = Does script w command e answer ⊎ (StartsCollection script w command e answer ⊎ TellsChange script w command e answer)
 
--- What a command comes to: with no answer, no line is due and its caller is to go on; else the turn is over.
+-- The result of a command: after `None` there is no line and its caller goes on; else the turn is over.
 abbrev pub RunsTo : Script → World → Command → Activity → State → Option Turned → Type 0
 RunsTo script w command top e None = ChangesOn script w command [] (under top e)
 RunsTo script w command top e (Some answer) = DoesAny script w command e answer
 
--- What was given up after a change with this line, or none: with no answer no line is due, and its caller is to go on.
+-- What was given up after a change, with this line or none: after `None` there is no line, and its caller goes on.
 abbrev pub GivesUp : Script → World → Activity → State → Option Event → Option Turned → Type 0
 GivesUp script w top e line None = (line ≡ None) × ComesTo script w (under top e)
 GivesUp script w top e line (Some answer) = (answer ≡ told line) × ComesTo script w e
 
--- Each world that a command may leave is kept.
+-- Each world after a command is kept.
 abbrev pub StaysKeptAfter : Script → ℕ → World → Command → Type 0
 StaysKeptAfter script budget w command = (events : List Event) (after : World) → CommandStep script w command events after → StaysKept script budget after
 
--- A caller has gone on to the command after this one, which is to be done: the engine stands for the world without it.
+-- A caller has advanced past this command, which is to be done: the engine represents the world without it.
 pub record IsAtCommand (script : Script) (caller : Caller) (e : State) (w : World) (command : Command) : Type 0 where
   pub stands : StandsFor script (under (caller_activity caller) e) w
   pub locals : HasLocals (caller_locals caller) w
   pub kept : StaysKeptAfter script e.first_budget w command
 
--- A command was performed in this world, for which the engine stood with the heap and the policy of before.
+-- A command was done in this world, which the engine represented with the old heap and policy.
 pub record IsPerformed (script : Script) (top : Activity) (e : State) (w : World) (command : Command) (before : Store) (was : Policy) (answer : Result Done Refusal) : Type 0 where
   pub stood : StandsFor script (under top (record e { store = before; policy = was })) w
   pub answers : CommandAnswers answer (effect w command) before was e.store e.policy
@@ -184,15 +185,15 @@ pub record HasPerformed (script : Script) (top : Activity) (e : State) (answer :
   pub few : HasFewHolds before
   pub performed : IsPerformed script top e world command before was answer
 
--- This command, which has this number, has the turn: the caller has gone on to the one after it.
+-- It is this command's turn, with this number: the caller has advanced past it.
 abbrev pub ComesNext : Script → Caller → Option ℕ → Command → Type 0
 ComesNext script caller next command = commands_left script (with_next next caller) ≡ command ∷ commands_left script caller
 
--- what the command with this number comes to, from which a caller has gone on: the caller at that command was on top
+-- the result of the command with this number, which a caller has advanced past; the caller at that command was on top
 abbrev pub StepsFrom : Script → Caller → Option ℕ → State → State → Option Turned → Type 0
 StepsFrom script caller next old new None = ComesFrom script (caller_activity (with_next next caller)) old (caller_activity caller) new
 StepsFrom script caller next old new (Some answer) = TurnsFrom script (caller_activity (with_next next caller)) old new answer
 
--- Each of these commands may stand in a script with this number of texts.
+-- Each of these commands is well formed in a script with this number of texts.
 abbrev pub AreDoable : ℕ → List Command → Type 0
 AreDoable names commands = (c : Command) → Includes commands c → IsSpelledCommand names c

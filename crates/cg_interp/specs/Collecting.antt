@@ -12,8 +12,8 @@ use Rattle.cg_interp.specs.declared.activity.Activity.{Activity}
 use Rattle.cg_interp.specs.declared.activity.Activity.TheVariants as activity
 use Rattle.cg_interp.specs.Engines.{State, StandsFor, ShowsAll, any_collecting}
 
--- An engine and a collection on top of its activities stand for a world, once these lines are told. No other collection is
--- under way, and this one may take its next step.
+-- An engine with a collection on top represents a world, after these lines are printed. No other collection is under way,
+-- and this one may make its next step.
 pub record Collects (script : Script) (asked : Bool) (c : Collection) (e : State) (left : List Event) (w : World) : Type 0 where
   pub below : List machine.Activity
   pub shows : CollectionShows asked c e.store e.policy w below
@@ -24,7 +24,7 @@ pub record Collects (script : Script) (asked : Bool) (c : Collection) (e : State
   pub ready : IsReadyForCollection script c e.store
   pub lines : left ≡ lines_left script asked c c.phase e.store
 
--- such a one is on top of an engine
+-- such a collection is on top of an engine
 pub record CollectsOnTop (script : Script) (e : State) (left : List Event) (w : World) : Type 0 where
   pub asked : Bool
   pub collection : Collection
@@ -32,7 +32,7 @@ pub record CollectsOnTop (script : Script) (e : State) (left : List Event) (w : 
   pub top : e.activities ≡ activity.Collecting asked collection ∷ rest
   pub collects : Collects script asked collection (record e { activities = rest }) left w
 
--- An engine stands for a world once these lines are told: they are those that a collection on top has left of the machine's
--- last step, and there are none without one.
+-- An engine represents a world after these lines are printed: those that a collection on top has left of the machine's last
+-- step, and none without one.
 abbrev pub StandsWith : Script → State → List Event → World → Type 0
 StandsWith script e left w = (StandsFor script e w × (left ≡ [])) ⊎ CollectsOnTop script e left w

@@ -1,4 +1,4 @@
--- What an engine is, and the worlds of the machine that it stands for. (Ours.)
+-- What an engine is, and the worlds of the machine that it represents. (Ours.)
 use Rattle.std.specs.Prelude.{◌≡◌, ◌≢◌, ℕ, ◌++◌, Bool, true, false, List, [], ◌∷◌, drop, Option, None, Some}
 use Rattle.std.specs.List.{list_any}
 use Rattle.cg_script.specs.declared.Script.{Script}
@@ -21,8 +21,8 @@ use Rattle.cg_collect.specs.Collections.{HandsOut}
 use Rattle.cg_interp.specs.declared.activity.Activity.{Activity}
 use Rattle.cg_interp.specs.declared.activity.Activity.TheVariants as activity
 
--- the value of an engine: its heap, the numbers of the collector, its activities, the top first, how many more may be
--- pushed, the budget, which is how many frames may still start, and the budget that the script began with
+-- the value of an engine: its heap, the collector's numbers, its activities (top first), how many more may be pushed,
+-- the budget (how many frames may still start), and the budget at the start of the run
 pub record State : Type 0 where
   pub store : Store
   pub policy : Policy
@@ -39,7 +39,7 @@ under top e = record e { activities = top ∷ e.activities }
 abbrev pub over : Store → State → State
 over store e = record e { store = store }
 
--- an engine with another heap and other numbers of the collector
+-- an engine with another heap and other collector's numbers
 abbrev pub over_both : Store → Policy → State → State
 over_both store policy e = record e { store = store; policy = policy }
 
@@ -52,25 +52,25 @@ commands_from (Some next) commands = drop next commands
 abbrev pub frame_of : Script → Locals → ℕ → Option ℕ → machine.Frame
 frame_of script locals procedure next = record { sort = locals.sort; subject = locals.subject; function = locals.func; commands = commands_from next (body_of script procedure) }
 
--- what is given up stands above the rest
+-- references to give up are above the rest
 abbrev pub released_first : Option Release → List machine.Activity → List machine.Activity
 released_first None rest = rest
 released_first (Some release) rest = Releasing (references_left release) ∷ rest
 
--- a death among the activities of the machine, by the weak references that wait with its object
+-- a death among the machine's activities, given the weak references that wait with its object
 abbrev pub death_shown : Death → List ℕ → List machine.Activity
 death_shown death waiting = released_first death.release (death_activities death.object death.phase waiting)
 
--- A collection that has handed out a frame or a death stands for this on the stack. What runs above it may change the heap,
--- and leaves that as it was. What waited for its callback then is what the phase of the machine says.
+-- What a collection that answered a frame or a death represents on the stack. What runs above it may change the heap, but
+-- leaves this alone. The machine's phase says what waited for its callback then.
 pub record HasHandedOut (asked : Bool) (c : Collection) (tops : List machine.Activity) : Type 0 where
   pub then : Store
   pub shown : tops ≡ on_stack asked c then
   pub handing : HandsOut c then
   pub waited : (phase : machine.CollectPhase) → machine_phase c.phase (list_at then Pend) ≡ Some phase → CollectionWaits phase (list_at then Pend)
 
--- What an activity stands for among those of the machine, the top first. Which weak references wait with a dying object
--- the world tells. What a death gives up it gives up between callbacks, or while entries are taken out.
+-- What an activity represents among the machine's, top first. The world says which weak references wait with a dying
+-- object. A death gives up references only between callbacks or while it removes entries.
 abbrev pub ActivityShows : Script → Activity → List machine.Activity → Type 0
 ActivityShows script (activity.Script next) tops = tops ≡ TopLevel (commands_from next (commands_of script.items)) ∷ []
 ActivityShows script (activity.Frame locals procedure next) tops = tops ≡ Framed (frame_of script locals procedure next) ∷ []
@@ -79,7 +79,7 @@ ActivityShows script (activity.Shutdown started) tops = tops ≡ ShuttingDown st
 ActivityShows script (activity.Dying death) tops = (waiting : List ℕ) × (tops ≡ death_shown death waiting) × IsSettled death
 ActivityShows script (activity.Collecting asked collection) tops = HasHandedOut asked collection tops
 
--- an activity that stands for the top of a stack, of one activity at least, over what lies below
+-- an activity represents the top of a stack, at least one activity, above what lies below
 pub record ShowsTop (script : Script) (top : Activity) (rest : List machine.Activity → Type 0) (stack : List machine.Activity) : Type 0 where
   pub tops : List machine.Activity
   pub below : List machine.Activity
@@ -88,12 +88,12 @@ pub record ShowsTop (script : Script) (top : Activity) (rest : List machine.Acti
   pub over : rest below
   pub is : stack ≡ tops ++ below
 
--- what several stand for
+-- what several represent
 abbrev pub ShowsAll : Script → List Activity → List machine.Activity → Type 0
 ShowsAll script [] stack = stack ≡ []
 ShowsAll script (top ∷ activities) stack = ShowsTop script top (ShowsAll script activities) stack
 
--- whether an activity is a collection, and whether one is under way
+-- whether an activity is a collection, and whether a collection is under way
 abbrev pub is_collecting : Activity → Bool
 is_collecting (activity.Script next) = false
 is_collecting (activity.Frame locals procedure next) = false
@@ -105,8 +105,8 @@ is_collecting (activity.Collecting asked collection) = true
 abbrev pub any_collecting : List Activity → Bool
 any_collecting activities = list_any is_collecting activities
 
--- An engine stands for a world: its heap stands for it, its policy has the numbers, and its activities stand for the stack.
--- The world runs.
+-- An engine represents a world: its heap represents it, its policy has the numbers, and its activities represent the stack.
+-- The world is running.
 pub record StandsFor (script : Script) (e : State) (w : World) : Type 0 where
   pub represents : Represents e.store w
   pub shows : ShowsAll script e.activities w.stack

@@ -1,4 +1,4 @@
--- The graphs of records, as a heap has them. (Ours; their text is that of `cg_records`.)
+-- The graphs of records, by the heap. (Ours; their text is that of `cg_records`.)
 use Rattle.std.specs.Prelude.{ℕ, zero, suc, ◌+◌, ◌≤◌, Bool, true, false, List, [], ◌∷◌, ◌++◌, map, filter, flat_map, codes, decimal, Option, None, Some}
 use Rattle.cg_value.specs.declared.Place.{Place}
 use Rattle.cg_value.specs.declared.Place.TheVariants.{Gen, Cand, Legacy}
@@ -26,22 +26,22 @@ abbrev pub IsOfGenerations : Detection → Type 0
 IsOfGenerations (First g) = g ≤ 2
 IsOfGenerations Second = Unit {0}
 
--- whether a detection looks at what stands at a place: in the generation or below it, or among the condemned
+-- whether a pass examines the objects in a place: in the generation or a younger one, or among the condemned
 abbrev pub is_candidate_at : Detection → Place → Bool
 is_candidate_at (First g) p = same_place (merged_place g p) (Gen g)
 is_candidate_at Second p = same_place p Cand
 
--- the objects of the generations below one, the youngest first
+-- the objects of the generations below one, youngest first
 abbrev pub generations_below : Store → ℕ → List ℕ
 generations_below store zero = []
 generations_below store (suc g) = generations_below store g ++ list_at store (Gen g)
 
--- the objects that a detection looks at
+-- the objects that a pass examines
 abbrev pub candidates_in : Store → Detection → List ℕ
 candidates_in store (First g) = generations_below store (g + 1)
 candidates_in store Second = list_at store Cand
 
--- those of some references that are to such objects
+-- those of some references that refer to such objects
 abbrev pub among : Store → Detection → List ℕ → List ℕ
 among store d references = filter (λ o. is_candidate_at d (place_of store o)) references
 
@@ -49,7 +49,7 @@ among store d references = filter (λ o. is_candidate_at d (place_of store o)) r
 abbrev pub member_in : Script → Store → Detection → ℕ → Member
 member_in script store d o = member o (count_of store o) (has_legacy_in script store o) (among store d (references (entries_of store o)))
 
--- what was lost, and what was set aside
+-- the unreachable objects, and the uncollectable ones
 abbrev pub lost_in : Store → Detection → List ℕ
 lost_in store (First g) = list_at store Cand ++ list_at store Legacy
 lost_in store Second = list_at store Cand
@@ -58,7 +58,7 @@ abbrev pub legacy_in : Store → Detection → List ℕ
 legacy_in store (First g) = list_at store Legacy
 legacy_in store Second = []
 
--- the graph of a detection, by the heaps before and after its step
+-- the graph of a pass, by the heaps before and after its step
 abbrev pub graph_in : Script → Detection → Store → Store → Graph
 graph_in script d before after = graph (map (member_in script before d) (candidates_in before d)) (lost_in after d) (legacy_in after d)
 
@@ -75,58 +75,58 @@ abbrev pub closing : Bool → List ℕ
 closing true = codes "cut\n"
 closing false = []
 
--- how a record begins, with its first graph
+-- the beginning of a record, with its first graph
 abbrev pub record_heading : Bool → ℕ → List ℕ
 record_heading unfinished g = closing unfinished ++ (numbered (codes "record") g ++ codes "graph 1\n")
 
--- how the graph of a detection begins: a first one begins a record
+-- the heading of a pass's graph; a first one begins a record
 abbrev pub heading : Bool → Detection → List ℕ
 heading unfinished (First g) = record_heading unfinished g
 heading unfinished Second = codes "graph 2\n"
 
--- a line of a word for each object of a place
+-- a line with a word for each object of a place
 abbrev pub all_at : Store → Place → List ℕ → List ℕ
 all_at store p word = flat_map (numbered word) (list_at store p)
 
--- what a first detection found: what was lost, and what of that was set aside
+-- what a first pass found: the unreachable objects, and the uncollectable ones among them
 abbrev pub sorted_text : Store → List ℕ
 sorted_text store = all_at store Cand (codes "lost") ++ (all_at store Legacy (codes "lost") ++ all_at store Legacy (codes "legacy"))
 
--- what a second one found, and that the record ends
+-- what a second pass found, and that the record ends
 abbrev pub final_text : Store → List ℕ
 final_text store = all_at store Cand (codes "lost") ++ codes "stop\n"
 
--- what is written of a detection after its step
+-- what is written of a pass after its step
 abbrev pub findings : Store → Detection → List ℕ
 findings store (First g) = sorted_text store
 findings store Second = final_text store
 
--- The detections that are recorded: each first one, and the second one of an unfinished record.
+-- The recorded passes: each first one, and the second one of an unfinished record.
 abbrev pub taken_while : Bool → Detection → Option Detection
 taken_while unfinished (First g) = Some (First g)
 taken_while true Second = Some Second
 taken_while false Second = None
 
--- if there is one
+-- if any
 abbrev pub taken : Bool → Option Detection → Option Detection
 taken unfinished None = None
 taken unfinished (Some d) = taken_while unfinished d
 
--- whether a record is unfinished after a detection: a first one begins one
+-- whether a record is unfinished after a pass: a first one begins one
 abbrev pub begins_record : Detection → Bool
 begins_record (First g) = true
 begins_record Second = false
 
--- or as before, without one
+-- or as before, without a pass
 abbrev pub unfinished_after : Bool → Option Detection → Bool
 unfinished_after unfinished None = unfinished
 unfinished_after unfinished (Some d) = begins_record d
 
--- what is written of a detection before its step
+-- what is written of a pass before its step
 abbrev pub begun_text : Script → Store → Bool → Detection → List ℕ
 begun_text script store unfinished d = heading unfinished d ++ members_text script store d (candidates_in store d)
 
--- if there is one
+-- if any
 abbrev pub text_before : Script → Store → Bool → Option Detection → List ℕ
 text_before script store unfinished None = []
 text_before script store unfinished (Some d) = begun_text script store unfinished d
@@ -136,7 +136,7 @@ abbrev pub text_after : Store → Option Detection → List ℕ
 text_after store None = []
 text_after store (Some d) = findings store d
 
--- the detection that the next turn makes, by what is on top
+-- the pass in the next turn, by what is on top
 abbrev pub detection_by : ℕ → Stage → Option Detection
 detection_by g stage.BeforeFirst = Some (First g)
 detection_by g stage.BeforeSecond = Some Second
@@ -150,7 +150,7 @@ abbrev pub detection_on : List Activity → Option Detection
 detection_on [] = None
 detection_on (top ∷ rest) = detection_of top
 
--- a detection that there may be has a generation of the three
+-- an optional pass has a generation 0, 1 or 2
 abbrev pub AreOfGenerations : Option Detection → Type 0
 AreOfGenerations None = Unit {0}
 AreOfGenerations (Some d) = IsOfGenerations d

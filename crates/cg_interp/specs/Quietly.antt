@@ -1,4 +1,4 @@
--- What is done without telling a line and without a detection, so that a turn may go on with the next step. (Ours.)
+-- What happens without a line and without a reachability pass, so that a turn may include the next step. (Ours.)
 use Rattle.std.specs.Prelude.{◌≡◌, ◌≤◌, ◌⊎◌, ℕ, Bool, false, List, [], ◌++◌, Option, None, Some}
 use Rattle.cg_script.specs.declared.Script.{Script}
 use Rattle.cg_script.specs.declared.limits.TheConstants.{MOST_BUDGET}
@@ -28,7 +28,7 @@ use Rattle.cg_interp.specs.Collecting.{Collects}
 use Rattle.cg_interp.specs.Telling.{CollectsNext}
 use Rattle.cg_interp.specs.Turns.{GoesTo, GivesDeath}
 
--- The machine goes from one world to another in some steps, perhaps none. It prints no line and makes no detection.
+-- The machine goes from one world to another in zero or more steps, without a line and without a reachability pass.
 pub record GoesQuietly (script : Script) (w after : World) : Type 0 where
   pub steps : List StepTaken
   pub run : Run script w steps
@@ -36,23 +36,23 @@ pub record GoesQuietly (script : Script) (w after : World) : Type 0 where
   pub ends : last_world w steps ≡ after
   pub none : MakesNoDetection w steps
 
--- So it comes to a world for which the engine stands.
+-- So it reaches a world that the engine represents.
 pub record ComesTo (script : Script) (w : World) (e : State) : Type 0 where
   pub after : World
   pub goes : GoesQuietly script w after
   pub stands : StandsFor script e after
 
--- From each world of a run for which an engine stood with one activity on top it comes to one for which an engine stands
--- with another.
+-- From each world of a run that an engine with one top activity represented, it reaches one that an engine with another
+-- represents.
 abbrev pub ComesFrom : Script → Activity → State → Activity → State → Type 0
 ComesFrom script top old top_now new = (w : World) → StandsFor script (under top old) w → StaysKept script old.first_budget w → ComesTo script w (under top_now new)
 
--- What becomes of a release: all its references are given up, or it hands out an object whose death is to begin.
+-- The end of a release: all its references are given up, or it answers an object whose death is to begin.
 abbrev pub Released : Script → World → State → Release → Option ℕ → Type 0
 Released script w e release None = GoesTo script w [] e
 Released script w e release (Some o) = GivesDeath script w o (under (activity.Releasing release) e)
 
--- The last of some actions of a death: the machine came quietly to a world for which the engine stands before it.
+-- The last of some actions of a death: before it, the machine quietly reached a world that the engine represents.
 pub record LastAction (script : Script) (w : World) (e : State) (now : Store) (after : Death) (answer : DeathStep) : Type 0 where
   pub store : Store
   pub death : Death
@@ -64,11 +64,11 @@ pub record LastAction (script : Script) (w : World) (e : State) (now : Store) (a
   pub cause : HasCause death now answer
   pub rows : AreRows store
 
--- A death is on top of a world of a run, of an engine with a first budget that is allowed.
+-- A death is on top in a world of a run; the engine's first budget is allowed.
 abbrev pub IsActing : Script → Store → Death → Type 0
 IsActing script store death = (e : State) × (w : World) × (e.first_budget ≤ MOST_BUDGET) × StandsFor script (under (activity.Dying death) (over store e)) w × StaysKept script e.first_budget w
 
--- The actions of a death come to an answer, whatever else is under way.
+-- The actions of a death reach an answer, whatever the other activities.
 abbrev pub Acts : Script → Store → Death → Store → Death → DeathStep → Type 0
 Acts script store death now after answer = (e : State) (w : World) → StandsFor script (under (activity.Dying death) (over store e)) w → StaysKept script e.first_budget w → LastAction script w e now after answer
 
@@ -76,8 +76,8 @@ Acts script store death now after answer = (e : State) (w : World) → StandsFor
 abbrev pub HasSomeCause : Store → DeathStep → Type 0
 HasSomeCause now answer = (death : Death) × HasCause death now answer
 
--- A collection on top went on: what the machine printed since is left to be told too. It made no detection, and makes none
--- next where it took a step.
+-- A collection on top went on: what the machine printed since is still to be printed too. It made no reachability pass;
+-- after a step, the next step makes none either.
 pub record CollectsOn (script : Script) (asked : Bool) (w : World) (left : List Event) (c : Collection) (e : State) : Type 0 where
   pub steps : List StepTaken
   pub run : Run script w steps
@@ -85,17 +85,17 @@ pub record CollectsOn (script : Script) (asked : Bool) (w : World) (left : List 
   pub next : (steps ≡ []) ⊎ (detects (last_world w steps).stack ≡ false)
   pub collects : Collects script asked c e (left ++ events_of steps) (last_world w steps)
 
--- it is as it was, and so is the heap
+-- it and the heap are unchanged
 abbrev pub HasNotMoved : Collection → Store → Collection → Store → Type 0
 HasNotMoved old store new now = (old ≡ new) × (store ≡ now)
 
--- A collection has come so far without telling a line, whatever else is under way.
+-- A collection has come this far without a line, whatever the other activities.
 pub record CameSoFar (script : Script) (old : Collection) (store : Store) (policy : Policy) (new : Collection) (now : Store) (policy_now : Policy) : Type 0 where
   pub far : HasNotMoved old store new now ⊎ CollectFalls old store new now
   pub objects : MakesNone store now
   pub goes : (asked : Bool) (e : State) (w : World) (left : List Event) → Collects script asked old (over_both store policy e) left w → StaysKept script e.first_budget w → CollectsOn script asked w left new (over_both now policy_now e)
 
--- The last of some steps of a collection, which came so far before it.
+-- The last of some steps of a collection, which had come this far before it.
 pub record LastStep (script : Script) (old : Collection) (store : Store) (policy : Policy) (new : Collection) (now : Store) (policy_now : Policy) (answer : CollectStep) : Type 0 where
   pub before : Collection
   pub store_before : Store
@@ -104,6 +104,6 @@ pub record LastStep (script : Script) (old : Collection) (store : Store) (policy
   pub steps : CollectSteps script before store_before policy_before new now policy_now answer
   pub falls : answer ≡ collect_answer.Continue → CollectFalls before store_before new now
 
--- A collection is on top of a fit engine, and may take its next step.
+-- A collection is on top of a fit engine, and may make its next step.
 abbrev pub IsCollecting : Script → Collection → Store → Policy → Type 0
 IsCollecting script c store policy = (asked : Bool) × (e : State) × CollectsNext script asked c (over_both store policy e)

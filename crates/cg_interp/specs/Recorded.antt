@@ -1,5 +1,5 @@
--- The records of a run: for each collection what it saw, and what it found, at each of its two detections. (Ours. Their data and
--- their text are those of `cg_records`.)
+-- The records of a run: for each collection what it examined, and what it found, in each of its two reachability passes. (Ours.
+-- Their data and their text are those of `cg_records`.)
 use Rattle.std.specs.Prelude.{◌≡◌, ℕ, ◌==◌, Bool, false, List, [], ◌∷◌, ◌++◌, map, filter, Option, None, Some}
 use Rattle.std.specs.List.{list_any}
 use Rattle.std.specs.Io.KnownBytes.{Appends}
@@ -25,13 +25,13 @@ use Rattle.cg_records.specs.Text.{text}
 use Rattle.cg_interp.specs.declared.graphs.Detection.{Detection}
 use Rattle.cg_interp.specs.declared.graphs.Detection.TheVariants.{First, Second}
 
--- the detection that the step of a collection makes, by its generation and its phase
+-- the pass in the step of a collection, by its generation and its phase
 abbrev pub detection_at : ℕ → CollectPhase → Option Detection
 detection_at g Start = Some (First g)
 detection_at g Split = Some Second
 detection_at g phase = None
 
--- the one that the step of an activity makes
+-- the pass in the step of an activity
 abbrev pub detection_of : Activity → Option Detection
 detection_of (TopLevel commands) = None
 detection_of (Framed f) = None
@@ -40,22 +40,22 @@ detection_of (Dying d) = None
 detection_of (Collecting c) = detection_at c.generation c.phase
 detection_of (ShuttingDown started) = None
 
--- the one that the next step makes, with these activities under way
+-- the pass in the next step, with these activities
 abbrev pub next_detection : List Activity → Option Detection
 next_detection [] = None
 next_detection (top ∷ below) = detection_of top
 
--- what it looks at: the objects of the generation and those below it; or the condemned objects
+-- what it examines: the objects of the generation and the younger ones; or the condemned objects
 abbrev pub candidates : Detection → World → List ℕ
 candidates (First g) w = serials_at (merged g w).objects (Gen g)
 candidates Second w = serials_at w.objects Cand
 
--- What it finds unreachable, as its step leaves it: at first what is condemned or set aside, and then the final set.
+-- What it finds unreachable, after its step: first the condemned and uncollectable objects, and then the final set.
 abbrev pub lost_at : Detection → World → List ℕ
 lost_at (First g) after = serials_at after.objects Cand ++ serials_at after.objects Legacy
 lost_at Second after = serials_at after.objects Cand
 
--- what it sets aside for a legacy finalizer
+-- the uncollectable ones among them
 abbrev pub legacy_at : Detection → World → List ℕ
 legacy_at (First g) after = serials_at after.objects Legacy
 legacy_at Second after = []
@@ -64,7 +64,7 @@ legacy_at Second after = []
 abbrev pub member_among : Script → World → List ℕ → ℕ → Member
 member_among script w objects o = member o (in_degree w o) (has_legacy script w o) (filter (includes objects) (references (entries_of w.objects o)))
 
--- The graph of a detection whose step goes from one world to another. Members and sets may stand in any order.
+-- The graph of a pass whose step leads from one world to another. Members and sets may be in any order.
 pub record IsGraphOf (script : Script) (d : Detection) (w after : World) (g : Graph) : Type 0 where
   pub order : List ℕ
   pub all : SameMembers order (candidates d w)
@@ -72,16 +72,16 @@ pub record IsGraphOf (script : Script) (d : Detection) (w after : World) (g : Gr
   pub lost : SameMembers g.lost (lost_at d after)
   pub legacy : SameMembers g.legacy (legacy_at d after)
 
--- a detection, and its graph
+-- a pass, and its graph
 pub record Picture : Type 0 where
   pub detection : Detection
   pub graph : Graph
 
--- a detection and its graph
+-- a pass and its graph
 abbrev pub picture : Detection → Graph → Picture
 picture d g = record { detection = d; graph = g }
 
--- what a step shows: a graph of its detection, if it makes one
+-- what a step shows: the graph of its pass, if it makes one
 abbrev pub ShowsStep : Script → World → World → Option Detection → List Picture → Type 0
 ShowsStep script w after None pictures = pictures ≡ []
 ShowsStep script w after (Some d) pictures = (g : Graph) × (pictures ≡ picture d g ∷ []) × IsGraphOf script d w after g
@@ -106,23 +106,23 @@ abbrev pub begins : Detection → Graph → Option Graph → List Rec
 begins (First g) graph second = recorded g graph second ∷ []
 begins Second graph second = []
 
--- A record of each collection: its first graph, and the second one, where the run came so far.
+-- A record of each collection: its first graph, and the second one if the run reached it.
 abbrev pub records_of : List Picture → List Rec
 records_of [] = []
 records_of (p ∷ later) = begins p.detection p.graph (second_of later) ++ records_of later
 
--- These are records of a run. (It has more than one list of them, since members and sets may stand in any order.)
+-- These are records of a run. (A run has several lists of records, since members and sets may be in any order.)
 pub record HasRecords (script : Script) (budget : ℕ) (steps : List StepTaken) (records : List Rec) : Type 0 where
   pub pictures : List Picture
   pub shows : RunShows script (opening script budget) steps pictures
   pub are : records ≡ records_of pictures
 
--- whether an event tells that a command was refused because memory ran out
+-- whether an event reports a command refused for memory
 abbrev pub wants_memory : Event → Bool
 wants_memory (Refused reason) = reason == no_memory
 wants_memory event = false
 
--- The text of records of a whole run of the script was written. The run ended so, and in it no command was refused for want of
+-- The text of records of a whole run of the script was written. The run ended with this answer, and no command was refused for
 -- memory.
 pub record WroteRecords (script : Script) (budget : ℕ) (outcome : Outcome) (before now : Option (List ℕ)) : Type 0 where
   pub steps : List StepTaken
@@ -132,7 +132,7 @@ pub record WroteRecords (script : Script) (budget : ℕ) (outcome : Outcome) (be
   pub has : HasRecords script budget steps records
   pub written : Appends before now (text records)
 
--- A front of the text of records of a whole run of the script was written.
+-- A prefix of the text of records of a whole run of the script was written.
 pub record WroteRecordsPart (script : Script) (budget : ℕ) (before now : Option (List ℕ)) : Type 0 where
   pub steps : List StepTaken
   pub outcome : Outcome

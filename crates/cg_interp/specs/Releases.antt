@@ -1,4 +1,4 @@
--- A release that may be due. (Ours.)
+-- An optional release. (Ours.)
 use Rattle.std.specs.Prelude.{ℕ, List, [], ◌∷◌, Option, None, Some}
 use Rattle.cg_machine.specs.World.{World, Releasing, push}
 use Rattle.cg_death.specs.declared.release.Release.{Release}

@@ -1,4 +1,4 @@
--- A run of an engine: its turns, each with its lines, and what they wrote so far. (Ours.)
+-- A run of an engine: its turns with their lines, and what was written so far. (Ours.)
 use Rattle.std.specs.Prelude.{◌≡◌, ◌≤◌, ℕ, List, [], ◌∷◌, ◌++◌, Option, flat_map, length}
 use Rattle.std.specs.Io.KnownBytes.{Appends}
 use Rattle.cg_io.specs.Causes.{AppendsFront}
@@ -24,7 +24,7 @@ use Rattle.cg_interp.specs.Turns.{IsFit}
 use Rattle.cg_interp.specs.Collecting.{StandsWith}
 use Rattle.cg_interp.specs.Telling.{TurnsWith, Advances, IsAtAnyTurn}
 
--- the events whose lines are due after a turn
+-- the events to print after a turn
 abbrev pub events_told : Turned → List Event
 events_told turned.Quiet = []
 events_told (turned.Line event) = event ∷ []
@@ -33,7 +33,7 @@ events_told turned.Ended = End ∷ []
 events_told (turned.Left n) = Left n ∷ End ∷ []
 events_told turned.Spent = BudgetSpent ∷ []
 
--- how the run stands after it
+-- the state of the run after it
 abbrev pub standing_after : Turned → Standing
 standing_after turned.Quiet = standing.Running
 standing_after (turned.Line event) = standing.Running
@@ -42,51 +42,50 @@ standing_after turned.Ended = standing.Ended
 standing_after (turned.Left n) = standing.Ended
 standing_after turned.Spent = standing.Spent
 
--- A turn of the engine, after which the run stands so, and its lines were written.
+-- A turn of the engine that leaves the run in this state; its lines were written.
 pub record WritesTurn (script : Script) (old : State) (w : World) (left : List Event) (e : State) (stands : Standing) (before now : Option (List ℕ)) : Type 0 where
   pub answer : Turned
   pub is : standing_after answer ≡ stands
   pub turns : TurnsWith script (Advances old left e) w left e answer
   pub written : Appends before now (flat_map (line script.names) (events_told answer))
 
--- A turn of the engine, and a front of its lines was written.
+-- A turn of the engine, and a prefix of its lines was written.
 pub record CutsTurn (script : Script) (old : State) (w : World) (left : List Event) (e : State) (before now : Option (List ℕ)) : Type 0 where
   pub answer : Turned
   pub turns : TurnsWith script (Advances old left e) w left e answer
   pub written : AppendsFront before now (flat_map (line script.names) (events_told answer))
 
--- Each line that is left, and each that the machine prints from here on, can be printed.
+-- Each remaining line, and each that the machine will print, can be printed.
 abbrev pub StaysPrintable : Script → List Event → World → Type 0
 StaysPrintable script left w = (steps : List StepTaken) → Run script w steps → (event : Event) → Includes (left ++ events_of steps) event → IsPrintable script.names event
 
--- What the laws of the machine say of the runs of a script with a budget: what the laws say of one world holds of theirs, and
--- their lines can be printed.
+-- What the laws of the machine say of the runs of a script with a budget: those on one world hold of their worlds, and their
+-- lines can be printed.
 pub record HasLaws (script : Script) (budget : ℕ) : Type 0 where
   pub kept : (steps : List StepTaken) → IsRun script budget steps → StaysKept script budget (world_after script budget steps)
   pub printable : (steps : List StepTaken) → IsRun script budget steps → (event : Event) → Includes (events_of steps) event → IsPrintable script.names event
 
--- An engine that may take a turn and write its lines: they and all that are due later can be printed.
+-- An engine that may take a turn and write its lines: they and all later ones can be printed.
 pub record MayWrite (script : Script) (e : State) : Type 0 where
   pub at : IsAtAnyTurn script e
   pub printable : StaysPrintable script at.left at.world
 
--- A fit engine that stands for the opening of the run of a script that some bytes spell. What the laws say holds of its runs.
+-- A fit engine that represents the start of a run of a script that some bytes spell. The laws hold of its runs.
 pub record MayRun (script : Script) (e : State) : Type 0 where
   pub spelled : IsSpelled script
   pub fit : IsFit script e
   pub opens : StandsFor script e (opening script e.first_budget)
   pub laws : HasLaws script e.first_budget
 
--- What a run needs at its opening: a script that some bytes spell, a heap on which nothing has been done, and a budget that is
--- allowed.
+-- What a run requires at its start: a script that some bytes spell, a new heap, and an allowed budget.
 pub record MayOpen (script : Script) (store : Store) (budget : ℕ) : Type 0 where
   pub spelled : IsSpelled script
   pub known : TextsAreKnown script
   pub empty : store ≡ opening_store (length script.names)
   pub allowed : budget ≤ MOST_BUDGET
 
--- A run of the machine so far: its lines are those that were written and those that a collection has left to tell, and the
--- engine stands for the world that it left.
+-- A run of the machine so far: its lines are those written and those that a collection still has to print, and the engine
+-- represents the world after it.
 pub record Ran (script : Script) (budget : ℕ) (before : Option (List ℕ)) (e : State) (now : Option (List ℕ)) : Type 0 where
   pub steps : List StepTaken
   pub told : List Event

@@ -1,4 +1,4 @@
--- What a turn answers where a collection on top may have lines left to tell. (Ours.)
+-- What a turn answers if a collection on top may have lines left to print. (Ours.)
 use Rattle.std.specs.Prelude.{◌≡◌, ◌≢◌, ◌<◌, ◌⊎◌, Bool, List, [], ◌∷◌, ◌++◌, length}
 use Rattle.cg_script.specs.declared.Script.{Script}
 use Rattle.cg_script.specs.Spelled.{IsSpelled}
@@ -18,8 +18,8 @@ use Rattle.cg_interp.specs.Engines.{State, StandsFor, under}
 use Rattle.cg_interp.specs.Collecting.{StandsWith, Collects}
 use Rattle.cg_interp.specs.Turns.{RunEndsWith, IsFit}
 
--- The machine goes on, or rests where that is allowed: what it prints besides the lines that were left is what is told and
--- the lines that are left now, for which the engine stands.
+-- The machine goes on, or rests where that is allowed. What it prints after the lines that were left is what is answered
+-- and the lines that are left now; the engine represents the world before those.
 pub record GoesOnTo (script : Script) (may_rest : List Event → Type 0) (w : World) (left told : List Event) (e : State) : Type 0 where
   pub events : List Event
   pub after : World
@@ -29,7 +29,7 @@ pub record GoesOnTo (script : Script) (may_rest : List Event → Type 0) (w : Wo
   pub moves : (goes.steps ≢ []) ⊎ may_rest still
   pub stands : StandsWith script e still after
 
--- what a turn answers; the run ends only where no line is left
+-- what a turn answers; the run ends only if no line is left
 abbrev pub TurnsWith : Script → (List Event → Type 0) → World → List Event → State → Turned → Type 0
 TurnsWith script may_rest w left e turned.Quiet = GoesOnTo script may_rest w left [] e
 TurnsWith script may_rest w left e (turned.Line event) = GoesOnTo script may_rest w left (event ∷ []) e
@@ -38,17 +38,17 @@ TurnsWith script may_rest w left e turned.Ended = (left ≡ []) × RunEndsWith s
 TurnsWith script may_rest w left e (turned.Left n) = (left ≡ []) × RunEndsWith script w (Left n ∷ End ∷ []) Ended
 TurnsWith script may_rest w left e turned.Spent = (left ≡ []) × RunEndsWith script w (BudgetSpent ∷ []) BudgetIsSpent
 
--- The collection on top has come nearer to its end, or is over.
+-- The collection on top is nearer to its end, or over.
 abbrev pub IsNearer : List Activity → Store → List Activity → Store → Type 0
 IsNearer (activity.Collecting asked c ∷ below) store (activity.Collecting also d ∷ rest) now = CollectFalls c store d now
 IsNearer (activity.Collecting asked c ∷ below) store rest now = Unit {0}
 IsNearer activities store rest now = ⊥
 
--- Without a step of the machine there are fewer lines left, or the collection on top is nearer to its end.
+-- Without a step of the machine, fewer lines are left, or the collection on top is nearer to its end.
 abbrev pub Advances : State → List Event → State → List Event → Type 0
 Advances old left new still = (length still < length left) ⊎ ((length still ≡ length left) × IsNearer old.activities old.store new.activities new.store)
 
--- A fit engine with this activity on top stands for a world of a run of a script that some bytes spell.
+-- A fit engine with this top activity represents a world of a run of a script that some bytes spell.
 pub record IsAtTurn (script : Script) (top : Activity) (e : State) : Type 0 where
   pub spelled : IsSpelled script
   pub fit : IsFit script e
@@ -56,11 +56,11 @@ pub record IsAtTurn (script : Script) (top : Activity) (e : State) : Type 0 wher
   pub stands : StandsFor script (under top e) world
   pub kept : StaysKept script e.first_budget world
 
--- From each such world the machine goes on as is answered, by a step at least.
+-- From each such world the machine goes on as answered, by at least one step.
 abbrev pub TurnsFrom : Script → Activity → State → State → Turned → Type 0
 TurnsFrom script top old new answer = (w : World) → StandsFor script (under top old) w → StaysKept script old.first_budget w → TurnsWith script (λ still. ⊥) w [] new answer
 
--- the same of an engine as it stands, where a collection may be on top and have lines left
+-- the same for any engine; a collection may be on top and have lines left
 pub record IsAtAnyTurn (script : Script) (e : State) : Type 0 where
   pub spelled : IsSpelled script
   pub fit : IsFit script e
@@ -72,7 +72,7 @@ pub record IsAtAnyTurn (script : Script) (e : State) : Type 0 where
 abbrev pub TurnsAny : Script → State → State → Turned → Type 0
 TurnsAny script old new answer = (w : World) (left : List Event) → StandsWith script old left w → StaysKept script old.first_budget w → TurnsWith script (Advances old left new) w left new answer
 
--- With a collection on top, which may take its next step, a fit engine stands for a world of such a run.
+-- With a collection on top that may make its next step, a fit engine represents a world of such a run.
 pub record CollectsNext (script : Script) (asked : Bool) (c : Collection) (e : State) : Type 0 where
   pub spelled : IsSpelled script
   pub fit : IsFit script e
@@ -81,7 +81,7 @@ pub record CollectsNext (script : Script) (asked : Bool) (c : Collection) (e : S
   pub collects : Collects script asked c e left world
   pub kept : StaysKept script e.first_budget world
 
--- From each such world the machine goes on as is answered.
+-- From each such world the machine goes on as answered.
 abbrev pub CollectTurns : Script → Bool → Collection → State → State → Turned → Type 0
 CollectTurns script asked c old new answer = (w : World) (left : List Event) → Collects script asked c old left w → StaysKept script old.first_budget w
     → TurnsWith script (Advances (under (activity.Collecting asked c) old) left new) w left new answer

@@ -24,8 +24,8 @@ use Rattle.cg_interp.specs.declared.turned.Dies.{Dies}
 use Rattle.cg_interp.specs.declared.turned.Dies.TheVariants as dies
 use Rattle.cg_interp.specs.Engines.{State, StandsFor}
 
--- A transition of the machine was made: its lines are those that were answered, and the engine stands for its world, or
--- the run has ended.
+-- The machine made a transition: its lines are those answered, and the engine represents its world, or the run has
+-- ended.
 abbrev pub Makes : Script → Transition → State → Turned → Type 0
 Makes script transition e turned.Quiet = (transition.0 ≡ []) × StandsFor script e transition.1
 Makes script transition e (turned.Line event) = (transition.0 ≡ event ∷ []) × StandsFor script e transition.1
@@ -34,19 +34,19 @@ Makes script transition e turned.Ended = (transition.0 ≡ End ∷ []) × (trans
 Makes script transition e (turned.Left n) = (transition.0 ≡ Left n ∷ End ∷ []) × (transition.1.outcome ≡ Ended)
 Makes script transition e turned.Spent = (transition.0 ≡ BudgetSpent ∷ []) × (transition.1.outcome ≡ BudgetIsSpent)
 
--- what is answered where a frame was to start: that it did, or that the budget is spent
+-- the answer where a frame was to start: that it did, or that the budget is spent
 abbrev pub entered : FrameSort → ℕ → Bool → Turned
 entered sort serial true = turned.Line (Enter sort serial)
 entered sort serial false = turned.Spent
 
--- The machine goes on, with these lines, to a world for which the engine stands.
+-- The machine goes on, with these lines, to a world that the engine represents.
 pub record GoesTo (script : Script) (w : World) (events : List Event) (e : State) : Type 0 where
   pub after : World
   pub goes : Goes script w events after
   pub moves : goes.steps ≢ []
   pub stands : StandsFor script e after
 
--- The run ends so, with these lines.
+-- The run ends in this way, with these lines.
 pub record RunEndsWith (script : Script) (w : World) (lines : List Event) (outcome : Outcome) : Type 0 where
   pub after : World
   pub goes : Goes script w lines after
@@ -61,20 +61,20 @@ Turns script w e turned.Ended = RunEndsWith script w (End ∷ []) Ended
 Turns script w e (turned.Left n) = RunEndsWith script w (Left n ∷ End ∷ []) Ended
 Turns script w e turned.Spent = RunEndsWith script w (BudgetSpent ∷ []) BudgetIsSpent
 
--- The machine goes on, without a line, to a world in which the death of an object has begun: the engine stands for the
--- world just before that.
+-- The machine goes on, without a line, to a world in which the death of an object has begun; the engine represents the
+-- world just before.
 pub record GivesDeath (script : Script) (w : World) (o : ℕ) (e : State) : Type 0 where
   pub before : World
   pub goes : Goes script w [] (begin_death o before)
   pub moves : goes.steps ≢ []
   pub stands : StandsFor script e before
 
--- What holds of the deaths of every run: a dying object is held by nothing but its own death, and is dying once.
+-- The laws on deaths: a dying object is held only by its own death, and dies once at a time.
 pub record DyingIsSound (w : World) : Type 0 where
   pub unheld : (d : machine.Death) → Includes w.stack (Dying d) → IsHeldInItsFramesAlone d.object d.phase (holdings w)
   pub once : (o : ℕ) → count_by (is_death_of o) w.stack ≤ 1
 
--- That holds in every world to which the machine goes.
+-- They hold in every world that the machine reaches.
 abbrev pub StaysSound : Script → World → Type 0
 StaysSound script w = (steps : List StepTaken) → Run script w steps → DyingIsSound (last_world w steps)
 
@@ -83,43 +83,43 @@ abbrev pub DeathTurns : Script → World → State → Dies → Type 0
 DeathTurns script w e (dies.Turned answer) = Turns script w e answer
 DeathTurns script w e (dies.Died o) = GivesDeath script w o e
 
--- what holds of the object whose death is to begin, if there is one
+-- what holds of the object whose death is to begin, if any
 abbrev pub IfDies : Dies → (ℕ → Type 0) → Type 0
 IfDies (dies.Turned answer) holds = Unit {0}
 IfDies (dies.Died o) holds = holds o
 
--- A death stands on top of these activities, or nothing of it is left.
+-- A death is on top of these activities, or nothing of it is left.
 abbrev pub StaysOn : Death → List Activity → List Activity → Type 0
 StaysOn d below activities = (IsGoing d × (activities ≡ activity.Dying d ∷ below)) ⊎ (IsOffStack d × (activities ≡ below))
 
--- What a turn in which no object is made keeps: there are no more objects, the stack may grow as high as before, names are
--- as many, and the first budget is the same.
+-- What a turn without a new object keeps: there are no more objects, the stack may grow as high as before, the number of
+-- names and the first budget are the same.
 pub record TurnKeeps (old new : State) : Type 0 where
   pub objects : length (objects_of new.store) ≤ length (objects_of old.store)
   pub room : length old.activities + old.room ≤ length new.activities + new.room
   pub names : length new.store.names ≡ length old.store.names
   pub first_budget : new.first_budget ≡ old.first_budget
 
--- Room for all that can be under way: the frames of the first budget, and the deaths and releases of all objects.
+-- Room for all possible activities: the frames of the first budget, and the deaths and releases of all objects.
 abbrev pub HasRoom : State → Type 0
 HasRoom e = e.first_budget + 2 * length (objects_of e.store) + 8 ≤ length e.activities + e.room
 
--- what an engine keeps to from turn to turn
+-- the invariant of an engine from turn to turn
 pub record IsFit (script : Script) (e : State) : Type 0 where
   pub names : length e.store.names ≡ length script.names
   pub first_budget : e.first_budget ≤ MOST_BUDGET
   pub room : HasRoom e
 
--- room besides for the death of one more object
+-- also room for the death of one more object
 abbrev pub HasRoomForOneMore : State → Type 0
 HasRoomForOneMore e = e.first_budget + 2 * (length (objects_of e.store) + 1) + 8 ≤ length e.activities + e.room
 
--- An engine that was fit is fit, and its first budget is the same.
+-- A fit engine is still fit, and its first budget is the same.
 pub record StaysFit (old new : State) : Type 0 where
   pub fit : (script : Script) → IsFit script old → IsFit script new
   pub first_budget : new.first_budget ≡ old.first_budget
 
--- The stack may grow higher than before, and nothing else is changed.
+-- The stack may grow higher than before; nothing else has changed.
 pub record HasMoreRoom (old new : State) : Type 0 where
   pub more : old.room ≤ new.room
   pub store : new.store ≡ old.store
@@ -128,7 +128,7 @@ pub record HasMoreRoom (old new : State) : Type 0 where
   pub budget : new.budget ≡ old.budget
   pub first_budget : new.first_budget ≡ old.first_budget
 
--- The activities may be others, and their room; heap, policy and budget are as before.
+-- The activities and their room may differ; heap, policy and budget are as before.
 pub record HasOtherStack (old new : State) : Type 0 where
   pub store : new.store ≡ old.store
   pub policy : new.policy ≡ old.policy

@@ -1,24 +1,24 @@
-//! What is under way.
+//! The activities of a run.
 use cg_collect::Collection;
 use cg_commands::Locals;
 use cg_death::{Death, Release};
 
-/// What is under way.
+/// An activity.
 #[derive(Drop)]
 pub enum Activity {
-    /// The script's own commands, from the one with this number on; or none is left.
+    /// The script's own commands, from the one with this number on; `None` if none is left.
     Script {
         next: Option<usize>,
     },
-    /// A frame: its locals, the procedure that it runs, and the number of its next command, if one is left.
+    /// A frame: its locals, the procedure that it runs, and the number of its next command, if any.
     Frame {
         locals: Locals,
         procedure: u32,
         next: Option<usize>,
     },
-    /// References that are given up one after the other.
+    /// References given up one after the other.
     Releasing(Release),
-    /// The shutdown at the end of the script, and whether its collection was started.
+    /// The shutdown at the end of the script, and whether its collection has started.
     Shutdown {
         started: bool,
     },

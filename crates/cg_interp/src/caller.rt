@@ -1,11 +1,11 @@
-//! What has commands: the script, or a frame.
+//! An activity with commands: the script, or a frame.
 ghost use Rattle.std.specs.Prelude.{◌≡◌, Some};
 ghost use Rattle.cg_interp.specs.Callers.{caller_activity, with_next, without_rest_in_frame};
 
 use crate::activity::Activity;
 use cg_commands::Locals;
 
-/// What has commands.
+/// An activity with commands.
 #[derive(Clone, Copy, Drop)]
 pub enum Runner {
     /// The script.
@@ -14,7 +14,7 @@ pub enum Runner {
     Frame { locals: Locals, procedure: u32 },
 }
 
-/// What has commands, with the number of its next one, if one is left.
+/// The same with the number of its next command, if any.
 #[derive(Clone, Copy, Drop)]
 pub struct Caller {
     pub runner: Runner,
@@ -22,7 +22,7 @@ pub struct Caller {
 }
 
 impl Caller {
-    /// The same with another next command, or with none left.
+    /// The same with another next command, or with none.
     #[inline(always)]
     pub fn with_next(&self, next: Option<usize>) -> Caller
         ensures { result ≡ with_next next self.now }
@@ -30,7 +30,7 @@ impl Caller {
         Caller { next, ..*self }
     }
 
-    /// It goes on from the command with this number.
+    /// The same, going on from the command with this number.
     #[inline(always)]
     pub fn go_on_from(&mut self, number: usize)
         ensures { self.new ≡ with_next (Some number) self.old }
@@ -38,7 +38,7 @@ impl Caller {
         self.next = Some(number);
     }
 
-    /// What is under way where it is.
+    /// The activity at this point.
     #[inline(always)]
     pub fn activity(&self) -> Activity
         ensures { result ≡ caller_activity self.now }
@@ -54,7 +54,7 @@ impl Caller {
         }
     }
 
-    /// The same without a command left, if it is a frame.
+    /// The same without commands, if it is a frame.
     pub fn stopped_frame(&self) -> Caller
         ensures { result ≡ without_rest_in_frame self.now }
     {

@@ -26,15 +26,15 @@ use cg_kind::Kind;
 use cg_script::{Command, Script};
 
 impl<B: Kind> Engine<B> {
-    /// Goes on with the script, which was on top: with one command after the other, up to one that tells a line or with which
-    /// more begins. A collection that is due comes first, also before the end or the shutdown.
+    /// Goes on with the script, taken from the top: does command after command, until one prints a line or starts something.
+    /// A due collection comes first, also before the end or the shutdown.
     pub fn go_on(&mut self, script: &Script, next: Option<usize>) -> Turned
         requires stands { IsAtTurn script.now (activity_of.Script next) self.old }
         ensures turns { TurnsFrom script.now (activity_of.Script next) self.old self.new result }
         ensures fit { StaysFit self.old self.new }
     {
         let mut next = next;
-        // It is put together once: for each command it would be copied, field by field.
+        // Built once; rebuilding would copy every field for each command.
         let mut caller = Caller {
             runner: Runner::Script,
             next,
@@ -53,7 +53,7 @@ impl<B: Kind> Engine<B> {
         }
     }
 
-    /// The script, which was on top, has no command left. A collection that is due comes first.
+    /// The script, taken from the top, has no command left. A due collection comes first.
     fn end(&mut self, script: &Script, next: Option<usize>) -> Turned
         requires none { commands_from next (commands_of script.now.items) ≡ [] }
         requires stands { IsAtTurn script.now (activity_of.Script next) self.old }
@@ -69,8 +69,7 @@ impl<B: Kind> Engine<B> {
         }
     }
 
-    /// Goes on with a frame, which was on top, in the same way. A collection that is due comes before its next command; its end
-    /// waits for none.
+    /// The same for a frame. A due collection comes before its next command, but not before its end.
     pub fn go_on_in(
         &mut self,
         script: &Script,
@@ -89,8 +88,8 @@ impl<B: Kind> Engine<B> {
         }
     }
 
-    /// The same from the command with this number on. Commands that change names or entries are done first, as far as they
-    /// follow one another: most commands are of these.
+    /// The same from the command with this number on. First does the run of commands that change names or entries, since
+    /// most commands are of this sort.
     fn go_on_at(&mut self, script: &Script, locals: Locals, procedure: u32, number: usize) -> Turned
         requires stands { IsAtTurn script.now (activity_of.Frame locals procedure (Some number)) self.old }
         ensures turns { TurnsFrom script.now (activity_of.Frame locals procedure (Some number)) self.old
@@ -120,10 +119,10 @@ impl<B: Kind> Engine<B> {
         }
     }
 
-    /// Does the next commands of a frame, which was on top, as far as they change names or entries and no collection is due.
-    /// Then `number` is that of the next one. Nothing is answered where the frame is to go on: it is not put back.
+    /// Does the next commands of a frame, taken from the top, while they change names or entries and no collection is due.
+    /// Then `number` is that of the next one. Answers `None` if the frame is to go on; it is then not put back.
     ///
-    /// No such command makes a collection due, so that is asked once.
+    /// No such command makes a collection due, so that is checked once.
     #[inline(always)]
     fn change_on(
         &mut self,
@@ -148,8 +147,8 @@ impl<B: Kind> Engine<B> {
         }
     }
 
-    /// The same where no collection is due. This is a call of its own: at the head of a loop over commands of any sort, each
-    /// command would pay for putting together what the other sorts answer.
+    /// The same when no collection is due. A call of its own: in a loop over all commands, each would pay for building the
+    /// results of the others.
     #[inline(never)]
     fn make_changes(
         &mut self,
@@ -168,7 +167,7 @@ impl<B: Kind> Engine<B> {
     {
         let within = Some(locals);
         let mut at = *number;
-        // It is put together once: for each command it would be copied, field by field.
+        // Built once; rebuilding would copy every field for each command.
         let mut caller = Caller {
             runner: Runner::Frame { locals, procedure },
             next: Some(at),
@@ -194,8 +193,8 @@ impl<B: Kind> Engine<B> {
         }
     }
 
-    /// The next command of a caller, which was on top, where it changes names or entries and no collection is due. The caller
-    /// has gone on from it. Where nothing is answered, none is due after it either.
+    /// Does the next command of a caller, taken from the top, if it changes names or entries and no collection is due. The
+    /// caller has already advanced past it. After `None`, no collection is due either.
     #[inline(always)]
     fn step_change(
         &mut self,
@@ -213,14 +212,14 @@ impl<B: Kind> Engine<B> {
         ensures policy { IfNone result (self.new.policy ≡ self.old.policy) }
         ensures fit { StaysFit self.old self.new }
     {
-        // No heap is large, and where no collection runs none of its places has an object.
+        // Heaps are bounded, and while no collection is under way its places are empty.
         self.heap.sound();
         self.carry_out_change(caller, locals, command)
     }
 
-    /// The next command of a caller, which was on top, or a collection that is due before it. The caller has gone on from that
-    /// command, which has this number. Nothing is answered where no line is due and the caller is to go on: it is not put back.
-    /// `locals` are the caller's.
+    /// Does the next command of a caller, taken from the top, or starts a due collection before it. The caller has already
+    /// advanced past that command, which has this number. Answers `None` if there is no line and the caller is to go on; it is
+    /// then not put back. `locals` are the caller's.
     #[inline(always)]
     fn step(
         &mut self,
@@ -236,7 +235,7 @@ impl<B: Kind> Engine<B> {
             → StepsFrom script caller.now next self.old self.new result }
         ensures fit { StaysFit self.old self.new }
     {
-        // No heap is large, and where no collection runs none of its places has an object.
+        // Heaps are bounded, and while no collection is under way its places are empty.
         self.heap.sound();
         match self.policy.due() {
             Some(generation) => {
@@ -247,8 +246,7 @@ impl<B: Kind> Engine<B> {
         }
     }
 
-    /// A collection of a generation that is due begins above the caller that was on top, before its next command, which has
-    /// this number.
+    /// Begins a due collection above the caller, before the caller's next command, which has this number.
     #[inline(never)]
     fn collect_first(&mut self, caller: &Caller, next: Option<usize>, generation: u8)
         requires generation { generation ≤ 2 }
@@ -265,7 +263,7 @@ impl<B: Kind> Engine<B> {
         self.collect(caller.with_next(next).activity(), false, generation);
     }
 
-    /// Does a command of the caller that was on top, which has gone on to the command after it.
+    /// Does a command of the caller, taken from the top, which has advanced past it.
     #[inline(always)]
     fn run(&mut self, caller: &Caller, locals: &Option<Locals>, command: &Command) -> Option<Turned>
         requires own { locals.now ≡ caller_locals caller.now }
@@ -286,7 +284,7 @@ impl<B: Kind> Engine<B> {
         }
     }
 
-    /// The same for a command that changes names or entries and tells no line.
+    /// The same for a command that changes names or entries and prints no line.
     #[inline(always)]
     fn carry_out_change(
         &mut self,
@@ -306,14 +304,14 @@ impl<B: Kind> Engine<B> {
         ensures policy { IfNone result (self.new.policy ≡ self.old.policy) }
         ensures fit { StaysFit self.old self.new }
     {
-        // What it answers is told apart where it comes: handed on, or made a `Done`, it would be copied for each command.
+        // Matched here, to avoid a copy for each command: passed on or wrapped in a `Done`, it would be copied.
         match change(&mut self.heap, locals, command) {
             Ok(given_up) => self.change(caller, None, given_up),
             Err(refusal) => Some(self.refuse(caller, refusal.number())),
         }
     }
 
-    /// The same, where an object is made only if there is room for its death.
+    /// The same; an object is made only if there is room for its death.
     #[inline(always)]
     fn carry_out(
         &mut self,
@@ -344,7 +342,7 @@ impl<B: Kind> Engine<B> {
         self.answer(caller, done)
     }
 
-    /// Makes room on the stack for the death of an object, if the command makes one. It answers whether it does and there is
+    /// Makes room on the stack for the death of an object, if the command makes one. Answers whether it does and there is
     /// room.
     #[inline(always)]
     fn make_room(&mut self, command: &Command) -> bool
@@ -358,7 +356,7 @@ impl<B: Kind> Engine<B> {
         }
     }
 
-    /// Makes room on the stack for the death of one more object. It answers whether there is room.
+    /// Makes room on the stack for the death of one more object. Answers whether there is room.
     #[inline(never)]
     fn reserve(&mut self) -> bool
         ensures one_more { result ≡ true → HasRoomForOneMore self.new }
@@ -372,7 +370,7 @@ impl<B: Kind> Engine<B> {
     }
 }
 
-/// Whether the next of some commands only changes names or entries. It only saves a call: `make_changes` looks itself.
+/// Whether the next command only changes names or entries. It only saves a call: `make_changes` tests it too.
 #[inline(always)]
 fn is_change_next(commands: &[Command], number: usize) -> bool {
     match commands.get(number) {

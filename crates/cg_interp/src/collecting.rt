@@ -31,7 +31,7 @@ use cg_script::Script;
 use std::sync::ledger::Ledger;
 
 impl<B: Kind> Engine<B> {
-    /// A collection of a generation begins above the activity that was on top. Its first step is that of the next turn.
+    /// Begins a collection of a generation above the activity from the top. The next turn makes its first step.
     pub fn collect(&mut self, top: Activity, asked: bool, generation: u8)
         requires generation { generation ≤ 2 }
         requires room { 1 < self.old.room }
@@ -49,7 +49,7 @@ impl<B: Kind> Engine<B> {
         self.stack.push(Activity::Collecting { asked, collection });
     }
 
-    /// A turn of a collection, which was on top.
+    /// A turn of a collection, taken from the top.
     #[inline(always)]
     pub fn turn_of_collection<L: Ledger>(
         &mut self,
@@ -67,7 +67,7 @@ impl<B: Kind> Engine<B> {
         self.go_on_collecting(asked, collection, script, steps)
     }
 
-    /// The steps of a collection, which was on top and may take the next one, one after the other, as long as nothing is to be told.
+    /// Makes the steps of a collection, taken from the top, as long as there is nothing to print.
     #[inline(always)]
     fn go_on_collecting<L: Ledger>(
         &mut self,
@@ -116,7 +116,7 @@ impl<B: Kind> Engine<B> {
     }
 }
 
-/// The steps of a collection one after the other, up to one that does not go on in the same turn.
+/// Makes the steps of a collection, until one ends the turn.
 fn collect_on<B: Kind, L: Ledger>(
     heap: &mut Heap<B>,
     policy: &mut Policy,
@@ -140,8 +140,8 @@ fn collect_on<B: Kind, L: Ledger>(
     }
 }
 
-/// Whether a collection makes its next step in the same turn: there is nothing to tell, and neither the step that it made nor the
-/// next makes a detection, which is recorded by the heaps before its turn and after it.
+/// Whether a collection makes its next step in the same turn: there is nothing to print, and neither this step nor the next is a
+/// reachability pass. A pass needs a turn of its own, since it is recorded from the heaps before and after the turn.
 fn goes_on(answer: CollectStep, collection: &Collection) -> bool
     ensures { (result ≡ true) ↔ ((answer ≡ answer_of.Continue) × (stage_of collection.now ≡ stage.Between)) }
 {
@@ -151,7 +151,7 @@ fn goes_on(answer: CollectStep, collection: &Collection) -> bool
     }
 }
 
-/// What is told when a collection is over: a command that asked for it is answered.
+/// What is printed when a collection ends: the answer to the command that asked for it, if any.
 fn answered(asked: bool, number: u64) -> Turned
     ensures asked { asked ≡ true → result ≡ turned_of.Line (event_of.Collected number) }
     ensures not { asked ≡ false → result ≡ turned_of.Quiet }

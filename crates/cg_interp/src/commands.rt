@@ -1,4 +1,4 @@
-//! What the engine does once a command has been performed.
+//! What the engine does after a command.
 ghost use Rattle.std.specs.Prelude.{◌≡◌, ◌<◌, ◌≤◌, true, false, [], Ok, IfNone};
 ghost use Rattle.cg_value.specs.declared.Val.TheVariants as val_of;
 ghost use Rattle.cg_graph.specs.Value.{item};
@@ -36,8 +36,8 @@ use cg_machine::{Event, FrameSort, FrameSpec};
 use cg_value::{Entry, Val};
 
 impl<B: Kind> Engine<B> {
-    /// What the engine does once the command of the caller that was on top has been performed. Nothing is answered where no line
-    /// is due and the caller is to go on: it is not put back.
+    /// What the engine does after a command of the caller, taken from the top. Answers `None` if there is no line and the caller
+    /// is to go on; it is then not put back.
     #[inline(always)]
     pub fn answer(&mut self, caller: &Caller, done: Result<Done, Refusal>) -> Option<Turned>
         requires room { 2 < self.old.room }
@@ -55,7 +55,7 @@ impl<B: Kind> Engine<B> {
         }
     }
 
-    /// The same once it has been done.
+    /// The same after a command that was not refused.
     #[inline(always)]
     fn proceed(&mut self, caller: &Caller, done: Done) -> Option<Turned>
         requires room { 2 < self.old.room }
@@ -77,7 +77,7 @@ impl<B: Kind> Engine<B> {
         }
     }
 
-    /// A command was refused, which also ends the frame that it stood in.
+    /// A command was refused, which also ends its frame.
     #[inline(always)]
     pub fn refuse(&mut self, caller: &Caller, number: u8) -> Turned
         requires room { 0 < self.old.room }
@@ -89,7 +89,7 @@ impl<B: Kind> Engine<B> {
         Turned::Line(Event::Refused(number))
     }
 
-    /// A caller is put back. If it is a frame, no command is left to it.
+    /// Puts a caller back; a frame without its remaining commands.
     #[inline(never)]
     fn stop_frame(&mut self, caller: &Caller)
         requires room { 0 < self.old.room }
@@ -100,8 +100,7 @@ impl<B: Kind> Engine<B> {
         self.stack.push(caller.stopped_frame().activity());
     }
 
-    /// A command changed what it had to, and references are given up. The death of an object that nothing holds any more
-    /// begins.
+    /// A command made its change, and references are given up. If that leaves an object unheld, its death begins.
     #[inline(always)]
     pub fn change(
         &mut self,
@@ -128,7 +127,7 @@ impl<B: Kind> Engine<B> {
         }
     }
 
-    /// The death of an object begins that a release hands out, which stands above the caller. Both are put back.
+    /// Begins the death of an object that a release above the caller answers. Puts both back.
     #[inline(never)]
     fn die_above(&mut self, caller: &Caller, release: Release, object: u64)
         requires unheld { IsUnheld self.old.store object }
@@ -145,7 +144,7 @@ impl<B: Kind> Engine<B> {
         self.die_in(release, object);
     }
 
-    /// A line ends the turn, if one is due. Then the caller is put back.
+    /// A line, if any, ends the turn; then the caller is put back.
     #[inline(always)]
     fn tell_line(&mut self, caller: &Caller, line: Option<Event>) -> Option<Turned>
         requires room { 0 < self.old.room }
@@ -163,7 +162,7 @@ impl<B: Kind> Engine<B> {
         }
     }
 
-    /// A caller is put back, to go on later.
+    /// Puts a caller back, to go on later.
     #[inline(never)]
     fn wait(&mut self, caller: &Caller)
         requires room { 0 < self.old.room }
@@ -174,7 +173,7 @@ impl<B: Kind> Engine<B> {
         self.stack.push(caller.activity());
     }
 
-    /// A command tells lines. Nothing is to be given up.
+    /// A command prints lines and gives nothing up.
     #[inline(always)]
     fn tell(&mut self, caller: &Caller, lines: Lines) -> Turned
         requires room { 1 < self.old.room }
@@ -186,7 +185,7 @@ impl<B: Kind> Engine<B> {
         Turned::Lines(lines)
     }
 
-    /// A caller is put back, with nothing to be given up on top.
+    /// Puts a caller back, with an empty release on top.
     #[inline(never)]
     fn wait_releasing(&mut self, caller: &Caller)
         requires room { 1 < self.old.room }
@@ -198,7 +197,7 @@ impl<B: Kind> Engine<B> {
         self.stack.push(Activity::Releasing(nothing()));
     }
 
-    /// A command ends the frame that it stands in, or the script.
+    /// A command ends its frame, or the script.
     #[inline(always)]
     fn quit(&mut self, caller: &Caller) -> Turned
         requires room { 0 < self.old.room }
@@ -210,7 +209,7 @@ impl<B: Kind> Engine<B> {
         Turned::Quiet
     }
 
-    /// A caller is put back. No command is left to it.
+    /// Puts a caller back, without commands.
     #[inline(never)]
     fn stop(&mut self, caller: &Caller)
         requires room { 0 < self.old.room }
@@ -241,7 +240,7 @@ impl<B: Kind> Engine<B> {
         }
     }
 
-    /// The frame of a call starts above the caller, which is put back. It answers whether a frame was left to the budget.
+    /// Starts the frame of a call above the caller, which is put back. Answers whether the budget had a frame left.
     #[inline(never)]
     fn start_call(&mut self, caller: &Caller, function: u64) -> bool
         requires few { HasFewHolds self.old.store }
@@ -261,7 +260,7 @@ impl<B: Kind> Engine<B> {
         })
     }
 
-    /// Starts the collection that a command asks for. Where one is running, none starts, and the answer is 0.
+    /// Starts the collection that a command asks for. If one is under way, none starts, and the answer is 0.
     #[inline(always)]
     fn collect_if_idle(&mut self, caller: &Caller, generation: u8) -> Turned
         requires generation { generation ≤ 2 }
@@ -282,7 +281,7 @@ impl<B: Kind> Engine<B> {
         }
     }
 
-    /// A collection that a command asks for begins above the caller, which is put back.
+    /// Begins a requested collection above the caller, which is put back.
     #[inline(never)]
     fn collect_asked(&mut self, caller: &Caller, generation: u8)
         requires generation { generation ≤ 2 }
@@ -299,7 +298,7 @@ impl<B: Kind> Engine<B> {
     }
 }
 
-/// What is answered with this line due, or none.
+/// The answer with this line, or without one.
 #[inline(always)]
 fn told(line: Option<Event>) -> Turned
     ensures { result ≡ told line }
@@ -310,7 +309,7 @@ fn told(line: Option<Event>) -> Turned
     }
 }
 
-/// A release that gives up nothing.
+/// An empty release.
 fn nothing() -> Release
     ensures { references_left result ≡ [] }
 {

@@ -1,4 +1,4 @@
-//! A death on top.
+//! A death on top of the stack.
 ghost use Rattle.std.specs.Prelude.{◌≡◌, ◌≢◌, ◌<◌, ◌≤◌, ◌+◌, []};
 ghost use Rattle.cg_script.specs.declared.Script.{Script as AnyScript};
 ghost use Rattle.cg_machine.specs.World.{World};
@@ -40,7 +40,7 @@ impl<B: Kind> Engine<B> {
         self.stack.push(Activity::Dying(death));
     }
 
-    /// The actions of a death, which was on top, one after the other, as long as the machine goes on without a line.
+    /// Takes the actions of a death, taken from the top, as long as the machine goes on without a line.
     #[inline(always)]
     pub fn go_on_dying(&mut self, death: Death, script: &Script) -> Dies
         requires room { 1 < self.old.room }
@@ -66,7 +66,7 @@ impl<B: Kind> Engine<B> {
         }
     }
 
-    /// The policy counts an object that a line tells to be freed.
+    /// Makes the policy count a freed object, if a line reports one.
     fn count_freed(&mut self, event: Event)
         ensures counts { self.new.policy ≡ with_numbers (numbers_after event self.old.policy.numbers) self.old.policy }
         ensures store { self.new.store ≡ self.old.store }
@@ -80,7 +80,7 @@ impl<B: Kind> Engine<B> {
         }
     }
 
-    /// A death stays on top, unless it is over.
+    /// Puts a death back, unless it is over.
     #[inline(always)]
     fn put_back(&mut self, death: Death)
         requires { 0 < self.old.room }
@@ -95,7 +95,7 @@ impl<B: Kind> Engine<B> {
     }
 }
 
-/// The actions of a death one after the other, up to one that answers more than that it goes on.
+/// Takes the actions of a death, until one ends the turn.
 fn act<B: Kind>(heap: &mut Heap<B>, death: &mut Death, script: &Script) -> DeathStep
     requires stands { IsActing script.now heap.old death.old }
     ensures acts { Acts script.now heap.old death.old heap.new death.new result }

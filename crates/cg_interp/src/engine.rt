@@ -1,4 +1,4 @@
-//! What runs.
+//! The engine of a run.
 
 use crate::stack::Stack;
 use cg_heap::Heap;
@@ -7,17 +7,17 @@ use cg_policy::Policy;
 use std::alloc::Global;
 use std::marker::Model;
 
-/// A heap, the numbers of the collector, and what is under way over them.
+/// A heap, the numbers of the collector, and the activities.
 #[derive(Drop)]
 pub struct Engine<B: Kind> {
-    // Where the lists of inspections are made.
+    // Allocates the lists of inspections.
     pub alloc: Global,
     pub heap: Heap<B>,
     pub policy: Policy,
     pub stack: Stack,
-    // The frames that may still start.
+    // How many frames may still start.
     pub budget: u32,
-    // The budget that the script began with.
+    // The budget at the start of the run.
     pub first_budget: u32,
 }
 

@@ -26,7 +26,7 @@ use cg_machine::{Event, FrameSort, FrameSpec};
 use cg_value::{Entry, Val};
 
 impl<B: Kind> Engine<B> {
-    /// Starts a frame, which takes one from the budget. Where none is left, the run ends.
+    /// Starts a frame, which costs one of the budget. With none left, the run ends.
     pub fn start(&mut self, spec: FrameSpec) -> Turned
         requires few { spec.sort ≡ sort_of.Call → HasFewHolds self.old.store }
         requires live { 0 < self.old.budget → spec.sort ≡ sort_of.Call
@@ -46,7 +46,7 @@ impl<B: Kind> Engine<B> {
         }
     }
 
-    /// Starts a frame, where the budget has one left. It answers whether it has.
+    /// Starts a frame if the budget has one left. Answers whether it has.
     #[inline(always)]
     pub fn enters(&mut self, spec: FrameSpec) -> bool
         requires few { spec.sort ≡ sort_of.Call → HasFewHolds self.old.store }
@@ -65,7 +65,7 @@ impl<B: Kind> Engine<B> {
         }
     }
 
-    /// Starts a frame where the budget has one left.
+    /// Starts a frame; the budget has one left.
     fn enter(&mut self, spec: FrameSpec)
         requires few { spec.sort ≡ sort_of.Call → HasFewHolds self.old.store }
         requires live { spec.sort ≡ sort_of.Call → IfSome spec.func (λ f. IsLive self.old.store f) }
@@ -88,7 +88,7 @@ impl<B: Kind> Engine<B> {
         });
     }
 
-    /// Puts a release on top, if there is one.
+    /// Pushes a release, if there is one.
     fn push_if(&mut self, release: Option<Release>)
         requires room { 0 < self.old.room }
         ensures top { self.new.activities ≡ with_release_on release self.old.activities }
@@ -101,7 +101,7 @@ impl<B: Kind> Engine<B> {
         }
     }
 
-    /// A frame ends, which was on top. A function that a command called is given up.
+    /// Ends a frame, taken from the top. If a command called its function, the function is given up.
     pub fn leave(&mut self, locals: Locals) -> Turned
         requires room { 0 < self.old.room }
         ensures leaves { (script : AnyScript) (procedure : ℕ) (next : Option ℕ) (w : World) → commands_from next (body_of script procedure) ≡ []
@@ -113,7 +113,7 @@ impl<B: Kind> Engine<B> {
     }
 }
 
-/// What the end of a frame gives up: its function, where a command called it.
+/// What the end of a frame gives up: its function, if a command called it.
 fn given_up_by(locals: Locals) -> Option<Release>
     ensures world { (w : World) →
         gives_up_function locals.sort locals.func w ≡ with_release result w }
@@ -125,7 +125,7 @@ fn given_up_by(locals: Locals) -> Option<Release>
     }
 }
 
-/// Gives up a hold of an object, if there is one.
+/// Gives up a hold of an object, if any.
 fn release_of(object: Option<u64>) -> Release
     ensures { references_left result ≡ option_to_list object }
 {
@@ -138,7 +138,7 @@ fn release_of(object: Option<u64>) -> Release
     })
 }
 
-/// What a frame holds: its function, where a command called it.
+/// What a frame holds: its function, if a command called it.
 fn called(sort: FrameSort, function: Option<u64>) -> Option<u64>
     ensures holds { call_holds sort function ≡ option_to_list result }
     ensures only { IfSome result (λ f. function ≡ Some f) }
@@ -150,7 +150,7 @@ fn called(sort: FrameSort, function: Option<u64>) -> Option<u64>
     }
 }
 
-/// Holds an object, if there is one.
+/// Holds an object, if any.
 fn hold_if<B: Kind>(heap: &mut Heap<B>, object: Option<u64>)
     requires few { OnSome object (HasFewHolds heap.old) }
     requires live { IfSome object (λ o. IsLive heap.old o) }

@@ -1,4 +1,4 @@
-//! The graphs of records, as they are written from a heap.
+//! The graphs of records, written from a heap.
 ghost use Rattle.std.specs.Prelude.{◌≡◌, ◌≤◌, ◌+◌, Some, length, flat_map, codes, OnOk, OnErr};
 ghost use Rattle.std.specs.Io.KnownBytes.{Appends};
 ghost use Rattle.cg_io.specs.Causes.{HasCause, AppendsFront};
@@ -18,7 +18,7 @@ use cg_kind::Kind;
 use cg_script::Script;
 use cg_value::{Place, Val};
 
-/// A detection of a collection, of which a record has a graph.
+/// A recorded reachability pass of a collection.
 #[derive(Clone, Copy, Debug, PartialEq, Eq, Drop)]
 pub enum Detection {
     /// The first one, at the start of a collection of this generation.
@@ -27,7 +27,7 @@ pub enum Detection {
     Second,
 }
 
-/// Whether the detection looks at an object that stands at this place: in the generation or below it, or among the condemned.
+/// Whether the pass examines an object in this place: in the generation or a younger one, or among the condemned.
 fn looks_at(detection: Detection, place: Place) -> bool
     ensures { result ≡ is_candidate_at detection place }
 {
@@ -38,7 +38,7 @@ fn looks_at(detection: Detection, place: Place) -> bool
     }
 }
 
-/// Writes the reference of a value, where it is to an object that the detection looks at.
+/// Writes the reference of a value, if it refers to an object that the pass examines.
 fn write_reference<B: Kind, K: Sink>(
     heap: &Heap<B>,
     detection: Detection,
@@ -60,7 +60,7 @@ fn write_reference<B: Kind, K: Sink>(
     Ok(())
 }
 
-/// Writes the references of an object to those that the detection looks at, in the order of its entries.
+/// Writes the references of an object to those that the pass examines, in entry order.
 fn write_references<B: Kind, K: Sink>(
     heap: &Heap<B>,
     detection: Detection,
@@ -130,7 +130,7 @@ fn write_members_at<B: Kind, K: Sink>(
     Ok(())
 }
 
-/// Writes the objects of a generation and of those below it as members.
+/// Writes the objects of a generation and the younger ones as members.
 fn write_generations<B: Kind, K: Sink>(
     heap: &Heap<B>,
     script: &Script,
@@ -151,7 +151,7 @@ fn write_generations<B: Kind, K: Sink>(
     Ok(())
 }
 
-/// Writes the objects that the detection looks at as the members of its graph.
+/// Writes the objects that the pass examines as the members of its graph.
 pub fn write_members<B: Kind, K: Sink>(
     heap: &Heap<B>,
     script: &Script,
@@ -171,7 +171,7 @@ pub fn write_members<B: Kind, K: Sink>(
     }
 }
 
-/// Writes a line of a word, of at most eight bytes, for each object of a place.
+/// Writes a line with a word, of at most eight bytes, for each object of a place.
 fn write_all_at<B: Kind, K: Sink>(
     heap: &Heap<B>,
     place: Place,
@@ -196,7 +196,7 @@ fn write_all_at<B: Kind, K: Sink>(
     Ok(())
 }
 
-/// Writes what a first detection found: what was lost, and what of that was set aside.
+/// Writes what a first pass found: the unreachable objects, and the uncollectable ones among them.
 fn write_sorted<B: Kind, K: Sink>(heap: &Heap<B>, sink: &mut K) -> Result<(), WriteFailed>
     ensures ok { OnOk result (Appends (K.written sink.old) (K.written sink.new) (sorted_text heap.now)) }
     ensures err { OnErr result (AppendsFront (K.written sink.old) (K.written sink.new) (sorted_text heap.now)) }
@@ -207,7 +207,7 @@ fn write_sorted<B: Kind, K: Sink>(heap: &Heap<B>, sink: &mut K) -> Result<(), Wr
     write_all_at(heap, Place::Legacy, "legacy", sink)
 }
 
-/// Writes what a second detection found, and that the record ends.
+/// Writes what a second pass found, and that the record ends.
 fn write_final<B: Kind, K: Sink>(heap: &Heap<B>, sink: &mut K) -> Result<(), WriteFailed>
     ensures ok { OnOk result (Appends (K.written sink.old) (K.written sink.new) (final_text heap.now)) }
     ensures err { OnErr result (AppendsFront (K.written sink.old) (K.written sink.new) (final_text heap.now)) }
@@ -217,7 +217,7 @@ fn write_final<B: Kind, K: Sink>(heap: &Heap<B>, sink: &mut K) -> Result<(), Wri
     sink.write(b"stop\n")
 }
 
-/// Writes what the detection found, from the heap that its step left.
+/// Writes what the pass found, from the heap after its step.
 pub fn write_findings<B: Kind, K: Sink>(
     heap: &Heap<B>,
     detection: Detection,

@@ -1,4 +1,4 @@
-//! The interpreter: what runs, and the loop of a run.
+//! The interpreter: the activities of a run, and its loop.
 #![tactic(auto)]
 
 mod activity;

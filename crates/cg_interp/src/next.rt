@@ -1,11 +1,11 @@
-//! Which command comes next.
+//! The next command.
 ghost use Rattle.std.specs.Prelude.{◌≡◌, ◌∷◌, [], Some, IfSome, IfNone};
 ghost use Rattle.cg_machine.specs.Program.{commands_of, body_of};
 ghost use Rattle.cg_interp.specs.Engines.{commands_from};
 
 use cg_script::{Command, Items, Script};
 
-/// The next command outside procedures, and the number of the one after it, if one is left.
+/// The next command outside procedures, and the number of the one after it, if any.
 #[inline(always)]
 pub fn next_in(items: &Items, next: Option<usize>) -> Option<(&Command, usize)>
     ensures none { IfNone result (commands_from next (commands_of items.now) ≡ []) }
@@ -21,7 +21,7 @@ pub fn next_in(items: &Items, next: Option<usize>) -> Option<(&Command, usize)>
     }
 }
 
-/// The next of some commands, and the number of the one after it, if one is left.
+/// The next of some commands, and the number of the one after it, if any.
 #[inline(always)]
 pub fn next_of(commands: &[Command], next: Option<usize>) -> Option<(&Command, usize)>
     ensures none { IfNone result (commands_from next commands.now ≡ []) }
@@ -37,7 +37,7 @@ pub fn next_of(commands: &[Command], next: Option<usize>) -> Option<(&Command, u
     }
 }
 
-/// The commands of a procedure, by its number. There are none where the script has no such procedure.
+/// The commands of the procedure with this number; none if the script has no such procedure.
 #[inline(always)]
 pub fn body_of(script: &Script, number: u32) -> &[Command]
     ensures { result.now ≡ body_of script.now number }

@@ -1,4 +1,4 @@
-//! The opening of a run.
+//! The start of a run.
 ghost use Rattle.std.specs.Prelude.{◌≡◌, ◌≤◌, length, IfOk};
 ghost use Rattle.cg_script.specs.declared.limits.TheConstants.{MOST_BUDGET};
 ghost use Rattle.cg_graph.specs.Changes.{opening_store};
@@ -16,8 +16,8 @@ use cg_script::Script;
 use std::alloc::{AllocError, Global};
 
 impl<B: Kind> Engine<B> {
-    /// The engine of a script with a budget, on a heap as `Heap::new` leaves it for the script's names. It answers
-    /// `AllocError` only where memory runs out.
+    /// The engine of a script with a budget, on a new heap (`Heap::new`) for the script's names. Answers
+    /// `AllocError` only if memory runs out.
     pub fn new(
         alloc: Global,
         heap: Heap<B>,
@@ -30,7 +30,7 @@ impl<B: Kind> Engine<B> {
         ensures fit { IfOk result (λ e. IsFit script.now e) }
         ensures first_budget { IfOk result (λ e. e.first_budget ≡ budget) }
     {
-        // Room for the frames, two for the one object, and eight to spare, which is enough for a collection.
+        // Room for the frames, two for the one object, and eight more, enough for a collection.
         let mut stack = Stack::new(alloc, budget as usize + 10)?;
         stack.push(Activity::Script { next: Some(0) });
         Ok(Engine {

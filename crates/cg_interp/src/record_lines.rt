@@ -1,4 +1,4 @@
-//! The lines of records, one `write` a line. They take no memory.
+//! The lines of records, one `write` a line, without allocation.
 ghost use Rattle.std.specs.Prelude.{◌≤◌, length, OnOk, OnErr};
 ghost use Rattle.std.specs.Io.KnownBytes.{Appends};
 ghost use Rattle.cg_io.specs.Causes.{HasCause, AppendsFront};
@@ -9,10 +9,10 @@ use arrayvec::ArrayString;
 use cg_io::{Sink, WriteFailed};
 use itoa::Buffer;
 
-/// The most bytes that a line has: a word, and two numbers of 64 bits and a mark.
+/// The longest line in bytes: a word, two numbers of 64 bits and a mark.
 const ROOM: usize = 64;
 
-/// Writes a line of a word of at most eight bytes and a number.
+/// Writes a line with a word, of at most eight bytes, and a number.
 pub fn write_numbered<K: Sink>(word: &str, number: u64, sink: &mut K) -> Result<(), WriteFailed>
     requires { length word.now ≤ 8 }
     ensures ok { OnOk result (Appends (K.written sink.old) (K.written sink.new) (numbered word.now number)) }
@@ -47,7 +47,7 @@ pub fn write_member_line<K: Sink>(
     sink.write(line.as_str().as_bytes())
 }
 
-/// Writes the line that ends a record without a second graph, where one is unfinished.
+/// Writes the line that ends a record without a second graph, if one is unfinished.
 pub fn write_cut<K: Sink>(unfinished: bool, sink: &mut K) -> Result<(), WriteFailed>
     ensures ok { OnOk result (Appends (K.written sink.old) (K.written sink.new) (closing unfinished)) }
     ensures err { OnErr result (AppendsFront (K.written sink.old) (K.written sink.new) (closing unfinished)) }

@@ -1,4 +1,4 @@
-//! Runs of scripts whose records are written in place of their text.
+//! Runs of scripts that write records instead of their text.
 ghost use Rattle.std.specs.Prelude.{◌≡◌, ◌≢◌, ◌<◌, ◌≤◌, ◌⊎◌, ◌++◌, List, length, codes, IfOk, OnErr};
 ghost use Rattle.std.specs.Io.KnownBytes.{Appends};
 ghost use Rattle.cg_io.specs.Causes.{Rose, HasCause, AppendsFront};
@@ -32,8 +32,8 @@ use std::alloc::Global;
 use std::marker::Brand;
 use std::sync::ledger::{Blank, Ledger};
 
-/// One turn, and what is recorded of it; its lines are dropped. It tells how the run stands, or nothing where a command was
-/// refused because memory ran out.
+/// One turn and its records; its lines are dropped. Answers the state of the run, or `None` if a command was refused for
+/// memory.
 fn turn_and_record<B: Kind, K: Sink, L: Ledger>(
     engine: &mut Engine<B>,
     script: &Script,
@@ -53,7 +53,7 @@ fn turn_and_record<B: Kind, K: Sink, L: Ledger>(
     ensures was_sound { IsSound engine.old.store }
     ensures sound { IsSound engine.new.store }
 {
-    // No heap is large, and each object stands in the list of its place.
+    // Heaps are bounded, and each object is in the list of its place.
     engine.heap.sound();
     let detection = recorded_of(engine.next_detection(), *unfinished);
     engine.write_before(script, detection, *unfinished, sink)?;
@@ -67,7 +67,7 @@ fn turn_and_record<B: Kind, K: Sink, L: Ledger>(
     Ok(Some(answer.standing()))
 }
 
-/// Ends the records of a run that has ended so.
+/// Ends the records of a run that ended with this answer.
 fn end_records<K: Sink>(unfinished: bool, end: RunEnd, sink: &mut K) -> RunEnd
     requires { (end ≡ RunEnd.Done) ⊎ (end ≡ RunEnd.Budget) }
     ensures only { (result ≡ end) ⊎ (result ≡ RunEnd.WriteFault) }
@@ -84,8 +84,7 @@ fn end_records<K: Sink>(unfinished: bool, end: RunEnd, sink: &mut K) -> RunEnd
     }
 }
 
-/// Turns, each with what is recorded of it, until the run has ended, the sink has failed or a command was refused for want of
-/// memory.
+/// Takes turns and records each, until the run has ended, the sink has failed or a command was refused for memory.
 fn record_turns<B: Kind, K: Sink, L: Ledger>(
     engine: &mut Engine<B>,
     script: &Script,
@@ -117,7 +116,7 @@ fn record_turns<B: Kind, K: Sink, L: Ledger>(
     }
 }
 
-/// The same on a heap that is not yet run.
+/// The same on a new heap.
 fn open_and_record<B: Kind, K: Sink, L: Ledger>(
     alloc: Global,
     heap: Heap<B>,
@@ -147,12 +146,12 @@ fn open_and_record<B: Kind, K: Sink, L: Ledger>(
     record_turns(&mut engine, script, &mut steps, sink)
 }
 
-/// Runs a script as `run_script` does, under the same conditions, and writes the records of its collections in place of its
-/// text, line by line and one `write` a line. The records take no memory.
+/// Runs a script as `run_script` does, under the same conditions, and writes the records of its collections instead of its text,
+/// one `write` a line. The records allocate nothing.
 ///
-/// It answers `Done` where the run ended by `end`, and `Budget` where it ended by `budget spent`; `WriteFault` where the sink
-/// failed; and `OutOfMemory` where memory was refused, at the opening before anything was written, or to a command: then the run
-/// goes no further, and what was written is a front of the records.
+/// `Done` if the run ended by `end`; `Budget` if it ended by `budget spent`; `WriteFault` if the sink failed; `OutOfMemory` if
+/// memory was refused, either at the start before anything was written, or to a command: then the run stops, and a prefix of the
+/// records was written.
 pub fn run_recorded<B: Kind, K: Sink>(
     alloc: Global,
     heap: Heap<B>,
@@ -165,16 +164,16 @@ pub fn run_recorded<B: Kind, K: Sink>(
     requires heap { heap ≡ opening_store (length script.now.names) }
     requires budget { budget ≤ MOST_BUDGET }
 
-    // The text of the records of a whole run, in which no command was refused because memory ran out.
+    // The text of the records of a whole run without a command refused for memory.
     ensures done { result ≡ RunEnd.Done → WroteRecords script.now budget Ended (K.written sink.old) (K.written sink.new) }
     ensures spent { result ≡ RunEnd.Budget → WroteRecords script.now budget BudgetIsSpent (K.written sink.old) (K.written sink.new) }
 
-    // A front of the text of the records of a whole run.
+    // A prefix of the text of the records of a whole run.
     ensures part { result ≡ RunEnd.WriteFault → WroteRecordsPart script.now budget (K.written sink.old) (K.written sink.new) }
     ensures memory { result ≡ RunEnd.OutOfMemory → WroteRecordsPart script.now budget (K.written sink.old) (K.written sink.new) }
     ensures cause { result ≡ RunEnd.WriteFault → Rose (K.faults sink.old) (K.faults sink.new) }
     ensures later { K.faults sink.old ≤ K.faults sink.new }
 {
-    // How many entries collections look at is counted by contracts alone.
+    // Only contracts count how many entries collections look at.
     open_and_record::<B, K, Brand>(alloc, heap, script, budget, sink, Blank::new(1))
 }

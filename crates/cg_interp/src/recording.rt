@@ -1,4 +1,4 @@
-//! What is recorded of a turn: the graph of the detection that it makes.
+//! What a turn records: the graph of its reachability pass.
 ghost use Rattle.std.specs.Prelude.{◌≡◌, ◌++◌, codes, cond, Some, None, OnOk, OnErr};
 ghost use Rattle.std.specs.Io.KnownBytes.{Appends};
 ghost use Rattle.cg_io.specs.Causes.{HasCause, AppendsFront};
@@ -14,7 +14,7 @@ use cg_io::{Sink, WriteFailed};
 use cg_kind::Kind;
 use cg_script::Script;
 
-/// The detection that the next step of a collection makes, if it makes one.
+/// The reachability pass in the next step of a collection, if any.
 fn detection_of(collection: &Collection) -> Option<Detection>
     ensures { result ≡ detection_by collection.now.generation (stage_of collection.now) }
 {
@@ -28,7 +28,7 @@ fn detection_of(collection: &Collection) -> Option<Detection>
 }
 
 impl<B: Kind> Engine<B> {
-    /// The detection that the next turn makes, if it makes one: that of a collection on top.
+    /// The reachability pass in the next turn, if any: that of a collection on top.
     pub fn next_detection(&self) -> Option<Detection>
         ensures { result ≡ detection_on self.now.activities }
     {
@@ -40,7 +40,7 @@ impl<B: Kind> Engine<B> {
 }
 
 impl Detection {
-    /// Whether a record has its graph: that of a first one begins a record, and that of a second one ends the unfinished one.
+    /// Whether a record contains its graph: a first pass begins a record, and a second one ends the unfinished one.
     fn is_taken(self, unfinished: bool) -> bool
         ensures { taken_while unfinished self ≡ cond result (Some self) None }
     {
@@ -61,7 +61,7 @@ impl Detection {
     }
 }
 
-/// The detection, where a record has its graph.
+/// The pass, if a record contains its graph.
 pub fn recorded_of(detection: Option<Detection>, unfinished: bool) -> Option<Detection>
     ensures { result ≡ taken unfinished detection }
 {
@@ -71,7 +71,7 @@ pub fn recorded_of(detection: Option<Detection>, unfinished: bool) -> Option<Det
     }
 }
 
-/// Whether a record is unfinished after a turn that makes this detection, or none.
+/// Whether a record is unfinished after a turn with this pass, or with none.
 pub fn is_unfinished_after(detection: Option<Detection>, unfinished: bool) -> bool
     ensures { result ≡ unfinished_after unfinished detection }
 {
@@ -81,7 +81,8 @@ pub fn is_unfinished_after(detection: Option<Detection>, unfinished: bool) -> bo
     }
 }
 
-/// Writes how a record of a collection of this generation begins, and its first graph. An unfinished record ends.
+/// Writes the beginning of a record of a collection of this generation, and its first graph. Ends an unfinished
+/// record.
 fn write_record<K: Sink>(generation: u64, unfinished: bool, sink: &mut K) -> Result<(), WriteFailed>
     ensures ok { OnOk result (Appends (K.written sink.old) (K.written sink.new) (record_heading unfinished generation)) }
     ensures err { OnErr result (AppendsFront (K.written sink.old) (K.written sink.new) (record_heading unfinished generation)) }
@@ -92,7 +93,7 @@ fn write_record<K: Sink>(generation: u64, unfinished: bool, sink: &mut K) -> Res
     sink.write(b"graph 1\n")
 }
 
-/// Writes how the graph of a detection begins.
+/// Writes the heading of the graph of a pass.
 fn write_heading<K: Sink>(
     detection: Detection,
     unfinished: bool,
@@ -108,7 +109,7 @@ fn write_heading<K: Sink>(
     }
 }
 
-/// Writes how the graph of a detection begins, and its members, from the heap before its step.
+/// Writes the heading of the graph of a pass, and its members, from the heap before its step.
 fn write_begun<B: Kind, K: Sink>(
     heap: &Heap<B>,
     script: &Script,
@@ -128,7 +129,7 @@ fn write_begun<B: Kind, K: Sink>(
 }
 
 impl<B: Kind> Engine<B> {
-    /// Writes what is recorded before a turn that makes this detection, or none.
+    /// Writes what is recorded before a turn with this pass, or with none.
     pub fn write_before<K: Sink>(
         &self,
         script: &Script,
@@ -166,7 +167,7 @@ impl<B: Kind> Engine<B> {
     }
 }
 
-/// Writes the end of the records: an unfinished one ends without a second graph.
+/// Writes the end of the records; an unfinished one ends without a second graph.
 pub fn write_end<K: Sink>(unfinished: bool, sink: &mut K) -> Result<(), WriteFailed>
     ensures ok { OnOk result (Appends (K.written sink.old) (K.written sink.new) (closing unfinished ++ codes "end\n")) }
     ensures err { OnErr result (AppendsFront (K.written sink.old) (K.written sink.new) (closing unfinished ++ codes "end\n")) }

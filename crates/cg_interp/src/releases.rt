@@ -1,4 +1,4 @@
-//! A release on top.
+//! A release on top of the stack.
 ghost use Rattle.std.specs.Prelude.{◌<◌, IfSome};
 ghost use Rattle.cg_script.specs.declared.Script.{Script as AnyScript};
 ghost use Rattle.cg_machine.specs.World.{World};
@@ -18,8 +18,8 @@ use cg_heap::Heap;
 use cg_kind::Kind;
 
 impl<B: Kind> Engine<B> {
-    /// Goes on with a release, which was on top: its references are given up, up to one whose object nothing holds any more.
-    /// The death of that one begins.
+    /// Goes on with a release, taken from the top: gives up its references, until one leaves its object unheld. The death of
+    /// that object begins.
     #[inline(always)]
     pub fn go_on_releasing(&mut self, release: Release) -> Turned
         requires room { 1 < self.old.room }
@@ -39,7 +39,7 @@ impl<B: Kind> Engine<B> {
         }
     }
 
-    /// The death of an object begins that a release hands out, which was on top.
+    /// Begins the death of an object that a release, taken from the top, answers.
     pub fn die_in(&mut self, release: Release, object: u64)
         requires unheld { IsUnheld self.old.store object }
         requires room { 1 < self.old.room }
@@ -54,8 +54,8 @@ impl<B: Kind> Engine<B> {
     }
 }
 
-/// Gives up the references of a release one after the other, up to one whose object nothing holds any more. It answers that
-/// object, if there is one: its death is to begin.
+/// Gives up the references of a release, until one leaves its object unheld. Answers that object, if any: its death is to
+/// begin.
 #[inline(always)]
 pub fn give_up<B: Kind>(heap: &mut Heap<B>, release: &mut Release) -> Option<u64>
     requires stands { (script : AnyScript) × (e : State) × (w : World)

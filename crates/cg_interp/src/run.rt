@@ -38,7 +38,7 @@ pub enum RunEnd {
     Budget,
     /// The sink failed.
     WriteFault,
-    /// Memory for the run was refused at its opening.
+    /// Memory for the run was refused at its start.
     OutOfMemory,
 }
 
@@ -62,7 +62,7 @@ fn turn_and_write<B: Kind, K: Sink, L: Ledger>(
     ensures sound { IsSound engine.new.store }
 {
     let answer = engine.turn(script, steps);
-    // No heap is large, so a collection has few lines left after a turn, and little to do.
+    // Heaps are bounded, so after a turn a collection has few lines and little work left.
     engine.heap.sound();
     match write_answer(&answer, &script.names, text, sink) {
         Ok(()) => Ok(answer.standing()),
@@ -70,7 +70,7 @@ fn turn_and_write<B: Kind, K: Sink, L: Ledger>(
     }
 }
 
-/// Turns, each with its lines, until the run has ended or the sink has failed.
+/// Takes turns and writes their lines, until the run has ended or the sink has failed.
 fn run_turns<B: Kind, K: Sink, L: Ledger>(
     engine: &mut Engine<B>,
     script: &Script,
@@ -100,7 +100,7 @@ fn run_turns<B: Kind, K: Sink, L: Ledger>(
     }
 }
 
-/// The same on a heap that is not yet run.
+/// The same on a new heap.
 fn open_and_run<B: Kind, K: Sink, L: Ledger>(
     alloc: Global,
     heap: Heap<B>,
@@ -129,12 +129,12 @@ fn open_and_run<B: Kind, K: Sink, L: Ledger>(
     run_turns(&mut engine, script, &mut steps, sink)
 }
 
-/// Runs a script that some bytes spell, with a budget of at most 100,000 frames, on a heap as `Heap::new` leaves it for the
+/// Runs a script that some bytes spell, with a budget of at most 100,000 frames, on a new heap (`Heap::new`) for the
 /// script's names, and writes the lines of the run, one `write` a line.
 ///
-/// It answers `Done` where the run ended by `end`, `Budget` where it ended by `budget spent`, `WriteFault` where the sink
-/// failed, and `OutOfMemory` where memory was refused before anything was written. Whatever it answers, the lines begin each
-/// finalizer at most once (PEP 442), and name no object that an earlier line frees.
+/// `Done` if the run ended by `end`, `Budget` if it ended by `budget spent`, `WriteFault` if the sink failed, and
+/// `OutOfMemory` if memory was refused before anything was written. After any answer, the lines begin each finalizer at most
+/// once (PEP 442), and name no object that an earlier line frees.
 pub fn run_script<B: Kind, K: Sink>(
     alloc: Global,
     heap: Heap<B>,
@@ -153,11 +153,11 @@ pub fn run_script<B: Kind, K: Sink>(
     ensures memory { result ≡ RunEnd.OutOfMemory → Keeps (K.written sink.old) (K.written sink.new) }
     ensures later { K.faults sink.old ≤ K.faults sink.new }
 
-    // The finalizer of one object begins at most once, and no line names an object that an earlier one frees.
+    // Each finalizer begins at most once, and no line names an object that an earlier line frees.
     ensures promises { WroteKept script.now.names (K.written sink.old) (K.written sink.new) }
 {
     one_finalizer_each();
     no_dead_lines();
-    // How many entries collections look at is counted by contracts alone.
+    // Only contracts count how many entries collections look at.
     open_and_run::<B, K, Brand>(alloc, heap, script, budget, sink, Blank::new(1))
 }

@@ -23,7 +23,7 @@ use cg_script::Script;
 use cg_value::{Entry, Val};
 
 impl<B: Kind> Engine<B> {
-    /// The script, which was on top, has no command left: the run ends, or the shutdown comes in its place.
+    /// The script, taken from the top, has no command left: the run ends, or the shutdown replaces it.
     pub fn end_commands(&mut self, script: &Script) -> Turned
         requires room { 0 < self.old.room }
         ensures ends { (next : Option ℕ) (w : World) → commands_from next (commands_of script.now.items) ≡ [] → due w ≡ None
@@ -38,8 +38,8 @@ impl<B: Kind> Engine<B> {
         }
     }
 
-    /// Gives up the bound name with the greatest number, or, where none is bound, starts the last collection. The shutdown was
-    /// on top.
+    /// Gives up the bound name with the greatest number, or starts the last collection if none is bound. The shutdown was
+    /// taken from the top.
     pub fn shut_down(&mut self) -> Turned
         requires few { HasFewHolds self.old.store }
         requires room { 2 < self.old.room }
@@ -56,7 +56,7 @@ impl<B: Kind> Engine<B> {
         }
     }
 
-    /// The bound name with the greatest number. It skips each name that was given up once.
+    /// The bound name with the greatest number. Skips a name that is given up, once.
     fn greatest_bound(&mut self) -> Option<u32>
         ensures same { self.new ≡ self.old }
         ensures greatest { result ≡ greatest_from 0 self.old.store.names }
@@ -64,7 +64,7 @@ impl<B: Kind> Engine<B> {
         self.heap.greatest_name()
     }
 
-    /// Gives up what stands under a name, the greatest that is bound. The shutdown was on top.
+    /// Gives up the value of a name, the greatest bound one. The shutdown was taken from the top.
     fn give_up(&mut self, name: u32) -> Turned
         requires name { name < length self.old.store.names }
         requires few { HasFewHolds self.old.store }
@@ -80,7 +80,8 @@ impl<B: Kind> Engine<B> {
         Turned::Quiet
     }
 
-    /// Tells how many objects are left, which is the end. The shutdown was on top, and its collection is over.
+    /// Reports how many objects are left, and ends the run. The shutdown was taken from the top, and its
+    /// collection is over.
     pub fn tell_left(&self) -> Turned
         requires sound { IsSound self.now.store }
         ensures left { (script : AnyScript) (w : World) → StandsFor script (under (activity_of.Shutdown true) self.now) w
@@ -90,7 +91,7 @@ impl<B: Kind> Engine<B> {
     }
 }
 
-/// Gives up what a name had.
+/// Gives up the old value of a name.
 fn release_of(val: Option<Val>) -> Release
     ensures { references_left result ≡ references_of_value val }
 {

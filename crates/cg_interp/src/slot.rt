@@ -1,4 +1,4 @@
-//! How the stack keeps an activity: a collection lies in a seat of its own.
+//! How the stack stores an activity: a collection is stored in a separate seat.
 ghost use Rattle.std.specs.Prelude.{◌≡◌, true, None, IsSome};
 ghost use Rattle.cg_interp.specs.Engines.{is_collecting};
 ghost use Rattle.cg_interp.specs.Slots.{filled, takes_seat, Seats};
@@ -8,7 +8,8 @@ use cg_collect::Collection;
 use cg_commands::Locals;
 use cg_death::{Death, Release};
 
-/// An activity, where a collection lies in the seat: there is one of it, so that no other activity takes the room of one.
+/// An activity, with a collection stored in the seat. There is at most one, so other activities need not have room for
+/// it.
 #[derive(Drop)]
 pub enum Slot {
     /// The script's own commands.
@@ -21,7 +22,7 @@ pub enum Slot {
         procedure: u32,
         next: Option<usize>,
     },
-    /// References that are given up one after the other.
+    /// References given up one after the other.
     Releasing(Release),
     /// The shutdown at the end of the script.
     Shutdown {
@@ -35,7 +36,7 @@ pub enum Slot {
     },
 }
 
-/// The slot of an activity. A collection takes the seat, which is empty.
+/// The slot of an activity. A collection moves into the seat, which is empty.
 #[inline(always)]
 pub fn slot_of(activity: Activity, seat: &mut Option<Collection>) -> Slot
     requires { is_collecting activity ≡ true → seat.old ≡ None }

@@ -1,4 +1,4 @@
-//! The stack of activities, whose room is reserved before it is needed.
+//! The stack of activities. Its room is reserved in advance.
 ghost use Rattle.std.specs.Prelude.{◌≡◌, ◌<◌, ◌≤◌, ◌+◌, [], ◌∷◌, true, false, None, Some, IfOk, IfSome, OnSome, IfNone, OnOk, length};
 ghost use Rattle.cg_interp.specs.Engines.{is_collecting, any_collecting};
 ghost use Rattle.cg_interp.specs.Stacks.{collection_on};
@@ -12,9 +12,9 @@ use std::marker::Model;
 /// The activities of a run.
 #[derive(Drop)]
 pub struct Stack {
-    // The top last.
+    // Top last.
     slots: Vec<Slot>,
-    // The collection that is under way, if one is.
+    // The collection under way, if any.
     seat: Option<Collection>,
 }
 
@@ -34,7 +34,7 @@ impl Model for Stack {
 }
 
 impl Stack {
-    /// No activity, and room for so many. It answers `AllocError` only where memory runs out.
+    /// An empty stack with this much room. Answers `AllocError` only if memory runs out.
     pub fn new(alloc: Global, room: usize) -> Result<Stack, AllocError>
         ensures empty { IfOk result (λ s. s.activities ≡ []) }
         ensures room { IfOk result (λ s. s.room ≡ room) }
@@ -43,7 +43,7 @@ impl Stack {
         Ok(Stack { slots, seat: None })
     }
 
-    /// Puts an activity on top, where there is room: a collection where none is under way.
+    /// Pushes an activity; there must be room, and for a collection none may be under way.
     #[inline(always)]
     pub fn push(&mut self, activity: Activity)
         requires room { 0 < self.old.room }
@@ -58,7 +58,7 @@ impl Stack {
         }
     }
 
-    /// Takes the activity on top, if there is one.
+    /// Pops the top activity, if any.
     #[inline(always)]
     pub fn pop(&mut self) -> Option<Activity>
         ensures top { IfSome result (λ a. self.old.activities ≡ a ∷ self.new.activities) }
@@ -71,7 +71,7 @@ impl Stack {
         }
     }
 
-    /// The collection on top, if one is there.
+    /// The collection on top, if any.
     pub fn collection_on_top(&self) -> Option<&Collection>
         ensures some { IfSome result (λ c. collection_on self.now.activities ≡ Some c.now) }
         ensures none { IfNone result (collection_on self.now.activities ≡ None) }
@@ -82,7 +82,7 @@ impl Stack {
         }
     }
 
-    /// Makes room for so many. It answers `AllocError` only where memory runs out.
+    /// Makes room for this many more. Answers `AllocError` only if memory runs out.
     pub fn reserve(&mut self, room: usize) -> Result<(), AllocError>
         ensures room { OnOk result (room ≤ self.new.room) }
         ensures more { self.old.room ≤ self.new.room }
@@ -91,7 +91,7 @@ impl Stack {
         self.slots.reserve(room)
     }
 
-    /// Makes room so that the stack may grow to this height. It answers `AllocError` only where memory runs out.
+    /// Makes room for the stack to grow to this height. Answers `AllocError` only if memory runs out.
     pub fn reserve_up_to(&mut self, height: usize) -> Result<(), AllocError>
         ensures room { OnOk result (height ≤ length self.new.activities + self.new.room) }
         ensures more { self.old.room ≤ self.new.room }

@@ -10,21 +10,21 @@ use cg_machine::Event;
 /// What a turn answers.
 #[derive(Drop)]
 pub enum Turned {
-    /// It went on, and no line is due.
+    /// It went on, without a line.
     Quiet,
-    /// It went on, and this line is due.
+    /// It went on, with this line to print.
     Line(Event),
-    /// It went on, and these lines are due, all of one step.
+    /// It went on, with these lines of one step to print.
     Lines(Lines),
-    /// The run has ended, and the line `end` is due.
+    /// The run has ended; the line `end` is to be printed.
     Ended,
-    /// The run has ended, and the lines `left`, with the number of objects that live, and `end` are due.
+    /// The run has ended; `left` with the number of live objects, and `end`, are to be printed.
     Left(u64),
-    /// The run has ended because the budget is spent, and the line `budget spent` is due.
+    /// The run has ended because the budget is spent; `budget spent` is to be printed.
     Spent,
 }
 
-/// How a run stands after a turn.
+/// The state of a run after a turn.
 #[derive(Clone, Copy, Debug, PartialEq, Eq, Drop)]
 pub enum Standing {
     /// It goes on.
@@ -36,7 +36,7 @@ pub enum Standing {
 }
 
 impl Turned {
-    /// How the run stands after it.
+    /// The state of the run after it.
     pub fn standing(&self) -> Standing
         ensures { result ≡ standing_after self.now }
     {
@@ -47,7 +47,7 @@ impl Turned {
         }
     }
 
-    /// Whether one of its lines tells that a command was refused because memory ran out.
+    /// Whether one of its lines reports a command refused for memory.
     pub fn wants_memory(&self) -> bool
         ensures { result ≡ list_any wants_memory (events_told self.now) }
     {
@@ -59,7 +59,7 @@ impl Turned {
     }
 }
 
-/// Whether an event tells that a command was refused because memory ran out.
+/// Whether an event reports a command refused for memory.
 fn wants_memory(event: &Event) -> bool
     ensures { result ≡ wants_memory event.now }
 {
@@ -81,6 +81,6 @@ fn any_wants_memory(events: &[Event]) -> bool
 pub enum Dies {
     /// What any turn answers.
     Turned(Turned),
-    /// Nothing holds this object any more: its death is to begin.
+    /// Nothing holds this object any more; its death is to begin.
     Died(u64),
 }

@@ -15,7 +15,7 @@ use cg_script::Script;
 use std::sync::ledger::Ledger;
 
 impl<B: Kind> Engine<B> {
-    /// One turn: what is on top goes on.
+    /// One turn: the top activity goes on.
     pub fn turn<L: Ledger>(&mut self, script: &Script, steps: &mut Steps<L>) -> Turned
         requires stands { IsAtAnyTurn script.now self.old }
         ensures turns { TurnsAny script.now self.old self.new result }
@@ -27,7 +27,7 @@ impl<B: Kind> Engine<B> {
         }
     }
 
-    /// A turn of the activity that was on top.
+    /// A turn of the activity taken from the top.
     #[inline(always)]
     fn turn_of<L: Ledger>(&mut self, top: Activity, script: &Script, steps: &mut Steps<L>) -> Turned
         requires fit { IsFit script.now self.old }
@@ -51,7 +51,7 @@ impl<B: Kind> Engine<B> {
         }
     }
 
-    /// A turn of a release, which was on top.
+    /// A turn of a release, taken from the top.
     #[inline(always)]
     fn turn_of_release(&mut self, release: Release) -> Turned
         requires stands { (script : AnyScript) × IsAtTurn script (activity_of.Releasing release) self.old }
@@ -62,7 +62,7 @@ impl<B: Kind> Engine<B> {
         self.go_on_releasing(release)
     }
 
-    /// A turn of the shutdown, which was on top.
+    /// A turn of the shutdown, taken from the top.
     #[inline(always)]
     fn turn_of_shutdown(&mut self, started: bool) -> Turned
         requires stands { (script : AnyScript) × IsAtTurn script (activity_of.Shutdown started) self.old }
@@ -77,7 +77,7 @@ impl<B: Kind> Engine<B> {
         }
     }
 
-    /// A turn of a death, which was on top.
+    /// A turn of a death, taken from the top.
     #[inline(always)]
     fn turn_of_death(&mut self, script: &Script, death: Death) -> Turned
         requires stands { IsAtTurn script.now (activity_of.Dying death) self.old }

@@ -1,4 +1,4 @@
-//! The lines of a run, as they are written.
+//! Writing the lines of a run.
 ghost use Rattle.std.specs.Prelude.{flat_map, OnOk, OnErr};
 ghost use Rattle.std.specs.Io.KnownBytes.{Appends};
 ghost use Rattle.cg_io.specs.Causes.{HasCause, AppendsFront};
@@ -13,7 +13,7 @@ use cg_io::{Sink, WriteFailed};
 use cg_machine::{Event, LineText, push_line};
 use cg_value::Names;
 
-/// Writes the line of an event, in one `write`. The text is the one in which each line is put together.
+/// Writes the line of an event, in one `write`. `text` is a buffer for building the line.
 fn write_event<K: Sink>(
     event: &Event,
     names: &Names,
@@ -48,7 +48,7 @@ fn write_events<K: Sink>(
     Ok(())
 }
 
-/// Writes the lines of the last step of a run that ends with a count of what is left.
+/// Writes the lines of the last step of a run that ends with the count of what is left.
 fn write_left<K: Sink>(
     number: u64,
     names: &Names,
@@ -65,7 +65,7 @@ fn write_left<K: Sink>(
     write_events(&[Event::Left(number), Event::End], names, text, sink)
 }
 
-/// Writes the lines that are due after a turn, if there are any.
+/// Writes the lines of a turn, if any.
 pub fn write_answer<K: Sink>(
     answer: &Turned,
     names: &Names,

@@ -1,4 +1,4 @@
-//! The line of each event, by the words that docs/SCRIPT.md and the worked scripts have for it.
+//! The line of each event, as docs/SCRIPT.md and the worked scripts give it.
 use cg_machine::{Event, FrameSort, line_of};
 use cg_value::{KindCode, Names, Val};
 use std::test::Fail;

@@ -1,7 +1,7 @@
-//! Extended scripts and their expansions, or their first bad lines. The texts come from the rules in `specs/Expansion`, worked out
-//! by hand.
+//! Extended scripts and their expansions, or their first bad lines. The texts come from the rules in `specs/Expansion`, worked
+//! out by hand.
 //!
-//! The lines of a script stand with `; ` between them.
+//! The lines of a script are joined by `; `.
 use crate::texts::{fault_text, filled, lines};
 use cg_weakcoll::expand;
 use std::alloc::{AllocError, Global};
@@ -23,7 +23,7 @@ fn text_of(bytes: &[u8]) -> Option<&str> {
     str::from_utf8(bytes).ok()
 }
 
-/// The script is to be expanded so.
+/// Expects this expansion of the script.
 fn check(rt: &impl Abort, alloc: Global, script: &str, want: &str) -> Result<(), AllocError> {
     let bytes = lines(alloc, script)?;
     let found = told(alloc, &bytes)?;
@@ -47,12 +47,12 @@ fn lines_with_a_form_are_replaced(rt: HostRuntime) -> Result<(), Fail> {
             "def p; print 5; end; class C; f = func p; a = new C; b = new C; finalize a f; finalize b f; del a",
             "def p; print 5; end; class C; f = func p; a = new C; b = new C; def wv_p_8; wv_o_8 = deref wv_w_8; quit wv_o_8; del wv_w_8; del wv_o_8; call wv_f_8; end; wv_g_8 = func wv_p_8; wv_f_8 = f; wv_w_8 = ref a wv_f_8; def wv_p_9; wv_o_9 = deref wv_w_9; quit wv_o_9; del wv_w_9; del wv_o_9; call wv_f_9; end; wv_g_9 = func wv_p_9; wv_f_9 = f; wv_w_9 = ref b wv_f_9; del a; call wv_g_9; call wv_g_8",
         ),
-        // A string may be written like a name that the expansion brings.
+        // A string may be spelled like a generated name.
         (
             "class C; def p; end; f = func p; a = new C; m = dict; put m 'wv_o_8 'wv_p_8; finalize a f; print 'wv_g_8",
             "class C; def p; end; f = func p; a = new C; m = dict; put m 'wv_o_8 'wv_p_8; def wv_p_8; wv_o_8 = deref wv_w_8; quit wv_o_8; del wv_w_8; del wv_o_8; call wv_f_8; end; wv_g_8 = func wv_p_8; wv_f_8 = f; wv_w_8 = ref a wv_f_8; print 'wv_g_8; call wv_g_8",
         ),
-        // The words of forms are variables too, and several spaces are one.
+        // The words of forms are also variables, and several spaces count as one.
         ("  wset  =   wmap  ", "wset = dict"),
         (
             "finalize = wget wset wdrop",
@@ -213,7 +213,7 @@ fn lines_that_are_too_long(rt: HostRuntime) -> Result<(), Fail> {
 }
 
 #[test]
-fn lines_behind_the_first_400_000(rt: HostRuntime) -> Result<(), Fail> {
+fn lines_after_the_first_400_000(rt: HostRuntime) -> Result<(), Fail> {
     let blank = filled(rt.alloc(), b"", b'\n', 399_999)?;
     for (lines, last) in [
         ("m = wmap\n", "m = dict\n"),

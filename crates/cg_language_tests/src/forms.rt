@@ -4,7 +4,7 @@ use cg_script::{Command, Item, Operand, Script, ScriptFault, parse};
 use std::alloc::{AllocError, Global};
 use std::test::Fail;
 
-/// Whether the bytes spell a script, or else the number and the code of their first bad line.
+/// Whether the bytes spell a script; else the number and the code of their first bad line.
 fn told(alloc: Global, bytes: &[u8]) -> Result<String, AllocError> {
     match parse(alloc, bytes) {
         Ok(_) => String::from_str(alloc, "good"),
@@ -35,7 +35,7 @@ static WORKED: [(&str, &str); 10] = [
     ("def p\n\n# end\nend", "good"),
 ];
 
-/// Words at the edges of their forms.
+/// Words at the limits of their forms.
 static WORDS: [(&str, &str); 40] = [
     // Numbers.
     ("x = -0", "good"),
@@ -89,7 +89,7 @@ static WORDS: [(&str, &str); 40] = [
 static BAD_LINES: [(&str, &str); 72] = [
     // 1 before 5, 5 before 2.
     ("nonsense\t", "bad 1 1"),
-    // 2 before all else.
+    // 2 before everything else.
     ("nonsense", "bad 1 2"),
     ("x", "bad 1 2"),
     ("def p\nnonsense", "bad 2 2"),
@@ -164,14 +164,14 @@ static BAD_LINES: [(&str, &str); 72] = [
     ("class C legacy=p", "bad 1 6"),
     ("def p\nend\nclass C del=p legacy=q", "bad 3 6"),
     ("def p\nend\nclass C legacy=p del=p", "good"),
-    // The least bad line.
+    // The first bad line.
     ("x = 1\n\nx = new C\nnonsense", "bad 3 6"),
-    // A comment is tested for nothing but its bytes and its length.
+    // A comment is checked only for its bytes and its length.
     ("#x = new C\n # end", "good"),
     ("# \x7f", "bad 1 1"),
 ];
 
-/// A profile and a shutdown: their words, and where they stand.
+/// A profile and a shutdown: their words, and where they may be.
 static DECLARATIONS: [(&str, &str); 40] = [
     ("profile 1", "good"),
     ("profile 2", "good"),
@@ -222,7 +222,7 @@ static DECLARATIONS: [(&str, &str); 40] = [
     ("budget 1\nshutdown\nshutdown", "bad 3 8"),
 ];
 
-/// The commands that ask where objects are held.
+/// The commands that ask who holds objects.
 static INSPECTIONS: [(&str, &str); 22] = [
     ("referents x", "good"),
     ("referents 'x", "good"),
@@ -278,7 +278,7 @@ fn read(alloc: Global, text: &str) -> Result<Script, ScriptFault> {
     parse(alloc, text.as_bytes())
 }
 
-/// Reads lines, and tells whether the last item is as the pattern says.
+/// Reads lines, and checks the last item against the pattern.
 macro_rules! assert_last {
     ($rt:expr, $text:expr, $pattern:pat) => {
         let script = read($rt.alloc(), $text).expect(&$rt, "a script");
@@ -470,7 +470,7 @@ fn inspections(rt: HostRuntime) -> Result<(), Fail> {
     Ok(())
 }
 
-/// A line that begins so and goes on with `count` words.
+/// A line with this beginning that goes on with `count` words.
 fn line_of(alloc: Global, front: &str, count: usize) -> Result<String, AllocError> {
     let mut line = String::from_str(alloc, front)?;
     for _ in 0..count {

@@ -1,4 +1,4 @@
-//! The lists of a script hand out what they were given, in order, and what has a number; what a script declares; words.
+//! The lists of a script give back what was added, in order; numbered items; declarations; words.
 use cg_script::{
     ClassDef, Command, Commands, Item, Items, Operand, Operands, is_value, is_variable, parse,
 };
@@ -52,7 +52,7 @@ fn items_in_order(rt: HostRuntime) -> Result<(), Fail> {
 }
 
 #[test]
-fn what_has_a_number_is_found_by_it(rt: HostRuntime) -> Result<(), Fail> {
+fn numbered_items_are_found(rt: HostRuntime) -> Result<(), Fail> {
     let script = b"del a\nclass C\ndef p\nfreeze\nend\nbudget 3\nclass D\ndef q\nend\ncount";
     let script = parse(rt.alloc(), script)?;
     let items = &script.items;

@@ -1,9 +1,9 @@
-//! Words and their jobs.
+//! Arguments and their jobs.
 use cg_words::{Job, read_words};
 use std::alloc::{AllocError, Global};
 use std::test::Fail;
 
-/// Words with a job.
+/// Arguments with a job.
 const JOBS: [(&[&str], Job); 21] = [
     (&["run"], Job::Run { budget: None }),
     (&["run", "--budget", "5"], Job::Run { budget: Some(5) }),
@@ -39,7 +39,7 @@ const JOBS: [(&[&str], Job); 21] = [
     (&["record", "--"], Job::Record),
 ];
 
-/// Words without one.
+/// Arguments without one.
 const NONE: [&[&str]; 60] = [
     &[],
     &[""],
@@ -103,7 +103,7 @@ const NONE: [&[&str]; 60] = [
     &["records"],
 ];
 
-/// The words as strings.
+/// The arguments as strings.
 fn strings(alloc: Global, words: &[&str]) -> Result<Vec<String>, AllocError> {
     let mut strings = Vec::new(alloc);
     for word in words {

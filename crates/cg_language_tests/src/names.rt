@@ -21,7 +21,7 @@ fn a_text_has_its_first_number(rt: HostRuntime) -> Result<(), Fail> {
     Ok(())
 }
 
-/// Texts of one length that begin and end alike share the guess of their number.
+/// Texts of the same length, beginning and end share the guess of their number.
 #[test]
 fn texts_that_share_a_guess_keep_their_numbers(rt: HostRuntime) -> Result<(), Fail> {
     let mut names = Names::new(rt.alloc());

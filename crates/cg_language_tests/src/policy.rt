@@ -39,7 +39,7 @@ fn a_quarter_of_nine_is_two(rt: HostRuntime) {
 }
 
 #[test]
-fn a_new_policy_stands_at_the_opening_numbers(rt: HostRuntime) {
+fn a_new_policy_has_the_opening_numbers(rt: HostRuntime) {
     let mut policy = Policy::new();
     assert_eq!(rt;
         policy.counts(),
@@ -130,7 +130,7 @@ fn counts_go_with_objects_and_collections(rt: HostRuntime) {
     );
 }
 
-// What a caller learns of `from_bits`.
+// What a caller knows about `from_bits`.
 fn known(bits: u32) -> Option<Flagset>
     ensures known { IsSome result ↔ (bit_and bits 39 ≡ bits) }
     ensures value { IfSome result (λ flags. bits_of flags ≡ bits) }

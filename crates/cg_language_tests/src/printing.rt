@@ -1,10 +1,10 @@
-//! Printing of each form, and reading what was printed.
+//! Printing each form, and reading back what was printed.
 use crate::texts::fault_text;
 use cg_script::{parse, print};
 use std::alloc::{AllocError, Global};
 use std::test::Fail;
 
-/// What is printed of a script, or the number and the code of its first bad line.
+/// A script, printed; or the number and the code of its first bad line.
 fn printed(alloc: Global, bytes: &[u8]) -> Result<String, AllocError> {
     match parse(alloc, bytes) {
         Ok(script) => Ok(String::from_utf8_lossy(alloc, &print(alloc, &script)?)?),
@@ -12,7 +12,7 @@ fn printed(alloc: Global, bytes: &[u8]) -> Result<String, AllocError> {
     }
 }
 
-/// Lines behind two procedures and a class, and what is printed of them.
+/// Lines after two procedures and a class, and their printed form.
 static LINES: [(&str, &str); 52] = [
     ("  x =  list   -0 007", "x = list 0 7"),
     ("x = list", "x = list"),
@@ -104,7 +104,7 @@ fn lines_as_they_are_printed(rt: HostRuntime) -> Result<(), Fail> {
 }
 
 #[test]
-fn passed_lines_and_spaces_are_not_printed(rt: HostRuntime) -> Result<(), Fail> {
+fn ignored_lines_and_spaces_are_not_printed(rt: HostRuntime) -> Result<(), Fail> {
     for (script, want) in [
         ("", ""),
         ("\n# a\n\n", ""),

@@ -1,4 +1,4 @@
-//! What bytes are read as, and which line is the first bad one.
+//! How bytes are read, and which line is the first bad one.
 use crate::texts::{fault_text, filled};
 use cg_script::{Command, Item, Script, parse};
 use std::alloc::{AllocError, Global};
@@ -13,7 +13,7 @@ fn tell(text: &mut String, script: &Script, word: &str, name: u32) -> Result<(),
     text.push_str(if name == 0 { " 0; " } else { " 1; " })
 }
 
-/// What the bytes are read as, in words.
+/// A description of what the bytes are read as.
 fn told(alloc: Global, bytes: &[u8]) -> Result<String, AllocError> {
     let mut text = String::new(alloc);
     let script = match parse(alloc, bytes) {
@@ -106,7 +106,7 @@ fn bad_lines(rt: HostRuntime) -> Result<(), Fail> {
         ("def p\ndel a", "bad 3 7"),
         ("class C\nclass C", "bad 2 8"),
         ("a = new C", "bad 1 6"),
-        // The least bad line.
+        // The first bad line.
         ("\n\n#\ndel\ncollect x\n\x01", "bad 4 3"),
     ] {
         assert_eq!(rt;
@@ -118,7 +118,7 @@ fn bad_lines(rt: HostRuntime) -> Result<(), Fail> {
     Ok(())
 }
 
-/// Lines of the collector's commands and of `tracked` that are bad, behind a good one.
+/// Bad lines of the collector's commands and of `tracked`, after a good one.
 static BAD_CONTROLS: [(&str, &str); 36] = [
     // The number of words.
     ("collect 1 2", "bad 2 3"),
@@ -178,7 +178,7 @@ fn bad_controls(rt: HostRuntime) -> Result<(), Fail> {
     Ok(())
 }
 
-/// Lines of each form, behind a procedure and a class.
+/// Lines of each form, after a procedure and a class.
 static FORMS: [&str; 48] = [
     "x = list 1 x",
     "x = tuple x 'a",

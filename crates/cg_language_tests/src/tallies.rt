@@ -16,14 +16,14 @@ fn counts(made: u64, freed: u64, stops: u64, collected: u64, lines: u64) -> Tall
     }
 }
 
-/// Texts with their tallies, and whether they tell of a refusal.
+/// Texts with their tallies, and whether they report a refusal.
 const ROWS: [(&str, [u64; 5], bool); 18] = [
     ("", [0, 0, 0, 0, 0], false),
     ("made list #2\nfree #2\nend\n", [1, 1, 0, 0, 3], false),
     // A last line counts without its line feed, and so does an empty line with one.
     ("made list #2\nfree #2\nend", [1, 1, 0, 0, 3], false),
     ("\n\nend", [0, 0, 0, 0, 3], false),
-    // Words inside another line, and words that end early, count for nothing.
+    // Words inside another line, and incomplete words, do not count.
     (
         "value 'made \nvalue 'free \nvalue 'gc stop 2 1 0\n",
         [0, 0, 0, 0, 3],
@@ -56,7 +56,7 @@ const ROWS: [(&str, [u64; 5], bool); 18] = [
         [0, 0, 4, 0, 4],
         false,
     ),
-    // The sum ends at the last number of 64 bits.
+    // The sum is capped at the largest number of 64 bits.
     (
         "gc stop 2 18446744073709551615 0\n",
         [0, 0, 1, u64::MAX, 1],

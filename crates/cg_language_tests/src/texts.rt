@@ -2,7 +2,7 @@
 use cg_script::ScriptFault;
 use std::alloc::{AllocError, Global};
 
-/// The lines of a text, which stand with `; ` between them, each with a line feed.
+/// The lines of a text, which are joined by `; `, each with a line feed.
 pub fn lines(alloc: Global, text: &str) -> Result<Vec<u8>, AllocError> {
     let mut bytes = Vec::new(alloc);
     for byte in text.as_bytes() {

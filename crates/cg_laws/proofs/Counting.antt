@@ -1,5 +1,5 @@
--- A step that is no command counts no object but at the start of a collection. A frame takes one from the budget, and brings
--- the commands of one procedure.
+-- Only commands and the start of a collection change the counts. A frame costs one of the budget and adds the commands of
+-- one procedure.
 use Rattle.std.proofs.Common.{◌≡◌, refl, ℕ, ◌+◌, ◌*◌, ◌≤◌, List, ◌∷◌, ◌++◌, length, arith}
 use Rattle.cg_script.specs.declared.Script.{Script}
 use Rattle.cg_graph.specs.Object.{Object}
@@ -13,18 +13,17 @@ use Rattle.cg_machine.proofs.Starting.{starts_either}
 use Rattle.cg_machine.proofs.Making.{IsFew, left_on, starts_makes}
 use Rattle.cg_laws.proofs.Numbers.{Limits, Settled, StartsSettled, on_top}
 
--- no collection is about to start in this world, and its numbers are within the limits
+-- no collection is about to start, and the numbers are within the limits
 abbrev pub IsSettled : Limits → World → Type 0
 IsSettled limits w = Settled limits w.numbers w.budget w.stack
 
--- a frame starts
 pub starts_counts : (limits : Limits) (script : Script) (spec : FrameSpec) (u : World) → length (body_of script spec.proc) ≤ limits.longest → IsSettled limits u → IsSettled limits (start_frame script spec u).1
 starts_counts limits script spec u short h =
     let now : ℕ = u.next_serial + left_on u.stack + u.budget * limits.longest in
     starts_either (λ lines w. IsFew limits.longest now w → IsSettled limits w) script spec u (λ few. h) (λ some few. record { spent = h.spent; within = omega (arith, h.within, few.within); pending = h.pending; total = h.total; still = h.still })
     (starts_makes limits.longest now script spec u short (record { within = omega arith }))
 
--- what stands in place of the activity on top
+-- what replaces the top activity
 module _ (limits : Limits) (n : Numbers) (budget : ℕ) (before after : List Object) (below : List Activity) (rest : Settled limits n budget below) where
   continues_counts : (top a : Activity) → Continues before after top a → Settled limits n budget (a ∷ below)
   continues_counts top a (DeathGoesOn o phase next waits none) = on_top limits n budget (Dying (record { object = o; phase = next })) below refl refl rest

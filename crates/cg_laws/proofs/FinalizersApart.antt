@@ -1,4 +1,5 @@
--- From the finalizers to the second detection: what is condemned is looked at, and what survives goes back to a generation.
+-- From the finalizers to the second reachability pass: condemned objects are visited, and survivors go back to a
+-- generation.
 use Rattle.std.proofs.Common.{◌≡◌, ◌≢◌, refl, sym, ◌∙◌, ap, subst, ℕ, ◌+◌, Bool, true, false, ◌||◌, inl, inr, List, [], ◌∷◌, length, Option, Some, None}
 use Rattle.std.specs.Prelude.{◌==◌, option_and_then}
 use Rattle.std.proofs.lemmas.Bool.{eqb-true}
@@ -19,11 +20,10 @@ use Rattle.cg_machine.proofs.Sorting.{Reach-inside}
 use Rattle.cg_laws.specs.Apart.{IsInLatePhase, IsFound, IsApart}
 use Rattle.cg_laws.proofs.SetsApart.{NoneCollects, AreApart, Keeps, goes_to, restands, starts_apart, gives_up_apart, is_tracked_at, stands_at, places_kept, moved, lost_apart}
 
--- the garbage list stands at no such place
+-- the garbage list is in no such place
 pub root_not_at : (objects : List Object) (phase : CollectPhase) (p : Place) (o : ℕ) → same_place Untracked p ≡ false → AreApart objects phase → Includes (serials_at objects p) o → o ≢ 1
 root_not_at objects phase p o tracked h m e = let x = stands_at objects p o m in is_tracked_at p x.0 tracked x.2 (h.garbage x.0 x.1 (x.3 ∙ e)).untracked
 
--- what is condemned counts as found
 condemned_found : (p : Place) → (same_place p Cand || same_place p Seen) ≡ true → IsFound p
 condemned_found Cand e = tt
 condemned_found Seen e = tt
@@ -34,7 +34,7 @@ condemned_found Frozen e = let no : false ≡ true = e in cc
 condemned_found Back e = let no : false ≡ true = e in cc
 condemned_found Pend e = let no : false ≡ true = e in cc
 
--- from the second detection on: what gets older, and what stays condemned
+-- from the second pass on: what moves to the older generation, and what stays condemned
 pub late_at_gen : (g : ℕ) (x : Object) → IsInLatePhase (with_place (Gen g) x)
 late_at_gen g x = record {
   seen = λ e. let no : Gen g ≡ Seen = e in cc;
@@ -49,7 +49,7 @@ late_at_cand x = record {
   pending = λ e. let no : Cand ≡ Pend = e in cc;
 }
 
--- several weak references lose their referents
+-- several weak references are cleared
 all_lose_apart : (wanted : Object → Bool) (weaks : List ℕ) (objects after : List Object) → AllLose wanted objects weaks after → AreApart objects Split → AreApart after Split
 all_lose_apart wanted [] objects after lose h = subst (λ os. AreApart os Split) (sym lose.1) h
 all_lose_apart wanted (weak ∷ weaks) objects after lose h = all_lose_apart wanted weaks (loses_referent weak objects) after lose.1
@@ -62,7 +62,6 @@ module _ (script : Script) (c : Collection) (below : List Activity) (v : World) 
   to : (after next : World) → after ≡ next → IsApart next → IsApart after
   to after next e h = subst IsApart (sym e) h
 
-  -- one is looked at
   seen_apart : (f : Object → Object) (o : ℕ) → Keeps f → ((x : Object) → (f x).place ≡ Seen) → IsMemberOf (at Finalizing) Cand o → AreApart v.objects Finalizing → AreApart (change f o v.objects) Finalizing
   seen_apart f o keeps place member h = moved f (λ x. x.serial == o) v.objects Finalizing Finalizing keeps (λ k. k)
       (record {
@@ -83,7 +82,7 @@ module _ (script : Script) (c : Collection) (below : List Activity) (v : World) 
       seen : Object → Object
       seen x = marked (with_place Seen x)
 
-  -- then all that were looked at are condemned as before
+  -- after all were visited, they are condemned again
   pub finalizing_apart : (events : List Event) (after : World) → FinalizingStep script c below (at Finalizing) events after → AreApart v.objects Finalizing → IsApart after
   finalizing_apart events after (inl step) h = to after _ step.yields.1 (looks_at_apart step.object (option_and_then (finalizer_to_run script) (object_at v.objects step.object)) step.condemned h)
   finalizing_apart events after (inr step) h = to after _ step.1.1 (goes_to c Split below (replaced_place Seen Cand (at Finalizing)) alone
@@ -98,7 +97,6 @@ module _ (script : Script) (c : Collection) (below : List Activity) (v : World) 
   pub after_finalizing_apart : (o : ℕ) → AreApart v.objects (AfterFinalizing o) → IsApart (push (Releasing (o ∷ [])) (at Finalizing))
   after_finalizing_apart o h = gives_up_apart (o ∷ []) (at Finalizing) (goes_to c Finalizing below v alone (restands (AfterFinalizing o) Finalizing v.objects (λ k. k) (λ x m k. k) h))
 
-  -- the second detection
   pub split_apart : (events : List Event) (after : World) → SplitStep c below (at Split) events after → AreApart v.objects Split → IsApart after
   split_apart events after step h = to after _ step.world (goes_to (record c { collected = c.collected + length (serials_at step.objects Cand) }) Turns below (with_objects step.objects (at Split)) alone
       (restands Split Turns step.objects (λ k. k) (λ x m k. k) (all_lose_apart (loses_at_split now) step.cleared now step.objects step.lose older_now)))

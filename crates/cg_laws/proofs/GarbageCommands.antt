@@ -1,4 +1,4 @@
--- No command gives the garbage list an entry: it is no list of the script's, no dictionary and no instance.
+-- No command adds an entry to the garbage list: it is no list of the script's, no dictionary and no instance.
 use Rattle.std.proofs.Common.{◌≢◌, refl, sym, ◌∙◌, ap, ℕ, ◌<◌, true, false, List, arith}
 use Rattle.std.specs.Prelude.{◌||◌}
 use Rattle.cg_value.specs.declared.Entry.{Entry}
@@ -21,7 +21,6 @@ use Rattle.cg_machine.proofs.ShapeLaws.{put_later}
 use Rattle.cg_laws.proofs.GarbageKept.{HasGarbageList, KeepsList, same_list, list_kept, other_kept, places_kept, new_kept}
 
 module _ (w : World) (garbage : HasGarbageList w.objects) (made : 1 < w.next_serial) where
-  -- an effect keeps the garbage list
   abbrev pub IsKept : Effect → Type 0
   IsKept (Changes wants_memory lines given_up after) = KeepsList w.objects after.objects
   IsKept (Calls f) = Unit {0}
@@ -29,11 +28,11 @@ module _ (w : World) (garbage : HasGarbageList w.objects) (made : 1 < w.next_ser
   IsKept (Explains o) = Unit {0}
   IsKept Quits = Unit {0}
 
-  -- what is not the garbage list
+  -- an object other than the garbage list
   other_object : (command : Command) (x : Object) → HasObject w command (λ y. is_dict y || is_instance y) x → x.serial ≢ 1
   other_object command x h e = false_true (sym (ap (λ (k : KindCode). (elim k [ Dict ↦ true | _ ↦ false ]) || (elim k [ Inst ↦ true | _ ↦ false ])) (garbage x h.member e).list) ∙ h.passes)
 
-  -- where the garbage list is edited, entries go
+  -- an edit of the garbage list only removes entries
   edits_kept : (command : Command) (x : Object) (entries : List Entry) (given_up : List ℕ) → Includes w.objects x → IsEdit w command x entries given_up → KeepsList w.objects (with_change (with_entries entries) x.serial w).objects
   edits_kept command x entries given_up m edit = list_kept (with_entries entries) x.serial w.objects (λ y. refl) (λ y k s e. record {
     was = y;

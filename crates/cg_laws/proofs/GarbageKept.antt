@@ -1,4 +1,4 @@
--- What no step but a collection's does to the garbage list: it stays an untracked list, and names nothing that it did not name.
+-- Only a collection's steps change the garbage list: any other step keeps it an untracked list, and adds no name to it.
 use Rattle.std.proofs.Common.{◌≡◌, ◌≢◌, refl, sym, ◌∙◌, ap, subst, ℕ, Bool, true, false, not, List, [], ◌∷◌, ◌++◌, map, Option, Some, None}
 use Rattle.std.specs.Prelude.{◌==◌, if◌then◌else◌, option_map, unwrap_or}
 use Rattle.std.proofs.lemmas.Bool.{eqb-true}
@@ -11,11 +11,9 @@ use Rattle.cg_graph.proofs.Members.{either, Includes-append_cases, Includes-map_
 use Rattle.cg_machine.proofs.Lookups.{found_at}
 use Rattle.cg_laws.specs.Apart.{IsGarbageList}
 
--- the garbage list is an untracked list
 abbrev pub HasGarbageList : List Object → Type 0
 HasGarbageList objects = (x : Object) → Includes objects x → x.serial ≡ 1 → IsGarbageList x
 
--- it does not name an object
 abbrev pub NamesNot : List Object → ℕ → Type 0
 NamesNot objects o = (x : Object) → Includes objects x → x.serial ≡ 1 → ¬ Includes (references x.entries) o
 
@@ -27,7 +25,7 @@ entries_name_not objects o h = go (object_at objects 1) refl
     go None e k = k
     go (Some x) e k = let found = found_at objects 1 x e in h x found.0 found.1 k
 
--- what the garbage list is after a step: of the same kind, untracked where it was, and without new names
+-- the garbage list after a step: same kind, still untracked, no new names
 pub record IsOfList (before : List Object) (y : Object) : Type 0 where
   pub was : Object
   pub member : Includes before was
@@ -36,7 +34,7 @@ pub record IsOfList (before : List Object) (y : Object) : Type 0 where
   pub place : was.place ≡ Untracked → y.place ≡ Untracked
   pub names : (o : ℕ) → NamesNot before o → ¬ Includes (references y.entries) o
 
--- each object with its serial is so
+-- each object with the list's serial is kept
 abbrev pub KeepsList : List Object → List Object → Type 0
 KeepsList before after = (y : Object) → Includes after y → y.serial ≡ 1 → IsOfList before y
 
@@ -49,7 +47,7 @@ names_no_more before after k o h y m e = (k y m e).names o h
 pub same_list : (objects : List Object) → KeepsList objects objects
 same_list objects y m e = record { was = y; member = m; serial = e; code = refl; place = λ p. p; names = λ o h. h y m e }
 
--- one object changes, which is not the garbage list or keeps what it names
+-- the changed object is not the garbage list, or keeps what it names
 pub list_kept : (f : Object → Object) (s : ℕ) (objects : List Object) → ((x : Object) → (f x).serial ≡ x.serial) → ((x : Object) → Includes objects x → x.serial ≡ s → x.serial ≡ 1 → IsOfList objects (f x)) → KeepsList objects (change f s objects)
 list_kept f s objects same keeps y m e =
     let x = Includes-map_cases (λ x. if x.serial == s then f x else x) objects y m in
@@ -65,7 +63,7 @@ other_kept f s objects same apart = list_kept f s objects same (λ x m i e. absu
 pub without_kept : (s : ℕ) (objects : List Object) → KeepsList objects (without s objects)
 without_kept s objects y m e = same_list objects y (Includes-filter_cases (λ x. not (x.serial == s)) objects y m).0 e
 
--- the places change, and untracked ones stay
+-- places change, and untracked objects stay untracked
 pub places_kept : (f : Place → Place) (objects : List Object) → f Untracked ≡ Untracked → KeepsList objects (map (λ x. with_place (f x.place) x) objects)
 places_kept f objects still y m e =
     let x = Includes-map_cases (λ x. with_place (f x.place) x) objects y m in
@@ -74,7 +72,6 @@ places_kept f objects still y m e =
     one : (x : Object) → Includes objects x → x.serial ≡ 1 → IsOfList objects (with_place (f x.place) x)
     one x k i = record { was = x; member = k; serial = i; code = refl; place = λ p. ap f p ∙ still; names = λ o h. h x k i }
 
--- an object is made
 pub new_kept : (objects : List Object) (new : Object) → new.serial ≢ 1 → KeepsList objects (objects ++ new ∷ [])
 new_kept objects new apart y m e = either (Includes-append_cases objects (new ∷ []) y m) (λ k. same_list objects y k e) (λ k. either k (λ i. absurd (apart (ap (λ (z : Object). z.serial) i ∙ e))) (λ n. absurd n))
 

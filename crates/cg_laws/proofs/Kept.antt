@@ -1,4 +1,4 @@
--- All laws together hold of each world of a run: a run that goes on is a run.
+-- All laws together hold in each world of a run. A run that goes on is a run.
 use Rattle.std.proofs.Common.{subst, ℕ, List, ◌++◌}
 use Rattle.cg_script.specs.declared.Script.{Script}
 use Rattle.cg_machine.specs.World.{opening}

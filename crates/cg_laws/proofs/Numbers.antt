@@ -1,5 +1,5 @@
--- How high the numbers of the collector stand against the commands that are left, what a collection that starts makes of
--- them, and that a command counts one object at most.
+-- Bounds the collector's numbers by the remaining commands; what the start of a collection does to them; and a command
+-- counts at most one object.
 use Rattle.std.proofs.Common.{◌≡◌, refl, sym, subst, ℕ, suc, ◌+◌, ◌*◌, ◌<◌, ◌≤◌, Bool, true, false, not, ◌&&◌, List, [], ◌∷◌, arith}
 use Rattle.std.specs.Prelude.{◌==◌, ◌/◌, nat_lt, ◌||◌, if◌then◌else◌}
 use Rattle.std.specs.List.{list_any}
@@ -17,14 +17,14 @@ use Rattle.cg_machine.proofs.Measure.{is_starting}
 abbrev pub counts : Numbers → ℕ
 counts n = n.zero_count + n.one_count + n.two_count
 
--- what a run has at most: commands in a procedure, commands in all, and objects
+-- the most that a run has: commands in a procedure, commands in all, and objects
 pub record Limits : Type 0 where
   pub longest : ℕ
   pub commands : ℕ
   pub objects : ℕ
 
 -- No collection is about to start. The counts, and what was spent, are within two for each command that is left or may still
--- come. One is spent for each collection of 1, which makes all objects pending at most.
+-- come. Each collection of 1 spends one and makes at most all objects pending.
 pub record Settled (limits : Limits) (n : Numbers) (budget : ℕ) (stack : List Activity) : Type 0 where
   pub spent : ℕ
   pub within : 2 * (left_on stack + budget * limits.longest) + counts n + spent ≤ 2 * limits.commands
@@ -32,11 +32,10 @@ pub record Settled (limits : Limits) (n : Numbers) (budget : ℕ) (stack : List 
   pub total : n.total ≤ limits.objects
   pub still : list_any is_starting stack ≡ false
 
--- they stay so when a collection starts, however many objects survive
+-- they stay within when a collection starts, however many objects survive
 abbrev pub StartsSettled : Limits → Numbers → ℕ → List Activity → ℕ → Type 0
 StartsSettled limits n budget stack g = (survivors : ℕ) → survivors ≤ limits.objects → Settled limits (survived g survivors (begun g n)) budget stack
 
--- two counts more
 abbrev pub raised : Numbers → Numbers
 raised n = record n { zero_count = n.zero_count + 2 }
 
@@ -66,7 +65,7 @@ module _ (limits : Limits) (n : Numbers) (budget : ℕ) (stack : List Activity) 
     still = h.still;
   }
 
-  -- one that is due: its counts are above their thresholds, and become 0
+  -- a due collection: its counts are above their thresholds, and become 0
   pub due_settles : is_due n ≡ true → Settled limits n budget stack → StartsSettled limits n budget stack (due_generation n)
   due_settles is h survivors fit = go (nat_lt n.two_threshold n.two_count && not (nat_lt n.pending (n.total / 4))) (nat_lt n.one_threshold n.one_count) (λ e. ltb-true n.one_threshold n.one_count e)
     where
@@ -78,11 +77,11 @@ module _ (limits : Limits) (n : Numbers) (budget : ℕ) (stack : List Activity) 
       go false true above = record { spent = suc h.spent; within = omega (arith, h.within, zero_above, above refl); pending = omega (arith, h.pending, fit); total = h.total; still = h.still }
       go false false above = record { spent = h.spent; within = omega (arith, h.within, zero_above); pending = h.pending; total = h.total; still = h.still }
 
--- a full collection makes the counts 0
+-- a full collection sets the counts to 0
 pub full_settles : (limits : Limits) (n : Numbers) (budget : ℕ) (stack : List Activity) → Settled limits n budget stack → StartsSettled limits n budget stack 2
 full_settles limits n budget stack h survivors fit = record { spent = h.spent; within = omega (arith, h.within); pending = omega arith; total = fit; still = h.still }
 
--- activities without commands come and go
+-- activities without commands are pushed and popped
 module _ (limits : Limits) (n : Numbers) (budget : ℕ) (a : Activity) (below : List Activity) where
   pub on_top : left_on (a ∷ []) ≡ 0 → is_starting a ≡ false → Settled limits n budget below → Settled limits n budget (a ∷ below)
   on_top none quiet h = record { spent = h.spent; within = omega (arith, h.within, none); pending = h.pending; total = h.total; still = subst (λ b. (b || list_any is_starting below) ≡ false) (sym quiet) h.still }
@@ -90,7 +89,7 @@ module _ (limits : Limits) (n : Numbers) (budget : ℕ) (a : Activity) (below : 
   pub off_top : Settled limits n budget (a ∷ below) → Settled limits n budget below
   off_top h = record { spent = h.spent; within = omega (arith, h.within); pending = h.pending; total = h.total; still = (or_parts (is_starting a) (list_any is_starting below) h.still).1 }
 
--- what a command makes of the numbers: it counts one object at most
+-- what a command does to the numbers: it counts at most one object
 pub record CountsOne (n after : Numbers) : Type 0 where
   pub counts_one : counts after ≤ counts n + 1
   pub pending : after.pending ≡ n.pending
@@ -106,7 +105,6 @@ LeavesNumbers w Quits = Unit {0}
 kept : (n : Numbers) → CountsOne n n
 kept n = record { counts_one = omega arith; pending = refl; total = refl }
 
--- any command
 pub shape_counts : (w : World) (command : Command) (e : Effect) → Shape w command e → LeavesNumbers w e
 shape_counts w command e (Makes name kind class entries referent own parts) = record { counts_one = omega arith; pending = refl; total = refl }
 shape_counts w command e (Sets numbers own keeps) = record { counts_one = omega (arith, keeps.zero_count, keeps.one_count, keeps.two_count); pending = keeps.pending; total = keeps.total }

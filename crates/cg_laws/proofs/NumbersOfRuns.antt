@@ -1,4 +1,4 @@
--- In every world of a run the numbers of the collector are few.
+-- In every world of a run the collector's numbers are bounded.
 use Rattle.std.proofs.Common.{◌≡◌, refl, sym, ◌∙◌, ap, subst, ℕ, suc, ◌+◌, ◌*◌, ◌≤◌, Bool, true, false, not, ◌&&◌, List, [], ◌∷◌, length, Some, None, arith}
 use Rattle.std.specs.Prelude.{◌||◌, if◌then◌else◌}
 use Rattle.std.specs.List.{list_any}
@@ -31,7 +31,7 @@ use Rattle.cg_machine.proofs.Advances.{Advance}
 use Rattle.cg_machine.proofs.Advancing.{frame_end_advances, released_advances, dying_advances, phase_advances}
 use Rattle.cg_laws.proofs.Counting.{IsSettled, advance_counts, starts_counts}
 
--- What holds between steps. A collection on top that is about to start leaves the numbers settled too.
+-- What holds between steps. A collection that is about to start leaves the numbers settled too.
 pub record CountedAt (limits : Limits) (n : Numbers) (budget : ℕ) (c : Collection) (below : List Activity) : Type 0 where
   pub now : Settled limits n budget below
   pub soon : c.phase ≡ Start → StartsSettled limits n budget below c.generation
@@ -44,7 +44,7 @@ Counted limits n budget stack = Settled limits n budget stack
 abbrev pub IsCounted : Limits → World → Type 0
 IsCounted limits w = Counted limits w.numbers w.budget w.stack
 
--- where no collection is about to start, nothing more is to be said
+-- with no collection about to start, settled is enough
 settled_counted : (limits : Limits) (n : Numbers) (budget : ℕ) (stack : List Activity) → Settled limits n budget stack → Counted limits n budget stack
 settled_counted limits n budget (Collecting c ∷ below) h = record {
   now = off_top limits n budget (Collecting c) below h;
@@ -57,11 +57,10 @@ counted_now : (limits : Limits) (n : Numbers) (budget : ℕ) (stack : List Activ
 counted_now limits n budget (Collecting c ∷ below) h = (below, h.now)
 counted_now limits n budget stack h = (stack, h)
 
--- a step leaves a settled world
 counted : (limits : Limits) (after : World) → IsSettled limits after → IsCounted limits after
 counted limits after s = settled_counted limits after.numbers after.budget after.stack s
 
--- A command is done, which counts one object at most, or asks for a collection.
+-- A command counts at most one object, or asks for a collection.
 module _ (limits : Limits) (script : Script) (short : (p : ℕ) → length (body_of script p) ≤ limits.longest) (a : Activity) (below : List Activity) (v : World) (ha : HasCommands a) (h : Settled limits (raised v.numbers) v.budget (a ∷ below)) where
   abbrev now : World
   now = with_stack (a ∷ below) v
@@ -108,7 +107,7 @@ due_pushed limits w h false t e g d = absurd (let no : None ≡ Some g = d in cc
 due_counts : (limits : Limits) (w : World) → IsSettled limits w → (g : ℕ) → due w ≡ Some g → IsCounted limits (push (new_collection g false w) w)
 due_counts limits w h g d = record { now = h; soon = λ first. due_pushed limits w h (is_due w.numbers) (is_collecting w) refl g d }
 
--- what has commands on top is settled, also where one is taken, for which an object may be made
+-- what has commands on top is settled, also after one is taken, which may make an object
 on_commands : (limits : Limits) (a : Activity) (below : List Activity) (v : World) → HasCommands a → IsCounted limits (on a below v) → IsSettled limits (on a below v)
 on_commands limits (TopLevel commands) below v ha h = h
 on_commands limits (Framed f) below v ha h = h
@@ -121,7 +120,6 @@ taken limits command a b below v (FromFrame f commands left) h =
     let one : length f.commands ≡ length (command ∷ commands) = ap length left in
     record { spent = h.spent; within = omega (arith, h.within, one); pending = h.pending; total = h.total; still = h.still }
 
--- any step
 module _ (limits : Limits) (script : Script) (short : (p : ℕ) → length (body_of script p) ≤ limits.longest) where
   advances : (top : Activity) (below : List Activity) (v : World) → length v.objects ≤ limits.objects → Settled limits v.numbers v.budget below → ((c : Collection) → top ≡ Collecting c → c.phase ≡ Start → StartsSettled limits v.numbers v.budget below c.generation)
       → (lines : List Event) (after : World) → Advance script v top below lines after → IsCounted limits after
@@ -148,7 +146,7 @@ risen_length : (low high : ℕ) (objects : List Object) → Rises low high objec
 risen_length low high [] h = omega (arith, h)
 risen_length low high (x ∷ objects) h = omega (arith, h.0, risen_length (suc x.serial) high objects h.1)
 
--- an object for each command that a run can do, and the garbage list
+-- one object for each command that a run can do, and the garbage list
 abbrev limits_of : Script → ℕ → ℕ → Limits
 limits_of script budget most = record { longest = most; commands = length (commands_of script.items) + budget * most; objects = length (commands_of script.items) + budget * most + 1 }
 
@@ -161,7 +159,7 @@ worlds_stay_few script budget most short steps run =
 opening_counted : (script : Script) (budget most : ℕ) → IsCounted (limits_of script budget most) (opening script budget)
 opening_counted script budget most = record { spent = 0; within = omega arith; pending = omega arith; total = omega arith; still = refl }
 
--- what is settled is few
+-- settled numbers are few
 settled_few : (commands longest budget : ℕ) (n : Numbers) (stack : List Activity) → Settled (record { longest = longest; commands = commands; objects = commands + 1 }) n budget stack → AreFew commands n
 settled_few commands longest budget n stack h = record {
   zero = omega (arith, h.within);

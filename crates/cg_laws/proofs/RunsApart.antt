@@ -1,4 +1,5 @@
--- In every world of a run collections are apart: at the opening nothing is set apart, and each step keeps it so.
+-- In every world of a run the partition law holds: at the start no collection is under way, and each step keeps the
+-- law.
 use Rattle.std.proofs.Common.{◌≡◌, refl, sym, subst, ℕ, false, List, [], ◌∷◌}
 use Rattle.cg_script.specs.declared.Script.{Script}
 use Rattle.cg_graph.specs.Object.{Object}
@@ -32,7 +33,7 @@ opening_apart script budget = record {
   unsaved = λ x m k n. either m (λ i. subst (λ (z : Object). IsFound z.place) (sym i) k) (λ n. n);
 }
 
--- a step that is no collection's
+-- a step of another activity
 other_apart : (script : Script) (w : World) (a : Activity) (below : List Activity) (events : List Event) (after : World) → w.stack ≡ a ∷ below → is_collection a ≡ false → Step script w events after → Sound w → Calm script w → HasOrder w → IsApart w → IsApart after
 other_apart script w a below events after top none step sound calm order h =
     let stack : IsStack script w (a ∷ below) = subst (IsStack script w) top calm.stack in
@@ -41,7 +42,6 @@ other_apart script w a below events after top none step sound calm order h =
     let plain : IsPlainUnder w.objects (a ∷ below) after = subst (λ st. IsPlainUnder w.objects st after) top (step_plain script w events after step h.garbage made.1 calm sound.bottom) in
     step_apart w a below after top none sound.rises (leaves_below script w a below after top sound.rises stack.1 order left) (plain none) h
 
--- a step, and a run
 module _ (script : Script) (budget : ℕ) where
   step_keeps : (w : World) (stack : List Activity) (events : List Event) (after : World) → w.stack ≡ stack → Step script w events after → Sound w → Calm script w → HasOrder w → IsLawful script budget w → IsApart w → IsApart after
   step_keeps w [] events after top step sound calm order lawful h = absurd (subst (λ st. StepOf script w st events after) top step.step)

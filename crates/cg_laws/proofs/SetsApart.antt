@@ -1,4 +1,5 @@
--- What the steps of a collection keep of the objects: each stands rightly, and the garbage list stays untracked.
+-- What each step of a collection keeps: each object is in a place that the phase allows, and the garbage list is
+-- untracked.
 use Rattle.std.proofs.Common.{◌≡◌, ◌≢◌, refl, sym, ◌∙◌, ap, subst, ℕ, ◌≤◌, Bool, true, false, cond, inl, inr, List, [], ◌∷◌, map, Some, None, arith}
 use Rattle.std.specs.Prelude.{◌==◌, if◌then◌else◌, count_by, option_map, unwrap_or}
 use Rattle.std.specs.List.{list_any}
@@ -27,7 +28,7 @@ pub record AreApart (objects : List Object) (phase : CollectPhase) : Type 0 wher
   pub unhandled : ¬ Includes (handles phase) 1
   pub unsaved : (x : Object) → Includes objects x → IsFound x.place → ¬ Includes (references (entries_of objects 1)) x.serial
 
--- no collection is among the activities
+-- no activity is a collection
 abbrev pub NoneCollects : List Activity → Type 0
 NoneCollects stack = (d : Collection) → ¬ Includes stack (Collecting d)
 
@@ -39,11 +40,11 @@ none_counted (a ∷ stack) e d (inl i) =
     absurd (omega (arith, e, here, one))
 none_counted (a ∷ stack) e d (inr m) = let here = sum_by-cons (λ b. cond (is_collection b) 1 0) a stack in none_counted stack (omega (arith, e, here)) d m
 
--- a collection is the only one
+-- the collection is the only one
 pub alone_of : (c : Collection) (below : List Activity) → count_by is_collection (Collecting c ∷ below) ≤ 1 → NoneCollects below
 alone_of c below h = let here = sum_by-cons (λ b. cond (is_collection b) 1 0) (Collecting c) below in none_counted below (omega (arith, h, here))
 
--- of a world and back
+-- from a world to its parts, and back
 pub apart_of : (w : World) (c : Collection) → Includes w.stack (Collecting c) → IsApart w → AreApart w.objects c.phase
 apart_of w c m h = record { garbage = h.garbage; rightly = h.phases c m; unhandled = h.unhandled c m; unsaved = h.unsaved }
 
@@ -59,15 +60,14 @@ collects w d below s alone h = record {
     same : (e : Collection) → Includes w.stack (Collecting e) → d ≡ e
     same e m = either (subst (λ st. Includes st (Collecting e)) s m) (λ i. let is : d ≡ e = cc in is) (λ k. absurd (alone e k))
 
--- a collection goes to a phase in which the objects stand rightly
+-- a collection goes to a phase that allows the places of all objects
 pub goes_to : (d : Collection) (next : CollectPhase) (below : List Activity) (v : World) → NoneCollects below → AreApart v.objects next → IsApart (collection_at d next below v)
 goes_to d next below v alone h = collects (collection_at d next below v) (record d { phase = next }) below refl alone h
 
--- nothing changes but the phase
+-- only the phase changes
 pub restands : (phase next : CollectPhase) (objects : List Object) → ¬ Includes (handles next) 1 → ((x : Object) → Includes objects x → StandsRightly phase x → StandsRightly next x) → AreApart objects phase → AreApart objects next
 restands phase next objects unhandled right h = record { garbage = h.garbage; rightly = λ x m. right x m (h.rightly x m); unhandled = unhandled; unsaved = h.unsaved }
 
--- a frame starts
 pub starts_apart : (script : Script) (spec : FrameSpec) (u : World) → IsApart u → IsApart (start_frame script spec u).1
 starts_apart script spec u h = starts_either (λ lines. IsApart) script spec u (record { garbage = h.garbage; clear = h.clear; phases = h.phases; unhandled = h.unhandled; unsaved = h.unsaved })
     (λ some. record { garbage = h.garbage; clear = h.clear; phases = λ c m. h.phases c (below c m); unhandled = λ c m. h.unhandled c (below c m); unsaved = h.unsaved })
@@ -75,24 +75,21 @@ starts_apart script spec u h = starts_either (λ lines. IsApart) script spec u (
     below : (c : Collection) → Includes (begun_frame script spec ∷ u.stack) (Collecting c) → Includes u.stack (Collecting c)
     below c m = either m (λ e. absurd (cc)) (λ k. k)
 
--- something is given up
 pub gives_up_apart : (given_up : List ℕ) (u : World) → IsApart u → IsApart (push (Releasing given_up) u)
 gives_up_apart given_up u h = record { garbage = h.garbage; clear = h.clear; phases = λ c m. h.phases c (below c m); unhandled = λ c m. h.unhandled c (below c m); unsaved = h.unsaved }
   where
     below : (c : Collection) → Includes (Releasing given_up ∷ u.stack) (Collecting c) → Includes u.stack (Collecting c)
     below c m = either m (λ e. absurd (let no : Releasing given_up ≡ Collecting c = e in cc)) (λ k. k)
 
--- a change of an object that leaves its serial, its kind and its entries
+-- a change of an object that keeps its serial, kind and entries
 pub record Keeps (f : Object → Object) : Type 0 where
   pub serial : (x : Object) → (f x).serial ≡ x.serial
   pub code : (x : Object) → (f x).code ≡ x.code
   pub entries : (x : Object) → (f x).entries ≡ x.entries
 
--- another place is such a change
 pub places_kept : (places : Object → Place) → Keeps (λ x. with_place (places x) x)
 places_kept places = record { serial = λ x. refl; code = λ x. refl; entries = λ x. refl }
 
--- so is one that a test decides on
 pub kept_if : (f : Object → Object) → Keeps f → (test : Object → Bool) → Keeps (λ x. if test x then f x else x)
 kept_if f k test = record { serial = λ x. serial (test x) x; code = λ x. code (test x) x; entries = λ x. entries (test x) x }
   where
@@ -108,7 +105,6 @@ kept_if f k test = record { serial = λ x. serial (test x) x; code = λ x. code 
     entries true x = k.entries x
     entries false x = refl
 
--- the entries that are found by a serial stay
 pub entries_kept : (f : Object → Object) → Keeps f → (objects : List Object) (o : ℕ) → entries_of (map f objects) o ≡ entries_of objects o
 entries_kept f k [] o = refl
 entries_kept f k (x ∷ objects) o =
@@ -119,14 +115,14 @@ entries_kept f k (x ∷ objects) o =
     go true e = k.entries x
     go false e = e
 
--- How objects change places from one phase to the next.
+-- How objects move from one phase to the next.
 pub record Moves (f : Object → Object) (test : Object → Bool) (objects : List Object) (phase next : CollectPhase) : Type 0 where
   pub untracked : (x : Object) → Includes objects x → test x ≡ true → x.serial ≡ 1 → x.place ≡ Untracked → (f x).place ≡ Untracked
   pub chosen : (x : Object) → Includes objects x → test x ≡ true → StandsRightly phase x → StandsRightly next (f x)
   pub others : (x : Object) → Includes objects x → test x ≡ false → StandsRightly phase x → StandsRightly next x
   pub found : (x : Object) → Includes objects x → test x ≡ true → IsFound (f x).place → ¬ Includes (references (entries_of objects 1)) x.serial
 
--- what is condemned or set aside is of the collection
+-- condemned and uncollectable objects are in the collection's places
 pub found_apart : (p : Place) → IsFound p → IsOfCollection p
 found_apart Untracked k = k
 found_apart (Gen i) k = k
@@ -137,7 +133,7 @@ found_apart Back k = tt
 found_apart Legacy k = tt
 found_apart Pend k = tt
 
--- what stands at a place is tracked, and has an object
+-- what is in a tracked place has an object
 pub is_tracked_at : (p : Place) (x : Object) → same_place Untracked p ≡ false → is_at p x ≡ true → x.place ≢ Untracked
 is_tracked_at p x tracked t e = let no : true ≡ false = sym t ∙ ap (λ q. same_place q p) e ∙ tracked in cc
 
@@ -184,7 +180,7 @@ pub moved : (f : Object → Object) (test : Object → Bool) (objects : List Obj
 moved f test objects phase next keeps unhandled moves h =
     changed f test objects phase next keeps.serial keeps.code (entries_kept (λ x. if test x then f x else x) (kept_if f keeps test) objects 1) unhandled moves h
 
--- a weak reference loses its referent
+-- a weak reference is cleared
 pub lost_apart : (weak : ℕ) (objects : List Object) (phase : CollectPhase) → ((x : Object) → StandsRightly phase x → StandsRightly phase (with_referent None x)) → AreApart objects phase → AreApart (loses_referent weak objects) phase
 lost_apart weak objects phase still h = moved (with_referent None) (λ x. x.serial == weak) objects phase phase (record { serial = λ x. refl; code = λ x. refl; entries = λ x. refl }) h.unhandled
     (record {

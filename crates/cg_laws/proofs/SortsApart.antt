@@ -1,5 +1,5 @@
--- The start of a collection sets apart what it finds: none of that is named by the garbage list, since what it names is held
--- from outside.
+-- The start of a collection partitions what it finds. The garbage list names no garbage, since what it names is held from
+-- outside.
 use Rattle.std.proofs.Common.{◌≡◌, refl, sym, ◌∙◌, ap, subst, ℕ, ◌+◌, Bool, true, false, cond, not, ◌&&◌, ◌||◌, List, [], ◌∷◌, ◌++◌, Option, Some, None, arith}
 use Rattle.std.specs.Prelude.{◌==◌, nat_le, if◌then◌else◌, flat_map, filter, option_map, unwrap_or}
 use Rattle.cg_value.specs.declared.Place.{Place}
@@ -48,7 +48,7 @@ survivor_sorted g objects x = go (not (is_tracked x) || (g == 2) && is_dict x &&
     go true = (tt, λ k. k)
     go false = (tt, λ k. k)
 
--- what the garbage list names is what an object names that has its serial
+-- the names in the garbage list are those of the object with its serial
 pub names_of : (objects : List Object) (s o : ℕ) → Includes (references (entries_of objects s)) o → (z : Object) × Includes objects z × (z.serial ≡ s) × Includes (references z.entries) o
 names_of objects s o = go (object_at objects s) refl
   where
@@ -56,7 +56,7 @@ names_of objects s o = go (object_at objects s) refl
     go None e k = absurd k
     go (Some z) e k = let f = found_at objects s z e in (z, f.0, f.1, k)
 
--- what some objects hold, and what the others do
+-- the holdings of some objects, and of the others
 parted_holdings : (p : Object → Bool) (objects : List Object) (o : ℕ) → occurrences o (entry_holdings (graph_of objects)) ≡ occurrences o (entry_holdings (graph_of (filter p objects))) + occurrences o (entry_holdings (graph_of (filter (λ x. not (p x)) objects)))
 parted_holdings p [] o = refl
 parted_holdings p (x ∷ objects) o = go (p x) (parted_holdings p objects o)
@@ -72,7 +72,7 @@ parted_holdings p (x ∷ objects) o = go (p x) (parted_holdings p objects o)
     go true k = omega (arith, k, occurrences-append o (references x.entries) (entry_holdings (graph_of inside)), occurrences-append o (references x.entries) (entry_holdings (graph_of objects)))
     go false k = omega (arith, k, occurrences-append o (references x.entries) (entry_holdings (graph_of outside)), occurrences-append o (references x.entries) (entry_holdings (graph_of objects)))
 
--- an object that one of another place names survives
+-- an object that one in another place names survives
 named_survives : (w : World) (p : Place) (x z : Object) → Includes (objects_at w.objects p) x → Includes w.objects z → is_at p z ≡ false → Includes (references z.entries) x.serial → Survives w p x.serial
 named_survives w p x z m n apart names =
     let outside = filter (λ y. not (is_at p y)) w.objects in
@@ -106,7 +106,6 @@ weak_of_clear x clear = record {
 }
 
 module _ (script : Script) (c : Collection) (below : List Activity) (v : World) (alone : NoneCollects below) where
-  -- the merge and the sorting
   pub start_apart : (events : List Event) (after : World) → StartStep script (collection_at c Start below v) c below events after → AreApart v.objects Start → IsApart after
   start_apart events after step h = subst IsApart (sym step.world) (collects (start_world c step.places below now) (record c { phase = WeakClearing [] }) below refl alone sorted_now)
     where

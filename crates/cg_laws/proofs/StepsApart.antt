@@ -1,4 +1,4 @@
--- A step that is no collection's leaves each object that is set apart where it stood.
+-- A step of another activity leaves each partitioned object where it was.
 use Rattle.std.proofs.Common.{◌≡◌, ◌≢◌, sym, ◌∙◌, ap, subst, ℕ, Bool, true, false, inr, List, [], ◌∷◌, ◌++◌, Option, Some}
 use Rattle.std.specs.Prelude.{◌||◌, option_map, unwrap_or}
 use Rattle.std.specs.List.{list_any}
@@ -17,7 +17,7 @@ use Rattle.cg_laws.specs.Apart.{IsInWeakPhase, IsInLatePhase, StandsRightly, IsF
 use Rattle.cg_laws.proofs.GarbageKept.{NamesNot, entries_name_not, list_stays, names_no_more}
 use Rattle.cg_laws.proofs.StepsPlain.{IsPlain}
 
--- what is found is set apart
+-- what is found is partitioned
 pub found_is_apart : (place : Place) → IsFound place → IsOfCollection place
 found_is_apart Cand h = tt
 found_is_apart Seen h = tt
@@ -28,13 +28,12 @@ found_is_apart Frozen h = absurd h
 found_is_apart Back h = absurd h
 found_is_apart Pend h = absurd h
 
--- what the garbage list names, by its objects
 pub objects_name_not : (high : ℕ) (objects : List Object) (o : ℕ) → Rises 1 high objects → (¬ Includes (references (entries_of objects 1)) o) → NamesNot objects o
 objects_name_not high objects o rises h x m e k =
     let at : object_at objects 1 ≡ Some x = subst (λ s. object_at objects s ≡ Some x) e (at_member 1 high objects x rises m) in
     h (subst (λ (found : Option Object). Includes (references (unwrap_or (option_map (λ (z : Object). z.entries) found) [])) o) (sym at) k)
 
--- no collection stands below where none is on the stack
+-- no collection is below if none is on the stack
 none_below : (tops below : List Activity) → list_any is_collection (tops ++ below) ≡ false → list_any is_collection below ≡ false
 none_below [] below e = e
 none_below (a ∷ tops) below e = none_below tops below (rest (is_collection a) e)
@@ -43,7 +42,7 @@ none_below (a ∷ tops) below e = none_below tops below (rest (is_collection a) 
     rest true k = let no : true ≡ false = k in absurd (cc)
     rest false k = k
 
--- an object that stood where it stands, if that is a place of a collection
+-- an object in a collection's place was there before
 module _ (objects : List Object) (x : Object) (had : IsOfCollection x.place → HadItsPlace objects x) where
   stood : (place : Place) → IsOfCollection place → x.place ≡ place → (y : Object) × Includes objects y × (y.serial ≡ x.serial) × (y.place ≡ place)
   stood place h e = let y = had (subst IsOfCollection (sym e) h) in (y.0, y.1, y.2, sym y.3 ∙ e)
@@ -64,7 +63,7 @@ module _ (objects : List Object) (x : Object) (had : IsOfCollection x.place → 
   neither : ((y : Object) → Includes objects y → (y.place ≢ Back) × (y.place ≢ Pend)) → (x.place ≢ Back) × (x.place ≢ Pend)
   neither h = (was_not Back tt (λ y m. (h y m).0), was_not Pend tt (λ y m. (h y m).1))
 
-  -- it stands rightly still
+  -- its place is still allowed
   pub still_stands : (phase : CollectPhase) → ((y : Object) → Includes objects y → StandsRightly phase y) → StandsRightly phase x
   still_stands Start h = λ k. let y = had k in h y.0 y.1 (subst IsOfCollection y.3 k)
   still_stands (WeakClearing waiting) h = in_weak_phase waiting h
@@ -79,7 +78,6 @@ module _ (objects : List Object) (x : Object) (had : IsOfCollection x.place → 
   still_stands (AfterTurn o) h = in_late_phase h
   still_stands Ending h = (in_late_phase (λ y m. (h y m).0), was_not Cand tt (λ y m. (h y m).1))
 
--- a step of an activity that is no collection
 module _ (w : World) (a : Activity) (below : List Activity) (after : World) (top : w.stack ≡ a ∷ below) (none : is_collection a ≡ false) (rises : Rises 1 w.next_serial w.objects) (l : LeavesBelow w a below after) (p : IsPlain w.objects below after) (h : IsApart w) where
   had : (x : Object) → Includes after.objects x → IsOfCollection x.place → HadItsPlace w.objects x
   had x m k = l.places none x m k

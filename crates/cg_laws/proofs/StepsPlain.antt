@@ -1,4 +1,4 @@
--- A step that is no collection's puts no collection on the stack but one that is to start where none was, and keeps the garbage list.
+-- A step of another activity pushes no collection except a new one where there was none, and keeps the garbage list.
 use Rattle.std.proofs.Common.{◌≡◌, ◌≢◌, refl, sym, ◌∙◌, ap, subst, ℕ, ◌<◌, Bool, true, false, not, inl, inr, ◌⊎◌, List, [], ◌∷◌, ◌++◌, Some, None}
 use Rattle.std.specs.Prelude.{◌&&◌, if◌then◌else◌}
 use Rattle.std.specs.List.{list_any}
@@ -30,7 +30,7 @@ use Rattle.cg_laws.proofs.GarbageCommands.{shape_kept}
 use Rattle.cg_script.specs.declared.Command.TheVariants.{Del}
 use Rattle.cg_machine.proofs.Sound.{HasBottom}
 
--- The collections of a stack are those below, or one that is to start where there is none.
+-- The collections of a stack are those below, or a new one where there was none.
 abbrev pub StartsAlone : List Activity → List Activity → Type 0
 StartsAlone below stack = (c : Collection) → Includes stack (Collecting c) → Includes below (Collecting c) ⊎ (list_any is_collection below ≡ false) × (c.phase ≡ Start)
 
@@ -40,21 +40,18 @@ below_alone below c m = inl m
 with_alone : (a : Activity) (below stack : List Activity) → is_collection a ≡ false → StartsAlone below stack → StartsAlone below (a ∷ stack)
 with_alone a below stack none h c m = either m (λ e. let no : false ≡ true = sym none ∙ ap is_collection e in absurd (cc)) (h c)
 
--- what such a step leaves
 pub record IsPlain (objects : List Object) (below : List Activity) (after : World) : Type 0 where
   pub stack : StartsAlone below after.stack
   pub list : KeepsList objects after.objects
 
--- a frame starts
 starts_plain : (script : Script) (spec : FrameSpec) (objects : List Object) (below : List Activity) (u : World) → IsPlain objects below u → IsPlain objects below (start_frame script spec u).1
 starts_plain script spec objects below u h = starts_either (λ lines. IsPlain objects below) script spec u (record { stack = h.stack; list = h.list }) (λ some. record { stack = with_alone (begun_frame script spec) below u.stack refl h.stack; list = h.list })
 
--- what dies is not the garbage list
+-- a dying object is not the garbage list
 finalizes_other : (script : Script) (below : List Activity) (v : World) (top : Activity) (o : ℕ) → Finalizes top o → Calm script (on top below v) → o ≢ 1
 finalizes_other script below v top o (Soon d) c = c.stack.0.root
 finalizes_other script below v top o (Late d) c = c.stack.0.unheld.root
 
--- the objects change
 module _ (script : Script) (below : List Activity) (v : World) (top : Activity) (none : is_collection top ≡ false) (c : Calm script (on top below v)) where
   no_collection_here : is_collection top ≡ true → ⊥
   no_collection_here e = let no : true ≡ false = sym e ∙ none in cc
@@ -77,7 +74,7 @@ module _ (script : Script) (below : List Activity) (v : World) (top : Activity) 
   changed_list tops lines before after (LosesObject o objects owns line) = without_kept o objects
   changed_list tops lines before after (Followed first now last h k) = list_trans first now last (changed_list tops lines first now h) (changed_list tops lines now last k)
 
--- what goes on is no collection where the top is none
+-- what goes on is a collection only if the top is one
 continues_alone : (before after : List Object) (top a : Activity) → Continues before after top a → is_collection a ≡ is_collection top
 continues_alone before after top a (DeathGoesOn o phase next waits none) = refl
 continues_alone before after top a (DeathClears o weak waiting weaks t first lost) = refl
@@ -109,14 +106,14 @@ free_below (Framed f) below h e = e
 free_below (ShuttingDown started) below h e = e
 free_below a below h e = absurd h
 
--- a collection is to start where there is none
+-- a new collection where there is none
 begins_alone : (a : Activity) (g : ℕ) (asked : Bool) (below : List Activity) (w : World) → HasCommands a → list_any is_collection below ≡ false → StartsAlone below (new_collection g asked w ∷ a ∷ below)
 begins_alone a g asked below w h free c m = either m (λ e. inr (free, phase e)) (λ k. with_alone a below below (no_collection a h) (below_alone below) c k)
   where
     phase : new_collection g asked w ≡ Collecting c → c.phase ≡ Start
     phase e = let same : record { generation = g; flags = w.numbers.flags; asked = asked; collected = 0; phase = Start } ≡ c = cc in ap (λ (z : Collection). z.phase) (sym same)
 
--- one is due only where there is none
+-- a collection is due only where there is none
 due_alone : (w : World) (g : ℕ) → due w ≡ Some g → is_collecting w ≡ false
 due_alone w g e = go (is_due w.numbers) (is_collecting w) refl e
   where
@@ -125,7 +122,6 @@ due_alone w g e = go (is_due w.numbers) (is_collecting w) refl e
     go true true i k = absurd (let no : None ≡ Some g = k in cc)
     go false true i k = absurd (let no : None ≡ Some g = k in cc)
 
--- a command is done in u
 module _ (script : Script) (a : Activity) (below : List Activity) (v : World) (ha : HasCommands a) (garbage : HasGarbageList v.objects) (made : 1 < v.next_serial) where
   abbrev u : World
   u = with_stack (a ∷ below) v
@@ -142,7 +138,7 @@ module _ (script : Script) (a : Activity) (below : List Activity) (v : World) (h
   emptied_plain (ShuttingDown started) k = unchanged (ShuttingDown started) tt
   emptied_plain top k = absurd k
 
--- any step of an activity that is no collection
+-- any step of an activity other than a collection
 abbrev pub IsPlainUnder : List Object → List Activity → World → Type 0
 IsPlainUnder objects [] after = Unit {0}
 IsPlainUnder objects (a ∷ below) after = is_collection a ≡ false → IsPlain objects below after
@@ -165,7 +161,7 @@ command_plain script command b a below v ha garbage made = record {
   asks = λ g low e none. record { stack = begins_alone a g true below (on a below v) ha (free_below a below ha e); list = same_list v.objects };
 }
 
--- nothing stands below the shutdown
+-- nothing is below the shutdown
 none_below : (below : List Activity) → below ≡ [] → list_any is_collection below ≡ false
 none_below below e = ap (list_any is_collection) e
 

@@ -1,5 +1,5 @@
--- The turns and the end: members of the final set get older or are cleared, and what the garbage list gets goes to a
--- generation in the same step. After the end nothing is set apart.
+-- The turns and the end: members of the final set move to the older generation or are cleared, and what the garbage
+-- list gets moves to a generation in the same step. Afterwards nothing is partitioned.
 use Rattle.std.proofs.Common.{◌≡◌, ◌≢◌, refl, sym, ◌∙◌, ap, subst, ℕ, Bool, true, false, cond, inl, inr, ◌⊎◌, List, [], ◌∷◌, ◌++◌, Option, Some, None}
 use Rattle.std.specs.Prelude.{◌==◌, if◌then◌else◌, option_map, unwrap_or}
 use Rattle.std.proofs.lemmas.Bool.{eqb-true, eq-eqb, ne_eqb}
@@ -23,7 +23,7 @@ use Rattle.cg_laws.specs.Apart.{StandsRightly, IsInLatePhase, IsFound, IsGarbage
 use Rattle.cg_laws.proofs.SetsApart.{NoneCollects, AreApart, goes_to, restands, gives_up_apart, found_apart, is_tracked_at, changed, places_kept, moved}
 use Rattle.cg_laws.proofs.FinalizersApart.{root_not_at, late_at_gen}
 
--- what is found by a serial, after a change of the object there or of another
+-- what a lookup by serial finds after a change of that object or another
 changed_at : (f : Object → Object) → ((x : Object) → (f x).serial ≡ x.serial) → (o : ℕ) (objects : List Object) → object_at (change f o objects) o ≡ option_map f (object_at objects o)
 changed_at f serial o [] = refl
 changed_at f serial o (x ∷ objects) = go (x.serial == o) refl (changed_at f serial o objects)
@@ -55,7 +55,7 @@ saved_names s objects o m = go (object_at objects 1) (subst (λ k. Includes (ref
     go None n = absurd n
     go (Some x) n = either (references-append x.entries (item (Ref s) ∷ []) o n) (λ k. inl k) (λ k. either k (λ e. inr e) (λ a. absurd a))
 
--- What was saved is as before, but for the entries of the garbage list.
+-- Saved objects are as before, except for the entries of the garbage list.
 record IsFrom (objects : List Object) (y : Object) : Type 0 where
   pub was : Object
   pub member : Includes objects was
@@ -83,7 +83,7 @@ garbage_from objects y garbage from e = let was = garbage from.was from.member (
 late_from : (x y : Object) → y.place ≡ x.place → IsInLatePhase x → IsInLatePhase y
 late_from x y same k = record { seen = λ e. k.seen (sym same ∙ e); back = λ e. k.back (sym same ∙ e); pending = λ e. k.pending (sym same ∙ e) }
 
--- what is saved is no longer found
+-- a saved object is no longer found
 saved_apart : (s : ℕ) (objects : List Object) → ((x : Object) → Includes objects x → IsFound x.place → s ≢ x.serial) → AreApart objects Turns → AreApart (saved s objects) Turns
 saved_apart s objects gone h = record {
   garbage = λ y m. garbage_from objects y h.garbage (saved_from s objects y m);
@@ -95,7 +95,7 @@ saved_apart s objects gone h = record {
       either (saved_names s objects y.serial k) (λ n. h.unsaved x.was x.member was (subst (Includes (references (entries_of objects 1))) x.serial n)) (λ e. gone x.was x.member was (e ∙ x.serial));
 }
 
--- an object that is saved may as well go to its place first
+-- moving a saved object first gives the same result
 saved_placed : (s : ℕ) (p : Place) (o : ℕ) (objects : List Object) → saved s (change (with_place p) o objects) ≡ change (with_place p) o (saved s objects)
 saved_placed s p o [] = refl
 saved_placed s p o (x ∷ objects) = λ i. one (x.serial == 1) refl (x.serial == o) refl i ∷ saved_placed s p o objects i
@@ -107,7 +107,7 @@ saved_placed s p o (x ∷ objects) = λ i. one (x.serial == 1) refl (x.serial ==
     one false t true u = ap (λ k. if k then longer s (with_place p x) else with_place p x) t ∙ sym (ap (λ k. if k then with_place p x else x) u)
     one false t false u = ap (λ k. if k then longer s x else x) t ∙ sym (ap (λ k. if k then with_place p x else x) u)
 
--- where what is not of the last phase stands
+-- where an object is that has no place of the last phase
 clear_at_end : (p : Place) → p ≢ Seen → p ≢ Back → p ≢ Pend → p ≢ Cand → same_place p Legacy ≡ false → ¬ IsOfCollection p
 clear_at_end Untracked seen back pending cand legacy k = k
 clear_at_end (Gen i) seen back pending cand legacy k = k
@@ -128,7 +128,7 @@ module _ (script : Script) (c : Collection) (below : List Activity) (v : World) 
   abbrev place : Place
   place = Gen (older c.generation)
 
-  -- one gets older
+  -- one moves to the older generation
   older_apart : (o : ℕ) (phase : CollectPhase) → o ≢ 1 → ((x : Object) → StandsRightly phase x → IsInLatePhase x) → AreApart v.objects phase → AreApart (change (with_place place) o v.objects) Turns
   older_apart o phase no_root late h = moved (with_place place) (λ x. x.serial == o) v.objects phase Turns (places_kept (λ x. place)) (λ k. k)
       (record {
@@ -138,7 +138,7 @@ module _ (script : Script) (c : Collection) (below : List Activity) (v : World) 
         found = λ x m t k n. k;
       }) h
 
-  -- none that has got older is found
+  -- none that moved is found
   older_gone : (o : ℕ) (y : Object) → Includes (change (with_place place) o v.objects) y → IsFound y.place → o ≢ y.serial
   older_gone o y m = let x = Includes-map_cases (λ x. if x.serial == o then with_place place x else x) v.objects y m in subst (λ (z : Object). IsFound z.place → o ≢ z.serial) x.2 (one (x.0.serial == o) x.0 refl)
     where
@@ -146,7 +146,6 @@ module _ (script : Script) (c : Collection) (below : List Activity) (v : World) 
       one true x t found = absurd found
       one false x t found = λ e. let no : true ≡ false = sym (eq-eqb x.serial o (sym e)) ∙ t in cc
 
-  -- the turns
   turn_apart : (x : Object) → Includes (serials_at v.objects Cand) x.serial → AreApart v.objects Turns → IsApart (takes_turn c x below (at Turns)).1
   turn_apart x member h = go (has_flag c.flags save_all) (is_tuple x)
     where
@@ -188,7 +187,6 @@ module _ (script : Script) (c : Collection) (below : List Activity) (v : World) 
   pub after_turn_apart : (o : ℕ) → AreApart v.objects (AfterTurn o) → IsApart (after_turn c o below (at (AfterTurn o))).1
   after_turn_apart o h = goes_to c Turns below (with_change (with_place place) o (at (AfterTurn o))) alone (older_apart o (AfterTurn o) (λ e. h.unhandled (inl e)) (λ x k. k) h)
 
-  -- the end
   pub end_apart : (events : List Event) (after : World) → EndStep script c below (at Ending) events after → AreApart v.objects Ending → IsApart after
   end_apart events after step h = to after now step.world (record {
     garbage = λ y m. (known y m).0;

@@ -1,4 +1,4 @@
--- The weak phase keeps apart what the start found: a weak reference that waits for its callback stands at a place of its own.
+-- The weak phase keeps the partition: a waiting weak reference is in a place of its own.
 use Rattle.std.proofs.Common.{◌≡◌, ◌≢◌, refl, sym, ◌∙◌, ap, subst, ℕ, ◌+◌, Bool, true, false, cond, inl, inr, List, [], ◌∷◌, ◌++◌, Option, Some, None}
 use Rattle.std.specs.Prelude.{◌==◌, if◌then◌else◌, flat_map, is_some, option_map, unwrap_or}
 use Rattle.std.proofs.lemmas.Bool.{eqb-true, eq-eqb}
@@ -27,7 +27,7 @@ use Rattle.cg_machine.proofs.Clearing.{refers_early}
 no_weak : (x : Object) → IsGarbageList x → x.code ≢ Weak
 no_weak x g e = let no : ListKind ≡ Weak = sym g.list ∙ e in cc
 
--- so it does not wait for a callback
+-- so it waits for no callback
 root_waits_not : (w : World) → IsOrderly w → ((x : Object) → Includes w.objects x → x.serial ≡ 1 → IsGarbageList x) → ¬ Includes (all_waits w.stack) 1
 root_waits_not w orderly garbage m =
     let root = Includes-append_right (name_holdings w.names) (1 ∷ []) 1 (inl refl) in
@@ -35,7 +35,6 @@ root_waits_not w orderly garbage m =
     let x = Includes-map_cases (λ (z : Object). z.serial) w.objects 1 (orderly.held_live 1 held) in
     no_weak x.0 (garbage x.0 x.1 x.2) (orderly.waiting 1 m x.0 x.1 x.2).code
 
--- none has a serial that is not found
 none_at : (objects : List Object) (o : ℕ) (x : Object) → is_in_map objects o ≡ false → Includes objects x → x.serial ≢ o
 none_at [] o x e m same = m
 none_at (y ∷ objects) o x e m same = go (y.serial == o) refl e m (λ k n. none_at objects o x k n same)
@@ -45,7 +44,7 @@ none_at (y ∷ objects) o x e m same = go (y.serial == o) refl e m (λ k n. none
     go false t k (inl i) rest = let no : true ≡ false = sym (eq-eqb y.serial o (ap (λ (z : Object). z.serial) i ∙ same)) ∙ t in cc
     go false t k (inr n) rest = rest k n
 
--- where one waits, and where one goes that does not wait any more
+-- one weak reference begins to wait, or stops waiting
 weak_at_pend : (waiting : List ℕ) (x : Object) → Includes waiting x.serial → IsInWeakPhase waiting (with_place Pend x)
 weak_at_pend waiting x m = record {
   seen = λ e. let no : Pend ≡ Seen = e in cc;
@@ -67,7 +66,7 @@ module _ (script : Script) (c : Collection) (below : List Activity) (v : World) 
   to : (after next : World) → after ≡ next → IsApart next → IsApart after
   to after next e h = subst IsApart (sym e) h
 
-  -- a weak reference loses its referent, and may wait
+  -- a weak reference is cleared, and may wait
   clears_apart : (waiting : List ℕ) (events : List Event) (after : World) → ClearsOne (profile_of script.items) c waiting below (at (WeakClearing waiting)) events after → IsOrderly (at (WeakClearing waiting)) → AreApart v.objects (WeakClearing waiting) → IsApart after
   clears_apart waiting events after step orderly h = to after _ step.yields.1 (go (waits v.objects step.weak))
     where
@@ -107,7 +106,7 @@ module _ (script : Script) (c : Collection) (below : List Activity) (v : World) 
   clearing_apart waiting events after (inl step) orderly h = clears_apart waiting events after step orderly h
   clearing_apart waiting events after (inr step) orderly h = to after _ step.1.1 (goes_to c (WeakCalling waiting) below v alone (restands (WeakClearing waiting) (WeakCalling waiting) v.objects (λ k. k) (λ x m k. k) h))
 
-  -- the callbacks
+  -- callbacks
   pub calls_back_apart : (waiting : List ℕ) → IsOrderly (at (WeakCalling waiting)) → AreApart v.objects (WeakCalling waiting) → IsApart (calls_back script c waiting below (at (WeakCalling waiting))).1
   calls_back_apart [] orderly h = goes_to c Finalizing below v alone (restands (WeakCalling []) Finalizing v.objects (λ k. k) (λ x m k. (k.back, λ e. k.pending e)) h)
   calls_back_apart (weak ∷ waiting) orderly h =

@@ -1,4 +1,5 @@
--- What a collection sets apart, phase by phase. (Developer guide, "destroying unreachable objects"; `gc` manual, `gc.garbage`.)
+-- How a collection partitions the objects, phase by phase. (Developer guide, "destroying unreachable objects"; `gc` manual,
+-- `gc.garbage`.)
 use Rattle.std.specs.Prelude.{◌≡◌, ◌≢◌, ℕ, false, List, [], ◌∷◌}
 use Rattle.cg_value.specs.declared.Place.{Place}
 use Rattle.cg_value.specs.declared.Place.TheVariants.{Untracked, Cand, Seen, Back, Legacy, Pend}
@@ -12,19 +13,20 @@ use Rattle.cg_machine.specs.Holdings.{is_collecting}
 use Rattle.cg_machine.specs.Laws.{IsOfCollection}
 use Rattle.cg_machine.specs.Run.{StepTaken, IsRun, world_after}
 
--- In the weak phase none was looked at for its finalizer, and what waits for its callback is one of these.
+-- In the weak phase no finalizer was looked at, and each weak reference that waits for its callback is in a place of
+-- its own.
 pub record IsInWeakPhase (waiting : List ℕ) (x : Object) : Type 0 where
   pub seen : x.place ≢ Seen
   pub back : x.place ≢ Back
   pub pending : x.place ≡ Pend → Includes waiting x.serial
 
--- From the second detection on none is looked at for its finalizer, and none waits for its callback.
+-- From the second reachability pass on, no visited or waiting objects are left.
 pub record IsInLatePhase (x : Object) : Type 0 where
   pub seen : x.place ≢ Seen
   pub back : x.place ≢ Back
   pub pending : x.place ≢ Pend
 
--- Where an object may stand, by the phase of the collection. `Back` is a place within the second detection alone.
+-- Where an object may be, by the phase of the collection. `Back` exists only within the second reachability pass.
 abbrev pub StandsRightly : CollectPhase → Object → Type 0
 StandsRightly Start x = ¬ IsOfCollection x.place
 StandsRightly (WeakClearing waiting) x = IsInWeakPhase waiting x
@@ -39,7 +41,7 @@ StandsRightly (Turn o) x = IsInLatePhase x
 StandsRightly (AfterTurn o) x = IsInLatePhase x
 StandsRightly Ending x = IsInLatePhase x × (x.place ≢ Cand)
 
--- the places of those that are condemned or set aside
+-- the places of condemned and uncollectable objects
 abbrev pub IsFound : Place → Type 0
 IsFound Cand = Unit {0}
 IsFound Seen = Unit {0}
@@ -59,8 +61,9 @@ handles (Turn o) = o ∷ []
 handles (AfterTurn o) = o ∷ []
 handles phase = []
 
--- Without a collection nothing is set apart; with one, each object stands rightly. The garbage list names none of those that
--- are condemned or set aside: what it names is held from outside. It is never called back and never has a turn.
+-- Without a collection, no object is in a collection's place. With one, each object is where its phase allows. The garbage
+-- list names no condemned or uncollectable object, since what it names is held from outside; it is never called back and
+-- never has a turn.
 pub record IsApart (w : World) : Type 0 where
   pub garbage : (x : Object) → Includes w.objects x → x.serial ≡ 1 → IsGarbageList x
   pub clear : is_collecting w ≡ false → (x : Object) → Includes w.objects x → ¬ IsOfCollection x.place
@@ -68,6 +71,6 @@ pub record IsApart (w : World) : Type 0 where
   pub unhandled : (c : Collection) → Includes w.stack (Collecting c) → ¬ Includes (handles c.phase) 1
   pub unsaved : (x : Object) → Includes w.objects x → IsFound x.place → ¬ Includes (references (entries_of w.objects 1)) x.serial
 
--- Every world of a run is so.
+-- This holds in every world of a run.
 abbrev pub CollectionsAreApart : Type 0
 CollectionsAreApart = (script : Script) (budget : ℕ) (steps : List StepTaken) → IsRun script budget steps → IsApart (world_after script budget steps)

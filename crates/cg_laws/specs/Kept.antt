@@ -1,4 +1,4 @@
--- What all laws say of one world of a run. (Ours: what an interpreter may rest on at each turn.)
+-- What all laws say of one world of a run. (Ours: what an interpreter may rely on at each turn.)
 use Rattle.std.specs.Prelude.{ℕ, List}
 use Rattle.cg_script.specs.declared.Script.{Script}
 use Rattle.cg_machine.specs.World.{World}
@@ -13,10 +13,10 @@ pub record IsKept (script : Script) (budget : ℕ) (w : World) : Type 0 where
   pub apart : IsApart w
   pub few : HasFewNumbers script budget w
 
--- each world to which the machine goes from here is so
+-- each world that a step leads to is kept
 abbrev pub StaysKept : Script → ℕ → World → Type 0
 StaysKept script budget w = (steps : List StepTaken) → Run script w steps → IsKept script budget (last_world w steps)
 
--- Each world of a run is so, and stays so.
+-- Every world of a run is kept, and so is each one after it.
 abbrev pub WorldsStayKept : Type 0
 WorldsStayKept = (script : Script) (budget : ℕ) (steps : List StepTaken) → IsRun script budget steps → StaysKept script budget (world_after script budget steps)

@@ -3,19 +3,20 @@ ghost use Rattle.cg_laws.specs.Apart.{CollectionsAreApart};
 ghost use Rattle.cg_laws.specs.Few.{NumbersAreFew};
 ghost use Rattle.cg_laws.specs.Kept.{WorldsStayKept};
 
-/// In every world of a run where no collection is under way nothing is set apart for one. While one is, what is set apart
-/// stands at a place of the phase, and the garbage list is untracked and names no object that is condemned or set aside.
+/// In every world of a run without a collection under way, no object is in a collection's place. During a collection,
+/// each object is in a place that its phase allows, and the garbage list is untracked and names no condemned or
+/// uncollectable object.
 pub fn collections_are_apart()
     ensures { CollectionsAreApart }
 {}
 
-/// In every world of a run the numbers of the collector are far below what memory can count: they rise by the commands that
-/// make objects, and by the collections that these make due or that commands ask for.
+/// In every world of a run the collector's numbers are far below what memory can count. They rise with the commands that
+/// make objects, and with the collections that these make due or that commands ask for.
 pub fn numbers_are_few()
     ensures { NumbersAreFew }
 {}
 
-/// Every world of a run has what all laws say of one world, and each world to which the machine goes from it has it too.
+/// Every world of a run satisfies these laws, and so does every world that a step leads to.
 pub fn worlds_stay_kept()
     ensures { WorldsStayKept }
 {}

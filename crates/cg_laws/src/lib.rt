@@ -1,7 +1,7 @@
-//! What holds in every run of the machine of collections, and of the numbers that make them due.
+//! What holds in every run of the machine about collections and the numbers that trigger them.
 //!
-//! Each law is the contract of a function that does nothing. The layer above rests on `worlds_stay_kept`: each world of a
-//! run has what all laws say of one world, and so has each world to which the machine goes from it.
+//! Each law is the contract of a function that does nothing. The layer above relies on `worlds_stay_kept`: every world of
+//! a run satisfies all the laws, and so does every world that a step leads to.
 #![tactic(auto)]
 
 mod laws;

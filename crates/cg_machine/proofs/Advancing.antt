@@ -1,5 +1,5 @@
--- Each step of an activity without commands left has one of the forms of `Advances`: the end of a frame, a release, each phase of a death
--- and of a collection.
+-- Each step of an activity without commands left has one of the forms in `Advances`: the end of a frame, a release, each phase of
+-- a death and of a collection.
 use Rattle.std.proofs.Common.{◌≡◌, ◌≢◌, refl, sym, ap, subst, ℕ, ◌+◌, ◌-◌, ◌≤◌, Bool, true, false, not, inl, inr, ◌⊎◌, List, [], ◌∷◌, ◌++◌, length, map, Option, Some, None, arith}
 use Rattle.std.specs.Prelude.{◌==◌, ◌&&◌, ◌||◌, nat_le, if◌then◌else◌, filter, is_some, option_and_then, option_to_list, unwrap_or}
 use Rattle.std.proofs.lemmas.Bool.{eqb-false, eqb-true}
@@ -36,7 +36,6 @@ use Rattle.cg_machine.proofs.LinesNameLive.{HasNoReferent, came_back, same_lives
 use Rattle.cg_machine.proofs.Sorting.{Reach-inside}
 use Rattle.cg_machine.proofs.Starting.{either_way}
 
--- lines
 module _ (before after : List Object) (top : Activity) where
   no_lines : Shown before after top []
   no_lines event m = absurd m
@@ -54,7 +53,6 @@ module _ (before after : List Object) (top : Activity) where
   flagged_lines true lines h = h
   flagged_lines false lines h = no_lines
 
-  -- what a line names
   it : (o : ℕ) → Includes (serials before) o → (n : ℕ) → Includes (o ∷ []) n → Includes (serials before) n ⊎ IsDeathOf top n
   it o live n m = either m (λ e. inl (subst (Includes (serials before)) e live)) (λ none. absurd none)
 
@@ -84,14 +82,13 @@ module _ (top : Activity) (tops : List Activity) (lines : List Event) where
   changes : GoesOn (HasChanged top tops lines)
   changes = record { same = λ objects. NothingChanges objects; trans = λ before now after h k. Followed before now after h k }
 
-  -- a collection puts objects at places of its own
+  -- a collection uses places of its own
   sorts : (c : Collection) → top ≡ Collecting c → (p : Object → Place) (test : Object → Bool) (objects : List Object) → ((x : Object) → Includes objects x → test x ≡ true → IsPlaceIn c.generation (p x)) → HasChanged top tops lines objects (map (λ x. if test x then with_place (p x) x else x) objects)
   sorts c is p test objects h = ChangesEach (λ x. with_place (p x) x) test objects (λ x m t. record { later = place_later (p x) x; referent = inl refl; entries = refl; finalized = λ e. e; moved = IsPlaced c is (h x m t) })
 
   shortens : (o : ℕ) (objects : List Object) → Owns top o → HasChanged top tops lines objects (change (with_entries (without_last (entries_of objects o))) o objects)
   shortens o objects owns = LosesEntries (without_last (entries_of objects o)) o objects owns (taken_member (length (entries_of objects o) - 1) (entries_of objects o))
 
--- the end of a frame
 pub frame_end_advances : (script : Script) (f : Frame) (below : List Activity) (v : World) → (let t : Transition = frame_end f (with_stack below v) in Advance script v (Framed f) below t.0 t.1)
 frame_end_advances script f below v = by_sort f.sort f.function
   where
@@ -107,7 +104,6 @@ frame_end_advances script f below v = by_sort f.sort f.function
     by_sort Callback function = popped
     by_sort Call function = Plainly (Releasing (option_to_list function) ∷ []) v.objects v.numbers (Leave ∷ []) (GivesFunction f (option_to_list function) (few_option function)) (NothingChanges v.objects) SameCounts leave
 
--- a release
 pub released_advances : (script : Script) (references : List ℕ) (below : List Activity) (v : World) → (let t : Transition = released references below (with_stack (Releasing references ∷ below) v) in Advance script v (Releasing references) below t.0 t.1)
 released_advances script [] below v = Plainly [] v.objects v.numbers [] (TopEnds (Releasing []) tt) (NothingChanges v.objects) SameCounts (Shows [] (no_lines v.objects v.objects (Releasing [])))
 released_advances script (o ∷ references) below v = either_way (Advance script v (Releasing (o ∷ references)) below) (not (is_dying now o) && (in_degree now o == 0)) ([], begin_death o now) ([], now)
@@ -127,7 +123,6 @@ released_advances script (o ∷ references) below v = either_way (Advance script
     dead : Object → Object
     dead x = with_referent None (with_place Untracked x)
 
--- a death
 module _ (script : Script) (o : ℕ) (below : List Activity) (v : World) where
   abbrev at : DyingPhase → World
   at phase = death_at o phase below v
@@ -138,7 +133,6 @@ module _ (script : Script) (o : ℕ) (below : List Activity) (v : World) where
   abbrev DeathAdvances : DyingPhase → Transition → Type 0
   DeathAdvances phase t = Advance script v (dying_now phase) below t.0 t.1
 
-  -- nothing waits after
   nothing : (phase : DyingPhase) (n : ℕ) → Includes [] n → Includes (death_waits phase) n
   nothing phase n m = absurd m
 
@@ -231,7 +225,6 @@ survivor_placed g objects x = go (not (is_tracked x) || (g == 2) && is_dict x &&
     go true = tt
     go false = inr refl
 
--- a collection
 module _ (script : Script) (c : Collection) (below : List Activity) (v : World) where
   abbrev with_phase : CollectPhase → World
   with_phase phase = collection_at c phase below v
@@ -251,7 +244,7 @@ module _ (script : Script) (c : Collection) (below : List Activity) (v : World) 
   yielded : (phase : CollectPhase) (next : Transition) (lines : List Event) (after : World) → lines ≡ next.0 → after ≡ next.1 → CollectionAdvances phase next.0 next.1 → CollectionAdvances phase lines after
   yielded phase next lines after e k h = subst (λ es. CollectionAdvances phase es after) (sym e) (subst (CollectionAdvances phase next.0) (sym k) h)
 
-  -- the collection goes on at a phase, and holds what it held or gives it up
+  -- the collection goes to a phase, and keeps each hold or gives it up
   abbrev MayTurn : CollectPhase → CollectPhase → List ℕ → Type 0
   MayTurn phase next given = (is_first next ≡ false) × (IsEarly phase → phase ≢ Split → IsEarly next) × ((n : ℕ) → Includes (collect_holds phase) n → Includes given n ⊎ Includes (collect_holds next) n)
 
@@ -278,7 +271,7 @@ module _ (script : Script) (c : Collection) (below : List Activity) (v : World) 
       now : List Object
       now = (merged c.generation v).objects
 
-      -- an object of the generation that is collected survives, is set aside or is condemned
+      -- an object of the collected generation survives, is set aside or is condemned
       placed_in : (x : Object) → Includes now x → is_at (Gen c.generation) x ≡ true → IsPlaceIn c.generation (step.places x)
       placed_in x m t = stable_place c.generation (step.places x) (λ out.
           let member = Includes-filter (is_at (Gen c.generation)) now x t m in

@@ -1,4 +1,4 @@
--- Weak references can always be cleared, the newest of all first.
+-- Weak references can always be cleared, starting with the newest.
 use Rattle.std.proofs.Common.{◌≡◌, refl, sym, ◌∙◌, ap, subst, ℕ, zero, suc, ◌+◌, ◌<◌, ◌≤◌, Bool, true, false, cond, inl, inr, List, [], ◌∷◌, map, Option, Some, None, arith}
 use Rattle.std.specs.Prelude.{◌==◌, nat_lt, count_by, if◌then◌else◌, ◌||◌, option_map, unwrap_or, not, ◌&&◌, is_some}
 use Rattle.std.proofs.lemmas.Bool.{ltb-true, ltb-false, eq-eqb}
@@ -9,11 +9,11 @@ use Rattle.cg_graph.proofs.Members.{either, true_and}
 use Rattle.cg_machine.specs.Weak.{MayLoseNext, NoneLeft, AllLose, loses_referent, callback_in}
 use Rattle.cg_machine.specs.Collect.{is_lost_early, loses_in_weak_phase, is_condemned, is_condemned_in}
 
--- what a weak reference refers to that the weak phase may clear, in both profiles
+-- the referents of the weak references that the weak phase may clear, in both profiles
 pub refers_early : (profile : ℕ) (objects : List Object) (x : Object) → loses_in_weak_phase profile objects x ≡ true → unwrap_or (option_map (λ o. is_condemned_in objects o || is_condemned x) x.referent) false ≡ true
 refers_early profile objects x e = (true_and (is_lost_early profile x) _ e).1
 
--- what the weak phase leaves with its referent has no callback
+-- a weak reference that keeps its referent past the weak phase has no callback
 pub kept_late : (profile : ℕ) (objects : List Object) (x : Object) → unwrap_or (option_map (λ o. is_condemned_in objects o || is_condemned x) x.referent) false ≡ true → loses_in_weak_phase profile objects x ≡ false → callback_in x.entries ≡ None
 kept_late profile objects x refers kept = none_of (callback_in x.entries) (not (profile == 2)) _ refers kept
   where
@@ -28,7 +28,7 @@ newest_at true x None = Some x
 newest_at true x (Some y) = if nat_lt x.serial y.serial then Some y else Some x
 newest_at false x r = r
 
--- the one of greatest serial that passes
+-- the passing object with the greatest serial
 abbrev pub newest : (Object → Bool) → List Object → Option Object
 newest wanted [] = None
 newest wanted (x ∷ xs) = newest_at (wanted x) x (newest wanted xs)
@@ -71,7 +71,6 @@ newest_spec wanted (x ∷ xs) = newest_spec_at wanted x xs (wanted x) refl (newe
 pub greatest_is_newest : (wanted : Object → Bool) (objects : List Object) (y : Object) → Greatest wanted objects y → MayLoseNext wanted objects y.serial
 greatest_is_newest wanted objects y h = record { object = y; is = refl; member = h.member; to_lose = h.passes; newest = λ z m k r. h.greatest z m k }
 
--- fewer are left after each
 count_cons : (p : Object → Bool) (x : Object) (xs : List Object) → count_by p (x ∷ xs) ≡ cond (p x) 1 0 + count_by p xs
 count_cons p x xs = sum_by-cons (λ y. cond (p y) 1 0) x xs
 

@@ -1,11 +1,11 @@
--- What each command leaves, and checks in order.
+-- What each command leaves alone, and checks in order.
 use Rattle.std.proofs.Common.{◌≡◌, ℕ, ◌+◌, ◌≤◌, Result, Ok, Err}
 use Rattle.cg_machine.specs.World.{World}
 use Rattle.cg_machine.specs.Effects.{Effect, Changes, Calls, Collects, Explains, Quits}
 use Rattle.cg_machine.specs.Refusals.{◌>>=◌}
 use Rattle.cg_machine.proofs.Serials.{Rises}
 
--- an effect leaves the stack and the budget, does not end the run, keeps that serials rise, and makes one object at most
+-- An effect leaves the stack and the budget, does not end the run, keeps serials rising, and makes at most one object.
 pub record Leaves (w after : World) : Type 0 where
   pub stack : after.stack ≡ w.stack
   pub budget : after.budget ≡ w.budget

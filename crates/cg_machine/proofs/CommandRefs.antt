@@ -1,4 +1,4 @@
--- The references that a command works with: what its operands stand for, and what lists of entries and names hold after it.
+-- The references that a command works with: what its operands refer to, and what entries and names hold after it.
 use Rattle.std.proofs.Common.{◌≡◌, ◌≢◌, refl, sym, ap, subst, ℕ, zero, suc, Bool, true, false, inl, inr, List, [], ◌∷◌, Option, Some, None, Result, Ok, Err, take, drop}
 use Rattle.std.specs.Prelude.{if◌then◌else◌, flat_map, slice_get, slice_set, remove, ok_or, option_to_list, option_map, option_and_then}
 use Rattle.cg_value.specs.declared.Entry.{Entry}
@@ -57,12 +57,10 @@ head_free e entries o h m = h (Includes-append_left (entry_references e) (refere
 pub tail_free : (e : Entry) (entries : List Entry) (o : ℕ) → HoldNone o (e ∷ entries) → HoldNone o entries
 tail_free e entries o h m = h (Includes-append_right (entry_references e) (references entries) o m)
 
--- entries that are free
 pub all_free : (o : ℕ) (entries : List Entry) → ((e : Entry) → Includes entries e → ¬ Includes (entry_references e) o) → HoldNone o entries
 all_free o [] h = λ k. k
 all_free o (e ∷ entries) h = cons_free e entries o (h e (inl refl)) (all_free o entries (λ d m. h d (inr m)))
 
--- lists of entries
 pub got_free : (entries : List Entry) (i o : ℕ) (e : Entry) → slice_get entries i ≡ Some e → HoldNone o entries → ¬ Includes (entry_references e) o
 got_free entries i o e at h m = h (references_of_member entries e o (slice_get_member entries i e at) m)
 
@@ -97,7 +95,6 @@ old_value_free entries key o h = go (value_at entries key) refl
     go None e = λ k. k
     go (Some v) e = option_free (reference_in v) o (value_at_free entries key v o e h)
 
--- names
 pub name_free : (names : List (Option Val)) (x o : ℕ) → ¬ Includes (name_holdings names) o → ¬ Includes (references_of_value (option_and_then (λ v. v) (slice_get names x))) o
 name_free [] x o h k = k
 name_free (n ∷ names) zero o h k = h (Includes-append_left (references_of_value n) (name_holdings names) o k)

@@ -1,4 +1,4 @@
--- Which objects a collection condemns, and what its changes of the objects keep: an object that an activity holds survives.
+-- Which objects a collection condemns, and what survives its changes: an object that an activity holds is never condemned.
 use Rattle.std.proofs.Common.{◌≡◌, ◌≢◌, refl, sym, ◌∙◌, subst, ℕ, zero, suc, ◌<◌, ◌≤◌, Bool, true, false, cond, not, inl, inr, List, [], ◌∷◌, ◌++◌, Option, arith}
 use Rattle.std.specs.Prelude.{◌==◌, ◌&&◌, ◌||◌, nat_le, if◌then◌else◌, flat_map, filter}
 use Rattle.std.proofs.lemmas.Bool.{eqb-true}
@@ -25,7 +25,7 @@ use Rattle.cg_machine.proofs.Releasing.{absent, no_times}
 use Rattle.cg_machine.proofs.HeldLives.{Orderly, From, objects_orderly, from_same}
 use Rattle.cg_machine.proofs.HeldLivesDeaths.{one_orderly, lost_orderly, false_true}
 
--- what stands in a list stands there once at least, and what members hold is held
+-- a member of a list occurs at least once, and what members hold is held
 pub present : (o : ℕ) (xs : List ℕ) → Includes xs o → 0 < occurrences o xs
 present o xs m = go (occurrences o xs) refl
   where
@@ -48,7 +48,6 @@ filter_holdings p (x ∷ objects) o = go (p x) (filter_holdings p objects o)
     go true k = omega (arith, k, occurrences-append o (references x.entries) (entry_holdings (graph_of (filter p objects))), occurrences-append o (references x.entries) (entry_holdings (graph_of objects)))
     go false k = omega (arith, k, occurrences-append o (references x.entries) (entry_holdings (graph_of objects)))
 
--- an object that an activity holds survives
 pub held_survives : (w : World) (p : Place) (x : Object) → Includes (objects_at w.objects p) x → Includes (flat_map holds w.stack) x.serial → Survives w p x.serial
 held_survives w p x m held =
     let more = present x.serial (flat_map holds w.stack) held in
@@ -56,7 +55,7 @@ held_survives w p x m held =
     first (omega (arith, more, less, occurrences-append x.serial (name_holdings w.names ++ (1 ∷ []) ++ entry_holdings (graph_of w.objects)) (flat_map holds w.stack), occurrences-append x.serial (name_holdings w.names ++ (1 ∷ [])) (entry_holdings (graph_of w.objects))))
     (Includes-map (λ (z : Object). z.serial) (objects_at w.objects p) x m)
 
--- places that are not those of condemned objects
+-- survivors' places are not those of condemned objects
 pub survivor_uncondemned : (g : ℕ) (objects : List Object) (x y : Object) → is_condemned (with_place (survivor_place g objects x) y) ≡ false
 survivor_uncondemned g objects x y = go (not (is_tracked x) || (g == 2) && is_dict x && has_none_tracked objects x)
   where
@@ -109,6 +108,6 @@ pub all_lose_orderly : (wanted : Object → Bool) (weaks : List ℕ) (objects af
 all_lose_orderly wanted [] objects after names stack lose h = subst (λ os. Orderly os names stack) (sym lose.1) h
 all_lose_orderly wanted (weak ∷ weaks) objects after names stack lose h = all_lose_orderly wanted weaks (loses_referent weak objects) after names stack lose.1 (lost_orderly weak objects names stack h)
 
--- one goes to a place of objects that are not condemned
+-- an object moves to a place of uncondemned objects
 pub placed_orderly : (p : Place) (o : ℕ) (objects : List Object) (names : List (Option Val)) (stack : List Activity) → ((x : Object) → is_condemned (with_place p x) ≡ true → is_condemned x ≡ true) → Orderly objects names stack → Orderly (change (with_place p) o objects) names stack
 placed_orderly p o objects names stack condemned h = one_orderly (with_place p) o objects names stack (place_later p) (λ x. refl) condemned h

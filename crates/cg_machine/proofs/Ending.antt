@@ -1,4 +1,4 @@
--- Every run is the beginning of a whole one, since each step makes the measure smaller.
+-- Every run is the beginning of a whole one, because each step lowers the measure.
 use Rattle.std.proofs.Common.{◌≡◌, ◌≢◌, refl, sym, ◌∙◌, ap, ℕ, zero, suc, ◌+◌, ◌<◌, ◌≤◌, List, [], ◌∷◌, ◌++◌, length, arith}
 use Rattle.cg_script.specs.declared.Script.{Script}
 use Rattle.cg_machine.specs.World.{World, Activity, Outcome, Running, Ended, BudgetIsSpent, opening}
@@ -8,7 +8,6 @@ use Rattle.cg_machine.proofs.Plain.{next, next_steps, HasTop}
 use Rattle.cg_machine.proofs.Sound.{HasBottom, Sound, opening_sound}
 use Rattle.cg_machine.proofs.MeasureNumber.{number_of, step_falls}
 
--- something runs
 has_top : (stack : List Activity) → HasBottom stack → HasTop stack
 has_top [] h = absurd h
 has_top (a ∷ stack) h = tt
@@ -38,7 +37,7 @@ pub sound_after : (script : Script) (w : World) (steps : List StepTaken) → Sou
 sound_after script w [] sound run = sound
 sound_after script w (step ∷ steps) sound run = sound_after script step.world steps (step_falls script w step.events step.world run.0 sound).0 run.1
 
--- A run costs at least one of the number for each step. So a loop that makes a run of the machine in each turn, perhaps an empty one, may count it down.
+-- Each step of a run lowers the number by at least one. So a loop whose turns make runs, perhaps empty ones, can count it down.
 pub run_falls : (script : Script) (w : World) (steps : List StepTaken) → Sound w → Run script w steps → number_of script (last_world w steps) + length steps ≤ number_of script w
 run_falls script w [] sound run = omega arith
 run_falls script w (step ∷ steps) sound run =
@@ -54,7 +53,6 @@ pub last_world-append : (w : World) (steps more : List StepTaken) → last_world
 last_world-append w [] more = refl
 last_world-append w (step ∷ steps) more = last_world-append step.world steps more
 
--- So no run is stuck.
 pub not_stuck : NoRunIsStuck
 not_stuck script budget steps run =
     let rest = ends script (last_world (opening script budget) steps) (sound_after script (opening script budget) steps (opening_sound script budget) run) in (

@@ -42,7 +42,7 @@ none_underway [] h = record { starting = refl; rank = refl; left = λ objects. r
 none_underway (Collecting c ∷ stack) h = absurd (omega (arith, h))
 none_underway (_ ∷ stack) h = let k = none_underway stack (omega (arith, h)) in record { starting = k.starting; rank = omega (arith, k.rank); left = λ objects. omega (arith, k.left objects) }
 
--- What a step of a collection makes smaller, where it puts tops over the collection.
+-- What a step of a collection lowers, with tops above the collection.
 pub data Progresses (before after : List Object) (p q : CollectPhase) (tops : List Activity) : Type 0 where
   next_phase : phase_rank q < phase_rank p → entries_in after ≤ entries_in before → tally weight_in tops ≤ 8 → Progresses before after p q tops
   fewer_turns : phase_rank q ≤ phase_rank p → left_at after q < left_at before p → entries_in after ≤ entries_in before + 1 → tally weight_in tops ≤ 8 → Progresses before after p q tops
@@ -90,17 +90,15 @@ module _ (script : Script) (c : Collection) (below : List Activity) (v : World) 
   all_stay : Stays v.objects v.objects
   all_stay = faded_stays v.objects v.objects (unchanged v.objects)
 
-  -- nothing changes but the phase, and perhaps a release on top
+  -- only the phase changes, and perhaps a release goes on top
   turns_to : (p q : CollectPhase) (tops : List Activity) → IsPlain tops → is_first p ≡ false → is_first q ≡ false → phase_rank q < phase_rank p → tally weight_in tops ≤ 8 → Sound (collection_at c p below v)
       → Moves script (collection_at c p below v) (record v { stack = tops ++ Collecting (record c { phase = q }) ∷ below })
   turns_to p q tops plain not_first first_not r h sound = goes_to p q c tops v.objects plain not_first first_not all_stay (next_phase r (omega arith) h) sound
 
-  -- the objects change
   changes : (p q : CollectPhase) (objects : List Object) → Faded objects v.objects → is_first p ≡ false → is_first q ≡ false → Progresses v.objects objects p q [] → Sound (collection_at c p below v)
       → Moves script (collection_at c p below v) (collection_at c q below (with_objects objects v))
   changes p q objects faded not_first first_not progresses sound = goes_to p q c [] objects tt not_first first_not (faded_stays objects v.objects faded) progresses sound
 
-  -- a frame starts
   calls_for : (p q : CollectPhase) (spec : FrameSpec) (objects : List Object) → Faded objects v.objects → Sound (collection_at c p below v) → v.outcome ≡ Running
       → Moves script (collection_at c p below v) (start_frame script spec (collection_at c q below (with_objects objects v))).1
   calls_for p q spec objects faded sound running =
@@ -110,7 +108,6 @@ module _ (script : Script) (c : Collection) (below : List Activity) (v : World) 
   moves_to : (p : CollectPhase) (after now : World) → after ≡ now → Moves script (collection_at c p below v) now → Moves script (collection_at c p below v) after
   moves_to p after now e m = subst (λ u. Moves script (collection_at c p below v) u) (sym e) m
 
-  -- the start
   begun_not_due : (g n : ℕ) (numbers : Numbers) → is_due (survived g n (begun g numbers)) ≡ false
   begun_not_due g n numbers = and_right (numbers.enabled && not (numbers.zero_threshold == 0)) (nat_lt numbers.zero_threshold 0) (le-ltb numbers.zero_threshold 0 (omega arith))
 
@@ -145,7 +142,6 @@ module _ (script : Script) (c : Collection) (below : List Activity) (v : World) 
           let second : entries_in w.objects ≤ entries_in v.objects = tally-map_le (λ x. length x.entries) (λ x. with_place (merged_place c.generation x.place) x) (λ x. omega arith) v.objects in
           omega (arith, first, second)
 
-  -- the weak phase
   has_referent : (o : Option ℕ) (f : ℕ → Bool) → unwrap_or (option_map f o) false ≡ true → is_some o ≡ true
   has_referent None f e = e
   has_referent (Some r) f e = refl
@@ -185,7 +181,6 @@ module _ (script : Script) (c : Collection) (below : List Activity) (v : World) 
       go true = changes (AfterRelease weak waiting) (WeakCalling waiting) (change (with_place (Gen (older c.generation))) weak v.objects) (change_fades (with_place (Gen (older c.generation))) (place_fades (Gen (older c.generation)) refl) weak v.objects) refl refl (next_phase (omega arith) (change_fades (with_place (Gen (older c.generation))) (place_fades (Gen (older c.generation)) refl) weak v.objects).entries (omega arith)) sound
       go false = goes_to (AfterRelease weak waiting) (WeakCalling waiting) (record c { collected = c.collected + 1 }) [] v.objects tt refl refl all_stay (next_phase (omega arith) (omega arith) (omega arith)) sound
 
-  -- the finalizer phase
   looks_at_moves : (o : ℕ) (m : Option ℕ) → (x : Object) × Includes v.objects x × (x.serial ≡ o) × (is_at Cand x ≡ true) → Sound (collection_at c Finalizing below v) → v.outcome ≡ Running → Moves script (collection_at c Finalizing below v) (looks_at script c o below (collection_at c Finalizing below v) m).1
   looks_at_moves o None y sound running =
       changes Finalizing Finalizing (change (with_place Seen) o v.objects) (change_fades (with_place Seen) (place_fades Seen refl) o v.objects) refl refl
@@ -199,7 +194,6 @@ module _ (script : Script) (c : Collection) (below : List Activity) (v : World) 
   finalizing_moves events after (inr step) sound running =
       moves_to Finalizing after _ step.1.1 (goes_to Finalizing Split c [] (map (λ x. if is_at Seen x then with_place Cand x else x) v.objects) tt refl refl (placed (λ x. Cand) (is_at Seen) v.objects) (next_phase (omega arith) (placed_entries (λ x. Cand) (is_at Seen) v.objects) (omega arith)) sound)
 
-  -- the second detection
   split_moves : (events : List Event) (after : World) → SplitStep c below (collection_at c Split below v) events after → Sound (collection_at c Split below v) → Moves script (collection_at c Split below v) after
   split_moves events after step sound = moves_to Split after _ step.world
       (goes_to Split Turns (record c { collected = c.collected + length (serials_at step.objects Cand) }) [] step.objects tt refl refl (faded_stays step.objects v.objects fade) (next_phase (omega arith) fade.entries (omega arith)) sound)
@@ -211,7 +205,6 @@ module _ (script : Script) (c : Collection) (below : List Activity) (v : World) 
       fade = faded_after step.objects now v.objects (AllLose-fades (loses_at_split now) now step.cleared step.objects step.lose)
           (map_fades (λ x. if includes step.alive x.serial then with_place (Gen (older c.generation)) x else x) (if_fades (with_place (Gen (older c.generation))) (place_fades (Gen (older c.generation)) refl) (λ x. includes step.alive x.serial)) v.objects)
 
-  -- the turns
   turn_moves : (x : Object) → Includes v.objects x → is_at Cand x ≡ true → Sound (collection_at c Turns below v) → Moves script (collection_at c Turns below v) (takes_turn c x below (collection_at c Turns below v)).1
   turn_moves x m e sound = go (has_flag c.flags save_all) (is_tuple x)
     where
@@ -252,7 +245,6 @@ module _ (script : Script) (c : Collection) (below : List Activity) (v : World) 
       changes (AfterTurn o) Turns (change (with_place (Gen (older c.generation))) o v.objects) fade refl refl
       (fewer_turns (omega arith) (omega (arith, only_others (Gen (older c.generation)) refl o v.objects)) (omega (arith, fade.entries)) (omega arith)) sound
 
-  -- the end
   end_moves : (events : List Event) (after : World) → EndStep script c below (collection_at c Ending below v) events after → Sound (collection_at c Ending below v) → Moves script (collection_at c Ending below v) after
   end_moves events after step sound = moves_to Ending after _ step.world (record {
     sound = record { rises = stays.rises 1 v.next_serial sound.rises; bottom = sound.bottom; single = omega (arith, sound.single) };

@@ -1,4 +1,4 @@
--- Steps of commands, and that each step of the machine keeps the invariant and makes the measure smaller.
+-- Steps of commands; and each step of the machine keeps the invariant and lowers the measure.
 use Rattle.cg_machine.proofs.Growth.{Grows, shape_grows, name_one}
 use Rattle.std.proofs.Common.{◌≡◌, refl, sym, ap, subst, ℕ, suc, ◌*◌, ◌<◌, ◌≤◌, Bool, true, false, not, ◌&&◌, length, List, [], ◌∷◌, Some, None, arith, zero, ◌+◌, Option}
 use Rattle.std.specs.Prelude.{if◌then◌else◌, slice_set}
@@ -47,7 +47,7 @@ emptied_shortened (Framed f) below h = record { commands = omega arith; collecti
 emptied_shortened (ShuttingDown started) below h = untouched (ShuttingDown started ∷ below)
 emptied_shortened a below h = absurd h
 
--- A command is taken from w, which leaves u. Then its effect is done.
+-- A command is taken from w, which leaves u; then its effect happens.
 module _ (script : Script) (w u : World) (sound : Sound u) (running : u.outcome ≡ Running) (taken : commands_left script u + 1 < commands_left script w) (less : NoMore script w u) where
   shortened_moves : (stack : List Activity) → Shortened u.stack stack → Moves script w (with_stack stack u)
   shortened_moves stack s = record {
@@ -118,7 +118,7 @@ taken_moves script command a b below v (FromFrame f commands left) hb sound runn
     let one : length f.commands ≡ length (command ∷ commands) = ap length left in
     command_moves script (on (Framed f) below v) command (Framed (record f { commands = commands })) below v tt (record { rises = sound.rises; bottom = sound.bottom; single = sound.single }) running (omega (arith, one)) (record { commands = omega (arith, one); size = omega (arith, one); entries = omega arith; referents = omega arith; weight = omega arith })
 
--- the name that the shutdown gives up was bound
+-- the name that the shutdown gives up is bound
 greatest_at : (n : ℕ) (names : List (Option Val)) (name : ℕ) → greatest_from n names ≡ Some name → (k : ℕ) × (name ≡ n + k) × (bound_names (slice_set names k None) < bound_names names)
 greatest_at n [] name e = absurd (let no : None ≡ Some name = e in cc)
 greatest_at n (v ∷ names) name e = go (greatest_from (n + 1) names) refl v e (λ other found. greatest_at (n + 1) names other found)

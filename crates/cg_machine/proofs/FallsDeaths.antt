@@ -28,7 +28,6 @@ use Rattle.cg_machine.proofs.Measure.{commands_left, is_starting, due_rank, due_
 use Rattle.cg_machine.proofs.FewerEntries.{Fades, Faded, unchanged, change_fades, filter_fades, place_fades, referent_fades, shortened_fades, entries_fades, marked_fades, then_fades, loses_one, shorter, left_fades}
 use Rattle.cg_machine.proofs.Sound.{HasBottom, collections_in, Sound, Moves, starts, IsPlain, CountsNothing, plain_counts, due_less}
 
--- a frame, a release or a death
 abbrev pub IsLow : Activity → Type 0
 IsLow (TopLevel commands) = ⊥
 IsLow (ShuttingDown started) = ⊥
@@ -48,7 +47,7 @@ low (ShuttingDown started) h = absurd h
 low (Collecting c) h = absurd h
 low a h = record { collections = refl; starting = refl; rank = refl; left = λ objects. refl; bottom = λ below b. b }
 
--- What such a step makes smaller, where it puts tops in the place of a.
+-- What such a step lowers, with tops in place of a.
 pub data Gains (before after : List Object) (a : Activity) (tops : List Activity) : Type 0 where
   lighter : tally weight_in tops < weight_in a → Gains before after a tops
   fewer_referents : referents_in after < referents_in before → tally weight_in tops ≤ weight_in a → Gains before after a tops
@@ -95,14 +94,14 @@ module _ (script : Script) (v : World) (a : Activity) (below : List Activity) wh
       lower (fewer_referents h l) = by_referents commands faded.size still_due rank left faded.entries h (omega (arith, l, tally-append weight_in tops below))
       lower (fewer_entries h l) = by_entries commands faded.size still_due rank left h faded.referents (omega (arith, l, tally-append weight_in tops below))
 
--- one entry fewer counts no more
+-- one entry less does not raise the count
 less_due : (n : Numbers) → is_due (record n { zero_count = n.zero_count - 1 }) ≡ true → is_due n ≡ true
 less_due n e =
     let parts = and_parts (n.enabled && not (n.zero_threshold == 0)) (nat_lt n.zero_threshold (n.zero_count - 1)) e in
     let low : n.zero_threshold < n.zero_count - 1 = ltb-true n.zero_threshold (n.zero_count - 1) parts.1 in
     and_from (n.enabled && not (n.zero_threshold == 0)) (nat_lt n.zero_threshold n.zero_count) parts.0 (lt-ltb n.zero_threshold n.zero_count (omega (arith, low)))
 
--- a weak reference of an object is there, and has a referent
+-- a listed weak reference lives and has a referent
 pub Includes-reverse : (xs : List ℕ) (x : ℕ) → Includes (reverse xs) x → Includes xs x
 Includes-reverse [] x m = m
 Includes-reverse (y ∷ xs) x m =
@@ -132,7 +131,6 @@ list_one (Some o) = omega arith
 pub references_two : (e : Entry) → length (entry_references e) ≤ 2
 references_two e = omega (arith, length-append (option_to_list (reference_in e.val)) (option_to_list (reference_in e.key)), list_one (reference_in e.val), list_one (reference_in e.key))
 
--- a death
 abbrev pub death_at : ℕ → DyingPhase → List Activity → World → World
 death_at o phase below v = with_stack (Dying (record { object = o; phase = phase }) ∷ below) v
 
@@ -164,7 +162,6 @@ module _ (script : Script) (o : ℕ) (below : List Activity) (v : World) where
       go true = quiet script v (Dying (record { object = o; phase = phase })) below (change (with_place Untracked) o v.objects) v.numbers (Dying (record { object = o; phase = next }) ∷ []) tt tt (change_fades (with_place Untracked) (place_fades Untracked refl) o v.objects) (λ e. e) (lighter (omega (arith, l))) sound
       go false = quiet script v (Dying (record { object = o; phase = phase })) below v.objects v.numbers [] tt tt (unchanged v.objects) (λ e. e) (lighter (omega (arith, l))) sound
 
-  -- a weak reference loses its referent
   loses : (test : Object → Bool) (phase next : DyingPhase) → death_weight next ≤ death_weight phase → (weak : ℕ) (weaks : List ℕ) → weak_references_if test v.objects o ≡ weak ∷ weaks → Sound (death_at o phase below v)
       → Moves script (death_at o phase below v) (record v { objects = loses_referent weak v.objects; stack = Dying (record { object = o; phase = next }) ∷ below })
   loses test phase next l weak weaks e sound =
@@ -203,7 +200,6 @@ module _ (script : Script) (o : ℕ) (below : List Activity) (v : World) where
   dying_moves Detaching sound running = detaching_moves (weak_references_if (has_finalizers script) v.objects o) refl sound
   dying_moves Emptying sound running = emptying_moves (last_entry (entries_of v.objects o)) refl sound
 
--- a release, and the end of a frame
 pub released_moves : (script : Script) (references : List ℕ) (below : List Activity) (v : World) → Sound (with_stack (Releasing references ∷ below) v) → Moves script (with_stack (Releasing references ∷ below) v) (released references below (with_stack (Releasing references ∷ below) v)).1
 released_moves script [] below v sound = quiet script v (Releasing []) below v.objects v.numbers [] tt tt (unchanged v.objects) (λ e. e) (lighter (omega arith)) sound
 released_moves script (o ∷ references) below v sound = go (not (is_dying (with_stack (Releasing references ∷ below) v) o) && (in_degree (with_stack (Releasing references ∷ below) v) o == 0))

@@ -1,4 +1,4 @@
--- Changes of the objects under which there are no more condemned, entries and referents than before.
+-- Changes of the objects that add no condemned object, entry or referent.
 use Rattle.std.proofs.Common.{◌≡◌, refl, sym, ◌∙◌, subst, ℕ, ◌+◌, ◌-◌, ◌<◌, ◌≤◌, Bool, true, false, cond, List, [], ◌∷◌, map, length, Some, None, arith}
 use Rattle.std.specs.Prelude.{◌==◌, filter, if◌then◌else◌, is_some, unwrap_or, option_map}
 use Rattle.std.proofs.lemmas.List.{length-take}
@@ -16,14 +16,12 @@ use Rattle.cg_machine.proofs.Sums.{tally, bit, tally-le, tally-map_le, tally-map
 use Rattle.cg_machine.proofs.Serials.{Rises, Rises-map, Rises-filter, shortened}
 use Rattle.cg_machine.proofs.Measure.{candidates, other_candidate, entries_in, referents_in, size_of, left_at, left_in}
 
--- a change of one object
 pub record Fades (f : Object → Object) : Type 0 where
   pub serial : (x : Object) → (f x).serial ≡ x.serial
   pub condemned : (x : Object) → bit (is_at Cand (f x)) ≤ bit (is_at Cand x)
   pub entries : (x : Object) → length (f x).entries ≤ length x.entries
   pub referent : (x : Object) → bit (is_some (f x).referent) ≤ bit (is_some x.referent)
 
--- a change of all objects
 pub record Faded (after before : List Object) : Type 0 where
   pub rises : (low high : ℕ) → Rises low high before → Rises low high after
   pub condemned : candidates after ≤ candidates before
@@ -32,7 +30,7 @@ pub record Faded (after before : List Object) : Type 0 where
   pub referents : referents_in after ≤ referents_in before
   pub size : size_of after ≤ size_of before
 
--- what stays where places may change, and entries
+-- what stays equal where places and entries may change
 pub record Stays (after before : List Object) : Type 0 where
   pub rises : (low high : ℕ) → Rises low high before → Rises low high after
   pub referents : referents_in after ≤ referents_in before
@@ -61,7 +59,6 @@ map_fades f k objects = record {
   size = tally-map_le (λ x. 1) f (λ x. omega arith) objects;
 }
 
--- where a test passes
 pub if_fades : (f : Object → Object) → Fades f → (test : Object → Bool) → Fades (λ x. if test x then f x else x)
 if_fades f k test = record { serial = λ x. serial (test x) x; condemned = λ x. condemned (test x) x; entries = λ x. entries (test x) x; referent = λ x. referent (test x) x }
   where
@@ -134,7 +131,6 @@ faded_after after now before h k = record {
 pub stays_after : (after now before : List Object) → Stays after now → Stays now before → Stays after before
 stays_after after now before h k = record { rises = λ low high r. h.rises low high (k.rises low high r); referents = omega (arith, h.referents, k.referents); size = omega (arith, h.size, k.size) }
 
--- a change of places or of entries
 pub record Same (f : Object → Object) : Type 0 where
   pub serial : (x : Object) → (f x).serial ≡ x.serial
   pub referent : (x : Object) → (f x).referent ≡ x.referent
@@ -163,7 +159,7 @@ placed_entries p test objects = tally-map_le (λ x. length x.entries) (λ x. if 
     go true x = omega arith
     go false x = omega arith
 
--- what falls
+-- what becomes less
 pub loses_one : (objects : List Object) (weak : ℕ) (y : Object) → Includes objects y → y.serial ≡ weak → is_some y.referent ≡ true → referents_in (loses_referent weak objects) < referents_in objects
 loses_one objects weak y m e some =
     tally-map_lt (λ x. bit (is_some x.referent)) (λ x. if x.serial == weak then with_referent None x else x) (if_fades (with_referent None) referent_fades (λ x. x.serial == weak)).referent objects y m
@@ -181,7 +177,7 @@ pub shorter : (objects : List Object) (o : ℕ) (e : Entry) → last_entry (entr
 shorter [] o e h = let no : None ≡ Some e = h in cc
 shorter (x ∷ xs) o e h = shorter_at (x.serial == o) o x xs e h (shorter xs o e)
 
--- no more is left of the collections
+-- the collections have no more work left
 pub left_at_fades : (after before : List Object) → Faded after before → (p : CollectPhase) → left_at after p ≤ left_at before p
 left_at_fades after before k (Turn o) = omega (arith, k.others o)
 left_at_fades after before k (AfterTurn o) = omega (arith, k.others o)

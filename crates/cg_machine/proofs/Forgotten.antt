@@ -1,4 +1,4 @@
--- Objects that nothing holds, and to which no weak reference refers. What changes of the objects keep of that.
+-- Objects that nothing holds and no weak reference refers to, and the changes that keep them so.
 use Rattle.std.proofs.Common.{◌≡◌, ◌≢◌, refl, sym, ◌∙◌, subst, ℕ, ◌<◌, ◌≤◌, suc, Bool, true, false, inl, inr, ◌⊎◌, List, [], ◌∷◌, map, Some, None, arith}
 use Rattle.std.specs.Prelude.{◌==◌, if◌then◌else◌, flat_map}
 use Rattle.std.proofs.lemmas.Bool.{eqb-true}
@@ -18,13 +18,12 @@ use Rattle.cg_machine.specs.Dying.{has_finalizers}
 use Rattle.cg_machine.proofs.Serials.{Rises}
 use Rattle.cg_machine.proofs.Pointwise.{IsOrder, Came, Lasts, came, came_if, came_map, lasts, lasts_if, lasts_lives, lasts_map}
 
--- an object does not hold o; where it is o, it is untracked and refers to nothing
+-- an object does not hold o; o itself is untracked and has no referent
 pub record IsQuiet (o : ℕ) (x : Object) : Type 0 where
   pub entries : ¬ Includes (references x.entries) o
   pub untracked : x.serial ≡ o → x.place ≡ Untracked
   pub refers_to_none : x.serial ≡ o → x.referent ≡ None
 
--- all of them
 abbrev pub AreQuiet : ℕ → List Object → Type 0
 AreQuiet o objects = (x : Object) → Includes objects x → IsQuiet o x
 
@@ -44,7 +43,7 @@ pub record Forgotten (w : World) (o : ℕ) : Type 0 where
   pub unheld : Unheld w o
   pub unreferred : NoneRefers o w.objects
 
--- an object lives, and refers to nothing, as an object that dies does
+-- an object lives and has no referent, as a dying object does
 pub record Mortal (objects : List Object) (o : ℕ) : Type 0 where
   pub lives : Includes (serials objects) o
   pub refers_to_none : (x : Object) → Includes objects x → x.serial ≡ o → x.referent ≡ None
@@ -53,7 +52,7 @@ pub record Mortal (objects : List Object) (o : ℕ) : Type 0 where
 abbrev pub HasFinalizers : Script → List Object → ℕ → Type 0
 HasFinalizers script objects o = (x : Object) → Includes objects x → x.serial ≡ o → has_finalizers script x ≡ true
 
--- a referent is there, and is an instance or a function
+-- a referent lives, and is an instance or a function
 abbrev pub AreReferred : List Object → Type 0
 AreReferred objects = (x : Object) → Includes objects x → (r : ℕ) → x.referent ≡ Some r → (z : Object) × Includes objects z × (z.serial ≡ r) × (has_weak_references z ≡ true)
 
@@ -64,7 +63,7 @@ pub record IsLater (x y : Object) : Type 0 where
   pub class : y.class ≡ x.class
   pub referent : (y.referent ≡ x.referent) ⊎ (y.referent ≡ None)
 
--- no object comes or goes
+-- no object is added or removed
 pub record Alters (before after : List Object) : Type 0 where
   pub origin : Came IsLater before after
   pub lasts : Lasts IsLater before after
@@ -101,7 +100,6 @@ change_alters f h s objects = if_alters f h (λ x. x.serial == s) objects
 pub place_later : (p : Place) (x : Object) → IsLater x (with_place p x)
 place_later p x = record { serial = refl; code = refl; class = refl; referent = inl refl }
 
--- what an alteration keeps
 pub lives_after : (before after : List Object) → Alters before after → (o : ℕ) → Includes (serials before) o → Includes (serials after) o
 lives_after before after a = lasts_lives IsLater (λ x y k. k.serial) before after a.lasts
 
@@ -136,7 +134,6 @@ referred_after before after a h y m r e =
     let now = a.lasts z.0 z.1 in
     (now.0, now.1, now.2.serial ∙ z.2, weak_later z.0 now.0 now.2 ∙ z.3)
 
--- changes that keep objects quiet
 pub map_quiet : (o : ℕ) (f : Object → Object) → ((x : Object) → IsQuiet o x → IsQuiet o (f x)) → (objects : List Object) → AreQuiet o objects → AreQuiet o (map f objects)
 map_quiet o f h objects q y m = let x = Includes-map_cases f objects y m in subst (IsQuiet o) x.2 (h x.0 (q x.0 x.1))
 
@@ -144,11 +141,9 @@ if_quiet : (o : ℕ) (f : Object → Object) (b : Bool) (x : Object) → (b ≡ 
 if_quiet o f true x h q = h refl
 if_quiet o f false x h q = q
 
--- where a test passes
 pub test_quiet : (o : ℕ) (f : Object → Object) (test : Object → Bool) → ((x : Object) → test x ≡ true → IsQuiet o x → IsQuiet o (f x)) → (objects : List Object) → AreQuiet o objects → AreQuiet o (map (λ x. if test x then f x else x) objects)
 test_quiet o f test h objects q = map_quiet o (λ x. if test x then f x else x) (λ x k. if_quiet o f (test x) x (λ e. h x e k) k) objects q
 
--- one goes to another place
 pub place_quiet : (o s : ℕ) (p : Place) → s ≢ o → (objects : List Object) → AreQuiet o objects → AreQuiet o (change (with_place p) s objects)
 place_quiet o s p apart objects q = test_quiet o (with_place p) (λ x. x.serial == s) (λ x e k. record {
   entries = k.entries;
@@ -156,15 +151,12 @@ place_quiet o s p apart objects q = test_quiet o (with_place p) (λ x. x.serial 
   refers_to_none = k.refers_to_none;
 }) objects q
 
--- one is untracked
 pub untracked_quiet : (o s : ℕ) (objects : List Object) → AreQuiet o objects → AreQuiet o (change (with_place Untracked) s objects)
 untracked_quiet o s objects q = test_quiet o (with_place Untracked) (λ x. x.serial == s) (λ x e k. record { entries = k.entries; untracked = λ i. refl; refers_to_none = k.refers_to_none }) objects q
 
--- one gets other entries
 pub entries_quiet : (o s : ℕ) (es : List Entry) → ¬ Includes (references es) o → (objects : List Object) → AreQuiet o objects → AreQuiet o (change (with_entries es) s objects)
 entries_quiet o s es free objects q = test_quiet o (with_entries es) (λ x. x.serial == s) (λ x e k. record { entries = free; untracked = k.untracked; refers_to_none = k.refers_to_none }) objects q
 
--- one loses its referent
 pub lost_quiet : (o s : ℕ) (objects : List Object) → AreQuiet o objects → AreQuiet o (loses_referent s objects)
 lost_quiet o s objects q = test_quiet o (with_referent None) (λ x. x.serial == s) (λ x e k. record { entries = k.entries; untracked = k.untracked; refers_to_none = λ i. refl }) objects q
 
@@ -185,7 +177,7 @@ still_unheld w after o names quiet stack h = record {
   stack = stack h.stack;
 }
 
--- A change that leaves the names keeps an object forgotten, if no activity takes hold of it.
+-- A change that leaves the names keeps an object forgotten if no activity comes to hold it.
 pub still_forgotten : (w after : World) (o : ℕ) → after.names ≡ w.names → Alters w.objects after.objects → (AreQuiet o w.objects → AreQuiet o after.objects) → (¬ Includes (flat_map holds w.stack) o → ¬ Includes (flat_map holds after.stack) o) → Forgotten w o → Forgotten after o
 still_forgotten w after o names alters quiet stack h = record { unheld = still_unheld w after o names quiet stack h.unheld; unreferred = unreferred_after w.objects after.objects alters o h.unreferred }
 

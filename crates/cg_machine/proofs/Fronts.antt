@@ -1,4 +1,4 @@
--- The text of a run, and of a step that is underway, begins the text of a whole run.
+-- The text of a run, even of an unfinished step, is a prefix of the text of a whole run.
 use Rattle.std.proofs.Common.{◌≡◌, sym, ◌∙◌, ap, ℕ, inl, inr, List, [], ◌∷◌, ◌++◌, append_assoc, refl}
 use Rattle.std.specs.Prelude.{flat_map}
 use Rattle.std.proofs.lemmas.Grind.{flat_map-append}

@@ -1,4 +1,4 @@
--- How far a command makes the world grow, and that what it calls is a function.
+-- How much a command adds to the world; and what a command calls is a function.
 use Rattle.std.proofs.Common.{◌≡◌, refl, ap, ℕ, suc, ◌+◌, ◌≤◌, Bool, true, false, not, ◌&&◌, inl, inr, List, [], ◌∷◌, length, Option, Some, None, arith, option_to_list, zero}
 use Rattle.std.specs.Prelude.{◌==◌, ◌||◌, if◌then◌else◌, is_some, option_and_then, slice_get, slice_set}
 use Rattle.std.proofs.lemmas.Bool.{eq-eqb, ne_eqb}
@@ -38,7 +38,6 @@ GrowsBy w (Collects g) = Unit {0}
 GrowsBy w (Explains o) = Unit {0}
 GrowsBy w Quits = Unit {0}
 
--- its entries change
 changed_entries : (f : Object → Object) (low high : ℕ) (objects : List Object) (x : Object) → Rises low high objects → Includes objects x → entries_in (change f x.serial objects) + length x.entries ≡ entries_in objects + length (f x).entries
 changed_entries f low high [] x r m = absurd m
 changed_entries f low high (y ∷ objects) x r (inl e) =
@@ -61,7 +60,6 @@ sets w f k x given_up r m l g =
       given = g;
     }
 
--- the objects stay
 stays_so : (w : World) (names : List (Option Val)) (numbers : Numbers) (given_up : List ℕ) → bound_names names ≤ bound_names w.names + 1 → length given_up ≤ 2 → Grows w (record w { names = names; numbers = numbers }) given_up
 stays_so w names numbers given_up more g = record { names = more; size = omega arith; entries = omega arith; referents = omega arith; given = g }
 
@@ -89,7 +87,6 @@ bit_one : (b : Bool) → bit b ≤ 1
 bit_one true = omega arith
 bit_one false = omega arith
 
--- one name is bound, or unbound
 bound_one : (names : List (Option Val)) (name : ℕ) (v : Option Val) → bound_names (slice_set names name v) ≤ bound_names names + 1
 bound_one [] name v = omega arith
 bound_one (u ∷ names) zero v = omega (arith, bit_one (is_some v))
@@ -101,7 +98,6 @@ binding w name v = stays_so w (slice_set w.names name v) w.numbers (given_up_by 
 abbrev made : World → KindCode → Option ℕ → List Entry → Option ℕ → Object
 made w kind class entries referent = record { serial = w.next_serial; code = kind; class = class; entries = entries; place = first_place kind; finalized = false; referent = referent }
 
--- lists of entries
 length-put : (entries : List Entry) (key v : Val) → length (put entries key v) ≤ length entries + 1
 length-put [] key v = omega arith
 length-put (e ∷ entries) key v = go (same_value e.key key) (length-put entries key v)

@@ -1,4 +1,4 @@
--- How high the stack of a run is, and how much it holds: what stands there is counted, sort by sort.
+-- Bounds the height of a run's stack and what it holds, by counting each sort of activity.
 use Rattle.std.proofs.Common.{◌≡◌, refl, sym, ◌∙◌, ap, subst, ℕ, zero, suc, ◌+◌, ◌*◌, ◌≤◌, Bool, true, false, cond, inl, inr, List, [], ◌∷◌, ◌++◌, Option, length, length-append, arith}
 use Rattle.std.specs.Prelude.{◌==◌, flat_map, count_by}
 use Rattle.std.proofs.lemmas.List.Sums.{sum_by-cons}
@@ -32,7 +32,7 @@ counted : (sort : Activity → Bool) (stack : List Activity) → count_by sort s
 counted sort [] = refl
 counted sort (a ∷ stack) = let rest = counted sort stack in omega (arith, rest, sum_by-cons (λ x. cond (sort x) 1 0) a stack)
 
--- A list of others, each of which stands in another list, is no longer than that.
+-- A list without repetition whose members are all in another list is no longer than that list.
 others_fit : (xs ys : List ℕ) → ((o : ℕ) → occurrences o xs ≤ 1) → ((o : ℕ) → Includes xs o → Includes ys o) → length xs ≤ length ys
 others_fit xs ys once inside = fewer_times xs ys (λ o. go o (includes xs o) refl)
   where
@@ -75,7 +75,7 @@ dying_once (Dying d ∷ below) h o = go (dying_once below h.1 o) (d.object == o)
         omega (arith, one, count_cons o d.object (dying_on below), rest)
 dying_once (_ ∷ below) h o = dying_once below h.1 o
 
--- each release but the one on top has a death on it
+-- each release but the top one has a death on it
 pub record ReleasesFit (stack : List Activity) : Type 0 where
   pub at_most : how_many is_release stack ≤ how_many is_death stack + 1
   pub none_on_top : HasNoRelease stack → how_many is_release stack ≤ how_many is_death stack
@@ -86,7 +86,7 @@ releases_fit (Releasing references ∷ below) h = let rest = (releases_fit below
 releases_fit (Dying d ∷ below) h = let rest = (releases_fit below h).at_most in record { at_most = omega (arith, rest); none_on_top = λ t. omega (arith, rest) }
 releases_fit (_ ∷ below) h = let rest = (releases_fit below h.1).none_on_top h.0 in record { at_most = omega (arith, rest); none_on_top = λ t. omega (arith, rest) }
 
--- what stands over the script's own commands
+-- what is above the script's own commands
 over_one : (a : Activity) (below : List Activity) → is_top_level a ≡ false → IsOverTopLevel below → IsOverTopLevel (a ∷ below)
 over_one a below other h = record {
   others = a ∷ h.others;
@@ -105,7 +105,6 @@ is_over (Releasing references ∷ below) h = over_one (Releasing references) bel
 is_over (Dying d ∷ below) h = over_one (Dying d) below refl (is_over below h)
 is_over (Collecting c ∷ below) h = over_one (Collecting c) below refl (is_over below h)
 
--- how high
 height_of : (stack : List Activity) → HasBottom stack → length stack ≡ 1 + how_many is_frame stack + how_many is_release stack + how_many is_death stack + how_many is_collection stack
 height_of [] h = absurd h
 height_of (TopLevel commands ∷ below) h =
@@ -121,7 +120,6 @@ height_of (Releasing references ∷ below) h = omega (arith, height_of below h)
 height_of (Dying d ∷ below) h = omega (arith, height_of below h)
 height_of (Collecting c ∷ below) h = omega (arith, height_of below h)
 
--- what an activity holds besides what waits with it
 frame_holds : (sort : FrameSort) (function : Option ℕ) → length (call_holds sort function) ≤ 1
 frame_holds Del function = omega arith
 frame_holds Legacy function = omega arith
@@ -141,7 +139,6 @@ collection_holds (AfterCallback weak waiting) = omega arith
 collection_holds (AfterRelease weak waiting) = omega arith
 collection_holds _ = omega arith
 
--- how much all of them hold
 abbrev held_by : List Activity → ℕ
 held_by stack = how_many is_frame stack + 2 * how_many is_release stack + 2 * how_many is_death stack + how_many is_collection stack + length (all_waits stack)
 
@@ -158,7 +155,7 @@ one_collection : (a : Activity) → bit (is_collection a) ≤ collections_in a
 one_collection (Collecting c) = omega arith
 one_collection _ = omega arith
 
--- a world that has the invariants
+-- a world with the invariants
 module _ (b : ℕ) (w : World) (sound : Sound w) (h : IsOrderly w) (room : Room b w.budget w.stack) where
   deaths_fit : how_many is_death w.stack ≤ length w.objects
   deaths_fit = omega (

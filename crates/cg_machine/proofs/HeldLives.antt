@@ -1,5 +1,5 @@
--- What is held lives, and a weak reference that waits for its callback has one: an invariant of runs, and the moves of which
--- steps are made.
+-- Whatever is held lives, and a weak reference that waits for its callback has one: an invariant of runs, and the moves that
+-- make up steps.
 use Rattle.std.proofs.Common.{◌≡◌, ◌≢◌, refl, sym, ◌∙◌, ap, subst, ℕ, ◌+◌, ◌≤◌, Bool, true, false, cond, not, inl, inr, ◌⊎◌, List, [], ◌∷◌, ◌++◌, map, Option, Some, None, arith}
 use Rattle.std.specs.Prelude.{◌==◌, if◌then◌else◌, flat_map}
 use Rattle.std.proofs.lemmas.Bool.{eqb-true, ne_eqb}
@@ -31,7 +31,8 @@ abbrev pub IsClearing : List Activity → Type 0
 IsClearing (Collecting c ∷ below) = IsClearingPhase c.phase
 IsClearing stack = ⊥
 
--- A condemned object may have a referent while the collection clears weak references; later only where it has no callback.
+-- A condemned object may have a referent while the collection clears weak references; afterwards only if it has no
+-- callback.
 abbrev pub MayRefer : List Entry → List Activity → Type 0
 MayRefer entries stack = IsClearing stack ⊎ (callback_in entries ≡ None)
 
@@ -53,7 +54,6 @@ pub record Orderly (objects : List Object) (names : List (Option Val)) (stack : 
   pub condemned : (x : Object) → Includes objects x → is_condemned x ≡ true → (¬ Includes (all_waits stack) x.serial) × ((x.referent ≡ None) ⊎ MayRefer x.entries stack)
   pub turns : (c : Collection) → Includes stack (Collecting c) → (o : ℕ) → c.phase ≡ Turn o → (¬ Includes (all_waits stack) o) × ((x : Object) → Includes objects x → x.serial ≡ o → CallsNone x)
 
--- where an object after a change comes from
 pub record From (before : List Object) (stack : List Activity) (y : Object) : Type 0 where
   pub was : Object
   pub member : Includes before was
@@ -71,7 +71,6 @@ function_after before after a f z =
     let same : is_function y.0 ≡ is_function z.0 = cc in
     (y.0, y.1, y.2.serial ∙ z.2, same ∙ z.3)
 
--- The objects change.
 pub objects_orderly : (before after : List Object) (names : List (Option Val)) (stack : List Activity) → Alters before after → ((y : Object) → Includes after y → From before stack y) → Orderly before names stack → Orderly after names stack
 objects_orderly before after names stack alters from h = record {
   names_live = λ o m. lives o (h.names_live o m);
@@ -105,7 +104,6 @@ objects_orderly before after names stack alters from h = record {
     still_may y x (inl clearing) = inr (inl clearing)
     still_may y x (inr t) = either (calls_none y x t) (λ e. inl e) (λ e. inr (inr e))
 
--- a change of places, referents or marks
 pub from_same : (objects : List Object) (stack : List Activity) (names : List (Option Val)) (x y : Object) → Orderly objects names stack → Includes objects x → IsLater x y → y.entries ≡ x.entries → (is_condemned y ≡ true → (is_condemned x ≡ true) ⊎ IsClearing stack × (¬ Includes (all_waits stack) y.serial)) → From objects stack y
 from_same objects stack names x y h m later entries condemned = record {
   was = x;
@@ -118,7 +116,6 @@ from_same objects stack names x y h m later entries condemned = record {
   condemned = condemned;
 }
 
--- where a test passes
 pub if_orderly : (f : Object → Object) (test : Object → Bool) (objects : List Object) (names : List (Option Val)) (stack : List Activity) → ((x : Object) → IsLater x (f x)) → ((x : Object) → (f x).entries ≡ x.entries)
     → ((x : Object) → Includes objects x → test x ≡ true → is_condemned (f x) ≡ true → (is_condemned x ≡ true) ⊎ IsClearing stack × (¬ Includes (all_waits stack) x.serial)) → Orderly objects names stack
     → Orderly (map (λ x. if test x then f x else x) objects) names stack
@@ -134,7 +131,7 @@ if_orderly f test objects names stack later entries condemned h = objects_orderl
     from : (y : Object) → Includes (map change_of objects) y → From objects stack y
     from y m = let x = Includes-map_cases change_of objects y m in subst (From objects stack) x.2 (one (test x.0) x.0 refl x.1)
 
--- one gets other entries, which it had, or which live where it is no weak reference
+-- Its new entries are old ones, or live if it is no weak reference.
 pub entries_orderly : (s : ℕ) (es : List Entry) (objects : List Object) (names : List (Option Val)) (stack : List Activity) → (¬ Includes (all_waits stack) s) → ((f : ℕ) → Includes (references es) f → Includes (serials objects) f)
     → ((x : Object) → Includes objects x → x.serial ≡ s → x.code ≡ Weak → (f : ℕ) → Includes (references es) f → Includes (references x.entries) f) → ((x : Object) → Includes objects x → x.serial ≡ s → x.code ≡ Weak → callback_in x.entries ≡ None → callback_in es ≡ None)
     → Orderly objects names stack → Orderly (change (with_entries es) s objects) names stack
@@ -159,7 +156,7 @@ entries_orderly s es objects names stack apart live fewer quiet h = objects_orde
     from : (y : Object) → Includes (map change_of objects) y → From objects stack y
     from y m = let x = Includes-map_cases change_of objects y m in subst (From objects stack) x.2 (one (x.0.serial == s) x.0 refl x.1)
 
--- Something is put on top that waits for nothing.
+-- Something that waits for nothing goes on top.
 pub push_orderly : (a : Activity) (objects : List Object) (names : List (Option Val)) (stack : List Activity) → waits_of a ≡ [] → (IsClearing stack → ⊥) → ((o : ℕ) → Includes (holds a) o → Includes (serials objects) o)
     → ((d : Death) → a ≡ Dying d → Includes (serials objects) d.object) → ((c : Collection) (o : ℕ) → a ≡ Collecting c → c.phase ≢ Turn o) → Orderly objects names stack → Orderly objects names (a ∷ stack)
 push_orderly a objects names stack none still held death turn h = record {
@@ -180,7 +177,6 @@ push_orderly a objects names stack none still held death turn h = record {
     same : all_waits (a ∷ stack) ≡ all_waits stack
     same = ap (λ ws. ws ++ all_waits stack) none
 
--- The top ends.
 pub pop_orderly : (a : Activity) (objects : List Object) (names : List (Option Val)) (below : List Activity) → (IsClearing (a ∷ below) → ⊥) → Orderly objects names (a ∷ below) → Orderly objects names below
 pop_orderly a objects names below still h = record {
   names_live = h.names_live;
@@ -200,7 +196,7 @@ pop_orderly a objects names below still h = record {
     later : (weak : ℕ) → Includes (all_waits below) weak → Includes (all_waits (a ∷ below)) weak
     later weak m = Includes-append_right (waits_of a) (all_waits below) weak m
 
--- What waits after a turn of the top is what waited, and perhaps one more.
+-- What waits after a turn of the top waited before, except perhaps one more.
 pub record TurnsTo (a b : Activity) (objects : List Object) (below : List Activity) : Type 0 where
   pub held : (o : ℕ) → Includes (holds b) o → Includes (serials objects) o
   pub death : (d : Death) → b ≡ Dying d → Includes (serials objects) d.object
@@ -235,7 +231,6 @@ turn_orderly a b objects names below t h = record {
     apart : (c : Collection) → Includes below (Collecting c) → (o : ℕ) → c.phase ≡ Turn o → ¬ Includes (all_waits (a ∷ below)) o → ¬ Includes (all_waits (b ∷ below)) o
     apart c m o e free n = either (Includes-append_cases (waits_of b) (all_waits below) o n) (t.apart c m o e) (λ k. free (Includes-append_right (waits_of a) (all_waits below) o k))
 
--- no more waits
 pub turns_fewer : (a b : Activity) (objects : List Object) (names : List (Option Val)) (below : List Activity) → Orderly objects names (a ∷ below) → ((o : ℕ) → Includes (holds b) o → Includes (serials objects) o) → ((d : Death) → b ≡ Dying d → Includes (serials objects) d.object)
     → ((weak : ℕ) → Includes (waits_of b) weak → Includes (waits_of a) weak) → ((weak : ℕ) → occurrences weak (waits_of b) ≤ occurrences weak (waits_of a))
     → ((c : Collection) (o : ℕ) → b ≡ Collecting c → c.phase ≡ Turn o → (¬ Includes (all_waits (a ∷ below)) o) × ((x : Object) → Includes objects x → x.serial ≡ o → CallsNone x))
@@ -250,7 +245,6 @@ turns_fewer a b objects names below h held death fewer count turn clearing = tur
   clearing = clearing;
 }) h
 
--- one more waits
 pub turns_more : (a b : Activity) (s : ℕ) (objects : List Object) (names : List (Option Val)) (below : List Activity) → Orderly objects names (a ∷ below) → ((o : ℕ) → Includes (holds b) o → Includes (serials objects) o) → ((d : Death) → b ≡ Dying d → Includes (serials objects) d.object)
     → waits_of b ≡ waits_of a ++ s ∷ [] → (¬ Includes (all_waits (a ∷ below)) s) → ((x : Object) → Includes objects x → x.serial ≡ s → IsWaiting x × (is_condemned x ≡ false))
     → ((c : Collection) → Includes below (Collecting c) → (o : ℕ) → c.phase ≡ Turn o → s ≢ o) → ((c : Collection) (o : ℕ) → b ≡ Collecting c → c.phase ≢ Turn o)
@@ -320,7 +314,6 @@ waits_held [] weak m = m
 waits_held (a ∷ stack) weak m =
     either (Includes-append_cases (waits_of a) (all_waits stack) weak m) (λ k. Includes-append_left (holds a) (flat_map holds stack) weak (waits_are_held a weak k)) (λ k. Includes-append_right (holds a) (flat_map holds stack) weak (waits_held stack weak k))
 
--- an object that nothing holds goes
 pub without_orderly : (o : ℕ) (objects : List Object) (names : List (Option Val)) (stack : List Activity) → (¬ Includes (name_holdings names) o) → o ≢ 1 → ((x : Object) → Includes objects x → ¬ Includes (references x.entries) o) → (¬ Includes (flat_map holds stack) o)
     → ((d : Death) → Includes stack (Dying d) → d.object ≢ o) → Orderly objects names stack → Orderly (without o objects) names stack
 without_orderly o objects names stack no_name no_root no_entry no_hold no_death h = record {

@@ -1,5 +1,4 @@
--- Collections keep that what is held lives, and that what waits has its callback: a weak reference that waits is held, and so
--- it is never condemned.
+-- Collections keep the invariant of held objects: a waiting weak reference is held, so it is never condemned.
 use Rattle.std.proofs.Common.{◌≡◌, ◌≢◌, refl, sym, ◌∙◌, ap, subst, ℕ, ◌+◌, ◌-◌, ◌<◌, ◌≤◌, Bool, true, false, not, length, inl, inr, ◌⊎◌, List, [], ◌∷◌, ◌++◌, map, Option, Some, None, arith}
 use Rattle.std.specs.Prelude.{◌==◌, ◌||◌, if◌then◌else◌, flat_map, filter, is_some, option_map, option_and_then, unwrap_or}
 use Rattle.std.proofs.lemmas.Bool.{eqb-true, eq-eqb, and_parts}
@@ -41,7 +40,7 @@ module _ (script : Script) (c : Collection) (below : List Activity) (v : World) 
   abbrev collecting : Collection → CollectPhase → Activity
   collecting d phase = Collecting (record d { phase = phase })
 
-  -- The collection goes to a phase in which no more waits.
+  -- The collection goes to a phase with no more waiting weak references.
   goes_to : (phase next : CollectPhase) (d : Collection) (objects : List Object) → ((s : ℕ) → Includes (collect_holds next) s → Includes (serials objects) s) → ((weak : ℕ) → Includes (collection_waits next) weak → Includes (collection_waits phase) weak)
       → ((weak : ℕ) → occurrences weak (collection_waits next) ≤ occurrences weak (collection_waits phase))
       → ((o : ℕ) → next ≡ Turn o → (¬ Includes (all_waits (collecting c phase ∷ below)) o) × ((x : Object) → Includes objects x → x.serial ≡ o → CallsNone x))
@@ -59,7 +58,6 @@ module _ (script : Script) (c : Collection) (below : List Activity) (v : World) 
   to : (after next : World) → after ≡ next → HasOrder next → HasOrder after
   to after next e k = subst HasOrder (sym e) k
 
-  -- the start
   start_orderly : (events : List Event) (after : World) → StartStep script (at Start) c below events after → HasOrder (at Start) → HasOrder after
   start_orderly events after step h = to after _ step.world (if_orderly (λ x. with_place (step.places x) x) (is_at (Gen g)) now.objects v.names stack (λ x. place_later (step.places x) x) (λ x. refl) condemned merged_now)
     where
@@ -89,7 +87,6 @@ module _ (script : Script) (c : Collection) (below : List Activity) (v : World) 
             cc,
       )
 
-  -- the weak phase
   lost_one : (r : Option ℕ) (f : ℕ → Bool) → unwrap_or (option_map f r) false ≡ true → (s : ℕ) × (r ≡ Some s)
   lost_one None f e = absurd (let no : false ≡ true = e in cc)
   lost_one (Some s) f e = (s, refl)
@@ -193,7 +190,6 @@ module _ (script : Script) (c : Collection) (below : List Activity) (v : World) 
           let refers : unwrap_or (option_map (λ o. is_condemned_in v.objects o || is_condemned x) x.referent) false ≡ true = ap (λ k. unwrap_or (option_map (λ o. is_condemned_in v.objects o || is_condemned x) k) false) i ∙ or_right (is_condemned_in v.objects r) (is_condemned x) e in
           inr (inr (kept_late (profile_of script.items) v.objects x refers (step.0 x m)))
 
-  -- the callbacks
   calls_back_orderly : (waiting : List ℕ) → HasOrder (at (WeakCalling waiting)) → HasOrder (calls_back script c waiting below (at (WeakCalling waiting))).1
   calls_back_orderly [] h = goes_to (WeakCalling []) Finalizing c v.objects (λ s k. absurd k) (λ weak k. k) (λ weak. omega arith) (λ o i. cc) (λ x m e k. inr k) h
   calls_back_orderly (weak ∷ waiting) h =
@@ -218,7 +214,6 @@ module _ (script : Script) (c : Collection) (below : List Activity) (v : World) 
       go true = placed_orderly place weak v.objects v.names (collecting c (WeakCalling waiting) ∷ below) (λ x e. false_true e) (turned c)
       go false = turned (record c { collected = c.collected + 1 })
 
-  -- the finalizers
   member_of_place : (p : Place) (o : ℕ) → Includes (serials_at v.objects p) o → (x : Object) × Includes v.objects x × (is_at p x ≡ true) × (x.serial ≡ o)
   member_of_place p o m =
       let x = Includes-map_cases (λ (z : Object). z.serial) (objects_at v.objects p) o m in
@@ -259,7 +254,6 @@ module _ (script : Script) (c : Collection) (below : List Activity) (v : World) 
   after_finalizing_orderly o h = gives_up_orderly (o ∷ []) (at Finalizing) (λ k. k) (own_held (AfterFinalizing o) v.objects h)
       (goes_to (AfterFinalizing o) Finalizing c v.objects (λ s k. absurd k) (λ weak k. k) (λ weak. omega arith) (λ s i. cc) (λ x m e k. inr k) h)
 
-  -- the second detection
   split_orderly : (events : List Event) (after : World) → SplitStep c below (at Split) events after → HasOrder (at Split) → HasOrder after
   split_orderly events after step h = to after _ step.world (goes_to Split Turns (record c { collected = c.collected + length (serials_at step.objects Cand) }) step.objects (λ s k. absurd k) (λ weak k. k) (λ weak. omega arith) (λ o i. cc) (λ x m e k. inr k)
       (all_lose_orderly (loses_at_split now) step.cleared now step.objects v.names (at Split).stack step.lose
@@ -271,7 +265,6 @@ module _ (script : Script) (c : Collection) (below : List Activity) (v : World) 
       now : List Object
       now = get_older c.generation step.alive v.objects
 
-  -- the turns
   turn_orderly_at : (x : Object) → Includes v.objects x → is_at Cand x ≡ true → HasOrder (at Turns) → HasOrder (takes_turn c x below (at Turns)).1
   turn_orderly_at x m e h = go (has_flag c.flags save_all) (is_tuple x)
     where
@@ -320,7 +313,6 @@ module _ (script : Script) (c : Collection) (below : List Activity) (v : World) 
   after_turn_orderly o h = placed_orderly (Gen (older c.generation)) o v.objects v.names (collecting c Turns ∷ below) (λ x e. false_true e)
       (goes_to (AfterTurn o) Turns c v.objects (λ s k. absurd k) (λ weak k. k) (λ weak. omega arith) (λ s i. cc) (λ x m i k. inr k) h)
 
-  -- the end
   end_orderly : (events : List Event) (after : World) → EndStep script c below (at Ending) events after → HasOrder (at Ending) → HasOrder after
   end_orderly events after step h = to after _ step.world (pop_orderly (collecting c Ending) now v.names below (λ k. k)
       (if_orderly (with_place place) (is_at Legacy) kept v.names (at Ending).stack (place_later place) (λ x. refl) (λ x m e k. false_true k) (all_saved_orderly step.keeps v.objects v.names (at Ending).stack live h)))

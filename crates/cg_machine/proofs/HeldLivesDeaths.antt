@@ -1,4 +1,4 @@
--- Releases, frames and deaths keep that what is held lives, and that what waits has its callback.
+-- Releases, frames and deaths keep the invariant of held objects.
 use Rattle.std.proofs.Common.{◌≡◌, ◌≢◌, refl, sym, ◌∙◌, ap, subst, ℕ, ◌-◌, ◌≤◌, Bool, true, false, cond, not, length, inl, inr, List, [], ◌∷◌, ◌++◌, Option, Some, None, arith, suc}
 use Rattle.std.specs.Prelude.{◌==◌, ◌&&◌, if◌then◌else◌, flat_map, is_some, option_to_list, option_map, option_and_then, unwrap_or, take, ◌-◌}
 use Rattle.std.proofs.lemmas.Bool.{cases_Bool, eq-eqb}
@@ -36,11 +36,10 @@ use Rattle.cg_machine.proofs.UnheldDeaths.{some_not_none}
 use Rattle.cg_machine.specs.Laws.{all_waits, IsWaiting}
 use Rattle.cg_machine.proofs.HeldLives.{IsClearing, Orderly, if_orderly, entries_orderly, push_orderly, pop_orderly, turns_fewer, turns_more, waits_held, without_orderly}
 
--- in a world
 abbrev pub HasOrder : World → Type 0
 HasOrder w = Orderly w.objects w.names w.stack
 
--- one object changes place, mark or referent, and is not condemned after
+-- one object changes place, mark or referent, and is not condemned afterwards
 pub one_orderly : (f : Object → Object) (o : ℕ) (objects : List Object) (names : List (Option Val)) (stack : List Activity) → ((x : Object) → IsLater x (f x)) → ((x : Object) → (f x).entries ≡ x.entries)
     → ((x : Object) → is_condemned (f x) ≡ true → is_condemned x ≡ true) → Orderly objects names stack → Orderly (change f o objects) names stack
 one_orderly f o objects names stack later entries condemned h = if_orderly f (λ x. x.serial == o) objects names stack later entries (λ x m e k. inl (condemned x k)) h
@@ -51,15 +50,12 @@ lost_orderly weak objects names stack h = one_orderly (with_referent None) weak 
 pub false_true : {P : Type 0} → false ≡ true → P
 false_true e = absurd (cc)
 
--- a frame starts
 pub starts_orderly : (script : Script) (spec : FrameSpec) (u : World) → (IsClearing u.stack → ⊥) → ((o : ℕ) → Includes (call_holds spec.sort spec.func) o → Includes (serials u.objects) o) → HasOrder u → HasOrder (start_frame script spec u).1
 starts_orderly script spec u still held h = starts_either (λ lines. HasOrder) script spec u h (λ some. push_orderly (begun_frame script spec) u.objects u.names u.stack refl still held (λ d e. cc) (λ c o e. cc) h)
 
--- something is given up
 pub gives_up_orderly : (given_up : List ℕ) (u : World) → (IsClearing u.stack → ⊥) → ((o : ℕ) → Includes given_up o → Includes (serials u.objects) o) → HasOrder u → HasOrder (push (Releasing given_up) u)
 gives_up_orderly given_up u still held h = push_orderly (Releasing given_up) u.objects u.names u.stack refl still held (λ d e. cc) (λ c o e. cc) h
 
--- a frame ends
 pub frame_end_orderly : (f : Frame) (below : List Activity) (v : World) → HasOrder (with_stack (Framed f ∷ below) v) → HasOrder (frame_end f (with_stack below v)).1
 frame_end_orderly f below v h = by_sort f.sort f.function (λ o k. h.stack_lives o (Includes-append_left (call_holds f.sort f.function) (flat_map holds below) o k))
   where
@@ -72,7 +68,6 @@ frame_end_orderly f below v h = by_sort f.sort f.function (λ o k. h.stack_lives
     by_sort Callback function live = popped
     by_sort Call function live = turns_fewer (Framed f) (Releasing (option_to_list function)) v.objects v.names below h live (λ d e. cc) (λ weak m. m) (λ weak. omega arith) (λ c o e. cc) (λ x m e k. inr k)
 
--- a release
 pub released_orderly : (references : List ℕ) (below : List Activity) (v : World) → HasOrder (with_stack (Releasing references ∷ below) v) → HasOrder (released references below (with_stack (Releasing references ∷ below) v)).1
 released_orderly [] below v h = pop_orderly (Releasing []) v.objects v.names below (λ k. k) h
 released_orderly (o ∷ references) below v h = go (not (is_dying now o) && (in_degree now o == 0))
@@ -110,7 +105,7 @@ found_entries_live objects names stack o f h = go (object_at objects o) refl
     go None e k = absurd k
     go (Some x) e k = h.entries_live x (found_at objects o x e).0 f k
 
--- without its last entry one that calls nothing back calls nothing back
+-- removing the last entry adds no callback
 pub callback_shorter : (entries : List Entry) → callback_in entries ≡ None → callback_in (without_last entries) ≡ None
 callback_shorter [] n = refl
 callback_shorter (e ∷ []) n = refl
@@ -119,7 +114,6 @@ callback_shorter (e ∷ d ∷ entries) n = let short : length (e ∷ d ∷ entri
 pub found_callback : (objects : List Object) (o : ℕ) (x : Object) → object_at objects o ≡ Some x → callback_in x.entries ≡ None → callback_in (entries_of objects o) ≡ None
 found_callback objects o x at n = ap (λ m. callback_in (unwrap_or (option_map (λ (q : Object). q.entries) m) [])) at ∙ n
 
--- a death
 module _ (script : Script) (o : ℕ) (below : List Activity) (v : World) (rises : Rises 1 v.next_serial v.objects) where
   abbrev at : DyingPhase → World
   at phase = death_at o phase below v
@@ -130,7 +124,7 @@ module _ (script : Script) (o : ℕ) (below : List Activity) (v : World) (rises 
   death_is : (phase : DyingPhase) (d : Death) → dying_now phase ≡ Dying d → record { object = o; phase = phase } ≡ d
   death_is phase d e = cc
 
-  -- The death goes to a phase in which no more waits.
+  -- The death goes to a phase with no more waiting weak references.
   goes_to : (phase next : DyingPhase) (objects : List Object) → ((s : ℕ) → Includes (dying_holds o next) s → Includes (serials objects) s) → ((weak : ℕ) → Includes (death_waits next) weak → Includes (death_waits phase) weak)
       → ((weak : ℕ) → occurrences weak (death_waits next) ≤ occurrences weak (death_waits phase)) → Orderly objects v.names (dying_now phase ∷ below) → Orderly objects v.names (dying_now next ∷ below)
   goes_to phase next objects held fewer count h = turns_fewer (dying_now phase) (dying_now next) objects v.names below h held (λ d e. subst (λ (x : Death). Includes (serials objects) x.object) (death_is next d e) (h.deaths_live (record { object = o; phase = phase }) (inl refl)))
@@ -231,7 +225,6 @@ module _ (script : Script) (o : ℕ) (below : List Activity) (v : World) (rises 
       next : DyingPhase
       next = AfterCall weak callback waiting
 
-      -- the weak reference has a callback, which lives
       callback_lives : Includes (serials v.objects) callback
       callback_lives =
           let x = Includes-map_cases (λ (z : Object). z.serial) v.objects weak (h.stack_lives weak (inl refl)) in

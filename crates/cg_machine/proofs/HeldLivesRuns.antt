@@ -1,4 +1,4 @@
--- In every world of a run what is held lives, and what waits has its callback.
+-- In every world of a run, whatever is held lives, and whatever waits has its callback.
 use Rattle.std.proofs.Common.{◌≡◌, ◌≢◌, refl, sym, ◌∙◌, ap, subst, ℕ, zero, suc, length, replicate, Bool, true, false, inl, inr, ◌⊎◌, List, [], ◌∷◌, ◌++◌, Some, None, arith, Option}
 use Rattle.std.specs.Prelude.{flat_map}
 use Rattle.cg_value.specs.declared.KindCode.TheVariants.{List as ListKind, Weak}
@@ -58,7 +58,6 @@ lives_or_not objects o = go (includes (serials objects) o) refl
     go true e = inl (Includes-of (serials objects) o e)
     go false e = inr (λ m. let no : true ≡ false = sym (includes-of (serials objects) o m) ∙ e in cc)
 
--- A command is done.
 module _ (script : Script) (w : World) (rises : Rises 1 w.next_serial w.objects) (over : AreOver w.stack) (referred : AreReferred w.objects) (h : HasOrder w) (after : World) (given_up : List ℕ) (same_stack : after.stack ≡ w.stack) (mild : Mild script w rises over after given_up) where
   lasts_live : (o : ℕ) → Includes (serials w.objects) o → Includes (serials after.objects) o
   lasts_live o m =
@@ -66,7 +65,7 @@ module _ (script : Script) (w : World) (rises : Rises 1 w.next_serial w.objects)
       let y = mild.lasts x.0 x.1 in
       subst (Includes (serials after.objects)) (y.2.serial ∙ x.2) (Includes-map (λ (z : Object). z.serial) after.objects y.0 y.1)
 
-  -- what is held after it lives after it
+  -- what is held afterwards lives
   live : (o : ℕ) → (Forgotten after o → ⊥) → Includes (serials after.objects) o
   live o held = either (lives_or_not after.objects o) (λ m. m) (λ gone. absurd (held (mild.forgotten o (inl gone) (gone_forgotten w h referred o (λ m. gone (lasts_live o m))))))
 
@@ -106,7 +105,7 @@ module _ (script : Script) (w : World) (rises : Rises 1 w.next_serial w.objects)
       record { code = later.code ∙ was.code; referent = none_later x y later was.referent; callback = λ n. was.callback (ap callback_in (sym (either same (λ k. k) (λ k. absurd (k.0 was.code)))) ∙ n) }
   waiting weak k y (is_new serial condemned apart weak_alone functions) e = absurd (within weak (waits_live weak k) (sym serial ∙ e))
 
-  -- what calls nothing back calls nothing back after
+  -- an object without a callback gets none
   quiet : (y x : Object) → Includes w.objects x → IsLater x y → (y.entries ≡ x.entries) ⊎ (x.code ≢ Weak) × ((o : ℕ) → Forgotten w o → x.serial ≢ o) → callback_in x.entries ≡ None → CallsNone y
   quiet y x m later same n = go y.referent refl
     where
@@ -140,7 +139,7 @@ module _ (script : Script) (w : World) (rises : Rises 1 w.next_serial w.objects)
     turns = λ c m o e. let t = h.turns c m o e in (t.0, λ y k i. refers o t.1 (h.stack_lives o (held_by_member w.stack (Collecting c) o m (subst (λ p. Includes (collect_holds p) o) (sym e) (inl refl)))) y (mild.comes y k) i);
   })
 
--- what stands on top where a command is done
+-- the activity on top when a command is done
 no_clearing : (a : Activity) (below : List Activity) → HasCommands a → IsClearing (a ∷ below) → ⊥
 no_clearing (TopLevel commands) below h k = k
 no_clearing (Framed f) below h k = k
@@ -181,7 +180,6 @@ pub taken_orderly : (command : Command) (a b : Activity) (below : List Activity)
 taken_orderly command a b below v (FromTop commands) h = turned_orderly (TopLevel (command ∷ commands)) (TopLevel commands) below v tt tt (λ o k. k) h
 taken_orderly command a b below v (FromFrame f commands left) h = turned_orderly (Framed f) (Framed (record f { commands = commands })) below v tt tt (λ o k. k) h
 
--- A command is done.
 command_does : (script : Script) (w : World) (command : Command) (a : Activity) (below : List Activity) (v : World) → HasCommands a → Rises 1 v.next_serial v.objects → Calm script (on a below v) → HasOrder (on a below v) → CommandSteps script (λ w events. HasOrder) w command (on a below v) a below
 command_does script w command a below v ha rises c h = record {
   stays = λ lines answers. h;
@@ -240,7 +238,6 @@ orderly_after script w [] sound calm h run = (calm, h)
 orderly_after script w (step ∷ steps) sound calm h run =
     orderly_after script step.world steps (step_falls script w step.events step.world run.0 sound).0 (step_calm script w step.events step.world run.0 sound calm) (step_orderly script w step.events step.world run.0 sound calm h) run.1
 
--- what the invariants say of a death
 death_in : (script : Script) (w : World) (o : ℕ) (phase : DyingPhase) → Includes (serials w.objects) o → Stands script w o phase → IsDeathIn w.objects (record { object = o; phase = phase })
 death_in script w o Finalizer lives h = record { lives = lives; refers_to_none = λ x m. (h.quiet x m).refers_to_none; untracked = λ t x m. (h.quiet x m).untracked; unreferred = λ t. cc }
 death_in script w o AfterFinalizer lives h = record { lives = lives; refers_to_none = h.refers_to_none; untracked = λ t. cc; unreferred = λ t. cc }
@@ -267,7 +264,7 @@ held_live w h o m = either (Includes-append_cases (names ++ (1 ∷ []) ++ entrie
     front : Includes (names ++ (1 ∷ []) ++ entries) o → Includes (serials w.objects) o
     front k = either (Includes-append_cases (names ++ (1 ∷ [])) entries o k) named (λ n. let x = entry_holder w.objects o n in h.entries_live x.0 x.1 o x.2)
 
--- the locals of frames are held, and deaths are of others
+-- the locals of frames are held, and deaths are of different objects
 local_held : (sort : FrameSort) (o : ℕ) (below : List Activity) → IsLocalHeld sort o below → sort ≢ CallFrame → Includes (flat_map holds below) o
 local_held Del o below h other = h
 local_held Legacy o below h other = h

@@ -1,4 +1,4 @@
--- What the commands that inspect tell of: numbers, and objects that something holds or that are there.
+-- What the inspection commands report: numbers, and objects that are held or live.
 use Rattle.std.proofs.Common.{refl, ap, subst, ℕ, inl, inr, ◌⊎◌, List, [], ◌∷◌, ◌++◌, map, flat_map, arith}
 use Rattle.std.specs.Prelude.{filter}
 use Rattle.cg_graph.specs.declared.Edge.{Edge}
@@ -35,12 +35,11 @@ TellsThere w line = ⊥
 abbrev pub AllTellThere : World → List Event → Type 0
 AllTellThere w lines = (line : Event) → Includes lines line → TellsThere w line
 
--- what an entry holds
 held_in_entry : (w : World) (x : Object) (n : ℕ) → Includes w.objects x → Includes (references x.entries) n → Includes (holdings w) n
 held_in_entry w x n m h = Includes-append_left (name_holdings w.names ++ (1 ∷ []) ++ entry_holdings (graph_of w.objects)) (flat_map holds w.stack) n
     (Includes-append_right (name_holdings w.names ++ (1 ∷ [])) (entry_holdings (graph_of w.objects)) n (entry_held w.objects x n m h))
 
--- what is held otherwise
+-- what is held by a root or an activity
 held_else : (w : World) (o n : ℕ) → IsHeldElse (other_holdings w) o n → Includes (holdings w) n
 held_else w o n held =
     either (Includes-append_cases (name_holdings w.names ++ (1 ∷ [])) (flat_map holds w.stack) n (Includes-of_count n (name_holdings w.names ++ (1 ∷ []) ++ flat_map holds w.stack) (omega (arith, held))))
@@ -48,7 +47,6 @@ held_else w o n held =
     (Includes-append_left (name_holdings w.names ++ (1 ∷ [])) (entry_holdings (graph_of w.objects)) n m))
     (λ m. Includes-append_right (name_holdings w.names ++ (1 ∷ []) ++ entry_holdings (graph_of w.objects)) (flat_map holds w.stack) n m)
 
--- what an edge leads to
 edge_holder : (objects : List Object) (from to : ℕ) → Includes (edges (graph_of objects)) (record { from = from; to = to }) → (x : Object) × Includes objects x × Includes (references x.entries) to
 edge_holder [] from to m = absurd m
 edge_holder (x ∷ objects) from to m =
@@ -64,14 +62,12 @@ led_there w from (next ∷ path) o leads line m =
     let f = edge_holder w.objects from next leads.0 in
     either m (λ e. subst (TellsThere w) e (inl (held_in_entry w f.0 next f.1 f.2))) (λ k. led_there w next path o leads.1 line k)
 
--- the answer of `why`
 pub explained : (w : World) (o : ℕ) (lines : List Event) → Explanation w o lines → AllTellThere w lines
 explained w o lines (HasPath [] short) line m = absurd short.leads
 explained w o lines (HasPath (first ∷ path) short) line m =
     either m (λ e. subst (TellsThere w) e (inl (held_else w o first short.leads.0))) (λ k. led_there w first path o short.leads.1 line k)
 explained w o lines (HasNone none) line m = either m (λ e. subst (TellsThere w) e tt) (λ k. absurd k)
 
--- lists of objects that are there, and their number
 listed : (w : World) (tells : ℕ → Event) (objects : List ℕ) (count : ℕ) → ((n : ℕ) → Includes objects n → TellsThere w (tells n)) → AllTellThere w (map tells objects ++ Listed count ∷ [])
 listed w tells objects count there line m =
     either (Includes-append_cases (map tells objects) (Listed count ∷ []) line m)

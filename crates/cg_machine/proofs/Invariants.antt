@@ -1,4 +1,4 @@
--- A property of the worlds of runs holds by what each kind of step does: which kinds there are is told here, once.
+-- A property of the worlds of runs, by what each kind of step does. The kinds are listed once, here.
 use Rattle.std.proofs.Common.{◌≡◌, refl, sym, subst, ℕ, ◌≤◌, Bool, true, false, inl, inr, List, [], ◌∷◌, Option, Some, None, Result, Ok, Err}
 use Rattle.std.specs.Prelude.{if◌then◌else◌}
 use Rattle.cg_script.specs.declared.Script.{Script}
@@ -25,7 +25,7 @@ use Rattle.cg_machine.proofs.CommandLaws.{Each}
 use Rattle.cg_machine.proofs.Shapes.{Shape, Binds, StartsCollection, StartsFrame, Inspects, AsksWhy, HasObject, effect_shaped}
 use Rattle.cg_machine.proofs.Inspecting.{explained}
 
--- what has commands; the shutdown gives up names as `del` does
+-- commands are left; the shutdown gives up names as `del` does
 abbrev pub HasCommands : Activity → Type 0
 HasCommands (TopLevel commands) = Unit {0}
 HasCommands (Framed f) = Unit {0}
@@ -36,12 +36,11 @@ HasCommands a = ⊥
 abbrev pub on : Activity → List Activity → World → World
 on a below v = with_stack (a ∷ below) v
 
--- a command is taken from the activity on top, which has the others left
+-- a command is taken from the top activity, which keeps the others
 pub data Takes (command : Command) : Activity → Activity → Type 0 where
   FromTop : (commands : List Command) → Takes command (TopLevel (command ∷ commands)) (TopLevel commands)
   FromFrame : (f : Frame) (commands : List Command) → f.commands ≡ command ∷ commands → Takes command (Framed f) (Framed (record f { commands = commands }))
 
--- it has none left
 abbrev pub emptied : Activity → Activity
 emptied (TopLevel commands) = TopLevel []
 emptied (Framed f) = Framed (record f { commands = [] })
@@ -51,7 +50,7 @@ emptied a = a
 pub del_shaped : (w : World) (name : ℕ) → Shape w (Del name) (Changes false [] (given_up_by w name) (bound w name None))
 del_shaped w name = Binds name None (λ of t m. m) (λ u e. absurd (let no : None ≡ Some u = e in cc))
 
--- what is printed where a command does nothing
+-- what is printed where a command changes nothing
 abbrev pub AreAnswers : List Event → Type 0
 AreAnswers [] = Unit {0}
 AreAnswers (Refused n ∷ []) = Unit {0}
@@ -66,7 +65,7 @@ pub record CommandSteps (script : Script) (R : World → List Event → World �
   pub calls : (f : Object) → HasObject u command is_function f → (let t : Transition = start_frame script (record { sort = CallFrame; proc = procedure_of u f.serial; subject = f.serial; func = Some f.serial }) u in R w t.0 t.1)
   pub asks : (g : ℕ) → g ≤ 2 → is_collecting u ≡ false → R w [] (push (new_collection g true u) u)
 
--- the lines of the last step of a run, by the activity that takes it: the script's own commands or its shutdown
+-- the lines of a run's last step, by the activity that takes it: the script's own commands or its shutdown
 abbrev pub AreLast : World → Activity → List Event → Type 0
 AreLast w (TopLevel []) lines = lines ≡ End ∷ []
 AreLast w (ShuttingDown true) lines = lines ≡ Left (live w) ∷ End ∷ []
@@ -78,7 +77,7 @@ last_has w (Framed f) lines h = tt
 last_has w (ShuttingDown started) lines h = tt
 last_has w a lines h = absurd h
 
--- What each kind of step does: R tells of the world before it, what it prints and the world after it.
+-- What each kind of step does; R relates the world before, the lines and the world after.
 pub record Steps (script : Script) (Known : World → Type 0) (R : World → List Event → World → Type 0) : Type 0 where
   pub starts_due : (a : Activity) (below : List Activity) (v : World) → HasCommands a → (g : ℕ) → due (on a below v) ≡ Some g → Known (on a below v) → R (on a below v) [] (push (new_collection g false (on a below v)) (on a below v))
   pub ends : (a : Activity) (lines : List Event) (below : List Activity) (v : World) → AreLast (on a below v) a lines → Known (on a below v) → R (on a below v) lines (record (on a below v) { outcome = Ended })
@@ -91,7 +90,6 @@ pub record Steps (script : Script) (Known : World → Type 0) (R : World → Lis
   pub dies : (d : Death) (below : List Activity) (v : World) → Known (on (Dying d) below v) → (let t : Transition = dying script d.object d.phase below (on (Dying d) below v) in R (on (Dying d) below v) t.0 t.1)
   pub collects : (c : Collection) (below : List Activity) (v : World) (events : List Event) (after : World) → PhaseStep script c c.phase below (on (Collecting c) below v) events after → Known (on (Collecting c) below v) → R (on (Collecting c) below v) events after
 
--- the object of a call
 called : (u : World) (command : Command) (e : Effect) → Shape u command e → (f : ℕ) → e ≡ Calls f → (x : Object) × HasObject u command is_function x × (x.serial ≡ f)
 called u command e (StartsFrame x h) f is = (x, h, let same : x.serial ≡ f = cc in same)
 called u command e s f is = absurd (cc)
@@ -176,7 +174,6 @@ module _ (script : Script) (Known : World → Type 0) (R : World → List Event 
   step_is v (Collecting c ∷ below) events after step k = h.collects c below v events after step k
   step_is v (ShuttingDown started ∷ below) events after step k = shuts below v events after started (greatest_bound (on (ShuttingDown started) below v)) refl step k
 
-  -- Each step does so.
   pub any_step : (w : World) (events : List Event) (after : World) → Step script w events after → Known w → R w events after
   any_step w events after step k = step_is w w.stack events after step.step k
 
@@ -184,7 +181,8 @@ module _ (script : Script) (Known : World → Type 0) (R : World → List Event 
 abbrev pub InEachWorld : Script → ℕ → (World → Type 0) → Type 0
 InEachWorld script budget P = (steps : List StepTaken) → IsRun script budget steps → P (world_after script budget steps)
 
--- A property of worlds that the first one has, and that each kind of step keeps. What is known of each world may be used.
+-- A property that holds in the first world and that each kind of step keeps. The proof may use what is known of each
+-- world.
 pub record Invariant (script : Script) (budget : ℕ) (Known P : World → Type 0) : Type 0 where
   pub opens : P (opening script budget)
   pub keeps : Steps script (λ w. Known w × P w) (λ w events after. P after)
@@ -194,11 +192,10 @@ goes_on : (script : Script) (Known P : World → Type 0) → ((w : World) (event
 goes_on script Known P keeps w [] run known p = p
 goes_on script Known P keeps w (step ∷ steps) run known p = goes_on script Known P keeps step.world steps run.1 (λ front r. known (step ∷ front) (run.0, r)) (keeps w step.events step.world run.0 (known [] tt) p)
 
--- So each world of each run has it.
 pub by_runs : (script : Script) (budget : ℕ) (Known P : World → Type 0) → Invariant script budget Known P → InEachWorld script budget Known → InEachWorld script budget P
 by_runs script budget Known P i known steps run = goes_on script Known P (λ w events after step k p. any_step script (λ u. Known u × P u) (λ u events after. P after) i.keeps w events after step (k, p)) (opening script budget) steps run known i.opens
 
--- What a law on steps says of the step may be used too.
+-- The proof may also use a law on steps.
 pub by_runs_and_steps : (script : Script) (budget : ℕ) (Known P : World → Type 0) (Also : World → List Event → World → Type 0) → P (opening script budget) → Steps script (λ w. Known w × P w) (λ w events after. Also w events after → P after)
     → ((w : World) (events : List Event) (after : World) → Step script w events after → Known w → P w → Also w events after) → InEachWorld script budget Known → InEachWorld script budget P
 by_runs_and_steps script budget Known P Also opens keeps also known steps run =

@@ -1,4 +1,4 @@
--- The laws on one world of a run, together: a run that goes on is a run.
+-- The laws on one world, together. A run that goes on is a run, so they stay.
 use Rattle.std.proofs.Common.{subst, ℕ, List, ◌++◌}
 use Rattle.cg_script.specs.declared.Script.{Script}
 use Rattle.cg_machine.specs.World.{opening}
@@ -12,7 +12,6 @@ use Rattle.cg_machine.proofs.OriginsOfRuns.{worlds_have_origins}
 use Rattle.cg_machine.proofs.MakingOfRuns.{few_serials}
 use Rattle.cg_machine.proofs.StandingRuns.{locals_live, newest_first}
 
--- all laws hold of a world of a run
 pub lawful_after : (script : Script) (budget : ℕ) (steps : List StepTaken) → IsRun script budget steps → IsLawful script budget (world_after script budget steps)
 lawful_after script budget steps run = record {
   orderly = worlds_orderly script budget steps run;

@@ -1,4 +1,4 @@
--- What a step leaves below it: the activities, and the entries of objects that are dying there or that wait there.
+-- What a step leaves below it: the activities, and the entries of objects that are dying or waiting there.
 use Rattle.std.proofs.Common.{◌≡◌, ◌≢◌, refl, sym, ◌∙◌, subst, ℕ, Bool, true, false, not, inl, inr, ◌⊎◌, List, [], ◌∷◌, ◌++◌, map}
 use Rattle.std.specs.Prelude.{◌==◌, if◌then◌else◌, flat_map}
 use Rattle.std.proofs.lemmas.Bool.{eqb-true}
@@ -16,7 +16,7 @@ use Rattle.cg_machine.specs.Laws.{waits_of, all_waits, IsOfCollection}
 use Rattle.cg_machine.proofs.Forgotten.{Forgotten, IsLater, later_refl, later_trans}
 use Rattle.cg_machine.proofs.HeldLives.{Orderly}
 
--- an object whose entries a step may change: none that is dying below and forgotten, and none that waits below
+-- an object whose entries a step may change: not one that is dying below and forgotten, and not one that waits below
 pub record MayChange (w : World) (below : List Activity) (s : ℕ) : Type 0 where
   pub dying : (d : Death) → Includes below (Dying d) → Forgotten w d.object → s ≢ d.object
   pub waiting : ¬ Includes (all_waits below) s
@@ -26,7 +26,7 @@ abbrev pub IsCollectionOnTop : List Activity → Type 0
 IsCollectionOnTop (Collecting c ∷ below) = Unit {0}
 IsCollectionOnTop stack = ⊥
 
--- where an object comes from, whether its entries are the same, and whether its place is
+-- where an object comes from, and whether it has the same entries and place
 pub record ComesFrom (w : World) (below : List Activity) (before : List Object) (y : Object) : Type 0 where
   pub was : Object
   pub member : Includes before was
@@ -52,7 +52,6 @@ from_trans w below before now after h k z m =
       place = λ c. either (y.place c) (λ e. either (x.place (subst IsOfCollection (sym e) c)) (λ f. inl (f ∙ e)) (λ t. inr t)) (λ t. inr t);
     }
 
--- where a test passes
 pub from_if : (w : World) (below : List Activity) (f : Object → Object) (test : Object → Bool) → ((x : Object) → IsLater x (f x)) → ((x : Object) → test x ≡ true → ((f x).entries ≡ x.entries) ⊎ MayChange w below x.serial)
     → ((x : Object) → IsOfCollection (f x).place → (x.place ≡ (f x).place) ⊎ IsCollectionOnTop w.stack) → (objects : List Object) → AreFrom w below objects (map (λ x. if test x then f x else x) objects)
 from_if w below f test later entries places objects y m =
@@ -72,7 +71,7 @@ from_without w below o objects y m = from_refl w below objects y (Includes-filte
 pub from_saved : (w : World) (below : List Activity) (s : ℕ) → MayChange w below 1 → (objects : List Object) → AreFrom w below objects (saved s objects)
 from_saved w below s t objects = from_if w below (λ x. with_entries (x.entries ++ item (Ref s) ∷ []) x) (λ x. x.serial == 1) (λ x. record { serial = refl; code = refl; class = refl; referent = inl refl }) (λ x e. inr (subst (MayChange w below) (sym (eqb-true x.serial 1 e)) t)) (λ x c. inl refl) objects
 
--- What a step leaves below it. It makes one object at most
+-- What a step leaves below it. It makes at most one object.
 pub record LeavesIt (w : World) (below : List Activity) (after : World) : Type 0 where
   pub tops : List Activity
   pub stack : after.stack ≡ tops ++ below
@@ -81,7 +80,6 @@ pub record LeavesIt (w : World) (below : List Activity) (after : World) : Type 0
 pub leaves_from : (w : World) (below : List Activity) (after : World) (tops : List Activity) → after.stack ≡ tops ++ below → AreFrom w below w.objects after.objects → LeavesIt w below after
 leaves_from w below after tops stack from = record { tops = tops; stack = stack; from = λ y m. inl (from y m) }
 
--- what a step may change
 pub held_may_change : (w : World) (a : Activity) (below : List Activity) (s : ℕ) → w.stack ≡ a ∷ below → Includes (holds a) s → (¬ Includes (all_waits below) s) → MayChange w below s
 held_may_change w a below s top held free = record {
   dying = λ d m f e. f.unheld.stack (subst (λ st. Includes (flat_map holds st) d.object) (sym top) (Includes-append_left (holds a) (flat_map holds below) d.object (subst (Includes (holds a)) e held)));

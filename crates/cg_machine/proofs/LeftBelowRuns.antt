@@ -1,4 +1,4 @@
--- Every step of a run leaves what lies below the activity that takes it.
+-- Every step of a run leaves alone what lies below its activity.
 use Rattle.std.proofs.Common.{◌≡◌, refl, sym, ap, subst, ℕ, true, false, inl, inr, ◌⊎◌, List, [], ◌∷◌, ◌++◌, Some, arith}
 use Rattle.cg_script.specs.declared.Script.{Script}
 use Rattle.cg_script.specs.declared.Command.{Command}
@@ -31,12 +31,12 @@ use Rattle.cg_machine.proofs.Advancing.{frame_end_advances, released_advances, d
 use Rattle.cg_machine.proofs.LeftBelowSteps.{starts_leaves, advance_leaves}
 use Rattle.cg_script.specs.declared.Command.TheVariants.{Del}
 
--- what a step leaves, if there is an activity to take it
+-- what a step leaves, if an activity takes it
 abbrev pub LeavesUnder : World → List Activity → World → Type 0
 LeavesUnder w [] after = Unit {0}
 LeavesUnder w (a ∷ below) after = LeavesIt w below after
 
--- The command of w leaves u, in which it is done.
+-- The command of w leaves u, where it is done.
 module _ (script : Script) (b a : Activity) (below : List Activity) (v : World) (ha : HasCommands a) (held : (o : ℕ) → ¬ Includes (holds b) o → ¬ Includes (holds a) o)
     (rises : Rises 1 v.next_serial v.objects) (c : Calm script (with_stack (a ∷ below) v)) (h : HasOrder (with_stack (a ∷ below) v)) where
   abbrev w : World
@@ -81,7 +81,7 @@ module _ (script : Script) (b a : Activity) (below : List Activity) (v : World) 
     asks = λ g low e. leaves_from w below (push (new_collection g true u) u) (new_collection g true u ∷ a ∷ []) refl (from_refl w below v.objects);
   }
 
--- nothing more is held when a command is taken
+-- taking a command adds no holds
 taken_held : (command : Command) (a b : Activity) → Takes command a b → (o : ℕ) → ¬ Includes (holds a) o → ¬ Includes (holds b) o
 taken_held command a b (FromTop commands) o k = k
 taken_held command a b (FromFrame f commands left) o k = k
@@ -103,7 +103,7 @@ steps_leave_it script = record {
 pub step_leaves : (script : Script) (w : World) (events : List Event) (after : World) → Step script w events after → Sound w → Calm script w → HasOrder w → LeavesUnder w w.stack after
 step_leaves script w events after step sound c h = any_step script (λ u. (Sound u × Calm script u) × HasOrder u) (λ u events after. LeavesUnder u u.stack after) (steps_leave_it script) w events after step ((sound, c), h)
 
--- what that says of the objects that are dying or wait below
+-- what that says of objects that are dying or waiting below
 cleared_forgotten : (script : Script) (w : World) (o : ℕ) (phase : DyingPhase) → Rests script w o phase → is_cleared phase ≡ true → Forgotten w o
 cleared_forgotten script w o Finalizer h e = absurd h
 cleared_forgotten script w o AfterFinalizer h e = absurd (let no : false ≡ true = e in cc)

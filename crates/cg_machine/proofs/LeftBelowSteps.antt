@@ -1,4 +1,4 @@
--- Releases, deaths and collections leave what lies below them.
+-- Releases, deaths and collections leave alone what lies below them.
 use Rattle.std.proofs.Common.{◌≡◌, refl, sym, ap, subst, ℕ, true, false, cond, inl, inr, ◌⊎◌, List, [], ◌∷◌, ◌++◌, arith}
 use Rattle.std.specs.Prelude.{◌==◌}
 use Rattle.std.proofs.lemmas.Bool.{eq-eqb}
@@ -23,7 +23,6 @@ use Rattle.cg_machine.proofs.Starting.{begun_frame, starts_either}
 use Rattle.cg_machine.proofs.Invariants.{on}
 use Rattle.cg_machine.proofs.LeftBelow.{AreFrom, MayChange, IsCollectionOnTop, from_refl, from_trans, from_entries, from_without, from_saved, LeavesIt, leaves_from, held_may_change, garbage_may_change}
 
--- a frame starts
 pub starts_leaves : (script : Script) (spec : FrameSpec) (w : World) (below : List Activity) (u : World) → LeavesIt w below u → LeavesIt w below (start_frame script spec u).1
 starts_leaves script spec w below u l = starts_either (λ lines. LeavesIt w below) script spec u (record { tops = l.tops; stack = l.stack; from = l.from }) (λ some. record { tops = begun_frame script spec ∷ l.tops; stack = ap (λ st. begun_frame script spec ∷ st) l.stack; from = l.from })
 
@@ -31,7 +30,7 @@ collects_on_top : (top : Activity) (below : List Activity) → is_collection top
 collects_on_top (Collecting c) below e = tt
 collects_on_top top below e = absurd (let no : false ≡ true = e in cc)
 
--- a collection alone puts an object at a place of its own
+-- only a collection puts an object into a place of its own
 moved_place : (top : Activity) (below : List Activity) (x y : Object) → IsMoved top x y → IsOfCollection y.place → (x.place ≡ y.place) ⊎ IsCollectionOnTop (top ∷ below)
 moved_place top below x y (StaysThere e) k = inl e
 moved_place top below x y (IsUntracked e) k = absurd (subst IsOfCollection e k)
@@ -39,7 +38,7 @@ moved_place top below x y (IsRevived f e) k = absurd (subst IsOfCollection e k)
 moved_place top below x y (IsPlaced c e h) k = inr (collects_on_top top below (ap is_collection e))
 
 module _ (script : Script) (below : List Activity) (v : World) where
-  -- the entries that a step may take are of no object that is dying or waits below
+  -- a step takes no entries of an object that is dying or waiting below
   owner_may_change : (top : Activity) (s : ℕ) → Owns top s → Calm script (on top below v) → HasOrder (on top below v) → MayChange (on top below v) below s
   owner_may_change top s (OfEmptied o) c h = record {
     dying = λ d m f e. not_dying o below d c.over.0 m (sym e);

@@ -1,4 +1,4 @@
--- What the lines of a step name is there, and what loses its referent has none after.
+-- The lines of a step name live objects, and a cleared weak reference has no referent afterwards.
 use Rattle.std.proofs.Common.{◌≡◌, refl, sym, ◌∙◌, ap, subst, ℕ, ◌<◌, Bool, true, false, not, inl, inr, ◌⊎◌, List, [], ◌∷◌, Option, Some, None}
 use Rattle.std.specs.Prelude.{◌==◌, if◌then◌else◌, filter, option_and_then, option_map, reverse, unwrap_or}
 use Rattle.std.proofs.lemmas.Bool.{eqb-true, eq-eqb}
@@ -24,11 +24,11 @@ HasNoReferent n objects = (y : Object) → Includes objects y → y.serial ≡ n
 pub came_back : (before after : List Object) → Came IsLater before after → (n : ℕ) → Includes (serials after) n → Includes (serials before) n
 came_back before after h n m = came_lives IsLater (λ x y k. k.serial) before after h n m
 
--- a list with the same members as often
+-- a list with the same members
 pub same_lives : (xs ys : List ℕ) → SameMembers xs ys → (n : ℕ) → Includes xs n → Includes ys n
 same_lives xs ys same n m = Includes-of_count n ys (subst (λ k. 0 < k) (same n) (present n xs m))
 
--- what is found by a serial and has something
+-- an object found by its serial
 pub found_with : (f : Object → Option ℕ) (objects : List Object) (o p : ℕ) → option_and_then f (object_at objects o) ≡ Some p → (x : Object) × Includes objects x × (x.serial ≡ o) × (f x ≡ Some p)
 found_with f objects o p e = go (object_at objects o) refl e
   where
@@ -44,13 +44,11 @@ to_run script x p e = go x.finalized refl e
     go true t k = absurd (let no : None ≡ Some p = k in cc)
     go false t k = (t, k)
 
--- objects that pass a test are there
 pub filter_lives : (test : Object → Bool) (objects : List Object) (n : ℕ) → Includes (serials (filter test objects)) n → Includes (serials objects) n
 filter_lives test objects n m =
     let x = Includes-map_cases (λ (z : Object). z.serial) (filter test objects) n m in
     subst (Includes (serials objects)) x.2 (Includes-map (λ (z : Object). z.serial) objects x.0 (Includes-filter_cases test objects x.0 x.1).0)
 
--- the weak references to an object are there
 pub reversed_back : (xs : List ℕ) (n : ℕ) → Includes (reverse xs) n → Includes xs n
 reversed_back [] n m = m
 reversed_back (x ∷ xs) n m = either (Includes-append_cases (reverse xs) (x ∷ []) n (subst (λ ys. Includes ys n) (reverse-append (x ∷ []) xs) m)) (λ k. inr (reversed_back xs n k)) (λ k. either k (λ e. inl e) (λ e. absurd e))
@@ -62,14 +60,12 @@ weak_lives test objects o weak weaks e = go (unwrap_or (option_map test (object_
     go true k = filter_lives (is_reference_to o) objects weak (reversed_back (serials (filter (is_reference_to o) objects)) weak (subst (λ ys. Includes ys weak) (sym k) (inl refl)))
     go false k = absurd (let no : [] ≡ weak ∷ weaks = k in cc)
 
--- one that was taken away is not there
 pub without_gone : (o : ℕ) (objects : List Object) → ¬ Includes (serials (without o objects)) o
 without_gone o objects m =
     let y = Includes-map_cases (λ (z : Object). z.serial) (without o objects) o m in
     let k = Includes-filter_cases (λ x. not (x.serial == o)) objects y.0 y.1 in
     let no : not true ≡ true = ap not (sym (eq-eqb y.0.serial o y.2)) ∙ k.1 in cc
 
--- the others stay
 pub without_lasts : (o : ℕ) (objects : List Object) (n : ℕ) → Includes (serials objects) n → Includes (serials (without o objects)) n ⊎ (o ≡ n)
 without_lasts o objects n m = let x = Includes-map_cases (λ (z : Object). z.serial) objects n m in go x.0 (x.0.serial == o) refl x.1 x.2
   where
@@ -88,11 +84,9 @@ changed_all Q f o objects h y m e = let x = Includes-map_cases (λ x. if x.seria
 pub lost_none : (weak : ℕ) (objects : List Object) → HasNoReferent weak (loses_referent weak objects)
 lost_none weak objects = changed_all (λ z. z.referent ≡ None) (with_referent None) weak objects (λ x. refl)
 
--- none comes back
 pub none_stays : (n : ℕ) (before after : List Object) → Came IsLater before after → HasNoReferent n before → HasNoReferent n after
 none_stays n before after h none y m e = let x = h y m in none_later x.0 y x.2 (none x.0 x.1 (sym x.2.serial ∙ e))
 
--- several lose it
 pub all_lose_live : (wanted : Object → Bool) (weaks : List ℕ) (objects after : List Object) → AllLose wanted objects weaks after → (n : ℕ) → Includes weaks n → Includes (serials objects) n
 all_lose_live wanted [] objects after lose n m = absurd m
 all_lose_live wanted (weak ∷ weaks) objects after lose n (inl e) = subst (Includes (serials objects)) (lose.0.is ∙ e) (Includes-map (λ (z : Object). z.serial) objects lose.0.object lose.0.member)

@@ -1,4 +1,4 @@
--- What is found among the objects by a serial, and what its entries hold.
+-- What a lookup by serial finds among the objects, and what its entries hold.
 use Rattle.std.proofs.Common.{◌≡◌, ◌≢◌, refl, sym, ◌∙◌, ap, subst, ℕ, zero, suc, ◌-◌, ◌≤◌, Bool, true, false, cond, inl, inr, ◌⊎◌, List, [], ◌∷◌, ◌++◌, Option, Some, None, take, length, reverse, arith}
 use Rattle.std.specs.Prelude.{◌==◌, if◌then◌else◌, filter, slice_get, option_to_list, option_map, option_and_then, unwrap_or}
 use Rattle.std.proofs.lemmas.Bool.{eqb-true, eq-eqb, ne_eqb}
@@ -20,11 +20,9 @@ found_at (y ∷ objects) o x e = go (y.serial == o) refl e (λ k. found_at objec
     go true t k ih = let same : y ≡ x = cc in (inl same, ap (λ (z : Object). z.serial) (sym same) ∙ eqb-true y.serial o t)
     go false t k ih = (inr (ih k).0, (ih k).1)
 
--- serials rise
 pub serial_from : (low high : ℕ) (objects : List Object) (x : Object) → Rises low high objects → Includes objects x → low ≤ x.serial
 serial_from low high objects x r m = (lives_within low high objects x.serial r (Includes-map (λ (z : Object). z.serial) objects x m)).0
 
--- each object is found by its serial
 pub at_member : (low high : ℕ) (objects : List Object) (x : Object) → Rises low high objects → Includes objects x → object_at objects x.serial ≡ Some x
 at_member low high [] x r m = absurd m
 at_member low high (y ∷ objects) x r (inl e) =
@@ -33,11 +31,9 @@ at_member low high (y ∷ objects) x r (inr m) =
     let later = serial_from (suc y.serial) high objects x r.1 m in
     ap (λ b. cond b (Some y) (object_at objects x.serial)) (ne_eqb y.serial x.serial (λ e. omega (arith, later, e))) ∙ at_member (suc y.serial) high objects x r.1 m
 
--- it lives where it is found
 pub found_lives : (objects : List Object) (o : ℕ) (x : Object) → object_at objects o ≡ Some x → Includes (serials objects) o
 found_lives objects o x e = let f = found_at objects o x e in subst (Includes (serials objects)) f.1 (Includes-map (λ (z : Object). z.serial) objects x f.0)
 
--- references of entries
 pub references_of_member : (entries : List Entry) (e : Entry) (o : ℕ) → Includes entries e → Includes (entry_references e) o → Includes (references entries) o
 references_of_member [] e o m h = absurd m
 references_of_member (f ∷ entries) e o (inl i) h = Includes-append_left (entry_references f) (references entries) o (subst (λ (z : Entry). Includes (entry_references z) o) (sym i) h)
@@ -74,7 +70,6 @@ last_free objects s o e q h m = entries_free objects s o q (references_of_member
 pub shorter_free : (objects : List Object) (s o : ℕ) → AreQuiet o objects → ¬ Includes (references (without_last (entries_of objects s))) o
 shorter_free objects s o q m = entries_free objects s o q (references_take (length (entries_of objects s) - 1) (entries_of objects s) o m)
 
--- an object with an entry lives
 pub last_lives : (objects : List Object) (o : ℕ) (e : Entry) → last_entry (entries_of objects o) ≡ Some e → Includes (serials objects) o
 last_lives objects o e h = go (object_at objects o) refl h
   where
@@ -82,7 +77,7 @@ last_lives objects o e h = go (object_at objects o) refl h
     go None f k = absurd (let no : None ≡ Some e = k in cc)
     go (Some x) f k = found_lives objects o x f
 
--- The callback of a weak reference is an object that its entry holds. Where it has none, no object lives by that number.
+-- The callback of a weak reference is the object in its entry. Without one, no object has that number.
 pub callback_first : (entries : List Entry) (f : ℕ) → callback_in entries ≡ Some f → Includes (references entries) f
 callback_first [] f e = let no : None ≡ Some f = e in cc
 callback_first (x ∷ entries) f e = Includes-append_left (entry_references x) (references entries) f (Includes-append_left (option_to_list (reference_in x.val)) (option_to_list (reference_in x.key)) f (subst (λ m. Includes (option_to_list m) f) (sym e) (inl refl)))
@@ -98,7 +93,7 @@ callback_free low high objects weak o r lives q = go (object_at objects weak) re
     go None e i = let within = lives_within (suc low) high objects o r lives in omega (arith, within.0, i)
     go (Some x) e i = inner x (found_at objects weak x e).0 (callback_in x.entries) refl i
 
--- Where no weak reference is found, none refers to an object that passes the test.
+-- If no weak reference is found, none refers to an object that passes the test.
 pub Includes-reversed : (xs : List ℕ) (x : ℕ) → Includes xs x → Includes (reverse xs) x
 Includes-reversed [] x m = m
 Includes-reversed (y ∷ xs) x m = subst (λ ys. Includes ys x) (sym (reverse-append (y ∷ []) xs))
@@ -113,7 +108,6 @@ none_found test low high objects o z x r none mz same passes mx refers =
     let member : Includes (weak_references objects o) x.serial = Includes-reversed (serials (filter (is_reference_to o) objects)) x.serial (Includes-map (λ (y : Object). y.serial) (filter (is_reference_to o) objects) x (Includes-filter (is_reference_to o) objects x is mx)) in
     subst (λ ys. Includes ys x.serial) all member
 
--- where one is found, the object lives
 pub found_referent : (test : Object → Bool) (objects : List Object) (o weak : ℕ) (weaks : List ℕ) → weak_references_if test objects o ≡ weak ∷ weaks → Includes (serials objects) o
 found_referent test objects o weak weaks e = go (object_at objects o) refl e
   where
@@ -121,11 +115,9 @@ found_referent test objects o weak weaks e = go (object_at objects o) refl e
     go None f k = absurd (let no : [] ≡ weak ∷ weaks = k in cc)
     go (Some x) f k = found_lives objects o x f
 
--- two objects of one serial are one
 pub same_object : (low high : ℕ) (objects : List Object) (x y : Object) → Rises low high objects → Includes objects x → Includes objects y → x.serial ≡ y.serial → x ≡ y
 same_object low high objects x y r m n e =
     let both : Some x ≡ Some y = sym (at_member low high objects x r m) ∙ ap (object_at objects) e ∙ at_member low high objects y r n in cc
 
--- the callback of an object is that of its entries
 pub callback_at : (low high : ℕ) (objects : List Object) (x : Object) → Rises low high objects → Includes objects x → callback_of objects x.serial ≡ callback_in x.entries
 callback_at low high objects x r m = ap (λ k. option_and_then (λ (z : Object). callback_in z.entries) k) (at_member low high objects x r m)

@@ -1,4 +1,4 @@
--- A step that is no command makes no object. A frame takes one from the budget, and brings the commands of one procedure.
+-- Only commands make objects. A frame costs one of the budget and adds the commands of one procedure.
 use Rattle.std.proofs.Common.{◌≡◌, refl, ap, ℕ, zero, suc, ◌+◌, ◌*◌, ◌-◌, ◌≤◌, List, ◌∷◌, ◌++◌, length, arith}
 use Rattle.std.proofs.Math.Nat.{suc-mul}
 use Rattle.cg_script.specs.declared.Script.{Script}
@@ -14,18 +14,16 @@ use Rattle.cg_machine.proofs.Advances.{Advance, Plainly, WithFrame, Continues, c
 use Rattle.cg_machine.proofs.Starting.{starts_either}
 use Rattle.cg_machine.proofs.Invariants.{on}
 
--- how many commands are left
 abbrev pub left_on : List Activity → ℕ
 left_on stack = tally (λ a. length (commands_on a)) stack
 
--- The next serial, with an object for each command that is left or may still come, is within a bound.
+-- The next serial, plus one for each command that is left or may still come, is within a bound.
 pub record Few (most bound serial budget : ℕ) (stack : List Activity) : Type 0 where
   pub within : serial + left_on stack + budget * most ≤ bound
 
 abbrev pub IsFew : ℕ → ℕ → World → Type 0
 IsFew most bound w = Few most bound w.next_serial w.budget w.stack
 
--- one is taken from a budget that has one
 the_less : (n : ℕ) → suc n - 1 ≡ n
 the_less n = omega arith
 
@@ -33,11 +31,10 @@ taken : (budget most : ℕ) → (budget ≡ 0 → ⊥) → budget * most ≡ (bu
 taken zero most some = absurd (some refl)
 taken (suc n) most some = let less : (suc n - 1) * most ≡ n * most = ap (λ k. k * most) (the_less n) in omega (arith, less, suc-mul n most)
 
--- a frame starts
 pub starts_makes : (most b : ℕ) (script : Script) (spec : FrameSpec) (u : World) → length (body_of script spec.proc) ≤ most → IsFew most b u → IsFew most b (start_frame script spec u).1
 starts_makes most b script spec u short h = starts_either (λ lines. IsFew most b) script spec u (record { within = h.within }) (λ some. record { within = omega (arith, h.within, short, taken u.budget most some) })
 
--- a step of another activity brings none
+-- a step of another activity adds no commands
 idle : (before after : List Object) (a b : Activity) → Continues before after a b → length (commands_on b) ≡ 0
 idle before after a b c = ap length (continues_idle before after a b c)
 

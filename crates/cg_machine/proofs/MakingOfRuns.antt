@@ -1,4 +1,4 @@
--- In every world of a run few serials are given: a command makes one object at most, and is then no longer left.
+-- Every world of a run has given few serials: a command makes at most one object and runs once.
 use Rattle.std.proofs.Common.{◌≡◌, sym, ap, subst, ℕ, ◌+◌, ◌*◌, ◌≤◌, List, ◌∷◌, length, Some, arith}
 use Rattle.cg_script.specs.declared.Script.{Script}
 use Rattle.cg_script.specs.declared.Command.{Command}
@@ -12,7 +12,7 @@ use Rattle.cg_machine.proofs.Invariants.{HasCommands, Takes, FromTop, FromFrame,
 use Rattle.cg_machine.proofs.Advancing.{frame_end_advances, released_advances, dying_advances, phase_advances}
 use Rattle.cg_machine.proofs.Making.{Few, IsFew, starts_makes, advance_makes}
 
--- A command is taken, for which an object may be made.
+-- A command is taken, which may make an object.
 taken : (most b serial budget : ℕ) (command : Command) (a c : Activity) (below : List Activity) → Takes command a c → Few most b serial budget (a ∷ below) → Few most b (serial + 1) budget (c ∷ below)
 taken most b serial budget command a c below (FromTop commands) h = record { within = omega (arith, h.within) }
 taken most b serial budget command a c below (FromFrame f commands left) h = let one : length f.commands ≡ length (command ∷ commands) = ap length left in record { within = omega (arith, h.within, one) }

@@ -1,4 +1,4 @@
--- What falls with each step of the machine: seven numbers, the first ones first.
+-- What each step of the machine lowers: seven numbers, in lexicographic order.
 use Rattle.std.proofs.Common.{ℕ, suc, ◌+◌, ◌*◌, ◌<◌, ◌≤◌, Bool, true, false, not, cond, List, length, Option}
 use Rattle.std.specs.Prelude.{◌==◌, if◌then◌else◌, is_some}
 use Rattle.std.specs.List.{list_any}
@@ -11,8 +11,8 @@ use Rattle.cg_machine.specs.World.{World, Activity, TopLevel, Framed, Releasing,
 use Rattle.cg_machine.specs.Due.{is_due}
 use Rattle.cg_machine.proofs.Sums.{tally, bit}
 
--- 1. Commands that can still run: those on the stack, and for each frame left in the budget one for its start and the bodies of the script.
--- Each weighs two, since it may bind a name, and a bound name weighs one, since the shutdown gives it up.
+-- 1. Commands that can still run: those on the stack, and for each frame left in the budget one for its start and the bodies of
+-- the script. Each weighs two, since it may bind a name; a bound name weighs one, since the shutdown gives it up.
 abbrev pub alive : Outcome → ℕ
 alive Running = 1
 alive Ended = 0
@@ -33,7 +33,7 @@ bound_names names = tally (λ v. bit (is_some v)) names
 abbrev pub commands_left : Script → World → ℕ
 commands_left script w = alive w.outcome + 2 * (w.budget * suc (all_bodies script)) + tally commands_in w.stack + bound_names w.names
 
--- 2. Whether a collection is due by the numbers, or one on the stack is to start. Its start ends both.
+-- 2. Whether a collection is due by the numbers, or one on the stack is about to start. Its start clears both.
 abbrev pub is_first : CollectPhase → Bool
 is_first Start = true
 is_first _ = false
@@ -48,7 +48,7 @@ due_rank due starting = cond starting 1 (cond due 2 0)
 abbrev pub due_left : World → ℕ
 due_left w = due_rank (is_due w.numbers) (list_any is_starting w.stack)
 
--- 3. The phases of a collection that are left. From a phase back to an earlier one there is a frame.
+-- 3. The remaining phases of a collection. It returns to an earlier phase only by a frame.
 abbrev pub phase_rank : CollectPhase → ℕ
 phase_rank Start = 10
 phase_rank (WeakClearing waiting) = 9
@@ -67,7 +67,7 @@ abbrev pub rank_in : Activity → ℕ
 rank_in (Collecting c) = phase_rank c.phase
 rank_in _ = 0
 
--- 4. The condemned that are left: three steps for each turn.
+-- 4. The remaining condemned objects: three steps for each turn.
 abbrev pub candidates : List Object → ℕ
 candidates objects = tally (λ x. bit (is_at Cand x)) objects
 
@@ -90,7 +90,7 @@ entries_in objects = tally (λ x. length x.entries) objects
 abbrev pub referents_in : List Object → ℕ
 referents_in objects = tally (λ x. bit (is_some x.referent)) objects
 
--- 7. What is left of frames, releases and deaths. A reference that is given up weighs more than the death that it may begin.
+-- 7. The remaining work of frames, releases and deaths. A given-up reference weighs more than the death that it may begin.
 abbrev pub death_weight : DyingPhase → ℕ
 death_weight Finalizer = 6
 death_weight AfterFinalizer = 6
@@ -108,7 +108,6 @@ weight_in (Releasing references) = 1 + 7 * length references
 weight_in (Dying d) = death_weight d.phase
 weight_in _ = 0
 
--- how many objects there are
 abbrev pub size_of : List Object → ℕ
 size_of objects = tally (λ x. 1) objects
 
@@ -134,7 +133,7 @@ summary script w = record {
   size = size_of w.objects;
 }
 
--- The first of the numbers that changes is the one that falls. The later ones may rise, not far.
+-- The first number that changes falls. Later ones may rise by a bounded amount.
 pub data Lower (n o : Summary) : Type 0 where
   by_commands : n.commands < o.commands → n.size + n.commands ≤ o.size + o.commands → n.entries ≤ o.entries + 4000000 → n.referents ≤ o.referents + 1 → n.weight ≤ o.weight + 40 → Lower n o
   by_due : n.commands ≤ o.commands → n.size ≤ o.size → n.due < o.due → n.entries ≤ o.entries → n.referents ≤ o.referents → n.weight ≤ o.weight → Lower n o
@@ -144,13 +143,13 @@ pub data Lower (n o : Summary) : Type 0 where
   by_referents : n.commands ≤ o.commands → n.size ≤ o.size → n.due ≤ o.due → n.rank ≤ o.rank → n.left ≤ o.left → n.entries ≤ o.entries → n.referents < o.referents → n.weight ≤ o.weight → Lower n o
   by_weight : n.commands ≤ o.commands → n.size ≤ o.size → n.due ≤ o.due → n.rank ≤ o.rank → n.left ≤ o.left → n.entries ≤ o.entries → n.referents ≤ o.referents → n.weight < o.weight → Lower n o
 
--- What is true of each sound world.
+-- What holds in each sound world.
 pub record Bounded (s : Summary) : Type 0 where
   pub due : s.due ≤ 2
   pub rank : s.rank ≤ 10
   pub left : s.left ≤ 3 * s.size + 2
 
--- The numbers as one. No more objects than size and commands together will ever be there.
+-- One number for all seven. There are never more objects than size and commands together.
 abbrev pub number : Summary → ℕ
 number s =
     s.commands * (4000 * (s.size + s.commands + 1) + 80000200)

@@ -47,7 +47,7 @@ falls n o b (by_entries c s d k l e r w) = quiet n o c s d k (omega (arith, l, e
 falls n o b (by_referents c s d k l e r w) = quiet n o c s d k (omega (arith, l, e, r, w))
 falls n o b (by_weight c s d k l e r w) = quiet n o c s d k (omega (arith, l, e, r, w))
 
--- what each sound world keeps to
+-- the bounds that each sound world keeps
 due_two : (d s : Bool) → due_rank d s ≤ 2
 due_two d true = omega arith
 due_two true false = omega arith
@@ -83,7 +83,7 @@ stack_bound objects (_ ∷ stack) h = let k = stack_bound objects stack (omega (
 pub bounded : (script : Script) (w : World) → Sound w → Bounded (summary script w)
 bounded script w sound = record { due = due_two (is_due w.numbers) (list_any is_starting w.stack); rank = (stack_bound w.objects w.stack sound.single).0; left = (stack_bound w.objects w.stack sound.single).1 }
 
--- So each step makes the number of a sound world smaller, and leaves it sound.
+-- So each step lowers the number of a sound world, and leaves it sound.
 abbrev pub number_of : Script → World → ℕ
 number_of script w = number (summary script w)
 

@@ -1,4 +1,4 @@
--- Which references a change of entries moves: those of the entry that is taken out or replaced.
+-- Which references a change of entries moves: those of the removed or replaced entry.
 use Rattle.std.proofs.Common.{◌≡◌, ℕ, zero, suc, Bool, true, false, inl, inr, ◌⊎◌, List, [], ◌∷◌, ◌++◌, Some, subst}
 use Rattle.std.specs.Prelude.{if◌then◌else◌, option_to_list, remove, slice_get, slice_set}
 use Rattle.cg_value.specs.declared.Val.{Val}
@@ -11,16 +11,14 @@ use Rattle.cg_graph.proofs.Members.{either, Includes-append_left, Includes-appen
 abbrev pub AtMostOne : List Entry → Type 0
 AtMostOne entries = (entries ≡ []) ⊎ ((v : Val) × (entries ≡ item v ∷ []))
 
--- a reference of entries is one of the new entries, or of those that go
+-- a reference of old entries is in the new entries or among those given up
 abbrev pub Goes : List Entry → List Entry → List ℕ → ℕ → Type 0
 Goes before after moved n = Includes (references before) n → Includes (references after) n ⊎ Includes moved n
 
--- past the first entry
 pub past : (x : Entry) (before after : List Entry) (moved : List ℕ) (n : ℕ) → Goes before after moved n → Goes (x ∷ before) (x ∷ after) moved n
 past x before after moved n h m = either (Includes-append_cases (entry_references x) (references before) n m) (λ k. inl (Includes-append_left (entry_references x) (references after) n k))
     (λ k. either (h k) (λ i. inl (Includes-append_right (entry_references x) (references after) n i)) (λ i. inr i))
 
--- the first one goes
 pub goes_first : (x : Entry) (before after : List Entry) (n : ℕ) → ((Includes (references before) n) → Includes (references after) n) → Goes (x ∷ before) after (entry_references x) n
 goes_first x before after n h m = either (Includes-append_cases (entry_references x) (references before) n m) (λ k. inr k) (λ k. inl (h k))
 

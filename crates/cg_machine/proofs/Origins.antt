@@ -1,5 +1,5 @@
--- Releases, deaths and collections leave what a world has of its script: they make no object, and a frame gets the body of
--- a procedure.
+-- Releases, deaths and collections keep the origins of a world: they make no object, and a frame gets the body of a
+-- procedure.
 use Rattle.std.proofs.Common.{◌≡◌, refl, ◌∙◌, sym, ap, subst, ℕ, zero, suc, List, [], ◌∷◌, ◌++◌}
 use Rattle.std.specs.Prelude.{flat_map, option_map, slice_get, unwrap_or}
 use Rattle.cg_script.specs.declared.Script.{Script}
@@ -19,7 +19,7 @@ use Rattle.cg_machine.proofs.Advances.{Advance, Plainly, WithFrame, HasChanged, 
 use Rattle.cg_machine.proofs.Starting.{starts_either}
 use Rattle.cg_machine.proofs.Invariants.{on}
 
--- what is left to do and what is there are of the script
+-- remaining commands and objects come from the script
 pub record AreOfScript (script : Script) (present : List Object) (stack : List Activity) : Type 0 where
   pub commands : (command : Command) → Includes (flat_map commands_on stack) command → Includes (all_commands script) command
   pub objects : (x : Object) → Includes present x → IsOfScript script x
@@ -33,13 +33,12 @@ later_of_script script x y later h = record {
   procedure = λ e. let k = h.procedure (sym later.code ∙ e) in (k.0, later.class ∙ k.1, k.2);
 }
 
--- the body of a procedure is of the script
+-- the body of a procedure comes from the script
 body_in : (procs : List Proc) (p : ℕ) (command : Command) → Includes (unwrap_or (option_map (λ x. x.body) (slice_get procs p)) []) command → Includes (flat_map (λ x. x.body) procs) command
 body_in [] p command m = absurd m
 body_in (x ∷ procs) zero command m = Includes-append_left x.body (flat_map (λ x. x.body) procs) command m
 body_in (x ∷ procs) (suc p) command m = Includes-append_right x.body (flat_map (λ x. x.body) procs) command (body_in procs p command m)
 
--- a frame starts
 pub starts_origin : (script : Script) (spec : FrameSpec) (u : World) → IsAllOfScript script u → IsAllOfScript script (start_frame script spec u).1
 starts_origin script spec u h = starts_either (λ lines. IsAllOfScript script) script spec u (record { commands = h.commands; objects = h.objects }) (λ some. record {
   commands = λ command m. either (Includes-append_cases (body_of script spec.proc) (flat_map commands_on u.stack) command m)
@@ -47,11 +46,11 @@ starts_origin script spec u h = starts_either (λ lines. IsAllOfScript script) s
   objects = h.objects;
 })
 
--- what has no commands of its own ends, or stands on top
+-- an activity without commands ends or goes on top
 pub popped_origin : (script : Script) (objects : List Object) (a : Activity) (below : List Activity) → AreOfScript script objects (a ∷ below) → AreOfScript script objects below
 popped_origin script objects a below h = record { commands = λ command m. h.commands command (Includes-append_right (commands_on a) (flat_map commands_on below) command m); objects = h.objects }
 
--- what stands in place of the activity on top has none
+-- what replaces the top activity has no commands
 tops_idle : (before after : List Object) (top : Activity) (tops below : List Activity) → Tops before after top tops → flat_map commands_on (tops ++ below) ≡ flat_map commands_on below
 tops_idle before after top tops below (TopEnds a gone) = refl
 tops_idle before after top tops below (GivesFunction f references few) = refl

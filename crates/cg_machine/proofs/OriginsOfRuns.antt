@@ -1,4 +1,4 @@
--- Every step of a run leaves what a world has of its script: a command that makes an object names its class or procedure.
+-- Every step of a run keeps the origins of a world: a command that makes an object names its class or procedure.
 use Rattle.std.proofs.Common.{◌≡◌, refl, sym, subst, ℕ, inl, inr, List, [], ◌∷◌, ◌++◌, Some, ◌∙◌, Option}
 use Rattle.std.specs.Prelude.{flat_map}
 use Rattle.cg_value.specs.declared.KindCode.{KindCode}
@@ -31,7 +31,7 @@ module _ (script : Script) where
   made_of_script command m y code class c k (ByDict name) = record { class = λ e. absurd (let no : Dict ≡ Inst = sym c ∙ e in cc); procedure = λ e. absurd (let no : Dict ≡ Func = sym c ∙ e in cc) }
   made_of_script command m y code class c k (ByRef name target callback) = record { class = λ e. absurd (let no : Weak ≡ Inst = sym c ∙ e in cc); procedure = λ e. absurd (let no : Weak ≡ Func = sym c ∙ e in cc) }
 
-  -- a command is taken, and is of the script; the others are left
+  -- a taken command comes from the script
   taken : (command : Command) (a b : Activity) (below : List Activity) (objects : List Object) → Takes command a b → AreOfScript script objects (a ∷ below) → AreOfScript script objects (b ∷ below) × Includes (all_commands script) command
   taken command a b below objects (FromTop commands) h = (record { commands = λ c m. h.commands c (inr m); objects = h.objects }, h.commands command (inl refl))
   taken command a b below objects (FromFrame f commands left) h =

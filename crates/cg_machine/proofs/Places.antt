@@ -1,4 +1,4 @@
--- The test on places tells them apart.
+-- The test on places distinguishes them.
 use Rattle.std.proofs.Common.{◌≡◌, ◌≢◌, refl, sym, ◌∙◌, ap, true, false}
 use Rattle.std.proofs.lemmas.Bool.{eqb-true, eq-eqb}
 use Rattle.cg_value.specs.declared.Place.{Place}

@@ -1,4 +1,4 @@
--- A plain executor of the machine, and that each of its steps is one. So no world that runs is stuck.
+-- A deterministic executor whose steps are steps of the machine. So no running world is stuck.
 use Rattle.std.proofs.Common.{◌≡◌, refl, ℕ, zero, suc, List, [], ◌∷◌, Option, Some, None, Result, Ok, Err, Bool, true, false, inl, if◌then◌else◌, T, ◌&&◌, inr}
 use Rattle.cg_script.specs.declared.Script.{Script}
 use Rattle.cg_script.specs.declared.Command.{Command}
@@ -70,7 +70,6 @@ next_on script w (Dying d ∷ below) = dying script d.object d.phase below w
 next_on script w (Collecting c ∷ below) = plain_phase script c c.phase below w
 next_on script w (ShuttingDown started ∷ below) = shut_down started (greatest_bound w) below w
 
--- something runs
 abbrev pub HasTop : List Activity → Type 0
 HasTop [] = ⊥
 HasTop (a ∷ below) = Unit {0}
@@ -84,7 +83,7 @@ next_steps script w (Dying d ∷ below) h = (refl, refl)
 next_steps script w (Collecting c ∷ below) h = plain_phase_steps script c c.phase below w
 next_steps script w (ShuttingDown started ∷ below) h = (refl, refl)
 
--- Progress: a running world with an activity has a step.
+-- A running world with an activity has a step.
 pub progress : (script : Script) (w : World) → w.outcome ≡ Running → HasTop w.stack → (events : List Event) × (after : World) × Step script w events after
 progress script w running h = ((next_on script w w.stack).0, (next_on script w w.stack).1, record { running = running; step = next_steps script w w.stack h })
 
@@ -101,7 +100,6 @@ abbrev pub first_steps : Script → ℕ → World → List StepTaken
 first_steps script zero w = []
 first_steps script (suc n) w = up_to_end w.outcome (next script w ∷ first_steps script n (next script w).world)
 
--- whether they have an activity each
 abbrev pub has_top : List Activity → Bool
 has_top [] = false
 has_top (a ∷ below) = true

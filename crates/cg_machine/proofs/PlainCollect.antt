@@ -1,4 +1,4 @@
--- A plain executor of collections, and that it takes steps of the machine.
+-- A deterministic executor of collections, whose steps are steps of the machine.
 use Rattle.std.proofs.Common.{◌≡◌, refl, sym, ap, subst, ℕ, ◌+◌, ◌<◌, Bool, true, false, cond, ◌⊎◌, inl, inr, List, [], ◌∷◌, ◌++◌, map, length, Option, Some, None, arith}
 use Rattle.std.specs.Prelude.{◌==◌, filter, count_by, option_and_then}
 use Rattle.std.proofs.lemmas.Bool.{cases_Bool, eqb-true}
@@ -66,7 +66,6 @@ once : (xs : List ℕ) (o : ℕ) → occurrences o (distinct xs) < 2
 once [] o = omega arith
 once (x ∷ xs) o = once_at (includes xs x) (x == o) o x xs refl refl (once xs o)
 
--- the start
 abbrev pub plain_start : Script → Collection → List Activity → World → Transition
 plain_start script c below w =
     let m = merged c.generation w in
@@ -84,7 +83,6 @@ plain_start_steps script c below w = record {
   lines = refl;
 }
 
--- the weak phase
 abbrev pub plain_weak_at : Collection → List ℕ → List Activity → World → Option Object → Transition
 plain_weak_at c waiting below w None = ([], collection_at c (WeakCalling waiting) below w)
 plain_weak_at c waiting below w (Some y) = clears_one c waiting below w y.serial
@@ -94,7 +92,6 @@ plain_weak_steps_at : (profile : ℕ) (c : Collection) (waiting : List ℕ) (bel
 plain_weak_steps_at profile c waiting below w None none = inr (none, (refl, refl))
 plain_weak_steps_at profile c waiting below w (Some y) some = inl (record { weak = y.serial; newest = greatest_is_newest (loses_in_weak_phase profile w.objects) w.objects y some; yields = (refl, refl) })
 
--- the finalizer phase
 abbrev pub plain_finalizing : Script → Collection → List Activity → World → List ℕ → Transition
 plain_finalizing script c below w [] = ([], collection_at c Split below (replaced_place Seen Cand w))
 plain_finalizing script c below w (o ∷ os) = looks_at script c o below w (option_and_then (finalizer_to_run script) (object_at w.objects o))
@@ -104,7 +101,6 @@ plain_finalizing_steps : (script : Script) (c : Collection) (below : List Activi
 plain_finalizing_steps script c below w [] e = inr (e, (refl, refl))
 plain_finalizing_steps script c below w (o ∷ os) e = inl (record { object = o; condemned = subst (λ xs. Includes xs o) (sym e) (inl refl); yields = (refl, refl) })
 
--- the second detection
 abbrev pub plain_alive : World → List ℕ
 plain_alive w = distinct (survivors w Cand)
 
@@ -131,7 +127,6 @@ plain_split_steps c below w = record {
   world = refl;
 }
 
--- the turns
 abbrev pub plain_turns : Collection → List Activity → World → List Object → Transition
 plain_turns c below w [] = ([], collection_at c Ending below w)
 plain_turns c below w (x ∷ xs) = takes_turn c x below w
@@ -140,7 +135,6 @@ plain_turns_steps : (c : Collection) (below : List Activity) (w : World) (xs : L
 plain_turns_steps c below w [] e = inr (ap serials e, (refl, refl))
 plain_turns_steps c below w (x ∷ xs) e = inl (record { object = x; member = subst (λ ys. Includes ys x) (sym e) (inl refl); yields = (refl, refl) })
 
--- the end
 abbrev pub plain_end : Script → Collection → List Activity → World → Transition
 plain_end script c below w =
     let told = serials_at w.objects Legacy in

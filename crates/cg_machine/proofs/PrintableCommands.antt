@@ -1,4 +1,4 @@
--- Each command leaves the texts of names and entries, and prints a value with such a text alone: what it stores it has
+-- Each command keeps the texts of names and entries known, and prints only values with a known text: it takes values
 -- from names, entries and its own operands.
 use Rattle.std.proofs.Common.{◌≡◌, refl, sym, subst, ℕ, ◌<◌, ◌≤◌, Bool, true, false, not, ◌&&◌, inl, List, [], ◌∷◌, length, Option, Some, None}
 use Rattle.std.specs.Prelude.{◌||◌, if◌then◌else◌, option_and_then, option_map, slice_get, slice_set}
@@ -30,7 +30,6 @@ use Rattle.cg_machine.proofs.PrintableSteps.{Prints, silent, says}
 use Rattle.cg_machine.proofs.Inspecting.{TellsThere}
 
 module _ (texts : List (List ℕ)) (short : All (λ text. length text ≤ 1024) texts) (w : World) (known : WorldHasTexts (length texts) w) where
-  -- what an effect prints and leaves
   abbrev pub EffectPrints : Effect → Type 0
   EffectPrints (Changes wants_memory lines given_up after) = Prints texts lines after
   EffectPrints (Calls f) = Unit {0}
@@ -95,18 +94,16 @@ module _ (texts : List (List ℕ)) (short : All (λ text. length text ≤ 1024) 
   abbrev HasItsTexts : Object → Type 0
   HasItsTexts x = HaveTexts (length texts) x.entries
 
-  -- names
   bound_texts : (x : ℕ) (m : Option Val) → ((v : Val) → m ≡ Some v → IsKnown v) → (v : Val) → Includes (slice_set w.names x m) (Some v) → IsKnown v
   bound_texts x m h v k = either (set_member w.names x m (Some v) k) (known.names v) (h v)
 
-  -- the world stays but for its numbers
+  -- only the numbers change
   stays : (numbers : Numbers) → Prints texts [] (record w { numbers = numbers })
   stays numbers = silent texts _ (record { names = known.names; objects = known.objects })
 
   answers : (line : Event) → IsPrintable texts line → Prints texts (line ∷ []) w
   answers line h = says texts line w h known
 
-  -- an object gets other entries
   changes_prints : (f : Object → Object) → KeepsTexts (length texts) f → (o : ℕ) → Prints texts [] (with_change f o w)
   changes_prints f keeps o = silent texts _ (record { names = known.names; objects = changed_texts (length texts) f keeps o w.objects known.objects })
 
@@ -126,7 +123,6 @@ module _ (texts : List (List ℕ)) (short : All (λ text. length text ≤ 1024) 
   places_print : (f : Place → Place) (numbers : Numbers) → Prints texts [] (record w { objects = replaced f w; numbers = numbers })
   places_print f numbers = silent texts _ (record { names = known.names; objects = mapped_texts (length texts) (λ x. with_place (f x.place) x) (λ x k. k) w.objects known.objects })
 
-  -- a new object
   makes_prints : (name : ℕ) (kind : KindCode) (class : Option ℕ) (entries : List Entry) (referent : Option ℕ) → HaveTexts (length texts) entries → Prints texts (Made kind w.next_serial ∷ []) (bound (with_new w kind class entries referent) name (Some (Ref w.next_serial)))
   makes_prints name kind class entries referent h = says texts (Made kind w.next_serial) _ tt (record {
     names = bound_texts name (Some (Ref w.next_serial)) (λ v e. same_known (Ref w.next_serial) v e tt);

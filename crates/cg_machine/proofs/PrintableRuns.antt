@@ -1,4 +1,4 @@
--- Each line of a run of a script that names its own texts alone, each of them short, can be printed.
+-- In a run of a script that uses only its own texts, each of them short, every line can be printed.
 use Rattle.std.proofs.Common.{◌≡◌, sym, refl, subst, ℕ, ◌≤◌, inl, List, [], ◌∷◌, length, Some, None, true, false}
 use Rattle.std.specs.Prelude.{flat_map}
 use Rattle.std.specs.List.{All}
@@ -33,7 +33,6 @@ module _ (script : Script) (known : TextsAreKnown script) (short : All (λ text.
   answers_print (Collected n ∷ []) k after h = says script.names (Collected n) after tt h
   answers_print lines k after h = absurd k
 
-  -- a command is done
   command_prints : (w : World) (command : Command) (a : Activity) (below : List Activity) (v : World) → WorldHasTexts (length script.names) v → NamesTexts (length script.names) command → CommandSteps script (λ w. Prints script.names) w command (on a below v) a below
   command_prints w command a below v h named = record {
     stays = λ lines answers. answers_print lines answers (on a below v) h;
@@ -57,7 +56,7 @@ module _ (script : Script) (known : TextsAreKnown script) (short : All (λ text.
   taken_names command a b below (FromTop commands) named = named command (inl refl)
   taken_names command a b below (FromFrame f commands left) named = named command (Includes-append_left f.commands (flat_map commands_on below) command (subst (λ (cs : List Command). Includes cs command) (sym left) (inl refl)))
 
-  -- what is known of a world: its commands name texts of the script, and its texts are known
+  -- the commands of a world name texts of the script, and its own texts are known
   abbrev Named : World → Type 0
   Named w = ((c : Command) → Includes (flat_map commands_on w.stack) c → NamesTexts (length script.names) c) × WorldHasTexts (length script.names) w
 

@@ -1,5 +1,5 @@
--- Releases, deaths and collections print no value, and leave the texts of names and entries: they take entries away, and
--- append references to the garbage list.
+-- Releases, deaths and collections print no value and keep the texts of names and entries known: they remove entries,
+-- and append references to the garbage list.
 use Rattle.std.proofs.Common.{sym, subst, ℕ, not, List, [], ◌∷◌, length}
 use Rattle.std.specs.Prelude.{◌==◌}
 use Rattle.cg_value.specs.declared.Val.TheVariants.{Ref}
@@ -18,11 +18,10 @@ use Rattle.cg_machine.proofs.Advances.{Advance, Plainly, WithFrame, HasChanged, 
 use Rattle.cg_machine.proofs.Starting.{starts_either}
 
 module _ (texts : List (List ℕ)) where
-  -- lines that can be printed
   abbrev pub ArePrintable : List Event → Type 0
   ArePrintable events = (event : Event) → Includes events event → IsPrintable texts event
 
-  -- what a step prints can be printed, and the texts of the world that it leaves are known
+  -- what a step prints can be printed, and the texts of the world after it are known
   pub record Prints (events : List Event) (after : World) : Type 0 where
     pub lines : ArePrintable events
     pub known : WorldHasTexts (length texts) after
@@ -33,7 +32,6 @@ module _ (texts : List (List ℕ)) where
   pub says : (event : Event) (after : World) → IsPrintable texts event → WorldHasTexts (length texts) after → Prints (event ∷ []) after
   says event after p h = record { lines = λ other m. either m (λ e. subst (IsPrintable texts) e p) (λ none. absurd none); known = h }
 
-  -- a frame starts
   pub starts_prints : (script : Script) (spec : FrameSpec) (u : World) → WorldHasTexts (length texts) u → (let t : Transition = start_frame script spec u in Prints t.0 t.1)
   starts_prints script spec u h = starts_either Prints script spec u (says BudgetSpent _ tt h) (λ some. says (Enter spec.sort spec.subject) _ tt h)
 
@@ -46,7 +44,6 @@ module _ (texts : List (List ℕ)) where
   printable before after top lines (Shows ls h) event m = no_value after top event (h event m).0
   printable before after top lines (Frees o dies gone) event m = either m (λ e. subst (IsPrintable texts) e tt) (λ none. absurd none)
 
-  -- the objects change
   objects_texts : (top : Activity) (tops : List Activity) (lines : List Event) (before after : List Object) → HasChanged top tops lines before after → ObjectsHaveTexts (length texts) before → ObjectsHaveTexts (length texts) after
   objects_texts top tops lines before after (NothingChanges objects) h = h
   objects_texts top tops lines before after (ChangesEach f test objects aside) h = λ y m. let x = asides top tops lines f test objects aside y m in subst (HaveTexts (length texts)) (sym x.2.entries) (h x.0 x.1)

@@ -1,5 +1,5 @@
--- Values whose strings are among the first texts of a script: what lists of entries, names and objects keep of that, and
--- what the commands of a script name.
+-- Values whose strings are among the first n texts of a script: what entries, names and objects keep of that, and which
+-- texts the commands of a script name.
 use Rattle.std.proofs.Common.{◌≡◌, refl, sym, subst, ℕ, zero, suc, ◌<◌, ◌≤◌, Bool, true, false, inl, inr, ◌⊎◌, List, [], ◌∷◌, ◌++◌, map, length, replicate, Option, Some, None, take, drop}
 use Rattle.std.specs.Prelude.{◌==◌, if◌then◌else◌, flat_map, slice_set, remove, option_map, unwrap_or}
 use Rattle.std.specs.List.{All}
@@ -30,16 +30,14 @@ HasText n (Int i) = Unit {0}
 HasText n (Str s) = s < n
 HasText n (Ref o) = Unit {0}
 
--- the key and the value of an entry are so
+-- so are the key and the value of an entry
 pub record EntryHasTexts (n : ℕ) (e : Entry) : Type 0 where
   pub key : HasText n e.key
   pub val : HasText n e.val
 
--- all entries
 abbrev pub HaveTexts : ℕ → List Entry → Type 0
 HaveTexts n entries = (e : Entry) → Includes entries e → EntryHasTexts n e
 
--- those of all objects
 abbrev pub ObjectsHaveTexts : ℕ → List Object → Type 0
 ObjectsHaveTexts n objects = (x : Object) → Includes objects x → HaveTexts n x.entries
 
@@ -48,11 +46,9 @@ pub record AreTextsOf (n : ℕ) (bound : List (Option Val)) (present : List Obje
   pub names : (v : Val) → Includes bound (Some v) → HasText n v
   pub objects : ObjectsHaveTexts n present
 
--- those of a world
 abbrev pub WorldHasTexts : ℕ → World → Type 0
 WorldHasTexts n w = AreTextsOf n w.names w.objects
 
--- members of lists
 pub taken_member : {X : Type 0} (n : ℕ) (xs : List X) (x : X) → Includes (take n xs) x → Includes xs x
 taken_member zero xs x m = absurd m
 taken_member (suc n) [] x m = absurd m
@@ -85,7 +81,7 @@ all_member P [] x h m = absurd m
 all_member P (y ∷ xs) x h (inl e) = subst P e (All-head P y xs h)
 all_member P (y ∷ xs) x h (inr m) = all_member P xs x (All-tail P y xs h) m
 
--- Where each text is short, such a value can be printed.
+-- If each text is short, such a value can be printed.
 pub text_printable : (texts : List (List ℕ)) → All (λ text. length text ≤ 1024) texts → (v : Val) → HasText (length texts) v → IsPrintableValue texts v
 text_printable texts short Nothing h = tt
 text_printable texts short (Int i) h = tt
@@ -93,7 +89,6 @@ text_printable texts short (Str s) h = (h, subst (λ text. length text ≤ 1024)
 text_printable texts short (Ref o) h = tt
 
 module _ (n : ℕ) where
-  -- lists of entries
   pub item_texts_of : (v : Val) → HasText n v → EntryHasTexts n (item v)
   item_texts_of v h = record { key = tt; val = h }
 
@@ -133,7 +128,6 @@ module _ (n : ℕ) where
       go true k ih = let same : x.val ≡ v = cc in subst (HasText n) same (h x (inl refl)).val
       go false k ih = ih k
 
-  -- objects
   pub entries_texts : (objects : List Object) (o : ℕ) → ObjectsHaveTexts n objects → HaveTexts n (entries_of objects o)
   entries_texts objects o h = go (object_at objects o) refl
     where
@@ -158,7 +152,7 @@ module _ (n : ℕ) where
   pub changed_texts : (f : Object → Object) → KeepsTexts f → (o : ℕ) (objects : List Object) → ObjectsHaveTexts n objects → ObjectsHaveTexts n (change f o objects)
   changed_texts f keeps o objects h = tested_texts f keeps (λ x. x.serial == o) objects h
 
--- The texts of each command of a script stand among those of its items.
+-- The texts of each command of a script are among those of its items.
 outside_text : (items : List Item) (command : Command) (t : ℕ) → Includes (commands_of items) command → Includes (command_texts command) t → Includes (flat_map item_texts items) t
 outside_text [] command t m k = absurd m
 outside_text (Profile n ∷ items) command t m k = outside_text items command t m k
@@ -180,11 +174,11 @@ body_text (Def p ∷ items) command t m k = either (Includes-append_cases p.body
     (λ l. Includes-append_right (item_texts (Def p)) (flat_map item_texts items) t (body_text items command t l k))
 body_text (Run c ∷ items) command t m k = Includes-append_right (command_texts c) (flat_map item_texts items) t (body_text items command t m k)
 
--- a command names texts below n alone
+-- a command names only texts below n
 abbrev pub NamesTexts : ℕ → Command → Type 0
 NamesTexts n command = (t : ℕ) → Includes (command_texts command) t → t < n
 
--- Where a script names its own texts alone, each command of it does.
+-- In a script that uses only its own texts, each command does.
 pub commands_name_texts : (script : Script) → TextsAreKnown script → (command : Command) → Includes (all_commands script) command → NamesTexts (length script.names) command
 commands_name_texts script known command m t k = all_member (λ i. i < length script.names) (flat_map item_texts script.items) t known
     (either (Includes-append_cases (commands_of script.items) (flat_map (λ p. p.body) (procedures script.items)) command m) (λ l. outside_text script.items command t l k) (λ l. body_text script.items command t l k))

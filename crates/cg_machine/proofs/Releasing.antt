@@ -1,4 +1,4 @@
--- Releases, and frames that start and end, keep the invariant of dying objects.
+-- Releases, and frames that start or end, keep the invariant of dying objects.
 use Rattle.std.proofs.Common.{◌≡◌, ◌≢◌, refl, sym, ◌∙◌, ap, subst, ℕ, ◌-◌, Bool, true, false, cond, not, ◌&&◌, inl, inr, List, [], ◌∷◌, ◌++◌, Option, None, arith}
 use Rattle.std.specs.Prelude.{◌==◌, if◌then◌else◌, flat_map, option_to_list}
 use Rattle.std.proofs.lemmas.Bool.{eqb-true, eq-eqb, and_parts}
@@ -21,7 +21,7 @@ use Rattle.cg_machine.proofs.Saving.{count_cons}
 use Rattle.cg_machine.proofs.Forgotten.{IsQuiet, Unheld, Forgotten, Mortal, AreReferred, IsLater, Alters, alters_refl, change_alters, map_quiet, still_forgotten, referred_after}
 use Rattle.cg_machine.proofs.Unheld.{IsLocalHeld, AreOver, AreResting, Calm, Keeps, resting_stack, resting_after, altered_keeps, same_objects, popped_free, pushed_free, turned_free}
 
--- an object that is held no time is not among the holdings, and the other way round
+-- an object has count 0 exactly if it is not among the holdings
 pub absent : (o : ℕ) (xs : List ℕ) → occurrences o xs ≡ 0 → ¬ Includes xs o
 absent o [] none m = absurd m
 absent o (x ∷ xs) none (inl e) =
@@ -109,7 +109,6 @@ dies_quiet o x free = go (x.serial == o) refl
     go true e = record { entries = free; untracked = λ i. refl; refers_to_none = λ i. refl }
     go false e = record { entries = free; untracked = λ i. absurd (let no : true ≡ false = sym (eq-eqb x.serial o i) ∙ e in cc); refers_to_none = λ i. absurd (let no : true ≡ false = sym (eq-eqb x.serial o i) ∙ e in cc) }
 
--- a release
 module _ (script : Script) (below : List Activity) (v : World) where
   ends_calm : Calm script (with_stack (Releasing [] ∷ below) v) → Calm script (with_stack below v)
   ends_calm c = record {
@@ -195,7 +194,6 @@ starts_calm script spec u referred over resting local held = go (u.budget == 0)
       stack = (tt, resting_after script u entered u.stack (λ d m. altered_keeps script u entered d.object (alters_refl u.objects) (λ l f. still_forgotten u entered d.object refl (alters_refl u.objects) (λ q. q) (pushed_free frame u.stack d.object (held d.object l f)) f)) resting);
     }
 
--- A frame ends.
 pub frame_end_calm : (script : Script) (f : Frame) (below : List Activity) (v : World) → Calm script (with_stack (Framed f ∷ below) v) → Calm script (frame_end f (with_stack below v)).1
 frame_end_calm script f below v c = by_sort f.sort f.function (λ o k. k)
   where

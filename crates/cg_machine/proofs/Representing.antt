@@ -1,5 +1,5 @@
--- What a heap stands for, and what that gives the layers above: a count is the in-degree, a dying object has a death on the
--- stack, and a release more or less is seen in the holds alone.
+-- What follows for the layers above from what a heap represents: a count is the in-degree, a dying object has a death on
+-- the stack, and a release changes only the holds.
 use Rattle.std.proofs.Common.{◌≡◌, refl, sym, ◌∙◌, ap, ℕ, ◌+◌, ◌≤◌, true, false, cond, inl, inr, List, [], ◌∷◌, ◌++◌, arith}
 use Rattle.std.specs.Prelude.{flat_map, ◌==◌}
 use Rattle.std.specs.List.{list_any}
@@ -23,7 +23,6 @@ append_none : (events : List Event) → events ++ [] ≡ events
 append_none [] = refl
 append_none (e ∷ events) = ap (λ l. e ∷ l) (append_none events)
 
--- one step
 pub in_one : (script : Script) (w : World) (events : List Event) (after : World) → w.outcome ≡ Running → StepOf script w w.stack events after → Goes script w events after
 in_one script w events after running step = record {
   steps = record { events = events; world = after } ∷ [];
@@ -33,13 +32,13 @@ in_one script w events after running step = record {
   alone = tt;
 }
 
--- a step more, where neither it nor the next is a detection
+-- one more step, where neither it nor the next is a reachability pass
 alone_after : (w : World) (step : StepTaken) (steps : List StepTaken) → detects w.stack ≡ false → detects step.world.stack ≡ false → MakesDetectionsAlone step.world steps → MakesDetectionsAlone w (step ∷ steps)
 alone_after w step [] none next alone = tt
 alone_after w step (one ∷ []) none next alone = (none, (next, tt))
 alone_after w step (one ∷ two ∷ steps) none next alone = (none, alone)
 
--- a step that prints nothing, and then more, where neither it nor the next is a detection
+-- a step that prints nothing and then more steps, where neither it nor the next is a reachability pass
 pub and_then : (script : Script) (w mid : World) (events : List Event) (after : World) → w.outcome ≡ Running → StepOf script w w.stack [] mid → detects w.stack ≡ false → detects mid.stack ≡ false → Goes script mid events after → Goes script w events after
 and_then script w mid events after running step none next rest = record {
   steps = record { events = []; world = mid } ∷ rest.steps;
@@ -49,11 +48,10 @@ and_then script w mid events after running step none next rest = record {
   alone = alone_after w (record { events = []; world = mid }) rest.steps none next rest.alone;
 }
 
--- an object alone
 pub occurrences-one : (o : ℕ) → occurrences o (o ∷ []) ≡ 1
 occurrences-one o = occurrences-cons o o [] ∙ ap (λ b. cond b 1 0 + 0) (eq-eqb o o refl)
 
--- the count that the heap keeps is the in-degree
+-- the heap's count is the in-degree
 pub count-in_degree : (store : Store) (w : World) → Represents store w → (s : ℕ) → count_of store s ≡ in_degree w s
 count-in_degree store w r s =
     let within : inner store s ≡ occurrences s (name_holdings w.names ++ (1 ∷ []) ++ entry_holdings (graph_of w.objects)) =
@@ -63,7 +61,7 @@ count-in_degree store w r s =
     (λ i. within i + r.outside s i)
     ∙ sym (occurrences-append s (name_holdings w.names ++ (1 ∷ []) ++ entry_holdings (graph_of w.objects)) (flat_map holds w.stack))
 
--- what one activity holds the stack holds
+-- what an activity holds, the stack holds
 pub held_by_one : (o : ℕ) (stack : List Activity) (a : Activity) → Includes stack a → occurrences o (holds a) ≤ occurrences o (flat_map holds stack)
 held_by_one o [] a m = absurd m
 held_by_one o (b ∷ stack) a m = rw (occurrences-append o (holds b) (flat_map holds stack))
@@ -83,7 +81,7 @@ death_found o (Dying d ∷ stack) h = either (true_or (d.object == o) (list_any 
 death_found o (Collecting c ∷ stack) h = let f = death_found o stack h in (f.0, inr f.1, f.2)
 death_found o (ShuttingDown started ∷ stack) h = let f = death_found o stack h in (f.0, inr f.1, f.2)
 
--- A heap stands for a world, the outside holds aside.
+-- A heap represents a world, apart from the outside holds.
 pub record Matches (store : Store) (w : World) : Type 0 where
   pub objects : objects_of store ≡ w.objects
   pub next_serial : w.next_serial ≡ store.last + 1
@@ -92,15 +90,13 @@ pub record Matches (store : Store) (w : World) : Type 0 where
   pub no_others : (r : Row) → Includes store.rows r → r.waits ≡ true → (d : Death) × Includes w.stack (Dying d) × (d.object ≡ r.referent)
   pub collection : (c : Collection) → Includes w.stack (Collecting c) → CollectionWaits c.phase (list_at store Pend)
 
--- all but the holds
 pub matches : (store : Store) (w : World) → Represents store w → Matches store w
 matches store w r = record { objects = r.objects; next_serial = r.next_serial; names = r.names; deaths = r.deaths; no_others = r.no_others; collection = r.collection }
 
--- with the holds
 pub represents : (store : Store) (w : World) → Matches store w → ((s : ℕ) → outside_of store s ≡ occurrences s (flat_map holds w.stack)) → Represents store w
 represents store w m outside = record { objects = m.objects; next_serial = m.next_serial; names = m.names; outside = outside; deaths = m.deaths; no_others = m.no_others; collection = m.collection }
 
--- A release more, or one less, is seen in the holds alone.
+-- One release more or less changes only the holds.
 module _ (store : Store) (w : World) (references : List ℕ) (below : List Activity) where
   pub pushed : Matches store (with_stack below w) → Matches store (with_stack (Releasing references ∷ below) w)
   pushed m = record {

@@ -1,4 +1,4 @@
--- A step leaves room: frames are paid from the budget, and only deaths stand on releases.
+-- A step keeps within bounds: the budget pays for frames, and only deaths lie on releases.
 use Rattle.std.proofs.Common.{◌≡◌, refl, ℕ, zero, suc, ◌+◌, ◌-◌, ◌≤◌, Bool, List, ◌∷◌, ◌++◌, arith}
 use Rattle.cg_script.specs.declared.Script.{Script}
 use Rattle.cg_graph.specs.Object.{Object}
@@ -16,7 +16,7 @@ use Rattle.cg_machine.proofs.Invariants.{on}
 abbrev pub how_many : (Activity → Bool) → List Activity → ℕ
 how_many sort stack = tally (λ a. bit (sort a)) stack
 
--- the frames and the budget that is left are within the budget of the run, and releases stand apart
+-- the frames and the remaining budget are within the run's budget, and releases are apart
 pub record Room (b budget : ℕ) (stack : List Activity) : Type 0 where
   pub frames : how_many is_frame stack + budget ≤ b
   pub apart : AreReleasesApart stack
@@ -24,16 +24,13 @@ pub record Room (b budget : ℕ) (stack : List Activity) : Type 0 where
 abbrev pub HasRoom : ℕ → World → Type 0
 HasRoom b w = Room b w.budget w.stack
 
--- one is taken from a budget that has one
 taken : (budget : ℕ) → (budget ≡ 0 → ⊥) → budget ≡ budget - 1 + 1
 taken zero some = absurd (some refl)
 taken (suc n) some = omega arith
 
--- a frame starts
 pub starts_room : (b : ℕ) (script : Script) (spec : FrameSpec) (u : World) → HasNoRelease u.stack → HasRoom b u → HasRoom b (start_frame script spec u).1
 starts_room b script spec u none h = starts_either (λ lines. HasRoom b) script spec u (record { frames = h.frames; apart = h.apart }) (λ some. record { frames = omega (arith, h.frames, taken u.budget some); apart = (none, h.apart) })
 
--- what stands in place of the activity on top
 continues_room : (b budget : ℕ) (before after : List Object) (top a : Activity) (below : List Activity) → Continues before after top a → Room b budget (top ∷ below) → Room b budget (a ∷ below) × HasNoRelease (a ∷ below)
 continues_room b budget before after top a below (DeathGoesOn o phase next waits none) h = (record { frames = omega (arith, h.frames); apart = h.apart }, tt)
 continues_room b budget before after top a below (DeathClears o weak waiting weaks t first lost) h = (record { frames = omega (arith, h.frames); apart = h.apart }, tt)

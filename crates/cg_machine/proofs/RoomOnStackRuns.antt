@@ -1,4 +1,4 @@
--- Every step of a run leaves room, commands among them: no command gives up more than an entry.
+-- Every step of a run keeps within bounds, commands too: a command gives up at most one entry.
 use Rattle.std.proofs.Common.{◌≡◌, sym, subst, ℕ, ◌≤◌, List, ◌∷◌, length, Some, arith, [], false}
 use Rattle.cg_script.specs.declared.Script.{Script}
 use Rattle.cg_script.specs.declared.Command.{Command}
@@ -13,7 +13,7 @@ use Rattle.cg_machine.proofs.Advancing.{frame_end_advances, released_advances, d
 use Rattle.cg_machine.proofs.RoomOnStack.{Room, HasRoom, starts_room, advance_room}
 use Rattle.cg_script.specs.declared.Command.TheVariants.{Del}
 
--- what has commands on top has no release there
+-- an activity with commands is not a release
 no_release : (a : Activity) (below : List Activity) → HasCommands a → HasNoRelease (a ∷ below)
 no_release (TopLevel commands) below h = tt
 no_release (Framed f) below h = tt

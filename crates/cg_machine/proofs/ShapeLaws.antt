@@ -1,4 +1,4 @@
--- What follows from the shape of an effect, for all commands at once: a clause for each form.
+-- What follows from the shape of an effect, for all commands at once: one clause for each shape.
 use Rattle.std.proofs.Common.{refl, ap, subst, ℕ, ◌≤◌, Bool, true, false, not, ◌&&◌, inl, inr, ◌⊎◌, List, [], ◌∷◌, length, Option, Result, Ok, Err, arith, ◌∙◌, ◌≡◌, sym, Some, None}
 use Rattle.std.specs.Prelude.{if◌then◌else◌, ◌||◌, option_and_then, slice_get, slice_set, option_to_list}
 use Rattle.cg_value.specs.declared.Val.{Val}
@@ -35,7 +35,6 @@ each_implies P Q h (Err n) p = tt
 pub by_shape : (Q : Effect → Type 0) (w : World) (command : Command) → ((e : Effect) → Shape w command e → Q e) → Each Q (effect w command)
 by_shape Q w command h = each_implies (Shape w command) Q h (effect w command) (effect_shaped w command)
 
--- an object under a key is the same object
 pub put_later : (w : World) (x : Object) (key v : Val) (y : Object) → IsLater y (tracked_by w key v (with_entries (put x.entries key v) y))
 put_later w x key v y = go (is_dict y && not (is_tracked y) && (may_track w key || may_track w v))
   where
@@ -43,7 +42,7 @@ put_later w x key v y = go (is_dict y && not (is_tracked y) && (may_track w key 
     go true = record { serial = refl; code = refl; class = refl; referent = inl refl }
     go false = record { serial = refl; code = refl; class = refl; referent = inl refl }
 
--- The stack and the budget stay, serials rise, and one object is made at most.
+-- The stack and the budget stay, serials rise, and at most one object is made.
 shape_leaves : (w : World) (command : Command) (e : Effect) → Shape w command e → LeavesStack w e
 shape_leaves w command e (Binds name v own hand) = record { stack = refl; budget = refl; outcome = refl; rises = λ r. r; serial = omega arith }
 shape_leaves w command e (Makes name kind class entries referent own parts) = record { stack = refl; budget = refl; outcome = refl; rises = λ r. Rises-new 1 w.next_serial w.objects _ refl r; serial = omega arith }
@@ -67,7 +66,7 @@ changes_leave w command wants_memory lines given_up after s = shape_leaves w com
 pub effect_leaves : (w : World) (command : Command) → Each (LeavesStack w) (effect w command)
 effect_leaves w command = by_shape (LeavesStack w) w command (shape_leaves w command)
 
--- Two references are given up at most.
+-- At most two references are given up.
 abbrev pub GivesFew : Effect → Type 0
 GivesFew (Changes wants_memory lines given_up after) = length given_up ≤ 2
 GivesFew (Calls f) = Unit {0}
@@ -124,8 +123,8 @@ shape_comes w command e (AsksWhy x h calm) = tt
 abbrev pub IsPrinted : World → Command → ℕ → Type 0
 IsPrinted w command o = (o ≡ w.next_serial) ⊎ (IsAtHand w command (Ref o) ⊎ (is_collecting w ≡ false) × IsThere w o)
 
--- Each reference that is given up, printed or bound to a name is at hand, or is the serial that the command makes. An
--- inspection also prints objects that are there, while no collection is under way.
+-- Each reference that is given up, printed or bound to a name is at hand, or is the new serial. An inspection also
+-- prints live objects, and runs only while no collection is under way.
 pub record IsOfHand (w : World) (command : Command) (lines : List Event) (given_up : List ℕ) (after : World) : Type 0 where
   pub gives : (o : ℕ) → Includes given_up o → IsAtHand w command (Ref o)
   pub prints : (line : Event) → Includes lines line → (o : ℕ) → Includes (named line) o → IsPrinted w command o

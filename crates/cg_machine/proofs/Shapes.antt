@@ -1,4 +1,4 @@
--- What the effect of a command can be, in a dozen forms. What it binds, puts, gives up, calls or prints is at hand.
+-- The shapes of a command's effect, a dozen. What it binds, stores, gives up, calls or prints is at hand.
 use Rattle.std.proofs.Common.{◌≡◌, ◌≢◌, refl, sym, ◌∙◌, ap, subst, ℕ, zero, suc, ◌+◌, ◌≤◌, Bool, true, false, not, inl, inr, ◌⊎◌, List, [], ◌∷◌, ◌++◌, map, length, length-append, Option, Some, None, Result, Ok, Err, arith}
 use Rattle.std.specs.Prelude.{ℤ, pos, negsuc, flat_map, ◌==◌, ◌||◌, nat_le, nat_lt, if◌then◌else◌, is_some, is_none, ok_or, option_and_then, option_to_list, slice_set, slice_get, remove}
 use Rattle.std.proofs.lemmas.List.{length-set}
@@ -35,12 +35,12 @@ use Rattle.cg_machine.proofs.PrintableTexts.{removed_member, set_member}
 use Rattle.cg_machine.proofs.Moves.{AtMostOne, Goes, appended_goes, removed_goes, set_goes, without_key_goes}
 use Rattle.cg_machine.proofs.Inspecting.{AllTellThere, referents_there, referrers_there}
 
--- A word of a command: what it comes to is among what the command's words come to, whatever that is.
+-- An operand of a command: its value is among the values of the command's operands, in any world.
 abbrev pub IsWordOf : Command → Operand → Type 0
 IsWordOf command operand = (of : Operand → List ℕ) (t : ℕ) → Includes (of operand) t → Includes (words_by of command) t
 
--- A value that a command has at hand: none, what a word of it stands for (`#1`, the value of a name or of a local), or what is in
--- an entry, or is the referent, of an object that it has at hand.
+-- A value that a command has at hand: none, the value of an operand (`#1`, a name or a local), an entry of an object at hand, or
+-- its referent.
 pub data IsAtHand (w : World) (command : Command) : Val → Type 0 where
   NoneThere : IsAtHand w command Nothing
   Word : (operand : Operand) (v : Val) → IsWordOf command operand → value_of w operand ≡ Some v → IsAtHand w command v
@@ -48,17 +48,17 @@ pub data IsAtHand (w : World) (command : Command) : Val → Type 0 where
   KeyIn : (x : Object) (e : Entry) → Includes w.objects x → IsAtHand w command (Ref x.serial) → Includes x.entries e → IsAtHand w command e.key
   ReferentOf : (x : Object) (r : ℕ) → Includes w.objects x → IsAtHand w command (Ref x.serial) → x.referent ≡ Some r → IsAtHand w command (Ref r)
 
--- an object at hand, which passes a test
+-- an object at hand that passes a test
 pub record HasObject (w : World) (command : Command) (test : Object → Bool) (x : Object) : Type 0 where
   pub member : Includes w.objects x
   pub hand : IsAtHand w command (Ref x.serial)
   pub passes : test x ≡ true
 
--- items at hand: no keys
+-- items at hand, without keys
 abbrev pub AreItems : World → Command → List Entry → Type 0
 AreItems w command entries = (e : Entry) → Includes entries e → (e.key ≡ Nothing) × IsAtHand w command e.val
 
--- what a command makes: instances and functions are of the class and procedure that it names
+-- instances and functions are of the class and procedure that the command names
 pub data IsMadeBy : Command → KindCode → Option ℕ → Type 0 where
   ByList : (name : ℕ) (items : List Operand) → IsMadeBy (MakeList name items) ListKind None
   ByTuple : (name : ℕ) (items : List Operand) → IsMadeBy (MakeTuple name items) Tuple None
@@ -67,7 +67,6 @@ pub data IsMadeBy : Command → KindCode → Option ℕ → Type 0 where
   ByFunc : (name proc : ℕ) (cells : List Operand) → IsMadeBy (MakeFunc name proc cells) Func (Some proc)
   ByRef : (name : ℕ) (target callback : Operand) → IsMadeBy (MakeRef name target callback) Weak None
 
--- the parts of a new object
 pub record HasParts (w : World) (command : Command) (kind : KindCode) (class : Option ℕ) (entries : List Entry) (referent : Option ℕ) : Type 0 where
   pub room : nat_lt (live w) MOST_OBJECTS ≡ true
   pub entry_room : entry_count w + length entries ≤ 4000000
@@ -77,7 +76,7 @@ pub record HasParts (w : World) (command : Command) (kind : KindCode) (class : O
   pub refers : (r : ℕ) → referent ≡ Some r → (kind ≡ Weak) × ((z : Object) × HasObject w command has_weak_references z × (z.serial ≡ r))
   pub callbacks : kind ≡ Weak → AtMostOne entries × ((f : ℕ) → Includes (references entries) f → HasFunction w.objects f)
 
--- what may change: lists, dictionaries and instances
+-- the mutable kinds: lists, dictionaries and instances
 abbrev pub IsMutable : KindCode → Type 0
 IsMutable ListKind = Unit {0}
 IsMutable Tuple = ⊥
@@ -86,8 +85,8 @@ IsMutable Inst = Unit {0}
 IsMutable Func = ⊥
 IsMutable Weak = ⊥
 
--- other entries of an object: those it had, and in a list one item at hand, which the garbage list does not get; at most one entry is
--- given up, and the references of the others stay
+-- An edit of entries: a list may get one item at hand, but not the garbage list. At most one entry is given up, and the
+-- references of the others stay.
 pub record IsEdit (w : World) (command : Command) (x : Object) (entries : List Entry) (given_up : List ℕ) : Type 0 where
   pub come : (e : Entry) → Includes entries e → Includes x.entries e ⊎ (x.serial ≢ 1) × (e.key ≡ Nothing) × IsAtHand w command e.val
   pub adds : x.code ≢ ListKind → (e : Entry) → Includes entries e → Includes x.entries e
@@ -96,7 +95,7 @@ pub record IsEdit (w : World) (command : Command) (x : Object) (entries : List E
   pub given : (given_up ≡ []) ⊎ ((e : Entry) × Includes x.entries e × (given_up ≡ entry_references e))
   pub keeps : (n : ℕ) → Goes x.entries entries given_up n
 
--- a line that tells numbers alone
+-- a line of numbers alone
 abbrev pub TellsNumbers : Event → Type 0
 TellsNumbers (RefCount n) = Unit {0}
 TellsNumbers (TrackedLine b) = Unit {0}
@@ -105,7 +104,6 @@ TellsNumbers (CountLine first second third) = Unit {0}
 TellsNumbers (GensLine first second third frozen_ones) = Unit {0}
 TellsNumbers line = ⊥
 
--- the counts stay
 pub record KeepsCounts (n after : Numbers) : Type 0 where
   pub zero_count : after.zero_count ≡ n.zero_count
   pub one_count : after.one_count ≡ n.one_count
@@ -121,7 +119,7 @@ SetsNumbers (Threshold first second third) = Unit {0}
 SetsNumbers (Flags bits) = Unit {0}
 SetsNumbers command = ⊥
 
--- What an effect can be. A refused command has none.
+-- The shapes of an effect. A refused command has none.
 pub data Shape (w : World) (command : Command) : Effect → Type 0 where
   Binds : (name : ℕ) (v : Option Val) → IsWordOf command (Name name) → ((u : Val) → v ≡ Some u → IsAtHand w command u) → Shape w command (Changes false [] (given_up_by w name) (bound w name v))
   Makes : (name : ℕ) (kind : KindCode) (class : Option ℕ) (entries : List Entry) (referent : Option ℕ) → IsWordOf command (Name name) → HasParts w command kind class entries referent
@@ -142,7 +140,7 @@ pub data Shape (w : World) (command : Command) : Effect → Type 0 where
   Inspects : (lines : List Event) → is_collecting w ≡ false → AllTellThere w lines → Shape w command (Changes true lines [] w)
   AsksWhy : (x : Object) → HasObject w command any_object x → is_collecting w ≡ false → Shape w command (Explains x.serial)
 
--- Checks in order, where each result is known.
+-- Checks in order, with known results.
 each_unless : (b : Bool) (refusal : ℕ) → Each (λ u. b ≡ true) (unless b refusal)
 each_unless true refusal = refl
 each_unless false refusal = tt
@@ -153,7 +151,6 @@ ref_is (Int n) s e = absurd (let no : None ≡ Some s = e in cc)
 ref_is (Str t) s e = absurd (let no : None ≡ Some s = e in cc)
 ref_is (Ref o) s e = let same : o ≡ s = cc in ap (λ n. Ref n) same
 
--- an entry of two references at most, and the list of its parts
 option_two : (m : Option ℕ) → length (option_to_list m) ≤ 1
 option_two None = omega arith
 option_two (Some o) = omega arith
@@ -189,7 +186,6 @@ removed_shorter (x ∷ xs) zero e at = omega arith
 removed_shorter (x ∷ xs) (suc i) e at = omega (arith, removed_shorter xs i e at)
 
 module _ (w : World) (command : Command) where
-  -- words of the command
   abbrev AreWords : List Operand → Type 0
   AreWords operands = (of : Operand → List ℕ) (t : ℕ) → Includes (flat_map of operands) t → Includes (words_by of command) t
 
@@ -221,7 +217,6 @@ module _ (w : World) (command : Command) where
       go None at x e = absurd (let no : None ≡ Some x = e in cc)
       go (Some s) at x e = let f = found_at w.objects s x e in tests x f.0 (subst (IsAtHand w command) (ref_is v s at ∙ ap (λ n. Ref n) (sym f.1)) hand) (at ∙ ap (λ n. Some n) (sym f.1)) (test x) refl
 
-  -- the same, where an effect follows
   abbrev S : Result Effect ℕ → Type 0
   S r = Each (Shape w command) r
 
@@ -243,7 +238,6 @@ module _ (w : World) (command : Command) where
   any : {A : Type 0} (f : A → Result Effect ℕ) (m : Result A ℕ) → ((x : A) → S (f x)) → S (m >>= f)
   any f m h = checked (Shape w command) m f h
 
-  -- the forms
   binds_shaped : (name : ℕ) (v : Val) → IsWordOf command (Name name) → IsAtHand w command v → Shape w command (Changes false [] (given_up_by w name) (bound w name (Some v)))
   binds_shaped name v own hand = Binds name (Some v) own (λ u e. let same : v ≡ u = cc in subst (IsAtHand w command) same hand)
 
@@ -338,7 +332,6 @@ module _ (w : World) (command : Command) where
   quit_shaped (Str s) = Stays
   quit_shaped (Ref o) = Stays
 
-  -- the callback of a new weak reference
   pub record IsCallback (entries : List Entry) : Type 0 where
     pub items : AreItems w command entries
     pub single : AtMostOne entries
@@ -361,7 +354,6 @@ module _ (w : World) (command : Command) where
   callback_shaped (Str s) hand = is_found IsCallback _ is_function not_callable (Str s) hand (λ x h is. item_callback (Str s) hand x h is)
   callback_shaped (Ref p) hand = is_found IsCallback _ is_function not_callable (Ref p) hand (λ x h is. item_callback (Ref p) hand x h is)
 
--- the code of a list
 list_code : (k : KindCode) → elim k [ ListKind ↦ true | _ ↦ false ] ≡ true → k ≡ ListKind
 list_code ListKind e = refl
 list_code Tuple e = absurd (let no : false ≡ true = e in cc)
@@ -370,7 +362,6 @@ list_code Inst e = absurd (let no : false ≡ true = e in cc)
 list_code Func e = absurd (let no : false ≡ true = e in cc)
 list_code Weak e = absurd (let no : false ≡ true = e in cc)
 
--- there are three generations
 generation_low : (i : ℤ) (g : ℕ) → valid_index i 3 ≡ Some g → g ≤ 2
 generation_low (pos n) g e = go (nat_lt n 3) refl e
   where
@@ -412,20 +403,16 @@ script_list_is x t =
 keyed : (w : World) (command : Command) (test : Object → Bool) (x : Object) → HasObject w command test x → (is_dict x || is_instance x) ≡ true → HasObject w command (λ y. is_dict y || is_instance y) x
 keyed w command test x h passes = record { member = h.member; hand = h.hand; passes = passes }
 
--- the word of an attribute
 attribute : (w : World) (command : Command) (name : ℕ) → IsWordOf command (StrWord name) → IsAtHand w command (Str name)
 attribute w command name own = Word (StrWord name) (Str name) own refl
 
--- numbers that commands set
 sets_shaped : (w : World) (command : Command) (first second third flags : ℕ) (enabled : Bool) → SetsNumbers command → Shape w command (Changes false [] [] (record w { numbers = record w.numbers { zero_threshold = first; one_threshold = second; two_threshold = third; flags = flags; enabled = enabled } }))
 sets_shaped w command first second third flags enabled own = Sets (record w.numbers { zero_threshold = first; one_threshold = second; two_threshold = third; flags = flags; enabled = enabled }) own (record { zero_count = refl; one_count = refl; two_count = refl; pending = refl; total = refl })
 
--- no collection is under way
 not_collecting : (b : Bool) → not b ≡ true → b ≡ false
 not_collecting false e = refl
 not_collecting true e = absurd (let no : false ≡ true = e in cc)
 
--- an object that is inspected, while no collection is under way
 inspected : (w : World) (command : Command) (operand : Operand) → IsWordOf command operand
     → (e : Object → Result Effect ℕ) → ((x : Object) → HasObject w command any_object x → is_collecting w ≡ false → Each (Shape w command) (e x))
     → Each (Shape w command) (value w operand >>= λ v. object w any_object wrong_kind v >>= λ x. unless (not (is_collecting w)) in_collection >>= λ u. e x)

@@ -15,7 +15,7 @@ use Rattle.cg_machine.proofs.Sums.{tally}
 use Rattle.cg_machine.proofs.Serials.{Rises}
 use Rattle.cg_machine.proofs.Measure.{alive, commands_in, all_bodies, commands_left, is_starting, due_rank, rank_in, left_in, summary, Lower, by_commands, size_of, entries_in, referents_in, weight_in, bound_names}
 
--- the commands outside procedures, or the shutdown, stand at the bottom, and nowhere else
+-- the commands outside procedures, or the shutdown, are at the bottom and nowhere else
 abbrev pub HasBottom : List Activity → Type 0
 HasBottom [] = ⊥
 HasBottom (TopLevel commands ∷ below) = below ≡ []
@@ -26,7 +26,7 @@ abbrev pub collections_in : Activity → ℕ
 collections_in (Collecting c) = 1
 collections_in _ = 0
 
--- Serials rise and are below the next one, and at most one collection is underway.
+-- Serials rise and are below the next one, and at most one collection is under way.
 pub record Sound (w : World) : Type 0 where
   pub rises : Rises 1 w.next_serial w.objects
   pub bottom : HasBottom w.stack
@@ -50,7 +50,7 @@ pays : (budget bodies body : ℕ) → body ≤ bodies → (budget ≡ 0 → ⊥)
 pays zero bodies body h k = absurd (k refl)
 pays (suc b) bodies body h k = let e : suc b - 1 ≡ b = omega arith in rw e (omega arith)
 
--- From w to u nothing rises.
+-- Nothing rises from w to u.
 pub record NoMore (script : Script) (w u : World) : Type 0 where
   pub commands : commands_left script u ≤ commands_left script w
   pub size : size_of u.objects ≤ size_of w.objects
@@ -58,7 +58,7 @@ pub record NoMore (script : Script) (w u : World) : Type 0 where
   pub referents : referents_in u.objects ≤ referents_in w.objects
   pub weight : tally weight_in u.stack ≤ tally weight_in w.stack + 16
 
--- A frame starts in u, to which the step from w leads.
+-- A frame starts in u, which the step from w leads to.
 pub starts : (script : Script) (spec : FrameSpec) (w u : World) → Sound u → u.outcome ≡ Running → NoMore script w u → Moves script w (start_frame script spec u).1
 starts script spec w u sound running less = go (u.budget == 0) refl
   where
@@ -86,7 +86,7 @@ IsPlain (Releasing references ∷ tops) = IsPlain tops
 IsPlain (Dying d ∷ tops) = IsPlain tops
 IsPlain (_ ∷ tops) = ⊥
 
--- they count for nothing but their weight
+-- they add nothing but their weight
 pub record CountsNothing (tops below : List Activity) : Type 0 where
   pub commands : tally commands_in (tops ++ below) ≡ tally commands_in below
   pub collections : tally collections_in (tops ++ below) ≡ tally collections_in below

@@ -1,5 +1,5 @@
--- What is known of each activity on the stack of a run: which function a frame has, and that weak references have lost a
--- dying object the newest first. What lies below a step keeps that.
+-- What is known of each activity on the stack: the function of a frame, and that weak references to a dying object are
+-- cleared newest first. A step keeps this of the activities below it.
 use Rattle.std.proofs.Common.{◌≡◌, ◌≢◌, refl, sym, ◌∙◌, subst, ℕ, ◌<◌, true, inl, inr, ◌⊎◌, List, [], ◌∷◌, ◌++◌, Option, Some, None, arith}
 use Rattle.std.specs.Prelude.{flat_map, option_to_list}
 use Rattle.cg_script.specs.declared.Script.{Script}
@@ -20,36 +20,35 @@ use Rattle.cg_machine.proofs.HeldLives.{waits_held}
 use Rattle.cg_machine.proofs.HeldLivesDeaths.{HasOrder}
 use Rattle.cg_machine.proofs.LeftBelow.{LeavesIt}
 
--- what has this serial is a function
+-- the object with this serial is a function
 abbrev pub AreFunctions : List Object → ℕ → Type 0
 AreFunctions objects g = (x : Object) → Includes objects x → x.serial ≡ g → is_function x ≡ true
 
--- what has this serial holds g
+-- the object with this serial holds g
 abbrev pub HoldsIn : List Object → ℕ → ℕ → Type 0
 HoldsIn objects s g = (x : Object) → Includes objects x → x.serial ≡ s → Includes (references x.entries) g
 
--- the callback of a frame: what stands below holds it, or the weak reference that waits there does
+-- the callback of a frame is held by the activity below or by the weak reference that waits there
 pub record IsCalled (objects : List Object) (weak g : ℕ) (below : List Activity) : Type 0 where
   pub functions : AreFunctions objects g
   pub held : Includes (flat_map holds below) g ⊎ Includes (all_waits below) weak × HoldsIn objects weak g
 
--- the function of a frame
 abbrev pub KnowsFunction : List Object → FrameSort → ℕ → Option ℕ → List Activity → Type 0
 KnowsFunction objects Del o function below = function ≡ None
 KnowsFunction objects Legacy o function below = function ≡ None
 KnowsFunction objects Callback o function below = (g : ℕ) × (function ≡ Some g) × IsCalled objects o g below
 KnowsFunction objects Call o function below = (function ≡ Some o) × AreFunctions objects o
 
--- the weak references that wait are newer than those that still refer to the object
+-- waiting weak references are newer than those that still refer to the object
 abbrev pub AreNewer : List Object → ℕ → List ℕ → Type 0
 AreNewer objects o waiting = (v q : ℕ) → Includes waiting v → Includes (weak_references objects o) q → q < v
 
--- the order in which weak references lose a dying object
+-- the order in which weak references to a dying object are cleared
 abbrev pub ClearsInOrder : List Object → ℕ → DyingPhase → Type 0
 ClearsInOrder objects o (Clearing waiting) = AreNewer objects o waiting
 ClearsInOrder objects o phase = Unit {0}
 
--- what is known of an activity, and of all
+-- what is known of an activity, and of a stack
 abbrev pub IsKnown : List Object → Activity → List Activity → Type 0
 IsKnown objects (Framed f) below = KnowsFunction objects f.sort f.subject f.function below
 IsKnown objects (Dying d) below = ClearsInOrder objects d.object d.phase
@@ -62,7 +61,7 @@ AreKnown objects (a ∷ below) = IsKnown objects a below × AreKnown objects bel
 abbrev pub IsAllKnown : World → Type 0
 IsAllKnown w = AreKnown w.objects w.stack
 
--- The function of a frame is one, and lives.
+-- The function of a frame is a function, and lives.
 module _ (w : World) (h : HasOrder w) where
   entry_lives : (weak g : ℕ) → Includes (serials w.objects) weak → HoldsIn w.objects weak g → Includes (serials w.objects) g
   entry_lives weak g lives entries =
@@ -86,7 +85,7 @@ module _ (w : World) (h : HasOrder w) where
         h.stack_lives g (held g (subst (λ m. Includes (option_to_list m ++ flat_map holds below) g) (sym e) (inl refl))),
       )
 
--- nothing stands on a death in which weak references lose the object
+-- nothing lies on a death that is clearing weak references
 pub rests_in_order : (script : Script) (w : World) (objects : List Object) (o : ℕ) (phase : DyingPhase) → Rests script w o phase → ClearsInOrder objects o phase
 rests_in_order script w objects o Finalizer h = tt
 rests_in_order script w objects o AfterFinalizer h = tt
@@ -98,7 +97,7 @@ rests_in_order script w objects o AfterLegacy h = tt
 rests_in_order script w objects o Detaching h = tt
 rests_in_order script w objects o Emptying h = tt
 
--- A step keeps it of what stands below the activity that takes it.
+-- A step keeps this of the activities below it.
 module _ (script : Script) (w : World) (a : Activity) (below : List Activity) (after : World) (top : w.stack ≡ a ∷ below) (rises : Rises 1 w.next_serial w.objects) (h : HasOrder w) (l : LeavesIt w below after) (b : LeavesBelow w a below after) where
   functions_kept : (g : ℕ) → Includes (serials w.objects) g → AreFunctions w.objects g → AreFunctions after.objects g
   functions_kept g lives all y m e = either (l.from y m)

@@ -1,4 +1,4 @@
--- In every world of a run the locals of frames live, and weak references lose a dying object the newest first.
+-- In every world of a run, the locals of frames live, and weak references to a dying object are cleared newest first.
 use Rattle.std.proofs.Common.{◌≡◌, ◌≢◌, refl, sym, ◌∙◌, ap, subst, ℕ, true, inl, inr, List, [], ◌∷◌, Option, Some}
 use Rattle.std.specs.Prelude.{flat_map}
 use Rattle.cg_script.specs.declared.Script.{Script}
@@ -32,7 +32,6 @@ use Rattle.cg_machine.proofs.Standing.{AreFunctions, KnowsFunction, ClearsInOrde
 use Rattle.cg_machine.proofs.Advancing.{frame_end_advances, released_advances, dying_advances, phase_advances}
 use Rattle.cg_machine.proofs.StandingSteps.{starts_known, advance_known}
 
--- what a step keeps: what is below, and the commands on top
 abbrev Kept : List Object → List Activity → Type 0
 Kept objects [] = Unit {0}
 Kept objects (a ∷ below) = (HasCommands a → IsKnown objects a below) × AreKnown objects below
@@ -43,7 +42,7 @@ kept_on script w (a ∷ below) after top rises rest h l k =
     let b = leaves_below script w a below after top rises rest.1 h l in
     (λ ha. top_kept script w a below after top rises h l b (no_death a ha) k.0, below_kept script w a below after top rises h l b rest.1 k.1)
 
--- a command is taken from what stays so, and it may have none left
+-- a taken command may be the last one
 taken : (command : Command) (a b : Activity) (below : List Activity) (objects : List Object) → Takes command a b → Kept objects (a ∷ below) → AreKnown objects (b ∷ below)
 taken command a b below objects (FromTop commands) k = (tt, k.1)
 taken command a b below objects (FromFrame f commands left) k = (k.0 tt, k.1)
@@ -111,7 +110,6 @@ module _ (script : Script) (budget : ℕ) (steps : List StepTaken) (run : Run sc
   order : HasOrder last
   order = (orderly_after script (opening script budget) steps (opening_sound script budget) (opening_calm script budget) (opening_orderly script budget) run).1
 
-  -- the function of a frame
   frame_function : (stack : List Activity) → ((s : ℕ) → Includes (flat_map holds stack) s → Includes (flat_map holds last.stack) s) → AreKnown last.objects stack → (f : Frame) → Includes stack (Framed f) → (g : ℕ) → f.function ≡ Some g → AreFunctions last.objects g × Includes (serials last.objects) g
   frame_function [] held k f m g e = absurd m
   frame_function (a ∷ below) held k f (inl i) g e = here a i held k.0

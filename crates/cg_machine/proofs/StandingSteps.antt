@@ -1,4 +1,4 @@
--- Releases, deaths and collections leave the functions of frames known, and clear weak references the newest first.
+-- Releases, deaths and collections keep the functions of frames known, and clear weak references newest first.
 use Rattle.std.proofs.Common.{◌≡◌, ◌≢◌, refl, sym, ◌∙◌, ap, subst, ℕ, suc, ◌≤◌, ◌<◌, Bool, true, false, inl, inr, List, [], ◌∷◌, ◌++◌, reverse, Option, Some, None, arith}
 use Rattle.std.specs.Prelude.{◌==◌, if◌then◌else◌, filter, flat_map, option_map, unwrap_or}
 use Rattle.std.proofs.lemmas.Bool.{eqb-false}
@@ -27,7 +27,6 @@ use Rattle.cg_machine.proofs.Starting.{starts_either}
 use Rattle.cg_machine.proofs.Invariants.{on}
 use Rattle.cg_machine.proofs.Standing.{AreFunctions, HoldsIn, KnowsFunction, AreNewer, ClearsInOrder, IsKnown, AreKnown, IsAllKnown}
 
--- the first of falling serials is the greatest
 greatest_first : (low high : ℕ) (xs : List Object) → Rises low high xs → (weak : ℕ) (weaks : List ℕ) → reverse (serials xs) ≡ weak ∷ weaks → (q : ℕ) → Includes (serials xs) q → q ≤ weak
 greatest_first low high [] r weak weaks e q m = absurd m
 greatest_first low high (x ∷ xs) r weak weaks e q m = go (reverse (serials xs)) refl (λ first front f k. greatest_first (suc x.serial) high xs r.1 first front f q k)
@@ -46,12 +45,11 @@ greatest_first low high (x ∷ xs) r weak weaks e q m = go (reverse (serials xs)
         let within = lives_within (suc x.serial) high xs first r.1 (Includes-reverse (serials xs) first (subst (λ ys. Includes ys first) (sym f) (inl refl))) in
         either m (λ i. omega (arith, i, same, within.0)) (λ k. let less = ih first front f k in omega (arith, less, same))
 
--- the first weak reference to an object is the newest
 first_newest : (high : ℕ) (objects : List Object) → Rises 1 high objects → (o weak : ℕ) (weaks : List ℕ) → weak_references objects o ≡ weak ∷ weaks → (q : ℕ) → Includes (weak_references objects o) q → q ≤ weak
 first_newest high objects r o weak weaks e q m =
     greatest_first 1 high (filter (is_reference_to o) objects) (Rises-filter (is_reference_to o) 1 high objects r) weak weaks e q (Includes-reverse (serials (filter (is_reference_to o) objects)) q m)
 
--- what still refers to an object after one has lost it did before, and is another
+-- a weak reference that still refers after another is cleared referred before, and is not that one
 still_refers : (objects : List Object) (weak o q : ℕ) → Includes (weak_references (loses_referent weak objects) o) q → Includes (weak_references objects o) q × (q ≢ weak)
 still_refers objects weak o q m =
     let y = Includes-map_cases (λ (x : Object). x.serial) (filter (is_reference_to o) (loses_referent weak objects)) q (Includes-reverse (serials (filter (is_reference_to o) (loses_referent weak objects))) q m) in
@@ -67,7 +65,7 @@ still_refers objects weak o q m =
       eqb-false x.serial weak e,
     )
 
--- the newest loses the object, and perhaps waits
+-- the newest is cleared, and perhaps waits
 still_newer : (high : ℕ) (objects : List Object) → Rises 1 high objects → (o weak : ℕ) (weaks waiting : List ℕ) → weak_references objects o ≡ weak ∷ weaks → AreNewer objects o waiting → (t : Bool) → AreNewer (loses_referent weak objects) o (waiting ++ (if t then weak ∷ [] else []))
 still_newer high objects r o weak weaks waiting e newer t v q m k = either (Includes-append_cases waiting (if t then weak ∷ [] else []) v m) (λ i. newer v q i old.0) (new t)
   where
@@ -81,7 +79,6 @@ still_newer high objects r o weak weaks waiting e newer t v q m k = either (Incl
     new true i = either i (λ same. omega (arith, less, same)) (λ n. absurd n)
     new false i = absurd i
 
--- the callback of a weak reference that waits
 module _ (w : World) (rises : Rises 1 w.next_serial w.objects) (h : HasOrder w) (weak : ℕ) (waits : Includes (all_waits w.stack) weak) where
   abbrev callback : ℕ
   callback = unwrap_or (callback_of w.objects weak) 0
@@ -109,20 +106,18 @@ module _ (w : World) (rises : Rises 1 w.next_serial w.objects) (h : HasOrder w) 
   pub callback_held : HoldsIn w.objects weak callback
   callback_held x m same = subst (λ k. Includes (references x.entries) (unwrap_or k 0)) (sym (is_callback x m same)) (by_entries x m same (callback_in x.entries) refl).0
 
--- A world of whose objects the activities below are known is known.
+-- A world that keeps what is known of the activities below.
 abbrev pub Stays : List Activity → World → Type 0
 Stays below next = AreKnown next.objects below → IsAllKnown next
 
--- a frame starts, whose function is known
+-- a started frame has a known function
 pub starts_known : (script : Script) (spec : FrameSpec) (u : World) (below : List Activity) → KnowsFunction u.objects spec.sort spec.subject spec.func u.stack → Stays below u → Stays below (start_frame script spec u).1
 starts_known script spec u below knows h = starts_either (λ lines. Stays below) script spec u h (λ some r. (knows, h r))
 
--- no weak reference waits at first
 fresh_in_order : (objects : List Object) (o : ℕ) (phase : DyingPhase) → ClearsNone phase → ClearsInOrder objects o phase
 fresh_in_order objects o (Clearing waiting) none = λ v q m. absurd (subst (λ ws. Includes ws v) none m)
 fresh_in_order objects o phase none = tt
 
--- a step of another activity
 module _ (script : Script) (below : List Activity) (v : World) (rises : Rises 1 v.next_serial v.objects) where
   continues_known : (after : List Object) (top a : Activity) → Continues v.objects after top a → IsKnown v.objects top below → AreKnown after below → AreKnown after (a ∷ below)
   continues_known after top a (DeathGoesOn o phase next waits none) k r = (fresh_in_order after o next none, r)

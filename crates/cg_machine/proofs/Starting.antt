@@ -1,4 +1,4 @@
--- Steps by their two ways: a frame starts or the budget is spent, and one or the other of two that a test tells apart.
+-- Steps with two outcomes: a frame starts or the budget is spent; and one of two that a test decides.
 use Rattle.std.proofs.Common.{◌≡◌, refl, ◌-◌, Bool, true, false, List, [], ◌∷◌}
 use Rattle.std.specs.Prelude.{◌==◌, if◌then◌else◌}
 use Rattle.std.proofs.lemmas.Bool.{eqb-false}
@@ -10,7 +10,6 @@ use Rattle.cg_machine.specs.Program.{body_of}
 use Rattle.cg_machine.specs.World.{World, Activity, Framed, BudgetIsSpent}
 use Rattle.cg_machine.specs.Frame.{Transition, start_frame}
 
--- A frame starts where the budget is not spent.
 abbrev pub begun_frame : Script → FrameSpec → Activity
 begun_frame script spec = Framed (record { sort = spec.sort; subject = spec.subject; function = spec.func; commands = body_of script spec.proc })
 
@@ -23,7 +22,6 @@ starts_either R script spec u spent enters = go (u.budget == 0) refl
     go true e = spent
     go false e = enters (eqb-false u.budget 0 e)
 
--- one or the other
 pub either_way : (R : List Event → World → Type 0) (b : Bool) (x y : Transition) → R x.0 x.1 → R y.0 y.1 → (let t : Transition = if b then x else y in R t.0 t.1)
 either_way R true x y h k = h
 either_way R false x y h k = k

@@ -1,4 +1,4 @@
--- The invariant of runs: a dying object is held by nothing, or by its own death while a frame of its own runs.
+-- The invariant of runs: a dying object is unheld, or held by its own death while its own code runs.
 use Rattle.std.proofs.Common.{◌||◌, ◌≡◌, ◌≢◌, refl, sym, ◌∙◌, ap, subst, ℕ, Bool, true, false, inl, inr, ◌⊎◌, List, [], ◌∷◌}
 use Rattle.std.specs.Prelude.{◌==◌, flat_map}
 use Rattle.std.specs.List.{list_any}
@@ -20,17 +20,17 @@ IsLocalHeld Legacy o below = Includes (flat_map holds below) o
 IsLocalHeld Callback o below = Includes (flat_map holds below) o
 IsLocalHeld Call o below = Unit {0}
 
--- where a death below is that of o, it is held there
+-- if a death below is that of o, it holds o there
 abbrev pub IsHeldWhereDying : ℕ → List Activity → Type 0
 IsHeldWhereDying o below = (d : Death) → Includes below (Dying d) → d.object ≡ o → Includes (flat_map holds below) o
 
--- an object that a collection gave up, and that it looks at again
+-- an object that a collection gave up and will visit again
 abbrev pub GivenUp : CollectPhase → List Activity → Type 0
 GivenUp (AfterRelease weak waiting) below = IsHeldWhereDying weak below
 GivenUp (AfterTurn o) below = IsHeldWhereDying o below
 GivenUp phase below = Unit {0}
 
--- what an activity asks of those below it: an object dies once at a time
+-- what an activity needs of those below it: an object dies at most once at a time
 abbrev pub IsOver : Activity → List Activity → Type 0
 IsOver (TopLevel commands) below = Unit {0}
 IsOver (Framed f) below = IsLocalHeld f.sort f.subject below
@@ -39,7 +39,6 @@ IsOver (Dying d) below = list_any (is_death_of d.object) below ≡ false
 IsOver (Collecting c) below = GivenUp c.phase below
 IsOver (ShuttingDown started) below = Unit {0}
 
--- all of them
 abbrev pub AreOver : List Activity → Type 0
 AreOver [] = Unit {0}
 AreOver (a ∷ below) = IsOver a below × AreOver below
@@ -56,11 +55,9 @@ Rests script w o AfterLegacy = Mortal w.objects o × HasFinalizers script w.obje
 Rests script w o Detaching = ⊥
 Rests script w o Emptying = Mortal w.objects o × Forgotten w o
 
--- all of them
 abbrev pub AreResting : Script → World → List Activity → Type 0
 AreResting script w below = (d : Death) → Includes below (Dying d) → Rests script w d.object d.phase
 
--- a death on top
 abbrev pub Stands : Script → World → ℕ → DyingPhase → Type 0
 Stands script w o Finalizer = Unheld w o
 Stands script w o AfterFinalizer = Mortal w.objects o
@@ -72,7 +69,6 @@ Stands script w o AfterLegacy = Mortal w.objects o × HasFinalizers script w.obj
 Stands script w o Detaching = Unheld w o × (HasFinalizers script w.objects o ⊎ NoneRefers o w.objects)
 Stands script w o Emptying = Forgotten w o
 
--- what is on top
 abbrev pub IsOnTop : Script → World → Activity → Type 0
 IsOnTop script w (TopLevel commands) = Unit {0}
 IsOnTop script w (Framed f) = Unit {0}
@@ -81,18 +77,15 @@ IsOnTop script w (Dying d) = Stands script w d.object d.phase
 IsOnTop script w (Collecting c) = Unit {0}
 IsOnTop script w (ShuttingDown started) = Unit {0}
 
--- a whole stack
 abbrev pub IsStack : Script → World → List Activity → Type 0
 IsStack script w [] = Unit {0}
 IsStack script w (a ∷ below) = IsOnTop script w a × AreResting script w below
 
--- the invariant
 pub record Calm (script : Script) (w : World) : Type 0 where
   pub referred : AreReferred w.objects
   pub over : AreOver w.stack
   pub stack : IsStack script w w.stack
 
--- a death on which something lies may be on top
 pub stands : (script : Script) (w : World) (o : ℕ) (phase : DyingPhase) → Rests script w o phase → Stands script w o phase
 stands script w o Finalizer h = absurd h
 stands script w o AfterFinalizer h = h
@@ -139,7 +132,6 @@ altered_keeps script w after o alters forgotten = record {
   forgotten = forgotten;
 }
 
--- nothing changes but the stack
 pub same_objects : (script : Script) (w after : World) (o : ℕ) → after.names ≡ w.names → after.objects ≡ w.objects → (¬ Includes (flat_map holds w.stack) o → ¬ Includes (flat_map holds after.stack) o) → Keeps script w after o
 same_objects script w after o names objects stack =
     let alters : Alters w.objects after.objects = subst (λ os. Alters w.objects os) (sym objects) (alters_refl w.objects) in
@@ -164,7 +156,7 @@ held_by_member [] a o m h = absurd m
 held_by_member (b ∷ stack) a o (inl e) h = Includes-append_left (holds b) (flat_map holds stack) o (subst (λ c. Includes (holds c) o) (sym e) h)
 held_by_member (b ∷ stack) a o (inr m) h = Includes-append_right (holds b) (flat_map holds stack) o (held_by_member stack a o m h)
 
--- a death that has something above it holds its object, or that is forgotten
+-- a death with something above it holds its object, or its object is forgotten
 pub rests_cases : (script : Script) (w : World) (o : ℕ) (phase : DyingPhase) → Rests script w o phase → Includes (dying_holds o phase) o ⊎ Forgotten w o
 rests_cases script w o Finalizer h = absurd h
 rests_cases script w o AfterFinalizer h = inl (inl refl)
@@ -187,14 +179,14 @@ rests_lives script w o AfterLegacy h = h.0.lives
 rests_lives script w o Detaching h = absurd h
 rests_lives script w o Emptying h = h.0.lives
 
--- an object that is held is, where it is dying below, held there
+-- an object that is held while it dies below is held there
 pub held_where_dying : (script : Script) (w : World) (below : List Activity) (o : ℕ) → AreResting script w below → (Forgotten w o → ⊥) → IsHeldWhereDying o below
 held_where_dying script w below o resting held d m e =
     either (rests_cases script w d.object d.phase (resting d m))
     (λ own. subst (λ s. Includes (flat_map holds below) s) e (held_by_member below (Dying d) d.object m own))
     (λ none. absurd (held (subst (Forgotten w) e none)))
 
--- no death of a stack is of an object that is not dying there
+-- no death on a stack is of an object that is not dying there
 pub not_dying : (o : ℕ) (stack : List Activity) (d : Death) → list_any (is_death_of o) stack ≡ false → Includes stack (Dying d) → d.object ≢ o
 not_dying o [] d none m e = absurd m
 not_dying o (Dying c ∷ stack) d none (inl i) e =

@@ -1,5 +1,5 @@
--- Each step of a collection keeps the invariant of dying objects: what it takes hold of stands at a place of its own, and a
--- dying object that is unheld is untracked.
+-- Each step of a collection keeps the invariant of dying objects: what it holds is in a place of its own, while an unheld
+-- dying object is untracked.
 use Rattle.std.proofs.Common.{◌≡◌, ◌≢◌, refl, sym, ◌∙◌, ap, subst, ℕ, Bool, true, false, inl, inr, List, [], ◌∷◌, ◌++◌, map, length, Option, Some, None}
 use Rattle.std.specs.Prelude.{◌==◌, ◌+◌, if◌then◌else◌, flat_map, filter, option_map, option_and_then, unwrap_or}
 use Rattle.std.proofs.lemmas.Bool.{eqb-true, and_parts}
@@ -32,7 +32,7 @@ use Rattle.cg_machine.proofs.Lookups.{references-append, last_free, shorter_free
 use Rattle.cg_machine.proofs.Releasing.{absent, no_times, starts_calm}
 use Rattle.cg_machine.proofs.Clearing.{refers_early}
 
--- an object at a place of tracked ones is not a quiet one
+-- an object in a tracked place is not quiet
 quiet_apart : (o : ℕ) (p : Place) (x : Object) → same_place Untracked p ≡ false → is_at p x ≡ true → IsQuiet o x → x.serial ≢ o
 quiet_apart o p x tracked at q same = let no : true ≡ false = sym at ∙ ap (λ r. same_place r p) (q.untracked same) ∙ tracked in cc
 
@@ -42,7 +42,6 @@ member_apart objects o p s tracked q m =
     let kept = Includes-filter_cases (is_at p) objects x.0 x.1 in
     λ e. quiet_apart o p x.0 tracked kept.1 (q x.0 kept.0) (x.2 ∙ e)
 
--- those of a place go to others
 moved_quiet : (o : ℕ) (p : Place) (places : Object → Place) (objects : List Object) → same_place Untracked p ≡ false → AreQuiet o objects → AreQuiet o (map (λ x. if is_at p x then with_place (places x) x else x) objects)
 moved_quiet o p places objects tracked q = test_quiet o (λ x. with_place (places x) x) (is_at p) (λ x e k. record {
   entries = k.entries;
@@ -53,7 +52,6 @@ moved_quiet o p places objects tracked q = test_quiet o (λ x. with_place (place
 pub moved_alters : (p : Place) (places : Object → Place) (objects : List Object) → Alters objects (map (λ x. if is_at p x then with_place (places x) x else x) objects)
 moved_alters p places objects = if_alters (λ x. with_place (places x) x) (λ x. place_later (places x) x) (is_at p) objects
 
--- an object is appended to the garbage list
 saved_quiet : (o s : ℕ) (objects : List Object) → s ≢ o → AreQuiet o objects → AreQuiet o (saved s objects)
 saved_quiet o s objects apart q = test_quiet o (λ x. with_entries (x.entries ++ item (Ref s) ∷ []) x) (λ x. x.serial == 1) (λ x e k. record {
   entries = λ m. either (references-append x.entries (item (Ref s) ∷ []) o m) k.entries (λ n. either n apart (λ i. i));
@@ -74,7 +72,6 @@ all_saved_quiet o (s ∷ keeps) objects apart q = all_saved_quiet o keeps (saved
 pub all_saved_alters : (keeps : List ℕ) (objects : List Object) → Alters objects (all_saved keeps objects)
 all_saved_alters keeps = all_saved_by Alters alterations keeps (λ s m. saved_alters s)
 
--- several weak references lose their referents
 pub all_lose_alters : (wanted : Object → Bool) (weaks : List ℕ) (objects after : List Object) → AllLose wanted objects weaks after → Alters objects after
 all_lose_alters wanted weaks = all_lose_by Alters alterations wanted weaks (λ weak m. lost_alters weak)
 
@@ -90,7 +87,7 @@ module _ (script : Script) (c : Collection) (below : List Activity) (v : World) 
   abbrev at : CollectPhase → World
   at phase = collection_at c phase below v
 
-  -- it, or the collection with another count, goes on
+  -- the collection, perhaps with another count, goes on
   abbrev to : Collection → CollectPhase → List Object → Numbers → World
   to d phase objects numbers = record v { objects = objects; numbers = numbers; stack = Collecting (record d { phase = phase }) ∷ below }
 
@@ -114,7 +111,6 @@ module _ (script : Script) (c : Collection) (below : List Activity) (v : World) 
     stack = (tt, below_rest phase next e objects numbers alters calm keeps);
   }
 
-  -- something is given up
   gives_up : (phase next : CollectPhase) (given_up : List ℕ) (objects : List Object) → Alters v.objects objects → Calm script (at phase) → KeepsQuiet phase next objects
       → ((p : ℕ) → Forgotten (at phase) p → ¬ Includes given_up p) → GivenUp next below → Calm script (push (Releasing given_up) (to c next objects v.numbers))
   gives_up phase next given_up objects alters calm keeps free given = record {
@@ -133,7 +129,6 @@ module _ (script : Script) (c : Collection) (below : List Activity) (v : World) 
       after : World
       after = push (Releasing given_up) (to c next objects v.numbers)
 
-  -- a frame starts
   calls : (phase next : CollectPhase) (spec : FrameSpec) (objects : List Object) → Alters v.objects objects → Calm script (at phase) → KeepsQuiet phase next objects → GivenUp next below
       → IsLocalHeld spec.sort spec.subject (to c next objects v.numbers).stack → ((p : ℕ) → ¬ Includes (call_holds spec.sort spec.func) p) → Calm script (start_frame script spec (to c next objects v.numbers)).1
   calls phase next spec objects alters calm keeps given local none =
@@ -143,14 +138,12 @@ module _ (script : Script) (c : Collection) (below : List Activity) (v : World) 
   turn_holds : (phase : CollectPhase) (p : ℕ) → Forgotten (at phase) p → ¬ Includes (collect_holds phase) p
   turn_holds phase p f = top_free (Collecting (record c { phase = phase })) below p f.unheld.stack
 
-  -- nothing changes but the phase
   turns_to : (phase next : CollectPhase) → ((p : ℕ) → ¬ Includes (collect_holds phase) p → ¬ Includes (collect_holds next) p) → GivenUp next below → Calm script (at phase) → Calm script (at next)
   turns_to phase next free given calm = goes_to phase next c v.objects v.numbers (alters_refl v.objects) calm (λ d m l f. (f.unheld.quiet, free d.object (turn_holds phase d.object f))) given
 
   moves_to : (after now : World) → after ≡ now → Calm script now → Calm script after
   moves_to after now e k = subst (Calm script) (sym e) k
 
-  -- the start
   start_calm : (events : List Event) (after : World) → StartStep script (at Start) c below events after → Calm script (at Start) → Calm script after
   start_calm events after step calm = moves_to after _ step.world (goes_to Start (WeakClearing []) c (sorted g step.places now) _ alters calm (λ d m l f. (quiet d.object f.unheld.quiet, λ k. k)) tt)
     where
@@ -166,7 +159,6 @@ module _ (script : Script) (c : Collection) (below : List Activity) (v : World) 
       quiet : (p : ℕ) → AreQuiet p v.objects → AreQuiet p (sorted g step.places now)
       quiet p q = moved_quiet p (Gen g) step.places now refl (map_quiet p (λ x. with_place (merged_place g x.place) x) (λ x k. record { entries = k.entries; untracked = λ i. ap (merged_place g) (k.untracked i); refers_to_none = k.refers_to_none }) v.objects q)
 
-  -- the weak phase
   lost_one : (r : Option ℕ) (f : ℕ → Bool) → unwrap_or (option_map f r) false ≡ true → r ≢ None
   lost_one r f e none = let no : false ≡ true = sym (ap (λ m. unwrap_or (option_map f m) false) none) ∙ e in cc
 
@@ -206,7 +198,7 @@ module _ (script : Script) (c : Collection) (below : List Activity) (v : World) 
       (λ p f k. turn_holds (AfterCallback weak waiting) p f (either k (λ e. inl e) (λ n. absurd n)))
       (held_where_dying script (at (AfterCallback weak waiting)) below weak calm.stack.1 (λ f. turn_holds (AfterCallback weak waiting) weak f (inl refl)))
 
-  -- one that was given up gets older, if it lives
+  -- an object that was given up moves to the older generation, if it lives
   older_quiet : (phase : CollectPhase) (o : ℕ) (p : Place) → IsHeldWhereDying o below → (d : Death) → Includes below (Dying d) → Forgotten (at phase) d.object → AreQuiet d.object (change (with_place p) o v.objects)
   older_quiet phase o p given d m f = place_quiet d.object o p (λ e. popped_free (Collecting (record c { phase = phase })) below d.object f.unheld.stack (subst (Includes (flat_map holds below)) e (given d m (sym e)))) v.objects f.unheld.quiet
 
@@ -221,7 +213,6 @@ module _ (script : Script) (c : Collection) (below : List Activity) (v : World) 
           (λ d m l f. (older_quiet (AfterRelease weak waiting) weak place calm.over.0 d m f, turn_holds (AfterRelease weak waiting) d.object f)) tt
       go false = goes_to (AfterRelease weak waiting) (WeakCalling waiting) (record c { collected = c.collected + 1 }) v.objects v.numbers (alters_refl v.objects) calm (λ d m l f. (f.unheld.quiet, turn_holds (AfterRelease weak waiting) d.object f)) tt
 
-  -- the finalizers
   looks_at_calm : (o : ℕ) (m : Option ℕ) → IsMemberOf (at Finalizing) Cand o → Calm script (at Finalizing) → Calm script (looks_at script c o below (at Finalizing) m).1
   looks_at_calm o None member calm = goes_to Finalizing Finalizing c (change (with_place Seen) o v.objects) v.numbers (place_alters Seen o v.objects) calm
       (λ d m l f. (place_quiet d.object o Seen (member_apart v.objects d.object Cand o refl f.unheld.quiet member) v.objects f.unheld.quiet, λ k. k)) tt
@@ -242,7 +233,6 @@ module _ (script : Script) (c : Collection) (below : List Activity) (v : World) 
   after_finalizing_calm : (o : ℕ) → Calm script (at (AfterFinalizing o)) → Calm script (push (Releasing (o ∷ [])) (at Finalizing))
   after_finalizing_calm o calm = gives_up (AfterFinalizing o) Finalizing (o ∷ []) v.objects (alters_refl v.objects) calm (λ d m l f. (f.unheld.quiet, λ k. k)) (λ p f. turn_holds (AfterFinalizing o) p f) tt
 
-  -- the second detection
   split_calm : (events : List Event) (after : World) → SplitStep c below (at Split) events after → Calm script (at Split) → Calm script after
   split_calm events after step calm = moves_to after _ step.world (goes_to Split Turns (record c { collected = c.collected + length (serials_at step.objects Cand) }) step.objects v.numbers alters calm (λ d m l f. (quiet d.object f.unheld.quiet, λ k. k)) tt)
     where
@@ -265,7 +255,6 @@ module _ (script : Script) (c : Collection) (below : List Activity) (v : World) 
         refers_to_none = k.refers_to_none;
       }) v.objects q)
 
-  -- the turns
   turn_calm : (x : Object) → Includes (serials_at v.objects Cand) x.serial → Calm script (at Turns) → Calm script (takes_turn c x below (at Turns)).1
   turn_calm x member calm = go (has_flag c.flags save_all) (is_tuple x)
     where
@@ -303,7 +292,6 @@ module _ (script : Script) (c : Collection) (below : List Activity) (v : World) 
       let place = Gen (older c.generation) in
       goes_to (AfterTurn o) Turns c (change (with_place place) o v.objects) v.numbers (place_alters place o v.objects) calm (λ d m l f. (older_quiet (AfterTurn o) o place calm.over.0 d m f, λ k. k)) tt
 
-  -- the end
   end_calm : (events : List Event) (after : World) → EndStep script c below (at Ending) events after → Calm script (at Ending) → Calm script after
   end_calm events after step calm = moves_to after now step.world (record {
     referred = referred_after v.objects now.objects alters calm.referred;

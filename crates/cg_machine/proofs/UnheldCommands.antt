@@ -1,4 +1,4 @@
--- Each command keeps the invariant of dying objects: it works only with what is held, or what a weak reference refers to.
+-- Each command keeps the invariant of dying objects: it touches only what is held, or what a weak reference refers to.
 use Rattle.std.proofs.Common.{◌≡◌, ◌≢◌, refl, sym, ◌∙◌, ap, subst, ℕ, Bool, true, false, not, ◌&&◌, inl, inr, ◌⊎◌, List, [], ◌∷◌, ◌++◌, Option, Some, None, arith}
 use Rattle.std.specs.Prelude.{◌==◌, ◌||◌, if◌then◌else◌, slice_set}
 use Rattle.std.proofs.lemmas.Bool.{eqb-true}
@@ -30,11 +30,10 @@ use Rattle.cg_machine.proofs.Unheld.{AreOver}
 use Rattle.cg_machine.proofs.CommandRefs.{all_free, HoldNone, option_free, entry_val, entry_key, entry_free, put_free, old_value_free, name_free, bound_free, IsKnown, operand_known}
 use Rattle.cg_machine.proofs.Shapes.{IsAtHand, NoneThere, Word, ValueIn, KeyIn, ReferentOf, HasObject, IsMutable, IsEdit, Shape, Binds, Makes, Edits, Puts, Shows, Tells, Stays, Sets, Freezes, Unfreezes, StartsFrame, StartsCollection, Ends, Inspects, AsksWhy}
 
--- what is changed by a command is no weak reference
+-- a command changes no weak reference
 mutable_code : (x : Object) → IsMutable x.code → x.code ≢ Weak
 mutable_code x m e = subst IsMutable e m
 
--- a dictionary that becomes tracked is the same object
 pub tracked_later : (w : World) (key v : Val) (x : Object) → IsLater x (tracked_by w key v x)
 tracked_later w key v x = go (is_dict x && not (is_tracked x) && (may_track w key || may_track w v))
   where
@@ -43,16 +42,16 @@ tracked_later w key v x = go (is_dict x && not (is_tracked x) && (may_track w ke
     go false = record { serial = refl; code = refl; class = refl; referent = inl refl }
 
 module _ (script : Script) (w : World) (rises : Rises 1 w.next_serial w.objects) (over : AreOver w.stack) where
-  -- a list of references to be given up, and a referent, are of no forgotten object
+  -- given-up references and referents are of no forgotten object
   abbrev AreGiven : List ℕ → Type 0
   AreGiven given_up = (o : ℕ) → Forgotten w o → ¬ Includes given_up o
 
-  -- where an object comes from: it was there, or it is new
+  -- where an object comes from: it existed, or it is new
   pub data Comes (y : Object) : Type 0 where
     was_there : (x : Object) → Includes w.objects x → IsLater x y → (y.entries ≡ x.entries) ⊎ (x.code ≢ Weak) × ((o : ℕ) → Forgotten w o → x.serial ≢ o) → (is_condemned y ≡ true → is_condemned x ≡ true) → (IsOfCollection y.place → x.place ≡ y.place) → Comes y
     is_new : y.serial ≡ w.next_serial → is_condemned y ≡ false → ¬ IsOfCollection y.place → ((r : ℕ) → y.referent ≡ Some r → y.code ≡ Weak) → (y.code ≡ Weak → (f : ℕ) → Includes (references y.entries) f → HasFunction w.objects f) → Comes y
 
-  -- what a command does to the objects, and to what is below it
+  -- what a command does to the objects and to what is below it
   pub record Mild (after : World) (given_up : List ℕ) : Type 0 where
     pub referred : AreReferred w.objects → AreReferred after.objects
     pub mortal : (o : ℕ) → Mortal w.objects o → Mortal after.objects o
@@ -69,7 +68,6 @@ module _ (script : Script) (w : World) (rises : Rises 1 w.next_serial w.objects)
   IsMild (Explains o) = Unit {0}
   IsMild Quits = Unit {0}
 
-  -- the objects stay, and the names may change
   names_mild : (names : List (Option Val)) (numbers : Numbers) (given_up : List ℕ) → ((o : ℕ) → Forgotten w o → ¬ Includes (name_holdings names) o) → AreGiven given_up
       → Mild (record w { names = names; numbers = numbers }) given_up
   names_mild names numbers given_up free given = record {
@@ -91,7 +89,6 @@ module _ (script : Script) (w : World) (rises : Rises 1 w.next_serial w.objects)
   given_name : (x : ℕ) → AreGiven (given_up_by w x)
   given_name x o f = name_free w.names x o f.unheld.names
 
-  -- an object changes
   changes_mild : (objects : List Object) (numbers : Numbers) (given_up : List ℕ) → Alters w.objects objects → ((o : ℕ) → Forgotten w o → AreQuiet o objects) → AreGiven given_up → ((y : Object) → Includes objects y → Comes y)
       → Mild (record w { objects = objects; numbers = numbers }) given_up
   changes_mild objects numbers given_up alters quiet given comes = record {
@@ -104,7 +101,6 @@ module _ (script : Script) (w : World) (rises : Rises 1 w.next_serial w.objects)
     comes = comes;
   }
 
-  -- the change of an object that is no weak reference
   comes_changed : (f : Object → Object) (x : Object) → Includes w.objects x → x.code ≢ Weak → ((o : ℕ) → Forgotten w o → x.serial ≢ o) → ((z : Object) → IsLater z (f z)) → ((z : Object) → is_condemned (f z) ≡ true → is_condemned z ≡ true) → ((z : Object) → IsOfCollection (f z).place → z.place ≡ (f z).place) → (y : Object) → Includes (change f x.serial w.objects) y → Comes y
   comes_changed f x m code apart later condemned places y n =
       let z = Includes-map_cases (λ z. if z.serial == x.serial then f z else z) w.objects y n in
@@ -166,7 +162,6 @@ module _ (script : Script) (w : World) (rises : Rises 1 w.next_serial w.objects)
       put_condemned : (y : Object) → is_condemned (put_in y) ≡ true → is_condemned y ≡ true
       put_condemned y = tracked_condemned key v (with_entries (put x.entries key v) y)
 
-  -- a new object, and its referent
   abbrev IsReferent : Option ℕ → Type 0
   IsReferent None = Unit {0}
   IsReferent (Some r) = (z : Object) × Includes w.objects z × (z.serial ≡ r) × (has_weak_references z ≡ true) × ((o : ℕ) → Forgotten w o → r ≢ o)
@@ -245,7 +240,7 @@ module _ (script : Script) (w : World) (rises : Rises 1 w.next_serial w.objects)
   unfrozen_condemned Frozen x e = false_true e
   unfrozen_condemned p x e = e
 
-  -- What is at hand is not forgotten.
+  -- A value at hand is not forgotten.
   pub hand_known : (command : Command) (v : Val) → IsAtHand w command v → IsKnown w over v
   hand_known command v NoneThere = λ o f k. let no : None ≡ Some o = k in cc
   hand_known command v (Word operand u own e) = operand_known w over operand u e

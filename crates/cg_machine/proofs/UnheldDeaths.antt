@@ -47,7 +47,7 @@ module _ (script : Script) (o : ℕ) (below : List Activity) (v : World) (rises 
   turn_free : (phase next : DyingPhase) (p : ℕ) → (¬ Includes (dying_holds o phase) p → ¬ Includes (dying_holds o next) p) → ¬ Includes (flat_map holds (at phase).stack) p → ¬ Includes (flat_map holds (Dying (record { object = o; phase = next }) ∷ below)) p
   turn_free phase next p h = turned_free (dying_now phase) (dying_now next) below p h
 
-  -- The deaths below stay as they are.
+  -- The deaths below are unchanged.
   below_rest : (phase next : DyingPhase) (objects : List Object) → Alters v.objects objects → Calm script (at phase)
       → ((d : Death) → Includes below (Dying d) → Mortal v.objects d.object → Forgotten (at phase) d.object → AreQuiet d.object objects × ¬ Includes (dying_holds o next) d.object)
       → AreResting script (to next objects) below
@@ -57,7 +57,6 @@ module _ (script : Script) (o : ℕ) (below : List Activity) (v : World) (rises 
       still_forgotten (at phase) (to next objects) d.object refl alters (λ q. k.0) (turn_free phase next d.object (λ h. k.1)) f))
       c.stack.1
 
-  -- The death goes on to a phase.
   goes_to : (phase next : DyingPhase) (objects : List Object) → Alters v.objects objects → Calm script (at phase)
       → ((d : Death) → Includes below (Dying d) → Mortal v.objects d.object → Forgotten (at phase) d.object → AreQuiet d.object objects × ¬ Includes (dying_holds o next) d.object)
       → Stands script (to next objects) o next → Calm script (to next objects)
@@ -67,7 +66,6 @@ module _ (script : Script) (o : ℕ) (below : List Activity) (v : World) (rises 
     stack = (stands, below_rest phase next objects alters c keeps);
   }
 
-  -- A frame of the death starts.
   calls : (phase next : DyingPhase) (spec : FrameSpec) (objects : List Object) → Alters v.objects objects → Calm script (at phase)
       → ((d : Death) → Includes below (Dying d) → Mortal v.objects d.object → Forgotten (at phase) d.object → AreQuiet d.object objects × ¬ Includes (dying_holds o next) d.object)
       → Rests script (to next objects) o next → IsLocalHeld spec.sort spec.subject (to next objects).stack → ((p : ℕ) → ¬ Includes (call_holds spec.sort spec.func) p) → Calm script (start_frame script spec (to next objects)).1
@@ -79,11 +77,10 @@ module _ (script : Script) (o : ℕ) (below : List Activity) (v : World) (rises 
       death_is : (d : Death) → dying_now next ≡ Dying d → record { object = o; phase = next } ≡ d
       death_is d e = cc
 
-  -- what the objects below keep where only the death's own object changes place
+  -- what the objects below keep where only the death's own object moves
   placed_quiet : (phase : DyingPhase) (p : Place) → Calm script (at phase) → (d : Death) → Includes below (Dying d) → Forgotten (at phase) d.object → AreQuiet d.object (change (with_place p) o v.objects)
   placed_quiet phase p c d m f = place_quiet d.object o p (λ e. other phase c d m (sym e)) v.objects f.unheld.quiet
 
-  -- the finalizer
   abbrev revived : Object → Object
   revived x = marked (with_place (Gen 0) x)
 
@@ -114,7 +111,6 @@ module _ (script : Script) (o : ℕ) (below : List Activity) (v : World) (rises 
       (mortal_after v.objects (change revived o v.objects) revived_alters o (mortal Finalizer c.stack.0 (found_lives v.objects o found.0 found.1)))
       (inl refl) (λ p k. k)
 
-  -- a frame of its own has ended
   after_frame_calm : (phase next : DyingPhase) → Mortal v.objects o → ((p : ℕ) → ¬ Includes (dying_holds o next) p)
       → (Unheld (to next (change (with_place Untracked) o v.objects)) o → Stands script (to next (change (with_place Untracked) o v.objects)) o next)
       → Calm script (at phase) → Calm script (after_frame o next below (at phase)).1
@@ -146,12 +142,10 @@ module _ (script : Script) (o : ℕ) (below : List Activity) (v : World) (rises 
       go true e = goes_to phase next objects (place_alters Untracked o v.objects) c (λ d m l f. (untracked_quiet d.object o v.objects f.unheld.quiet, none d.object)) (stands (unheld (none_holds (at next) o (eqb-true (in_degree (at next) o) 0 e))))
       go false e = ended
 
-  -- weak references lose the object
   keeps_lost : (phase next : DyingPhase) (weak : ℕ) → ((p : ℕ) → Mortal v.objects p → ¬ Includes (dying_holds o phase) p → ¬ Includes (dying_holds o next) p)
       → (d : Death) → Includes below (Dying d) → Mortal v.objects d.object → Forgotten (at phase) d.object → AreQuiet d.object (loses_referent weak v.objects) × ¬ Includes (dying_holds o next) d.object
   keeps_lost phase next weak free d m l f = (lost_quiet d.object weak v.objects f.unheld.quiet, free d.object l (top_free (dying_now phase) below d.object f.unheld.stack))
 
-  -- one that waits now had a referent
   waits_free : (y : Object) (weak p : ℕ) (b : Bool) (waiting : List ℕ) → (y.serial ≡ p → y.referent ≡ None) → y.serial ≡ weak → is_some y.referent ≡ true → ¬ Includes waiting p → ¬ Includes (waiting ++ (if b then weak ∷ [] else [])) p
   waits_free y weak p b waiting refers same some free m = either (Includes-append_cases waiting (if b then weak ∷ [] else []) p m) free (new b)
     where
@@ -238,7 +232,6 @@ module _ (script : Script) (o : ℕ) (below : List Activity) (v : World) (rises 
           pushed_free (Releasing (callback ∷ weak ∷ [])) (dying_now (Calling waiting) ∷ below) p (λ k. free (either k (λ e. inl e) (λ n. either n (λ e. inr (inl e)) (λ i. absurd i))))
           (turn_free (AfterCall weak callback waiting) (Calling waiting) p (λ h k. h (inr (inr k))) free)) f
 
-  -- the legacy finalizer
   legacy_calm : (m : Option ℕ) → option_and_then (legacy_of script) (object_at v.objects o) ≡ m → Calm script (at LegacyFinalizer) → Calm script (run_legacy script o below (at LegacyFinalizer) m).1
   legacy_calm None e c =
       goes_to LegacyFinalizer Detaching v.objects (alters_refl v.objects) c (λ d m l f. (f.unheld.quiet, λ k. k))
@@ -258,7 +251,6 @@ module _ (script : Script) (o : ℕ) (below : List Activity) (v : World) (rises 
           let one : x ≡ y = let both : Some x ≡ Some y = sym at_o ∙ at_y in cc in
           or_right (is_some (finalizer_of script y)) (is_some (legacy_of script y)) (ap (λ k. is_some k) (subst (λ z. legacy_of script z ≡ Some p) one is))
 
-  -- weak references that the frames of the object made
   detaching_calm : (weaks : List ℕ) → weak_references_if (has_finalizers script) v.objects o ≡ weaks → Calm script (at Detaching) → Calm script (detach_one o below (at Detaching) weaks).1
   detaching_calm [] e c =
       goes_to Detaching Emptying v.objects (alters_refl v.objects) c (λ d m l f. (f.unheld.quiet, λ k. k))
@@ -274,7 +266,6 @@ module _ (script : Script) (o : ℕ) (below : List Activity) (v : World) (rises 
         either c.stack.0.1 (λ has. inl (finalizers_after script v.objects (loses_referent weak v.objects) (lost_alters weak v.objects) o has)) (λ none. inr (unreferred_after v.objects (loses_referent weak v.objects) (lost_alters weak v.objects) o none)),
       )
 
-  -- the entries are taken out, and the object goes
   emptying_calm : (m : Option Entry) → last_entry (entries_of v.objects o) ≡ m → Calm script (at Emptying) → Calm script (empty_one o below (at Emptying) m).1
   emptying_calm None e c = record {
     referred = λ x m r i.

@@ -1,4 +1,4 @@
--- Every world of a run has the invariant of dying objects, and so a dying object is unheld.
+-- Every world of a run has the invariant of dying objects, so a dying object is unheld.
 use Rattle.std.proofs.Common.{◌≡◌, ◌≢◌, refl, sym, ◌∙◌, ap, subst, ℕ, Bool, true, false, inl, inr, List, [], ◌∷◌, Some, None}
 use Rattle.cg_script.specs.declared.Script.{Script}
 use Rattle.cg_script.specs.declared.Command.{Command}
@@ -29,7 +29,7 @@ use Rattle.cg_machine.proofs.Invariants.{HasCommands, Takes, FromTop, FromFrame,
 use Rattle.cg_machine.proofs.UnheldCommands.{Mild, shape_mild}
 use Rattle.cg_script.specs.declared.Command.TheVariants.{Del}
 
--- commands stand on top, and may get fewer
+-- an activity with commands is on top, and may have fewer left
 pub no_death : (a : Activity) → HasCommands a → (d : Death) → a ≢ Dying d
 no_death (TopLevel commands) h d e = cc
 no_death (Framed f) h d e = cc
@@ -46,7 +46,6 @@ on_top script w (ShuttingDown started) h = tt
 on_top script w a h = absurd h
 
 module _ (script : Script) (below : List Activity) (v : World) where
-  -- the commands on top change
   pub turned : (a b : Activity) → HasCommands b → (IsOver a below → IsOver b below) → ((o : ℕ) → ¬ Includes (holds a) o → ¬ Includes (holds b) o) → Calm script (with_stack (a ∷ below) v) → Calm script (with_stack (b ∷ below) v)
   turned a b h over free c = record {
     referred = c.referred;
@@ -54,7 +53,6 @@ module _ (script : Script) (below : List Activity) (v : World) where
     stack = (on_top script (with_stack (b ∷ below) v) b h, resting_after script (with_stack (a ∷ below) v) (with_stack (b ∷ below) v) below (λ d m. same_objects script (with_stack (a ∷ below) v) (with_stack (b ∷ below) v) d.object refl refl (turned_free a b below d.object (free d.object))) c.stack.1);
   }
 
-  -- a collection is to start
   collects : (a : Activity) (g : ℕ) (asked : Bool) → HasCommands a → Calm script (with_stack (a ∷ below) v) → Calm script (push (new_collection g asked (with_stack (a ∷ below) v)) (with_stack (a ∷ below) v))
   collects a g asked h c = record {
     referred = c.referred;
@@ -77,7 +75,6 @@ module _ (script : Script) (below : List Activity) (v : World) where
   taken_calm command a b (FromTop commands) c = turned (TopLevel (command ∷ commands)) (TopLevel commands) tt (λ k. k) (λ o k. k) c
   taken_calm command a b (FromFrame f commands left) c = turned (Framed f) (Framed (record f { commands = commands })) tt (λ k. k) (λ o k. k) c
 
--- A command is done.
 module _ (script : Script) (a : Activity) (below : List Activity) (v : World) (h : HasCommands a) (rises : Rises 1 v.next_serial v.objects) (c : Calm script (on a below v)) where
   resting : AreResting script (on a below v) (a ∷ below)
   resting = all_rest script (on a below v) a below h c.stack.1
@@ -142,7 +139,7 @@ calm_after script w [] sound calm run = calm
 calm_after script w (step ∷ steps) sound calm run =
     calm_after script step.world steps (step_falls script w step.events step.world run.0 sound).0 (step_calm script w step.events step.world run.0 sound calm) run.1
 
--- a death of a world that has the invariant
+-- a death in a world with the invariant
 stands_unheld : (script : Script) (w : World) (o : ℕ) (phase : DyingPhase) → Includes w.stack (Dying (record { object = o; phase = phase })) → Stands script w o phase → IsHeldInItsFramesAlone o phase (holdings w)
 stands_unheld script w o Finalizer m h = unheld_degree w o h
 stands_unheld script w o AfterFinalizer m h = λ e. (none_holds w o e).stack (held_by_member w.stack (Dying (record { object = o; phase = AfterFinalizer })) o m (inl refl))

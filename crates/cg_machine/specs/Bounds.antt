@@ -1,5 +1,5 @@
--- How much stands on the stack of a run, against the budget and the number of objects. The layers that keep a stack in
--- memory need it. (Ours: the machine itself has no limit.)
+-- Bounds the stack of a run by the budget and the number of objects, for layers that keep a stack in memory. (Ours:
+-- the machine itself has no limit.)
 use Rattle.std.specs.Prelude.{◌≡◌, ℕ, ◌+◌, ◌*◌, ◌≤◌, Bool, true, false, List, [], ◌∷◌, ◌++◌, length, count_by, flat_map}
 use Rattle.cg_script.specs.declared.Script.{Script}
 use Rattle.cg_machine.specs.World.{World, Activity, TopLevel, Framed, Releasing, Dying, ShuttingDown}
@@ -28,7 +28,7 @@ abbrev pub is_death : Activity → Bool
 is_death (Dying d) = true
 is_death activity = false
 
--- the script's own commands, or its shutdown, stand at the bottom, and nowhere else
+-- The script's own commands, or its shutdown, are at the bottom and nowhere else.
 pub record IsOverTopLevel (stack : List Activity) : Type 0 where
   pub others : List Activity
   pub lowest : Activity
@@ -41,7 +41,7 @@ abbrev pub HasNoRelease : List Activity → Type 0
 HasNoRelease (Releasing references ∷ below) = ⊥
 HasNoRelease stack = Unit {0}
 
--- A release has at most two references, as an entry has, or a weak reference and its callback. Only a death stands
+-- A release has at most two references: those of an entry, or a weak reference and its callback. Only a death lies
 -- directly on a release.
 abbrev pub AreReleasesApart : List Activity → Type 0
 AreReleasesApart [] = Unit {0}
@@ -49,7 +49,8 @@ AreReleasesApart (Releasing references ∷ below) = (length references ≤ 2) ×
 AreReleasesApart (Dying d ∷ below) = AreReleasesApart below
 AreReleasesApart (activity ∷ below) = HasNoRelease below × AreReleasesApart below
 
--- A run with budget b: what stands on the stack of a world of it, how high the stack is, and how many references it holds.
+-- For a run with budget b: what is on the stack of one of its worlds, how high the stack is, and how many references it
+-- holds.
 pub record IsBounded (b : ℕ) (w : World) : Type 0 where
   pub top_level : IsOverTopLevel w.stack
   pub frames : count_by is_frame w.stack + w.budget ≤ b
@@ -61,6 +62,6 @@ pub record IsBounded (b : ℕ) (w : World) : Type 0 where
   pub height : length w.stack ≤ b + 2 * length w.objects + 3
   pub holds : length (flat_map holds w.stack) ≤ b + 5 * length w.objects + 3
 
--- Every world of a run is so.
+-- This holds in every world of a run.
 abbrev pub StacksAreBounded : Type 0
 StacksAreBounded = (script : Script) (budget : ℕ) (steps : List StepTaken) → IsRun script budget steps → IsBounded budget (world_after script budget steps)

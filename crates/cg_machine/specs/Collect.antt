@@ -1,6 +1,6 @@
--- A collection, phase by phase. What the rules leave open is a choice: which tuples a pass untracks, the order of lines, whose
--- turn is next. (Developer guide, "garbage collector design"; PEP 442, "disposal of cyclic isolates"; the `gc` manual for
--- the debug flags. The order of the phases is CPython 3.12's; what each step holds while frames run is ours.)
+-- A collection, phase by phase. The rules leave open which tuples a pass untracks, the order of lines, and which object is
+-- next. (Developer guide, "garbage collector design"; PEP 442, "disposal of cyclic isolates"; the `gc` manual for the debug
+-- flags. The order of the phases is CPython 3.12's; what each step holds while frames run is ours.)
 use Rattle.std.specs.Prelude.{◌≡◌, ℕ, ◌+◌, ◌<◌, min, Bool, true, false, not, ◌&&◌, ◌||◌, ◌==◌, nat_le, bit_and, List, [], ◌∷◌, ◌++◌, Option, Some, None, if◌then◌else◌, option_map, option_and_then, unwrap_or, map, filter, length, is_some, ◌⊎◌, ◌↔◌, count_by}
 use Rattle.std.specs.List.{list_any}
 use Rattle.cg_value.specs.declared.Val.TheVariants.{Ref}
@@ -53,27 +53,27 @@ lines_if b lines = if b then lines else []
 abbrev pub older : ℕ → ℕ
 older g = min (g + 1) 2
 
--- both lists have each member equally often
+-- both lists have each member the same number of times
 abbrev pub SameMembers : List ℕ → List ℕ → Type 0
 SameMembers xs ys = (o : ℕ) → occurrences o xs ≡ occurrences o ys
 
--- the world in which the collection stands at a phase
+-- the world with the collection at a phase
 abbrev pub collection_at : Collection → CollectPhase → List Activity → World → World
 collection_at c phase below w = with_stack (Collecting (record c { phase = phase }) ∷ below) w
 
--- Reachability among the objects of a place: members are held from outside, and paths go by members.
+-- Reachability within a place: the roots are the members held from outside, and edges join members.
 abbrev pub members_at : World → Place → Graph
 members_at w p = graph_of (objects_at w.objects p)
 
--- an object stands at a place
+-- an object is in a place
 abbrev pub IsMemberOf : World → Place → ℕ → Type 0
 IsMemberOf w p o = Includes (serials_at w.objects p) o
 
--- a path from one that is held from outside leads to it
+-- reachable from a member that is held from outside
 abbrev pub Survives : World → Place → ℕ → Type 0
 Survives w p o = Reach (IsOutsideHeld (holdings w) (members_at w p)) (IsMemberOf w p) (edges (members_at w p)) o
 
--- no such path leads to it
+-- not reachable from any such member
 abbrev pub IsGarbage : World → Place → ℕ → Type 0
 IsGarbage w p o = Unreachable (IsOutsideHeld (holdings w) (members_at w p)) (IsMemberOf w p) (edges (members_at w p)) o
 
@@ -81,11 +81,11 @@ IsGarbage w p o = Unreachable (IsOutsideHeld (holdings w) (members_at w p)) (IsM
 abbrev pub has_legacy : Script → World → ℕ → Bool
 has_legacy script w o = is_some (option_and_then (legacy_of script) (object_at w.objects o))
 
--- garbage whose class has a legacy finalizer, and the garbage that it leads to (`gc` manual, `gc.garbage`)
+-- garbage whose class has a legacy finalizer, and the garbage reachable from it (`gc` manual, `gc.garbage`)
 abbrev pub IsSetAside : Script → World → Place → ℕ → Type 0
 IsSetAside script w p o = Reach (λ x. has_legacy script w x ≡ true) (IsGarbage w p) (edges (members_at w p)) o
 
--- The start. Counts 0 to g become 0, the next one rises, and the generations below g are merged into g.
+-- The start: counts 0 to g become 0, the next one rises, and the generations below g are merged into g.
 abbrev pub begun : ℕ → Numbers → Numbers
 begun g n = record n {
   zero_count = 0;
@@ -109,7 +109,7 @@ survived g n numbers = record numbers {
   total = if g == 2 then n else numbers.total;
 }
 
--- whether no item, or no key and value, may be tracked (developer guide, "delay tracking containers")
+-- no item, key or value may be tracked (developer guide, "delay tracking containers")
 abbrev pub has_none_tracked : List Object → Object → Bool
 has_none_tracked objects x = not (list_any (λ o. unwrap_or (option_map may_be_tracked (object_at objects o)) false) (references x.entries))
 
@@ -117,31 +117,32 @@ has_none_tracked objects x = not (list_any (λ o. unwrap_or (option_map may_be_t
 abbrev pub untracked_if : Bool → Object → Object
 untracked_if b x = if b then with_place Untracked x else x
 
--- the objects once the chosen ones are untracked
+-- the objects after the chosen ones are untracked
 abbrev pub untrack : ℕ → (Object → Bool) → List Object → List Object
 untrack g chosen objects = map (λ x. untracked_if (is_at (Gen g) x && chosen x) x) objects
 
--- The pass over surviving tuples may go in any order: it untracks those that it could untrack at once, and none that it could not untrack at its end.
+-- The pass over surviving tuples may use any order. It untracks each tuple that it could untrack at once, and none that it could
+-- not untrack at its end.
 pub record IsTuplePass (w : World) (g : ℕ) (chosen : Object → Bool) : Type 0 where
   pub at_least : (x : Object) → Includes (objects_at w.objects (Gen g)) x → Survives w (Gen g) x.serial → (is_tuple x && has_none_tracked w.objects x) ≡ true → chosen x ≡ true
   pub at_most : (x : Object) → Includes (objects_at w.objects (Gen g)) x → chosen x ≡ true → Survives w (Gen g) x.serial × ((is_tuple x && has_none_tracked (untrack g chosen w.objects) x) ≡ true)
 
--- where a survivor goes: in a collection of 2 a dictionary of atoms alone is untracked
+-- where a survivor goes; a collection of 2 untracks a dictionary of atoms alone
 abbrev pub survivor_place : ℕ → List Object → Object → Place
 survivor_place g objects x = if not (is_tracked x) || (g == 2) && is_dict x && has_none_tracked objects x then Untracked else Gen (older g)
 
--- Survivors are untracked or get older, garbage is set aside or condemned, and the lines come in their order.
+-- Survivors are untracked or move to the older generation; garbage is set aside or condemned; the lines are in order.
 pub record Sorts (script : Script) (g : ℕ) (w : World) (chosen : Object → Bool) (places : Object → Place) : Type 0 where
   pub tuples : IsTuplePass w g chosen
   pub survivors : (x : Object) → Includes (objects_at w.objects (Gen g)) x → Survives w (Gen g) x.serial → places x ≡ survivor_place g (untrack g chosen w.objects) (untracked_if (chosen x) x)
   pub set_aside : (x : Object) → Includes (objects_at w.objects (Gen g)) x → IsSetAside script w (Gen g) x.serial → places x ≡ Legacy
   pub condemned : (x : Object) → Includes (objects_at w.objects (Gen g)) x → IsGarbage w (Gen g) x.serial → ¬ IsSetAside script w (Gen g) x.serial → places x ≡ Cand
 
--- the objects after: only candidates change places
+-- the objects after: only candidates move
 abbrev pub sorted : ℕ → (Object → Place) → List Object → List Object
 sorted g places objects = map (λ x. if is_at (Gen g) x then with_place (places x) x else x) objects
 
--- how many go to the older generation
+-- how many move to the older generation
 abbrev pub survivor_count : ℕ → (Object → Place) → List Object → ℕ
 survivor_count g places objects = count_by (λ x. is_at (Gen g) x && same_place (places x) (Gen (older g))) objects
 
@@ -152,7 +153,7 @@ start_world c places below w = collection_at c (WeakClearing []) below (record w
   numbers = survived c.generation (survivor_count c.generation places w.objects) w.numbers;
 })
 
--- The start prints `gc start`, with STATS the sizes before the merge, and with COLLECTABLE a line for each condemned object.
+-- Prints `gc start`, with STATS the sizes before the merge, and with COLLECTABLE a line for each condemned object.
 pub record StartStep (script : Script) (w : World) (c : Collection) (below : List Activity) (events : List Event) (after : World) : Type 0 where
   pub chosen : Object → Bool
   pub places : Object → Place
@@ -162,7 +163,7 @@ pub record StartStep (script : Script) (w : World) (c : Collection) (below : Lis
   pub any_order : SameMembers collectables (serials_at after.objects Cand)
   pub lines : events ≡ (GcStart c.generation ∷ []) ++ lines_if (has_flag c.flags stats) (gens_line w.objects ∷ []) ++ lines_if (has_flag c.flags collectable) (map GcCollectable collectables)
 
--- whether an object is condemned, and perhaps looked at already
+-- an object is condemned, whether or not its finalizer was looked at
 abbrev pub is_condemned : Object → Bool
 is_condemned x = is_at Cand x || is_at Seen x
 
@@ -170,19 +171,20 @@ is_condemned x = is_at Cand x || is_at Seen x
 abbrev pub is_condemned_in : List Object → ℕ → Bool
 is_condemned_in objects o = unwrap_or (option_map is_condemned (object_at objects o)) false
 
--- which weak references lose their referent before the finalizers: in profile 2 those with a callback alone (ours)
+-- the weak references cleared before the finalizers: in profile 2 only those with a callback (ours)
 abbrev pub is_lost_early : ℕ → Object → Bool
 is_lost_early profile x = not (profile == 2) || is_some (callback_in x.entries)
 
--- The weak phase: weak references to condemned objects, and condemned ones with a referent, lose it.
+-- The weak phase clears weak references to condemned objects, and condemned weak references.
 abbrev pub loses_in_weak_phase : ℕ → List Object → Object → Bool
 loses_in_weak_phase profile objects x = is_lost_early profile x && unwrap_or (option_map (λ o. is_condemned_in objects o || is_condemned x) x.referent) false
 
--- One that is not condemned and has a callback waits. (`weakref` manual: a condemned weak reference is not called back.)
+-- A weak reference that has a callback and is not condemned waits. (`weakref` manual: a condemned weak reference is not
+-- called back.)
 abbrev pub waits : List Object → ℕ → Bool
 waits objects weak = not (is_condemned_in objects weak) && is_some (callback_of objects weak)
 
--- one loses its referent, and waits where it is to be called back
+-- one is cleared, and waits if its callback is to be called
 abbrev pub clears_one : Collection → List ℕ → List Activity → World → ℕ → Transition
 clears_one c waiting below w weak = (
   Cleared weak ∷ [],
@@ -202,21 +204,21 @@ abbrev pub WeakClearingStep : ℕ → Collection → List ℕ → List Activity 
 WeakClearingStep profile c waiting below w events after =
     ClearsOne profile c waiting below w events after ⊎ NoneLeft (loses_in_weak_phase profile w.objects) w.objects × Yields ([], collection_at c (WeakCalling waiting) below w) events after
 
--- The first of those that wait has its callback called. Then it leaves the list and is given up.
+-- The first waiting weak reference has its callback called, then leaves the list and is given up.
 abbrev pub calls_back : Script → Collection → List ℕ → List Activity → World → Transition
 calls_back script c [] below w = ([], collection_at c Finalizing below w)
 calls_back script c (weak ∷ waiting) below w =
     let callback = unwrap_or (callback_of w.objects weak) 0 in
     start_frame script (record { sort = Callback; proc = procedure_of w callback; subject = weak; func = Some callback }) (collection_at c (AfterCallback weak waiting) below w)
 
--- One that died when it was given up counts as collected; one that lives gets older.
+-- It counts as collected if giving it up freed it; if it lives, it moves to the older generation.
 abbrev pub after_release : Collection → ℕ → List ℕ → List Activity → World → Transition
 after_release c weak waiting below w =
     if is_in_map w.objects weak
     then ([], collection_at c (WeakCalling waiting) below (with_change (with_place (Gen (older c.generation))) weak w))
     else ([], collection_at (record c { collected = c.collected + 1 }) (WeakCalling waiting) below w)
 
--- The finalizer phase: any condemned object is looked at, and its finalizer runs if it has not.
+-- The finalizer phase visits each condemned object and runs its finalizer unless that has run.
 abbrev pub looks_at : Script → Collection → ℕ → List Activity → World → Option ℕ → Transition
 looks_at script c o below w None = ([], collection_at c Finalizing below (with_change (with_place Seen) o w))
 looks_at script c o below w (Some p) =
@@ -229,15 +231,15 @@ pub record LooksAtOne (script : Script) (c : Collection) (below : List Activity)
   pub condemned : IsMemberOf w Cand object
   pub yields : Yields (looks_at script c object below w (option_and_then (finalizer_to_run script) (object_at w.objects object))) events after
 
--- no object stands at a place
+-- a place has no objects
 abbrev pub NoneAt : World → Place → Type 0
 NoneAt w p = serials_at w.objects p ≡ []
 
--- all objects of one place go to another
+-- all objects of one place move to another
 abbrev pub replaced_place : Place → Place → World → World
 replaced_place old new w = with_objects (map (λ x. if is_at old x then with_place new x else x) w.objects) w
 
--- when all were looked at, they are all condemned as before, and the second detection follows
+-- After the last one, all are condemned again, and the second reachability pass follows.
 abbrev pub FinalizingStep : Script → Collection → List Activity → World → List Event → World → Type 0
 FinalizingStep script c below w events after =
     LooksAtOne script c below w events after ⊎ NoneAt w Cand × Yields ([], collection_at c Split below (replaced_place Seen Cand w)) events after
@@ -246,17 +248,17 @@ FinalizingStep script c below w events after =
 abbrev pub is_final_in : List Object → ℕ → Bool
 is_final_in objects o = unwrap_or (option_map (is_at Cand) (object_at objects o)) false
 
--- At the second detection weak references to members, and members with a referent, lose it: those that finalizers made, and
--- in profile 2 those that kept it so far.
+-- The second reachability pass clears weak references to members, and members that are weak references: those that
+-- finalizers made, and in profile 2 those without a callback too.
 abbrev pub loses_at_split : List Object → Object → Bool
 loses_at_split objects x = unwrap_or (option_map (λ o. is_final_in objects o || is_at Cand x) x.referent) false
 
--- those that are alive go to the older generation
+-- resurrected objects move to the older generation
 abbrev pub get_older : ℕ → List ℕ → List Object → List Object
 get_older g alive objects = map (λ x. if includes alive x.serial then with_place (Gen (older g)) x else x) objects
 
--- The second detection (PEP 442): survivors are alive and get older; the rest is the final set, and weak references to it
--- and in it lose their referents without callback.
+-- The second reachability pass (PEP 442): what is reachable was resurrected and moves to the older generation. The rest
+-- is the final set; weak references to it and in it are cleared without callback.
 pub record SplitStep (c : Collection) (below : List Activity) (w : World) (events : List Event) (after : World) : Type 0 where
   pub alive : List ℕ
   pub survivors : (o : ℕ) → Includes alive o ↔ Survives w Cand o
@@ -271,8 +273,8 @@ pub record SplitStep (c : Collection) (below : List Activity) (w : World) (event
 abbrev pub saved : ℕ → List Object → List Object
 saved o objects = change (λ x. with_entries (x.entries ++ item (Ref o) ∷ []) x) 1 objects
 
--- The clearing: each member of the final set has a turn. With SAVEALL it is saved instead. Tuples cannot be cleared: they
--- go when what holds them is cleared.
+-- The clearing gives each member of the final set a turn. SAVEALL saves it instead. A tuple cannot be cleared: it is
+-- freed when its holder is cleared.
 abbrev pub takes_turn : Collection → Object → List Activity → World → Transition
 takes_turn c x below w =
     if has_flag c.flags save_all
@@ -287,20 +289,20 @@ pub record TakesTurn (c : Collection) (below : List Activity) (w : World) (event
   pub member : Includes (objects_at w.objects Cand) object
   pub yields : Yields (takes_turn c object below w) events after
 
--- when all have had their turns, the end follows
+-- after the last turn, the end follows
 abbrev pub TurnsStep : Collection → List Activity → World → List Event → World → Type 0
 TurnsStep c below w events after = TakesTurn c below w events after ⊎ NoneAt w Cand × Yields ([], collection_at c Ending below w) events after
 
--- Its entries are taken out, the last first, and each is given up. Then it is given up itself.
+-- Its entries are removed, last first, and each is given up. Then the object is given up.
 abbrev pub empties : Collection → ℕ → List Activity → World → Option Entry → Transition
 empties c o below w None = ([], push (Releasing (o ∷ [])) (collection_at c (AfterTurn o) below w))
 empties c o below w (Some e) = ([], push (Releasing (entry_references e)) (collection_at c (Turn o) below (with_change (with_entries (without_last (entries_of w.objects o))) o w)))
 
--- one that lives after its turn gets older
+-- if it lives after its turn, it moves to the older generation
 abbrev pub after_turn : Collection → ℕ → List Activity → World → Transition
 after_turn c o below w = ([], collection_at c Turns below (with_change (with_place (Gen (older c.generation))) o w))
 
--- The end: the objects set aside are told, saved, and get older.
+-- The end: uncollectable objects are reported, saved, and moved to the older generation.
 abbrev pub is_saved : Script → Collection → Object → Bool
 is_saved script c x = is_at Legacy x && (has_flag c.flags save_all || is_some (legacy_of script x))
 
@@ -333,6 +335,6 @@ PhaseStep script c (Turn o) below w events after = Yields (empties c o below w (
 PhaseStep script c (AfterTurn o) below w events after = Yields (after_turn c o below w) events after
 PhaseStep script c Ending below w events after = EndStep script c below w events after
 
--- the step of a collection on top
+-- the step when a collection is on top
 abbrev pub CollectStep : Script → World → Collection → List Activity → List Event → World → Type 0
 CollectStep script w c below events after = PhaseStep script c c.phase below w events after

@@ -1,5 +1,5 @@
--- What each command does, or the first refusal that holds. One clause for each command. (Ours, after what Python does:
--- docs/SCRIPT.md has the table.)
+-- What each command does, or the first refusal that applies. One clause for each command. (Ours, after what Python
+-- does: docs/SCRIPT.md has the table.)
 use Rattle.std.specs.Prelude.{◌≡◌, ℕ, Bool, true, false, not, List, [], ◌∷◌, ◌++◌, Some, None, Result, Ok, Err, if◌then◌else◌, unwrap_or, ok_or, map, length, slice_get, slice_set, remove, ◌⊎◌}
 use Rattle.cg_value.specs.declared.Val.TheVariants.{None as Nothing, Str, Ref}
 use Rattle.cg_value.specs.declared.KindCode.TheVariants.{List as ListKind, Tuple, Dict, Inst, Func, Weak}
@@ -23,7 +23,7 @@ use Rattle.cg_machine.specs.Operands.{any_object, is_dict, is_list, is_script_li
 use Rattle.cg_machine.specs.Effects.{Calls, Changes, Collects, Effect, Explains, Quits, binds, bound, callback_entries, frozen, gens_line, given_up_by, has_room, is_hashable, lists, makes, makes_of, valid_index, prints, puts, referrers, replaced, sets_entries, sets_numbers, unfrozen}
 use Rattle.cg_machine.specs.Weak.{has_weak_references, is_function, is_instance}
 
--- the command of a world whose top has the commands after it
+-- the effect of a command in a world that keeps the commands after it
 abbrev pub effect : World → Command → Result Effect ℕ
 effect w (MakeList name items) = makes_of w name ListKind None items
 effect w (MakeTuple name items) = makes_of w name Tuple None items
@@ -160,7 +160,7 @@ without_commands (TopLevel commands ∷ below) = TopLevel [] ∷ below
 without_commands (Framed f ∷ below) = Framed (record f { commands = [] }) ∷ below
 without_commands stack = stack
 
--- the frame on top has no commands left
+-- the top frame has no commands left
 abbrev pub stopped_frame : List Activity → List Activity
 stopped_frame (Framed f ∷ below) = Framed (record f { commands = [] }) ∷ below
 stopped_frame stack = stack
@@ -169,7 +169,7 @@ stopped_frame stack = stack
 abbrev pub refused : ℕ → World → Transition
 refused refusal w = (Refused refusal ∷ [], with_stack (stopped_frame w.stack) w)
 
--- a collection that is to start; it reads the debug flags now
+-- a new collection; it reads the debug flags now
 abbrev pub new_collection : ℕ → Bool → World → Activity
 new_collection g asked w = Collecting (record { generation = g; flags = w.numbers.flags; asked = asked; collected = 0; phase = Start })
 
@@ -178,12 +178,12 @@ abbrev pub path_lines : List ℕ → List Event
 path_lines [] = []
 path_lines (first ∷ path) = Held first ∷ map Via path
 
--- What `why` says of an object: a shortest path of holders, or that there is none.
+-- What `why` reports of an object: a shortest path of holders, or that there is none.
 pub data Explanation (w : World) (object : ℕ) : List Event → Type 0 where
   HasPath : (path : List ℕ) → IsShortestPath (IsHeldElse (other_holdings w) object) (edges (graph_of w.objects)) path object → Explanation w object (path_lines path)
   HasNone : HasNoPath (IsHeldElse (other_holdings w) object) (edges (graph_of w.objects)) object → Explanation w object (Unreachable ∷ [])
 
--- Where a command may need memory, the machine may refuse it for memory instead.
+-- Where a command allocates, the machine may refuse it for memory instead.
 abbrev pub DoesEffect : Script → World → Result Effect ℕ → List Event → World → Type 0
 DoesEffect script w (Err refusal) events after = Yields (refused refusal w) events after
 DoesEffect script w (Ok (Changes wants_memory lines given_up with_change)) events after =

@@ -15,6 +15,6 @@ due_generation n =
 abbrev pub is_due : Numbers → Bool
 is_due n = n.enabled && not (n.zero_threshold == 0) && nat_lt n.zero_threshold n.zero_count
 
--- the generation of the collection that is due, if one is and none is running
+-- the generation of the collection that is due, if one is due and none is running
 abbrev pub due : World → Option ℕ
 due w = if is_due w.numbers && not (is_collecting w) then Some (due_generation w.numbers) else None

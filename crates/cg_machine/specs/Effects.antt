@@ -1,4 +1,5 @@
--- What commands do to a world. (Ours; a dictionary becomes tracked when it holds what may be tracked: `gc.is_tracked`.)
+-- What commands do to a world. (Ours; a dictionary becomes tracked when it gets a value that may be tracked:
+-- `gc.is_tracked`.)
 use Rattle.std.specs.Prelude.{ℕ, ◌+◌, ℤ, pos, negsuc, Bool, true, false, not, ◌&&◌, ◌||◌, ◌==◌, nat_lt, nat_le, List, [], ◌∷◌, ◌++◌, Option, Some, None, Result, Ok, if◌then◌else◌, option_and_then, map, filter, length, slice_get, slice_set, sum_by, count_by, is_some, is_none}
 use Rattle.cg_value.specs.declared.Val.{Val}
 use Rattle.cg_value.specs.declared.Val.TheVariants.{None as Nothing, Ref}
@@ -18,8 +19,8 @@ use Rattle.cg_machine.specs.Refusals.{entry_limit, not_callable, object_limit, u
 use Rattle.cg_machine.specs.Operands.{is_dict, object, object_of, values}
 use Rattle.cg_machine.specs.Weak.{has_weak_references, is_function}
 
--- What a command does. Changes: the lines, the references to be given up, and whether memory may be wanted. Explains: the
--- lines of a path of holders to the object, any of the shortest.
+-- The effect of a command. Changes has the lines, the references to give up, and whether memory may run out. Explains has
+-- the lines of any shortest path of holders to the object.
 pub data Effect : Type 0 where
   Changes : (wants_memory : Bool) (lines : List Event) (given_up : List ℕ) (after : World) → Effect
   Calls : (function : ℕ) → Effect
@@ -40,7 +41,7 @@ abbrev pub valid_index : ℤ → ℕ → Option ℕ
 valid_index (pos n) len = if nat_lt n len then Some n else None
 valid_index (negsuc n) len = None
 
--- how many objects live and how many entries they have, the garbage list aside
+-- how many objects live and how many entries they have, not counting the garbage list
 abbrev pub live : World → ℕ
 live w = count_by (λ x. not (x.serial == 1)) w.objects
 
@@ -48,15 +49,15 @@ live w = count_by (λ x. not (x.serial == 1)) w.objects
 abbrev pub entry_count : World → ℕ
 entry_count w = sum_by (λ x. if x.serial == 1 then 0 else length x.entries) w.objects
 
--- refused where this many more entries would pass the limit
+-- refuses where this many more entries would pass the limit
 abbrev pub has_room : World → ℕ → Result (Unit {0}) ℕ
 has_room w n = unless (nat_le (entry_count w + n) MOST_ENTRIES) entry_limit
 
--- a name gets a value, or loses its own; what it had is given up
+-- a name gets a value or is unbound; its old value is given up
 abbrev pub bound : World → ℕ → Option Val → World
 bound w name v = record w { names = slice_set w.names name v }
 
--- the references of a name's value
+-- the references of a name's old value
 abbrev pub given_up_by : World → ℕ → List ℕ
 given_up_by w name = references_of_value (option_and_then (λ v. v) (slice_get w.names name))
 
@@ -79,7 +80,7 @@ makes w name kind class entries referent = do
   _ ← has_room w (length entries)
   Ok (Changes true (Made kind w.next_serial ∷ []) (given_up_by w name) (bound (with_new w kind class entries referent) name (Some (Ref w.next_serial))))
 
--- an object is made of the values of operands
+-- a new object with the values of operands
 abbrev pub makes_of : World → ℕ → KindCode → Option ℕ → List Operand → Result Effect ℕ
 makes_of w name kind class operands = do
   vs ← values w operands
@@ -93,7 +94,7 @@ sets_entries w x entries given_up = Ok (Changes false [] given_up (with_change (
 abbrev pub may_track : World → Val → Bool
 may_track w v = elim (object_of w v) [ None ↦ false | Some x ↦ may_be_tracked x ]
 
--- an untracked dictionary that gets such a key or value becomes tracked
+-- an untracked dictionary becomes tracked when it gets such a key or value
 abbrev pub tracked_by : World → Val → Val → Object → Object
 tracked_by w key v x = if is_dict x && not (is_tracked x) && (may_track w key || may_track w v) then with_place (Gen 0) x else x
 
@@ -104,15 +105,15 @@ puts w x key v = do
   _ ← (if is_some old then Ok tt else has_room w 1)
   Ok (Changes (is_none old) [] (references_of_value old) (with_change (λ y. tracked_by w key v (with_entries (put x.entries key v) y)) x.serial w))
 
--- an answer that changes nothing
+-- prints and changes nothing
 abbrev pub prints : World → Event → Result Effect ℕ
 prints w line = Ok (Changes false (line ∷ []) [] w)
 
--- A line for each object, and then their number. The list may need memory.
+-- A line for each object, then their number. The list may need memory.
 abbrev pub lists : World → (ℕ → Event) → List ℕ → Result Effect ℕ
 lists w line objects = Ok (Changes true (map line objects ++ Listed (length objects) ∷ []) [] w)
 
--- the objects whose entries refer to one, by rising serial
+-- the objects that refer to one, by rising serial
 abbrev pub referrers : World → ℕ → List ℕ
 referrers w o = serials (filter (refers_to o) w.objects)
 
@@ -130,11 +131,11 @@ abbrev pub unfrozen : Place → Place
 unfrozen Frozen = Gen 2
 unfrozen p = p
 
--- every object in its place after that
+-- every object after such a change of places
 abbrev pub replaced : (Place → Place) → World → List Object
 replaced f w = map (λ x. with_place (f x.place) x) w.objects
 
--- the entry of a weak reference with this callback; none is no callback
+-- the entry of a weak reference with this callback; None is no callback
 abbrev pub callback_entries : World → Val → Result (List Entry) ℕ
 callback_entries w Nothing = Ok []
 callback_entries w v = do

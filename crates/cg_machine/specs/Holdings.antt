@@ -1,4 +1,4 @@
--- What a world holds, and how often. (Developer guide, "reference counting". A referent is no holding: weak references
+-- What a world holds, and how often. (Developer guide, "reference counting". A referent is not held: weak references
 -- do not keep their object alive, PEP 205.)
 use Rattle.std.specs.Prelude.{ℕ, Bool, true, false, ◌==◌, List, [], ◌∷◌, ◌++◌, Option, flat_map, option_to_list}
 use Rattle.std.specs.List.{list_any}
@@ -7,14 +7,15 @@ use Rattle.cg_machine.specs.declared.event.FrameSort.{FrameSort}
 use Rattle.cg_machine.specs.declared.event.FrameSort.TheVariants.{Del, Legacy, Callback, Call}
 use Rattle.cg_machine.specs.World.{World, Activity, TopLevel, Framed, Releasing, Dying, Collecting, ShuttingDown, DyingPhase, Finalizer, AfterFinalizer, Clearing, Calling, AfterCall, LegacyFinalizer, AfterLegacy, Detaching, Emptying, CollectPhase, Start, WeakClearing, WeakCalling, AfterCallback, AfterRelease, Finalizing, AfterFinalizing, Split, Turns, Turn, AfterTurn, Ending}
 
--- a frame holds its function where a command called it; the locals of other frames are held by what started them
+-- A frame holds its function if a command called it. The locals of other frames are held by the activity that started
+-- them.
 abbrev pub call_holds : FrameSort → Option ℕ → List ℕ
 call_holds Del function = []
 call_holds Legacy function = []
 call_holds Callback function = []
 call_holds Call function = option_to_list function
 
--- a death holds its object while a frame of its own runs, and the weak references and the callback that it calls
+-- a death holds its object while the object's own code runs, and the weak references and the callback that it calls
 abbrev pub dying_holds : ℕ → DyingPhase → List ℕ
 dying_holds o Finalizer = []
 dying_holds o AfterFinalizer = o ∷ []
@@ -26,7 +27,7 @@ dying_holds o AfterLegacy = o ∷ []
 dying_holds o Detaching = []
 dying_holds o Emptying = []
 
--- a collection holds the weak references that wait, and the object that it finalizes or clears
+-- a collection holds the waiting weak references, and the object that it finalizes or clears
 abbrev pub collect_holds : CollectPhase → List ℕ
 collect_holds Start = []
 collect_holds (WeakClearing waiting) = waiting
@@ -50,12 +51,12 @@ holds (Dying d) = dying_holds d.object d.phase
 holds (Collecting c) = collect_holds c.phase
 holds (ShuttingDown started) = []
 
--- The holdings of a world: an object for each time that a name, the garbage root (which holds the garbage list), an entry
--- of an object, or an activity holds it. Objects that are dying still hold what their entries hold.
+-- The holdings of a world: an object once for each name, garbage root (which holds the garbage list), entry or activity
+-- that holds it. Dying objects still hold what their entries hold.
 abbrev pub holdings : World → List ℕ
 holdings w = name_holdings w.names ++ (1 ∷ []) ++ entry_holdings (graph_of w.objects) ++ flat_map holds w.stack
 
--- how often names, the garbage root and what is under way hold an object
+-- how often names, the garbage root and activities hold an object
 abbrev pub other_holdings : World → ℕ → ℕ
 other_holdings w o = occurrences o (name_holdings w.names ++ (1 ∷ []) ++ flat_map holds w.stack)
 
@@ -63,7 +64,7 @@ other_holdings w o = occurrences o (name_holdings w.names ++ (1 ∷ []) ++ flat_
 abbrev pub in_degree : World → ℕ → ℕ
 in_degree w o = occurrences o (holdings w)
 
--- an object is dying where an activity is its death
+-- an activity is the death of an object
 abbrev pub is_death_of : ℕ → Activity → Bool
 is_death_of o (TopLevel commands) = false
 is_death_of o (Framed f) = false
@@ -72,7 +73,7 @@ is_death_of o (Dying d) = d.object == o
 is_death_of o (Collecting c) = false
 is_death_of o (ShuttingDown started) = false
 
--- whether one is on the stack
+-- a death of the object is on the stack
 abbrev pub is_dying : World → ℕ → Bool
 is_dying w o = list_any (is_death_of o) w.stack
 
@@ -85,6 +86,6 @@ is_collection (Dying d) = false
 is_collection (Collecting c) = true
 is_collection (ShuttingDown started) = false
 
--- at most one collection is on the stack
+-- a collection is on the stack
 abbrev pub is_collecting : World → Bool
 is_collecting w = list_any is_collection w.stack

@@ -1,4 +1,4 @@
--- What the laws say of one world of a run. (Ours: what an interpreter may rest on at each turn.)
+-- What the laws say of one world of a run. (Ours: what an interpreter may rely on at each turn.)
 use Rattle.std.specs.Prelude.{ℕ, List}
 use Rattle.cg_script.specs.declared.Script.{Script}
 use Rattle.cg_graph.specs.Member.{Includes}
@@ -22,10 +22,10 @@ pub record IsLawful (script : Script) (budget : ℕ) (w : World) : Type 0 where
   pub newest : ClearsNewestFirst w
   pub serials : HasFewSerials script budget w
 
--- each world to which the machine goes from here is so
+-- each world that a step leads to is lawful
 abbrev pub StaysLawful : Script → ℕ → World → Type 0
 StaysLawful script budget w = (steps : List StepTaken) → Run script w steps → IsLawful script budget (last_world w steps)
 
--- Each world of a run is lawful, and stays so.
+-- Every world of a run is lawful, and so is each one after it.
 abbrev pub RunsStayLawful : Type 0
 RunsStayLawful = (script : Script) (budget : ℕ) (steps : List StepTaken) → IsRun script budget steps → StaysLawful script budget (world_after script budget steps)

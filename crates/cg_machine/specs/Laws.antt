@@ -1,5 +1,5 @@
--- What holds in every run. Each is the contract of a function without a body: the first five of this crate, the others of one
--- above it. (Ours, after what PEP 442 and the developer guide promise.)
+-- What holds in every run. Each law is the contract of a function without a body: the first five in this crate, the others in
+-- one above it. (Ours, after what PEP 442 and the developer guide promise.)
 use Rattle.cg_machine.specs.Represents.{Underway, death_waits}
 use Rattle.cg_machine.specs.Lines.{line, text_of}
 use Rattle.std.specs.Prelude.{◌≡◌, ◌≢◌, ℕ, ◌<◌, ◌≤◌, Bool, true, false, List, [], ◌∷◌, ◌++◌, ◌==◌, ◌⊎◌, Option, Some, None, count_by, is_some, option_to_list, IsTrue, flat_map}
@@ -29,7 +29,7 @@ use Rattle.cg_machine.specs.Run.{world_after, StepTaken, IsRun, IsWholeRun, last
 abbrev pub NoRunIsStuck : Type 0
 NoRunIsStuck = (script : Script) (budget : ℕ) (steps : List StepTaken) → IsRun script budget steps → (more : List StepTaken) × (outcome : Outcome) × IsWholeRun script budget outcome (steps ++ more)
 
--- What a run has printed, with the first lines of a step that is underway, is how the text of a whole run begins.
+-- What a run has printed, with the first lines of an unfinished step, is a prefix of the text of a whole run.
 pub record BeginsWholeText (script : Script) (budget : ℕ) (printed : List Event) : Type 0 where
   pub steps : List StepTaken
   pub outcome : Outcome
@@ -42,18 +42,18 @@ abbrev pub FrontsBeginWholeTexts : Type 0
 FrontsBeginWholeTexts = (script : Script) (budget : ℕ) (steps : List StepTaken) → IsRun script budget steps
     → (printed : List Event) → (printed ≡ []) ⊎ Underway script (world_after script budget steps) printed → BeginsWholeText script budget (events_of steps ++ printed)
 
--- A dying object is held, at least by its death, while a frame of its own runs, and at no other time.
+-- A dying object is held, at least by its death, while its own code runs, and at no other time.
 abbrev pub IsHeldInItsFramesAlone : ℕ → DyingPhase → List ℕ → Type 0
 IsHeldInItsFramesAlone o AfterFinalizer held = occurrences o held ≢ 0
 IsHeldInItsFramesAlone o AfterLegacy held = occurrences o held ≢ 0
 IsHeldInItsFramesAlone o phase held = occurrences o held ≡ 0
 
--- This holds in every world of a run. So only the release of its own hold leaves it at 0.
+-- This holds in every world of a run. So only the release of its own hold brings its count to 0.
 abbrev pub DyingIsUnheld : Type 0
 DyingIsUnheld = (script : Script) (budget : ℕ) (steps : List StepTaken) → IsRun script budget steps
     → (d : Death) → Includes (world_after script budget steps).stack (Dying d) → IsHeldInItsFramesAlone d.object d.phase (holdings (world_after script budget steps))
 
--- the weak references that an activity waits with: their callbacks are to come, or that of the first one runs
+-- the weak references that a collection holds until their callbacks have run
 abbrev pub collection_waits : CollectPhase → List ℕ
 collection_waits (WeakClearing waiting) = waiting
 collection_waits (WeakCalling waiting) = waiting
@@ -70,27 +70,27 @@ waits_of (Dying d) = death_waits d.phase
 waits_of (Collecting c) = collection_waits c.phase
 waits_of (ShuttingDown started) = []
 
--- all of a stack
+-- those of a stack
 abbrev pub all_waits : List Activity → List ℕ
 all_waits stack = flat_map waits_of stack
 
--- a weak reference that waits for its callback has one, and has lost its referent
+-- a waiting weak reference has a callback, and is cleared
 pub record IsWaiting (x : Object) : Type 0 where
   pub code : x.code ≡ Weak
   pub referent : x.referent ≡ None
   pub callback : callback_in x.entries ≢ None
 
--- a function is there
+-- a function lives
 abbrev pub HasFunction : List Object → ℕ → Type 0
 HasFunction objects f = (z : Object) × Includes objects z × (z.serial ≡ f) × (is_function z ≡ true)
 
--- the finalizer or the legacy finalizer of the dying object runs, or has ended just now
+-- the finalizer or legacy finalizer of the dying object runs, or has just ended
 abbrev pub runs_own_frame : DyingPhase → Bool
 runs_own_frame AfterFinalizer = true
 runs_own_frame AfterLegacy = true
 runs_own_frame phase = false
 
--- all weak references have lost the dying object, and no frame of its own has run since
+-- all weak references to the dying object are cleared, and none of its own code has run since
 abbrev pub is_cleared : DyingPhase → Bool
 is_cleared (Calling waiting) = true
 is_cleared (AfterCall weak callback waiting) = true
@@ -98,7 +98,8 @@ is_cleared LegacyFinalizer = true
 is_cleared Emptying = true
 is_cleared phase = false
 
--- what is known of a dying object: it lives, it refers to nothing, it is untracked, and nothing refers to it once it is cleared
+-- A dying object lives and has no referent. It is untracked while none of its own code runs, and no weak reference refers to
+-- it once all are cleared.
 pub record IsDeathIn (objects : List Object) (d : Death) : Type 0 where
   pub lives : Includes (serials objects) d.object
   pub refers_to_none : (x : Object) → Includes objects x → x.serial ≡ d.object → x.referent ≡ None
@@ -110,8 +111,8 @@ abbrev pub AreDeathsOfOthers : List Activity → Type 0
 AreDeathsOfOthers [] = Unit {0}
 AreDeathsOfOthers (a ∷ below) = ((d : Death) → a ≡ Dying d → (e : Death) → Includes below (Dying e) → e.object ≢ d.object) × AreDeathsOfOthers below
 
--- What is held lives, `self` and `ref` of a frame too; a referent is an instance or a function, and the entries of a weak
--- reference hold functions; what waits for its callback has one, waits once, and is not condemned.
+-- Whatever is held lives, and so do `self` and `ref` of a frame. A referent is an instance or a function, and the entries
+-- of a weak reference hold functions. A waiting weak reference has a callback, waits once, and is not condemned.
 pub record IsOrderly (w : World) : Type 0 where
   pub held_live : (o : ℕ) → Includes (holdings w) o → Includes (serials w.objects) o
   pub referents : (x : Object) → Includes w.objects x → (r : ℕ) → x.referent ≡ Some r → (x.code ≡ Weak) × ((z : Object) × Includes w.objects z × (z.serial ≡ r) × (has_weak_references z ≡ true))
@@ -123,15 +124,15 @@ pub record IsOrderly (w : World) : Type 0 where
   pub once : (weak : ℕ) → occurrences weak (all_waits w.stack) ≤ 1
   pub condemned : (x : Object) → Includes w.objects x → is_condemned x ≡ true → ¬ Includes (all_waits w.stack) x.serial
 
--- Every world of a run is so.
+-- This holds in every world of a run.
 abbrev pub WorldsAreOrderly : Type 0
 WorldsAreOrderly = (script : Script) (budget : ℕ) (steps : List StepTaken) → IsRun script budget steps → IsOrderly (world_after script budget steps)
 
--- an object had its entries before
+-- an object had the same entries before
 abbrev pub HadItsEntries : List Object → Object → Type 0
 HadItsEntries before y = (x : Object) × Includes before x × (x.serial ≡ y.serial) × (y.entries ≡ x.entries)
 
--- the places in which a collection sets objects apart
+-- the places that a collection uses for its partition
 abbrev pub IsOfCollection : Place → Type 0
 IsOfCollection Untracked = ⊥
 IsOfCollection (Gen i) = ⊥
@@ -142,12 +143,12 @@ IsOfCollection Back = Unit {0}
 IsOfCollection Legacy = Unit {0}
 IsOfCollection Pend = Unit {0}
 
--- an object was at its place before
+-- an object was in the same place before
 abbrev pub HadItsPlace : List Object → Object → Type 0
 HadItsPlace before y = (x : Object) × Includes before x × (x.serial ≡ y.serial) × (y.place ≡ x.place)
 
--- What a step leaves below the activity that takes it: the activities there, and the entries of an object that is dying
--- there and cleared, and of a weak reference that waits there. Collections alone set objects apart.
+-- What a step leaves alone below its activity: the activities, and the entries of each cleared dying object and each
+-- waiting weak reference there. Only collections partition objects.
 pub record LeavesBelow (w : World) (a : Activity) (below : List Activity) (after : World) : Type 0 where
   pub tops : List Activity
   pub stack : after.stack ≡ tops ++ below
@@ -155,12 +156,12 @@ pub record LeavesBelow (w : World) (a : Activity) (below : List Activity) (after
   pub dying : (d : Death) → Includes below (Dying d) → is_cleared d.phase ≡ true → (y : Object) → Includes after.objects y → y.serial ≡ d.object → HadItsEntries w.objects y
   pub waiting : (weak : ℕ) → Includes (all_waits below) weak → (y : Object) → Includes after.objects y → y.serial ≡ weak → HadItsEntries w.objects y
 
--- Every step of a run does so.
+-- This holds for every step of a run.
 abbrev pub StepsLeaveWhatIsBelow : Type 0
 StepsLeaveWhatIsBelow = (script : Script) (budget : ℕ) (steps : List StepTaken) (step : StepTaken) → IsRun script budget (steps ++ step ∷ [])
     → (a : Activity) (below : List Activity) → (world_after script budget steps).stack ≡ a ∷ below → LeavesBelow (world_after script budget steps) a below step.world
 
--- the serials that a line names
+-- the serials in a line
 abbrev pub named : Event → List ℕ
 named (Made code serial) = serial ∷ []
 named (Enter sort serial) = serial ∷ []
@@ -177,7 +178,7 @@ named (Held n) = n ∷ []
 named (Via n) = n ∷ []
 named event = []
 
--- the line with which a collection stops
+-- the last line of a collection
 abbrev pub is_stop : Event → Bool
 is_stop (GcStop g m n) = true
 is_stop event = false
@@ -192,7 +193,7 @@ abbrev pub is_finalizer_of : ℕ → Event → Bool
 is_finalizer_of n (Enter Del serial) = serial == n
 is_finalizer_of n event = false
 
--- the next step is the second detection of a collection without SAVEALL
+-- the next step is the second reachability pass of a collection without SAVEALL
 pub record Splits (w : World) : Type 0 where
   pub collection : Collection
   pub below : List Activity
@@ -200,11 +201,11 @@ pub record Splits (w : World) : Type 0 where
   pub phase : collection.phase ≡ Split
   pub clears : has_flag collection.flags save_all ≡ false
 
--- the final set, which such a step leaves condemned
+-- the final set: what such a step leaves condemned
 abbrev pub final_set : StepTaken → List ℕ
 final_set split = serials_at split.world.objects Cand
 
--- An activity that may not hold a member of the final set does not: a frame and a death.
+-- Frames and deaths hold no member of the final set.
 abbrev pub HoldsNot : ℕ → Activity → Type 0
 HoldsNot o (TopLevel commands) = Unit {0}
 HoldsNot o (Framed f) = ¬ Includes (holds (Framed f)) o
@@ -213,22 +214,22 @@ HoldsNot o (Dying d) = ¬ Includes (holds (Dying d)) o
 HoldsNot o (Collecting c) = Unit {0}
 HoldsNot o (ShuttingDown started) = Unit {0}
 
--- the locals of a frame, which are `self`, `ref` and what the cells of its function hold, and the function itself
+-- the locals of a frame: `self`, `ref`, the cells of its function, and the function
 abbrev pub function_and_cells : List Object → Option ℕ → List ℕ
 function_and_cells objects None = []
 function_and_cells objects (Some f) = f ∷ references (entries_of objects f)
 
--- all of them
+-- those of a list of activities
 abbrev pub locals_of : List Object → Frame → List ℕ
 locals_of objects f = f.subject ∷ function_and_cells objects f.function
 
--- an object is none of these, where the activity is a frame
+-- if the activity is a frame, the object is not among its locals
 abbrev pub IsNoLocal : List Object → ℕ → Activity → Type 0
 IsNoLocal objects o (Framed f) = ¬ Includes (locals_of objects f) o
 IsNoLocal objects o activity = Unit {0}
 
--- A member of the final set, while it lives: only members, the collection and releases hold it; nothing refers to it
--- weakly, nor does it; its finalizer has run and it has no legacy one; no frame has it as a local.
+-- A living member of the final set: only members, the collection and releases hold it. It has no referent and no weak
+-- reference refers to it. Its finalizer has run and it has no legacy one. It is no local of a frame.
 pub record IsSealed (script : Script) (members : List ℕ) (w : World) (x : Object) : Type 0 where
   pub no_name : ¬ Includes (name_holdings w.names) x.serial
   pub no_root : x.serial ≢ 1
@@ -240,13 +241,14 @@ pub record IsSealed (script : Script) (members : List ℕ) (w : World) (x : Obje
   pub no_legacy : legacy_of script x ≡ None
   pub no_local : (a : Activity) → Includes w.stack a → IsNoLocal w.objects x.serial a
 
--- From the second detection up to the stop of its collection each living member of the final set is sealed.
+-- From the second reachability pass until its collection stops, each living member of the final set is sealed.
 abbrev pub Sealing : Type 0
 Sealing = (script : Script) (budget : ℕ) (before : List StepTaken) (split : StepTaken) (during : List StepTaken)
     → IsRun script budget (before ++ split ∷ during) → Splits (world_after script budget before) → count_by is_stop (events_of during) ≡ 0
     → (x : Object) → Includes (last_world split.world during).objects x → Includes (final_set split) x.serial → IsSealed script (final_set split) (last_world split.world during) x
 
--- In that time, up to the lines of the stop's own step, the only line that names a member is the one that frees it.
+-- During that time, up to the lines of the step that stops, the only line that names a member is the one that frees
+-- it.
 abbrev pub OnlyFreesNameMembers : Type 0
 OnlyFreesNameMembers = (script : Script) (budget : ℕ) (before : List StepTaken) (split : StepTaken) (during : List StepTaken) (next : StepTaken)
     → IsRun script budget (before ++ split ∷ during ++ next ∷ []) → Splits (world_after script budget before) → count_by is_stop (events_of during) ≡ 0
@@ -261,11 +263,11 @@ pub record WasFinal (script : Script) (budget : ℕ) (steps : List StepTaken) (o
   pub splits : Splits (world_after script budget before)
   pub member : Includes (final_set split) o
 
--- an object has its entries still, and perhaps more
+-- an object keeps its entries, and may get more
 abbrev pub IsLengthened : Object → Object → Type 0
 IsLengthened x y = (more : List Entry) × (y.entries ≡ x.entries ++ more)
 
--- an object was a weak reference to another in some world of a run
+-- in some world of a run, an object was a weak reference to another
 pub record ReferredTo (script : Script) (budget : ℕ) (steps : List StepTaken) (weak referent : ℕ) : Type 0 where
   pub before : List StepTaken
   pub after : List StepTaken
@@ -275,8 +277,8 @@ pub record ReferredTo (script : Script) (budget : ℕ) (steps : List StepTaken) 
   pub same : object.serial ≡ weak
   pub refers : object.referent ≡ Some referent
 
--- The step that follows may take entries of an object: that of a command, of its own death, or, a weak reference, of the death of
--- its referent.
+-- The next step may take entries of an object: the step of a command, of its own death, or, for a weak reference, of its
+-- referent's death.
 abbrev pub MayLoseEntries : Script → ℕ → List StepTaken → Object → World → List Activity → Type 0
 MayLoseEntries script budget steps x w [] = ⊥
 MayLoseEntries script budget steps x w (TopLevel commands ∷ below) = (commands ≢ []) × (due w ≡ None)
@@ -286,13 +288,13 @@ MayLoseEntries script budget steps x w (Dying d ∷ below) = (d.object ≡ x.ser
 MayLoseEntries script budget steps x w (Collecting c ∷ below) = ⊥
 MayLoseEntries script budget steps x w (ShuttingDown started ∷ below) = ⊥
 
--- An object that never was in such a final set loses entries in no other way.
+-- An object that was never in a final set loses entries in no other way.
 abbrev pub EntriesLeaveOnlyBy : Type 0
 EntriesLeaveOnlyBy = (script : Script) (budget : ℕ) (before : List StepTaken) (step : StepTaken) → IsRun script budget (before ++ step ∷ [])
     → (x y : Object) → Includes (world_after script budget before).objects x → Includes step.world.objects y → x.serial ≡ y.serial
     → ¬ WasFinal script budget before x.serial → ¬ IsLengthened x y → MayLoseEntries script budget before x (world_after script budget before) (world_after script budget before).stack
 
--- Each member of the final set, tuples included, has been freed when the collection stops, for each script of a class.
+-- When a collection stops, each member of the final set, tuples included, has been freed, for each script of a class.
 abbrev pub FinalSetIsFreedIn : (Script → Type 0) → Type 0
 FinalSetIsFreedIn Fit = (script : Script) (budget : ℕ) (before : List StepTaken) (split : StepTaken) (during : List StepTaken) (stop : StepTaken)
     → Fit script → IsRun script budget (before ++ split ∷ during ++ stop ∷ []) → Splits (world_after script budget before)
@@ -303,27 +305,27 @@ FinalSetIsFreedIn Fit = (script : Script) (budget : ℕ) (before : List StepTake
 abbrev pub FinalSetIsFreed : Type 0
 FinalSetIsFreed = FinalSetIsFreedIn TextsAreKnown
 
--- A finalizer of one object begins at most once.
+-- The finalizer of an object begins at most once.
 abbrev pub OneFinalizerEach : Type 0
 OneFinalizerEach = (script : Script) (budget : ℕ) (steps : List StepTaken) → IsRun script budget steps → (n : ℕ) → count_by (is_finalizer_of n) (events_of steps) ≤ 1
 
--- no name, entry, hold or referent has an object
+-- no name, entry, activity or referent refers to an object
 abbrev pub IsGone : World → ℕ → Type 0
 IsGone w n = (in_degree w n ≡ 0) × ((x : Object) → Includes w.objects x → x.referent ≢ Some n)
 
--- After the line that an object is freed no line names it, also in the same step, and no later world has it.
+-- After the line that frees an object, no line names it, not even in the same step, and no later world has it.
 abbrev pub NoDeadNames : Type 0
 NoDeadNames = (script : Script) (budget : ℕ) (before : List StepTaken) (step : StepTaken) (after : List StepTaken) → IsRun script budget (before ++ step ∷ after)
     → (n : ℕ) (front back : List Event) → step.events ≡ front ++ Free n ∷ back
     → IsGone (last_world step.world after) n × ((event : Event) → Includes (back ++ events_of after) event → ¬ Includes (named event) n)
 
--- a command is the next to be done
+-- the next step does a command
 abbrev pub BeginsCommand : List Activity → Type 0
 BeginsCommand (TopLevel (command ∷ commands) ∷ below) = Unit {0}
 BeginsCommand (Framed f ∷ below) = f.commands ≢ []
 BeginsCommand stack = ⊥
 
--- When a command begins, each object that nothing holds is dying, for each script of a class.
+-- When a command begins, each unheld object is dying, for each script of a class.
 abbrev pub UnheldIsDyingIn : (Script → Type 0) → Type 0
 UnheldIsDyingIn Fit = (script : Script) (budget : ℕ) (steps : List StepTaken) → Fit script → IsRun script budget steps → BeginsCommand (world_after script budget steps).stack
     → (x : Object) → Includes (world_after script budget steps).objects x → in_degree (world_after script budget steps) x.serial ≡ 0 → IsTrue (is_dying (world_after script budget steps) x.serial)
@@ -332,7 +334,7 @@ UnheldIsDyingIn Fit = (script : Script) (budget : ℕ) (steps : List StepTaken) 
 abbrev pub UnheldIsDying : Type 0
 UnheldIsDying = UnheldIsDyingIn TextsAreKnown
 
--- a collection of 2 is to start, and no object is in the permanent generation
+-- a collection of 2 is about to start, and the permanent generation is empty
 pub record StartsFull (w : World) : Type 0 where
   pub collection : Collection
   pub below : List Activity
@@ -345,7 +347,7 @@ pub record StartsFull (w : World) : Type 0 where
 abbrev pub IsRooted : World → ℕ → Type 0
 IsRooted w o = IsTrue (is_dying w o) ⊎ IsOutsideHeld (holdings w) (graph_of w.objects) o
 
--- a path from such an object leads to each object
+-- every object is reachable from such an object
 abbrev pub NoGarbageIsLeft : World → Type 0
 NoGarbageIsLeft w = (o : ℕ) → Includes (serials w.objects) o → Reach (IsRooted w) (Includes (serials w.objects)) (edges (graph_of w.objects)) o
 

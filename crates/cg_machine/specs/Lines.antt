@@ -41,7 +41,7 @@ serial_text n = codes " #" ++ decimal n
 abbrev pub number_text : ℕ → List ℕ
 number_text n = 32 ∷ decimal n
 
--- a value: a string stands behind an apostrophe
+-- a value; a string follows an apostrophe
 abbrev pub value_text : List (List ℕ) → Val → List ℕ
 value_text names Nothing = codes "none"
 value_text names (Int n) = signed_decimal n
@@ -79,14 +79,14 @@ words_of names BudgetSpent = codes "budget spent"
 words_of names (Left n) = codes "left" ++ number_text n
 words_of names End = codes "end"
 
--- A value can be printed where its text is known and has at most 1,024 bytes, the length of a line of a script.
+-- A value can be printed if its text is known and has at most 1,024 bytes, the length of a line of a script.
 abbrev pub IsPrintableValue : List (List ℕ) → Val → Type 0
 IsPrintableValue names Nothing = Unit {0}
 IsPrintableValue names (Int n) = Unit {0}
 IsPrintableValue names (Str s) = (s < length names) × (length (unwrap_or (slice_get names s) []) ≤ 1024)
 IsPrintableValue names (Ref o) = Unit {0}
 
--- an event can be printed where its value can
+-- an event can be printed if its value can
 abbrev pub IsPrintable : List (List ℕ) → Event → Type 0
 IsPrintable names (Value v) = IsPrintableValue names v
 IsPrintable names event = Unit {0}

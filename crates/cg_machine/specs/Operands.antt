@@ -1,4 +1,4 @@
--- What the words of a command stand for, and the tests of the kind that a command asks. (Ours.)
+-- What the operands of a command stand for, and tests of the kind that a command expects. (Ours.)
 use Rattle.std.specs.Prelude.{ℕ, Bool, true, false, not, ◌&&◌, ◌==◌, List, [], ◌∷◌, Option, Some, None, Result, Ok, Err, if◌then◌else◌, option_map, option_and_then, ok_or, slice_get}
 use Rattle.cg_value.specs.declared.Val.{Val}
 use Rattle.cg_value.specs.declared.Val.TheVariants.{None as Nothing, Int, Str, Ref}
@@ -12,7 +12,7 @@ use Rattle.cg_machine.specs.declared.event.FrameSort.TheVariants.{Del as DelFram
 use Rattle.cg_machine.specs.World.{World, Activity, Framed, Frame}
 use Rattle.cg_machine.specs.Refusals.{◌>>=◌, no_name}
 
--- the frame on top
+-- the top frame
 abbrev pub frame_on : List Activity → Option Frame
 frame_on (Framed f ∷ below) = Some f
 frame_on _ = None
@@ -42,7 +42,7 @@ value_of w WeakLocal = option_map Ref (option_and_then (λ f. weak_in f.sort f.s
 value_of w (Cell i) = option_and_then (λ f. option_and_then (λ o. option_map (λ e. e.val) (slice_get (entries_of w.objects o) i)) f.function) (frame_on w.stack)
 value_of w Garbage = Some (Ref 1)
 
--- refused where an operand is unbound, or a local that the frame does not have
+-- refused where an operand is unbound, or a local that the frame lacks
 abbrev pub value : World → Operand → Result Val ℕ
 value w operand = ok_or (value_of w operand) no_name
 
@@ -58,7 +58,7 @@ values w (operand ∷ operands) = do
 abbrev pub object_of : World → Val → Option Object
 object_of w v = option_and_then (object_at w.objects) (reference_in v)
 
--- tests of the kind that a command asks
+-- tests of the kind that a command expects
 abbrev pub is_list : Object → Bool
 is_list x = elim x.code [ ListKind ↦ true | _ ↦ false ]
 

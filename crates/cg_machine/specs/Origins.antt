@@ -1,5 +1,5 @@
--- What a world has of its script: the commands that are left, the class of an instance and the procedure of a function.
--- What holds of all commands of a script so holds of them. (Ours.)
+-- What a world takes from its script: the remaining commands, the classes of instances and the procedures of functions.
+-- So a property of all commands of a script holds of these. (Ours.)
 use Rattle.std.specs.Prelude.{◌≡◌, ℕ, List, [], ◌++◌, Some, flat_map}
 use Rattle.cg_value.specs.declared.KindCode.TheVariants.{Inst, Func}
 use Rattle.cg_script.specs.declared.Script.{Script}
@@ -26,11 +26,11 @@ commands_on activity = []
 abbrev pub MakesInstances : Script → ℕ → Type 0
 MakesInstances script class = (name : ℕ) × Includes (all_commands script) (MakeInst name class)
 
--- one makes functions of a procedure
+-- a command of the script makes functions of a procedure
 abbrev pub MakesFunctions : Script → ℕ → Type 0
 MakesFunctions script proc = (name : ℕ) × (cells : List Operand) × Includes (all_commands script) (MakeFunc name proc cells)
 
--- An instance has a class and a function a procedure, which a command of the script names.
+-- A command of the script names the class of each instance and the procedure of each function.
 pub record IsOfScript (script : Script) (x : Object) : Type 0 where
   pub class : x.code ≡ Inst → (class : ℕ) × (x.class ≡ Some class) × MakesInstances script class
   pub procedure : x.code ≡ Func → (proc : ℕ) × (x.class ≡ Some proc) × MakesFunctions script proc
@@ -40,6 +40,6 @@ pub record HasOrigins (script : Script) (w : World) : Type 0 where
   pub commands : (command : Command) → Includes (flat_map commands_on w.stack) command → Includes (all_commands script) command
   pub objects : (x : Object) → Includes w.objects x → IsOfScript script x
 
--- Every world of a run is so.
+-- This holds in every world of a run.
 abbrev pub WorldsHaveOrigins : Type 0
 WorldsHaveOrigins = (script : Script) (budget : ℕ) (steps : List StepTaken) → IsRun script budget steps → HasOrigins script (world_after script budget steps)

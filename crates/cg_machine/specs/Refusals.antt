@@ -1,12 +1,12 @@
--- Why a command is refused, by the numbers that are printed. (Ours.) Where several hold, the first comes in the order
--- in which the effects of commands ask for them.
+-- Why a command is refused, by the numbers that are printed. (Ours.) Where several apply, the first one counts, in
+-- the order in which the effects of commands test for them.
 use Rattle.std.specs.Prelude.{ℕ, Bool, true, false, Result, Ok, Err}
 
--- the operand is an unbound name, or a local that the frame does not have
+-- the operand is an unbound name, or a local that the frame lacks
 abbrev pub no_name : ℕ
 no_name = 1
 
--- the object is not of the kind that the command asks
+-- the object is not of the kind that the command expects
 abbrev pub wrong_kind : ℕ
 wrong_kind = 2
 
@@ -38,7 +38,7 @@ bad_generation = 8
 abbrev pub unhashable : ℕ
 unhashable = 9
 
--- memory ran out, which no rule ties to anything
+-- memory ran out; no rule says when
 abbrev pub no_memory : ℕ
 no_memory = 10
 
@@ -50,11 +50,11 @@ object_limit = 11
 abbrev pub entry_limit : ℕ
 entry_limit = 12
 
--- a collection is under way, and the command tells of objects that it may be about to free
+-- a collection is under way, and the command would report objects that it may be about to free
 abbrev pub in_collection : ℕ
 in_collection = 13
 
--- Checks in order: the first refusal that holds is given.
+-- Checks in order: the first refusal counts.
 infixl 10 ◌>>=◌
 unfoldable pub ◌>>=◌ : {A B : Type 0} → Result A ℕ → (A → Result B ℕ) → Result B ℕ
 (Ok x) >>= f = f x

@@ -1,4 +1,4 @@
--- How a heap and the activities of an interpreter stand for a world. The layers above the heap state their calls by it.
+-- How a heap and an interpreter's activities represent a world. The layers above the heap state their contracts by it.
 -- (Ours.)
 use Rattle.std.specs.Prelude.{◌++◌, ◌≡◌, ℕ, Bool, true, false, ◌+◌, List, [], ◌∷◌, ◌⊎◌, flat_map}
 use Rattle.cg_value.specs.declared.Place.TheVariants.{Pend}
@@ -14,14 +14,14 @@ use Rattle.cg_machine.specs.Holdings.{holds}
 use Rattle.cg_machine.specs.Frame.{begin_death, start_frame}
 use Rattle.cg_machine.specs.Run.{Step, StepTaken, Run, events_of, last_world}
 
--- the weak references that a death waits with, and those of a collection
+-- the weak references that a death holds until their callbacks have run, and those of a collection
 abbrev pub death_waits : DyingPhase → List ℕ
 death_waits (Clearing waiting) = waiting
 death_waits (Calling waiting) = waiting
 death_waits (AfterCall weak callback waiting) = waiting
 death_waits phase = []
 
--- one that was given up and lives stands before the others until it gets older
+-- one that was given up and lives comes first until it moves to the older generation
 abbrev pub CollectionWaits : CollectPhase → List ℕ → Type 0
 CollectionWaits (WeakClearing waiting) pending = pending ≡ waiting
 CollectionWaits (WeakCalling waiting) pending = pending ≡ waiting
@@ -29,8 +29,8 @@ CollectionWaits (AfterCallback weak waiting) pending = pending ≡ weak ∷ wait
 CollectionWaits (AfterRelease weak waiting) pending = (pending ≡ waiting) ⊎ (pending ≡ weak ∷ waiting)
 CollectionWaits phase pending = pending ≡ []
 
--- A heap stands for a world: objects, names and serials are the same, the outside holds of an object are what the stack
--- holds of it, and the rows that wait are those that the deaths and the collection of the stack wait with.
+-- A heap represents a world: objects, names and serials are the same; the outside holds of an object are those of the
+-- stack; the waiting rows are those of the deaths and the collection on the stack.
 pub record Represents (store : Store) (w : World) : Type 0 where
   pub objects : objects_of store ≡ w.objects
   pub next_serial : w.next_serial ≡ store.last + 1
@@ -40,13 +40,13 @@ pub record Represents (store : Store) (w : World) : Type 0 where
   pub no_others : (r : Row) → Includes store.rows r → r.waits ≡ true → (d : Death) × Includes w.stack (Dying d) × (d.object ≡ r.referent)
   pub collection : (c : Collection) → Includes w.stack (Collecting c) → CollectionWaits c.phase (list_at store Pend)
 
--- whether the next step of a collection is one of its two detections: the start makes the first
+-- the next step of a collection is a reachability pass; the start makes the first one
 abbrev pub is_detection : CollectPhase → Bool
 is_detection Start = true
 is_detection Split = true
 is_detection phase = false
 
--- whether the next step of a stack is one
+-- the next step of a stack is one
 abbrev pub detects : List Activity → Bool
 detects (Collecting c ∷ below) = is_detection c.phase
 detects stack = false
@@ -56,13 +56,13 @@ abbrev pub MakesNoDetection : World → List StepTaken → Type 0
 MakesNoDetection w [] = Unit {0}
 MakesNoDetection w (step ∷ steps) = (detects w.stack ≡ false) × MakesNoDetection step.world steps
 
--- Several steps make no detection: one is made by itself.
+-- Several steps contain no reachability pass: each pass is a call of its own.
 abbrev pub MakesDetectionsAlone : World → List StepTaken → Type 0
 MakesDetectionsAlone w [] = Unit {0}
 MakesDetectionsAlone w (step ∷ []) = Unit {0}
 MakesDetectionsAlone w (step ∷ next ∷ steps) = MakesNoDetection w (step ∷ next ∷ steps)
 
--- The machine goes from one world to another in some steps, perhaps none, and prints these lines.
+-- The machine goes from one world to another in zero or more steps, and prints these lines.
 pub record Goes (script : Script) (w : World) (events : List Event) (after : World) : Type 0 where
   pub steps : List StepTaken
   pub run : Run script w steps
@@ -70,35 +70,35 @@ pub record Goes (script : Script) (w : World) (events : List Event) (after : Wor
   pub ends : last_world w steps ≡ after
   pub alone : MakesDetectionsAlone w steps
 
--- What a call of a death, a release or a collection may answer. The stack of the world is stack, over what lies below.
--- It went on, or printed a line:
+-- What a call of a death, a release or a collection may answer, with the world's stack above what lies below. It went
+-- on, or printed a line:
 pub record GoesOn (script : Script) (w : World) (events : List Event) (store : Store) (stack : List Activity) : Type 0 where
   pub after : World
   pub goes : Goes script w events after
   pub top : after.stack ≡ stack
   pub represents : Represents store after
 
--- It hands out an object whose death is to begin: the step of the machine also begins it.
+-- It answers an object whose death is to begin: the machine's step also begins it.
 pub record HandsOutDeath (script : Script) (w : World) (o : ℕ) (store : Store) (stack : List Activity) : Type 0 where
   pub before : World
   pub goes : Goes script w [] (begin_death o before)
   pub top : before.stack ≡ stack
   pub represents : Represents store before
 
--- It hands out a frame: the step of the machine also starts it, or ends the run because the budget is spent.
+-- It answers a frame: the machine's step also starts it, or ends the run because the budget is spent.
 pub record HandsOutFrame (script : Script) (w : World) (spec : FrameSpec) (store : Store) (stack : List Activity) : Type 0 where
   pub before : World
   pub goes : Goes script w (start_frame script spec before).0 (start_frame script spec before).1
   pub top : before.stack ≡ stack
   pub represents : Represents store before
 
--- Several calls may make one step: between them its first lines have been printed, and it can still be finished.
+-- Several calls may make one step. Between them, its first lines have been printed and it can still be finished.
 pub record Underway (script : Script) (w : World) (printed : List Event) : Type 0 where
   pub rest : List Event
   pub after : World
   pub step : Step script w (printed ++ rest) after
 
--- A call prints lines. It finishes steps, and leaves the next one underway, with the lines of it that are already printed.
+-- A call prints lines. It finishes zero or more steps, and leaves the next one unfinished, with some of its lines printed.
 pub record Progresses (script : Script) (w : World) (printed events : List Event) (after : World) (printed_after : List Event) : Type 0 where
   pub steps : List StepTaken
   pub run : Run script w steps

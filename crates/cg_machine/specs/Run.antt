@@ -1,5 +1,5 @@
--- Steps and runs of the machine. Only the activity on top steps. (Ours. That an automatic collection starts only between
--- two commands models the points at which CPython's evaluation loop checks for one.)
+-- Steps and runs of the machine. Only the top activity steps. (Ours. Automatic collections start only between two
+-- commands, as CPython's evaluation loop checks for them.)
 use Rattle.std.specs.Prelude.{◌≡◌, ◌≢◌, ℕ, List, [], ◌∷◌, ◌++◌, false, Option, Some, None}
 use Rattle.cg_script.specs.declared.Script.{Script}
 use Rattle.cg_script.specs.declared.Command.{Command}
@@ -13,13 +13,13 @@ use Rattle.cg_machine.specs.Commands.{CommandStep, new_collection}
 use Rattle.cg_machine.specs.Due.{due}
 use Rattle.cg_machine.specs.Shutdown.{greatest_bound, shut_down, after_commands}
 
--- Before each command, and before the end or the shutdown, a collection that is due is started instead.
+-- Before each command, and before the end or the shutdown, a due collection starts instead.
 abbrev pub TopLevelStep : Script → World → Option ℕ → List Command → List Activity → List Event → World → Type 0
 TopLevelStep script w (Some g) commands below events after = Yields ([], push (new_collection g false w) w) events after
 TopLevelStep script w None [] below events after = Yields (after_commands (declares_shutdown script.items) below w) events after
 TopLevelStep script w None (command ∷ commands) below events after = CommandStep script (with_stack (TopLevel commands ∷ below) w) command events after
 
--- the next command of a frame, or a collection that is due
+-- the next command of a frame, or a due collection
 abbrev pub CommandInFrame : Script → World → Option ℕ → Frame → Command → List Command → List Activity → List Event → World → Type 0
 CommandInFrame script w (Some g) f command commands below events after = Yields ([], push (new_collection g false w) w) events after
 CommandInFrame script w None f command commands below events after = CommandStep script (with_stack (Framed (record f { commands = commands }) ∷ below) w) command events after
@@ -29,7 +29,7 @@ abbrev pub FrameStep : Script → World → Frame → List Command → List Acti
 FrameStep script w f [] below events after = Yields (frame_end f (with_stack below w)) events after
 FrameStep script w f (command ∷ commands) below events after = CommandInFrame script w (due w) f command commands below events after
 
--- only the activity on top steps
+-- only the top activity steps
 abbrev pub StepOf : Script → World → List Activity → List Event → World → Type 0
 StepOf script w [] events after = ⊥
 StepOf script w (TopLevel commands ∷ below) events after = TopLevelStep script w (due w) commands below events after
@@ -49,7 +49,7 @@ pub record StepTaken : Type 0 where
   pub events : List Event
   pub world : World
 
--- a run from a world: each step goes on from the world that the one before left
+-- a run from a world: each step goes on from the world that the previous one left
 abbrev pub Run : Script → World → List StepTaken → Type 0
 Run script w [] = Unit {0}
 Run script w (step ∷ steps) = Step script w step.events step.world × Run script step.world steps
@@ -64,7 +64,7 @@ abbrev pub events_of : List StepTaken → List Event
 events_of [] = []
 events_of (step ∷ steps) = step.events ++ events_of steps
 
--- a run of a script with a budget, the world that it leaves, how that stands, and a run that has ended
+-- a run of a script with a budget; then the world that it leaves, how that ended, and whole runs
 abbrev pub IsRun : Script → ℕ → List StepTaken → Type 0
 IsRun script budget steps = Run script (opening script budget) steps
 
@@ -76,7 +76,7 @@ world_after script budget steps = last_world (opening script budget) steps
 abbrev pub outcome_of : Script → ℕ → List StepTaken → Outcome
 outcome_of script budget steps = (world_after script budget steps).outcome
 
--- a run that has ended so
+-- a whole run that ends in this way
 pub record IsWholeRun (script : Script) (budget : ℕ) (outcome : Outcome) (steps : List StepTaken) : Type 0 where
   pub run : IsRun script budget steps
   pub whole : outcome ≢ Running

@@ -1,5 +1,5 @@
--- Weak references: which have a referent, and how they lose it. (PEP 205; `weakref` manual. That they lose it the newest
--- first also in a collection is ours.)
+-- Weak references: which have a referent, and how they are cleared. (PEP 205; `weakref` manual. Newest first in a
+-- collection too is ours.)
 use Rattle.std.specs.Prelude.{◌≡◌, ℕ, ◌≤◌, Bool, true, false, ◌||◌, ◌==◌, List, [], ◌∷◌, Option, None, option_map, option_and_then, unwrap_or, filter, reverse, if◌then◌else◌}
 use Rattle.cg_value.specs.declared.KindCode.TheVariants.{Inst, Func}
 use Rattle.cg_value.specs.declared.Entry.{Entry}
@@ -15,7 +15,7 @@ is_reference_to o x = unwrap_or (option_map (λ r. r == o) x.referent) false
 abbrev pub weak_references : List Object → ℕ → List ℕ
 weak_references objects o = reverse (serials (filter (is_reference_to o) objects))
 
--- those of an object that passes a test; none for another
+-- those to an object that passes a test; none for another
 abbrev pub weak_references_if : (Object → Bool) → List Object → ℕ → List ℕ
 weak_references_if test objects o = if unwrap_or (option_map test (object_at objects o)) false then weak_references objects o else []
 
@@ -31,11 +31,11 @@ is_function x = elim x.code [ Func ↦ true | _ ↦ false ]
 abbrev pub has_weak_references : Object → Bool
 has_weak_references x = is_instance x || is_function x
 
--- a weak reference loses its referent
+-- a weak reference is cleared
 abbrev pub loses_referent : ℕ → List Object → List Object
 loses_referent weak objects = change (with_referent None) weak objects
 
--- the function that a weak reference calls back: its one entry, if it has one
+-- the function that a weak reference calls back: its only entry, if it has one
 abbrev pub callback_in : List Entry → Option ℕ
 callback_in [] = None
 callback_in (e ∷ entries) = reference_in e.val
@@ -44,8 +44,8 @@ callback_in (e ∷ entries) = reference_in e.val
 abbrev pub callback_of : List Object → ℕ → Option ℕ
 callback_of objects weak = option_and_then (λ x. callback_in x.entries) (object_at objects weak)
 
--- Weak references lose their referents one at a time: the next is the newest to its referent of those that are still to
--- lose it.
+-- Weak references are cleared one at a time: the next one is the newest to its referent among those still to be
+-- cleared.
 pub record MayLoseNext (wanted : Object → Bool) (objects : List Object) (weak : ℕ) : Type 0 where
   pub object : Object
   pub is : object.serial ≡ weak
@@ -53,11 +53,11 @@ pub record MayLoseNext (wanted : Object → Bool) (objects : List Object) (weak 
   pub to_lose : wanted object ≡ true
   pub newest : (y : Object) → Includes objects y → wanted y ≡ true → y.referent ≡ object.referent → y.serial ≤ weak
 
--- no weak reference is still to lose its referent
+-- no weak reference is still to be cleared
 abbrev pub NoneLeft : (Object → Bool) → List Object → Type 0
 NoneLeft wanted objects = (x : Object) → Includes objects x → wanted x ≡ false
 
--- All that are wanted lose their referents, in this order.
+-- All wanted weak references are cleared, in this order.
 abbrev pub AllLose : (Object → Bool) → List Object → List ℕ → List Object → Type 0
 AllLose wanted objects [] after = NoneLeft wanted objects × (after ≡ objects)
 AllLose wanted objects (weak ∷ weaks) after = MayLoseNext wanted objects weak × AllLose wanted (loses_referent weak objects) weaks after

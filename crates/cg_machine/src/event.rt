@@ -1,4 +1,4 @@
-//! What a run prints, an event a line, and the frames that it starts.
+//! What a run prints, one event a line, and the frames that a run starts.
 use cg_value::{KindCode, Val};
 
 /// Why a frame runs.
@@ -18,15 +18,16 @@ pub enum FrameSort {
 #[derive(Clone, Copy, Debug, PartialEq, Eq, Drop)]
 pub struct FrameSpec {
     pub sort: FrameSort,
-    /// The procedure that runs: the finalizer or legacy finalizer of the subject's class, or the function's procedure.
+    /// The procedure that runs: the one of the subject's class for a finalizer or legacy finalizer, else the
+    /// function's.
     pub proc: u32,
     /// The serial in the line `enter`.
     pub subject: u64,
-    /// The function whose cells the frame has; none exactly for finalizers and legacy finalizers.
+    /// The function whose cells the frame sees. `None` exactly for finalizers and legacy finalizers.
     pub func: Option<u64>,
 }
 
-/// What a line says. Objects stand by serial.
+/// What a line says. Objects appear by serial.
 #[derive(Clone, Copy, Debug, PartialEq, Eq, Drop)]
 pub enum Event {
     /// An object was made.
@@ -39,19 +40,19 @@ pub enum Event {
         sort: FrameSort,
         serial: u64,
     },
-    /// The frame on top ends.
+    /// The top frame ends.
     Leave,
     /// A weak reference lost its referent.
     Cleared(u64),
-    /// An object is gone.
+    /// An object was freed.
     Free(u64),
-    /// An object was brought back.
+    /// An object was resurrected.
     Alive(u64),
     /// A collection of this generation begins.
     GcStart(u8),
     /// The debug line of a condemned object.
     GcCollectable(u64),
-    /// The debug line of an object that was set aside.
+    /// The debug line of an uncollectable object.
     GcUncollectable(u64),
     /// An object was appended to the garbage list.
     GcSaved(u64),
@@ -71,17 +72,17 @@ pub enum Event {
     Tracked(bool),
     /// The answer of `finalized`.
     Finalized(bool),
-    /// A line of `referents`: an object to which the entries of the one asked about refer.
+    /// A line of `referents`: an object that the inspected one refers to.
     Referent(u64),
-    /// A line of `referrers`: an object whose entries refer to the one asked about.
+    /// A line of `referrers`: an object that refers to the inspected one.
     Referrer(u64),
-    /// How many lines `referents` or `referrers` has given.
+    /// How many lines `referents` or `referrers` printed.
     Listed(u64),
     /// The first line of `why`: an object that is held by a root.
     Held(u64),
-    /// A further line of `why`: the object to which an entry of the one before refers.
+    /// A further line of `why`: the object that the previous one refers to.
     Via(u64),
-    /// The answer of `why` where no path leads to the object.
+    /// The answer of `why` where no path from a root leads to the object.
     Unreachable,
     /// The three counts.
     Count {
@@ -96,11 +97,11 @@ pub enum Event {
         two: u64,
         frozen: u64,
     },
-    /// A command was refused, with the number of the refusal.
+    /// A command was refused; the number says why.
     Refused(u8),
     /// The run ends because the budget is spent.
     BudgetSpent,
-    /// How many objects are left after the shutdown, the garbage list aside.
+    /// How many objects are left after the shutdown, not counting the garbage list.
     Left(u64),
     /// The run ends.
     End,

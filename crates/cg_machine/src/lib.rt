@@ -1,9 +1,9 @@
 //! The object graph machine: what a script does to objects and their holders, as a definition, and what it prints.
 //!
-//! `specs/` is the machine. It knows no counts, no lists of generations and no marks: an object is freed when no
-//! reference to it is left, or when a collection of its generation finds it unreachable before and after the
-//! finalizers. The layers above state their calls by its steps and runs (`specs/Run`, `specs/Represents`), print by
-//! `line_of`, and use the laws of `laws`, which hold in every run.
+//! `specs/` is the machine. It has no counts, no generation lists and no marks: an object is freed when nothing
+//! refers to it, or when a collection of its generation finds it unreachable both before and after the finalizers.
+//! The layers above state their contracts by its steps and runs (`specs/Run`, `specs/Represents`), print with
+//! `line_of`, and use the laws in `laws`, which hold in every run.
 #![tactic(auto)]
 
 mod event;

@@ -7,13 +7,14 @@ use arrayvec::ArrayString;
 use cg_value::{KindCode, Names, Val};
 use itoa::Buffer;
 
-/// The most bytes that a line has: a value's text has at most 1,024.
+/// The longest line in bytes: the text of a value has at most 1,024.
 const ROOM: usize = 1100;
 
 /// Room for the line of an event.
 pub type LineText = ArrayString<ROOM>;
 
-/// The line of an event, with its line feed. A text that it prints is one of `names`, of at most 1,024 bytes.
+/// The line of an event, with its line feed. A text that it prints must be one of `names`, with at most 1,024
+/// bytes.
 pub fn line_of(event: &Event, names: &Names) -> LineText
     requires { IsPrintable names.now event.now }
     ensures { result.bytes ≡ line names.now event.now }
@@ -23,7 +24,7 @@ pub fn line_of(event: &Event, names: &Names) -> LineText
     text
 }
 
-/// Writes the line of an event, as `line_of` answers it, into a text that is empty before. So no line is copied.
+/// Writes the line that `line_of` answers into an empty text, which saves a copy.
 pub fn push_line(text: &mut LineText, event: &Event, names: &Names)
     requires empty { text.old.bytes ≡ [] }
     requires printable { IsPrintable names.now event.now }
@@ -33,8 +34,7 @@ pub fn push_line(text: &mut LineText, event: &Event, names: &Names)
     text.push_str("\n");
 }
 
-/// Writes a line without its line feed into an empty text. Each form is written by a call of its own, into the one text
-/// that there is.
+/// Writes a line without its line feed into an empty text. One call for each form, all into the same buffer.
 fn push_words(text: &mut ArrayString<ROOM>, event: &Event, names: &Names)
     requires empty { text.old.bytes ≡ [] }
     requires printable { IsPrintable names.now event.now }
@@ -88,7 +88,6 @@ fn push_words(text: &mut ArrayString<ROOM>, event: &Event, names: &Names)
     }
 }
 
-/// Words alone.
 fn plain(text: &mut ArrayString<ROOM>, words: &str)
     requires empty { text.old.bytes ≡ [] }
     requires few { length words.now ≤ 100 }
@@ -98,7 +97,6 @@ fn plain(text: &mut ArrayString<ROOM>, words: &str)
     text.push_str(words);
 }
 
-/// Words about an object.
 fn about(text: &mut ArrayString<ROOM>, words: &str, serial: u64)
     requires empty { text.old.bytes ≡ [] }
     requires few { length words.now ≤ 100 }
@@ -109,7 +107,6 @@ fn about(text: &mut ArrayString<ROOM>, words: &str, serial: u64)
     push_serial(text, serial);
 }
 
-/// Words and a number.
 fn counted(text: &mut ArrayString<ROOM>, words: &str, number: u64)
     requires empty { text.old.bytes ≡ [] }
     requires few { length words.now ≤ 100 }
@@ -120,7 +117,6 @@ fn counted(text: &mut ArrayString<ROOM>, words: &str, number: u64)
     push_number(text, number);
 }
 
-/// Words and three numbers.
 fn three(text: &mut ArrayString<ROOM>, words: &str, first: u64, second: u64, third: u64)
     requires empty { text.old.bytes ≡ [] }
     requires few { length words.now ≤ 100 }
@@ -132,7 +128,6 @@ fn three(text: &mut ArrayString<ROOM>, words: &str, first: u64, second: u64, thi
     push_number(text, third);
 }
 
-/// Words and four numbers.
 fn four(text: &mut ArrayString<ROOM>, words: &str, first: u64, second: u64, third: u64, fourth: u64)
     requires empty { text.old.bytes ≡ [] }
     requires few { length words.now ≤ 100 }
@@ -143,7 +138,6 @@ fn four(text: &mut ArrayString<ROOM>, words: &str, first: u64, second: u64, thir
     push_number(text, fourth);
 }
 
-/// Words and an answer.
 fn answered(text: &mut ArrayString<ROOM>, words: &str, answer: bool)
     requires empty { text.old.bytes ≡ [] }
     requires few { length words.now ≤ 100 }
@@ -154,7 +148,6 @@ fn answered(text: &mut ArrayString<ROOM>, words: &str, answer: bool)
     text.push_str(if answer { "yes" } else { "no" });
 }
 
-/// That an object was made.
 fn made(text: &mut ArrayString<ROOM>, code: KindCode, serial: u64)
     requires empty { text.old.bytes ≡ [] }
     ensures bytes { text.new.bytes ≡ codes "made " ++ kind_text code ++ serial_text serial }
@@ -165,7 +158,6 @@ fn made(text: &mut ArrayString<ROOM>, code: KindCode, serial: u64)
     push_serial(text, serial);
 }
 
-/// That a frame begins.
 fn enter(text: &mut ArrayString<ROOM>, sort: FrameSort, serial: u64)
     requires empty { text.old.bytes ≡ [] }
     ensures bytes { text.new.bytes ≡ codes "enter " ++ sort_text sort ++ serial_text serial }
@@ -176,7 +168,6 @@ fn enter(text: &mut ArrayString<ROOM>, sort: FrameSort, serial: u64)
     push_serial(text, serial);
 }
 
-/// A value.
 fn printed(text: &mut ArrayString<ROOM>, value: Val, names: &Names)
     requires empty { text.old.bytes ≡ [] }
     requires printable { IsPrintableValue names.now value }
@@ -198,7 +189,6 @@ fn printed(text: &mut ArrayString<ROOM>, value: Val, names: &Names)
     }
 }
 
-/// The word of a kind.
 fn kind_word(code: KindCode) -> &'static str
     ensures word { result.now ≡ kind_text code }
     ensures short { length result.now ≤ 8 }
@@ -213,7 +203,6 @@ fn kind_word(code: KindCode) -> &'static str
     }
 }
 
-/// The word of a frame.
 fn sort_word(sort: FrameSort) -> &'static str
     ensures word { result.now ≡ sort_text sort }
     ensures short { length result.now ≤ 8 }

@@ -1,4 +1,4 @@
-//! Words, sizes and bad scripts, through the top call.
+//! Arguments, sizes and bad scripts, through the top call.
 use crate::calls::{answer_to, lines_of_spaces};
 use cg_cli::Status;
 use cg_io::PlainSource;
@@ -6,7 +6,7 @@ use std::alloc::{AllocError, Global};
 use std::process::Abort;
 use std::test::Fail;
 
-/// These words ask for nothing, and that is told.
+/// Expects that these arguments ask for nothing, and that this is reported.
 fn check_bad_words(rt: &impl Abort, alloc: Global, words: &[&str]) -> Result<(), AllocError> {
     let mut source = PlainSource::new(Vec::new(alloc));
     let found = answer_to(alloc, words, &mut source)?;

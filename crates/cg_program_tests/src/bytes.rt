@@ -1,4 +1,4 @@
-//! Each byte in each place of a short script, and each front of a longer one.
+//! Each byte at each position of a short script, and each prefix of a longer one.
 use crate::calls::{answer_to, check_bytes, shown};
 use cg_cli::Status;
 use cg_io::PlainSource;
@@ -12,13 +12,13 @@ const SHORT: &str = "a = list\ndel a";
 /// What a run of it prints.
 const UNCHANGED: &str = "made list #2; free #2; end";
 
-/// The list is bound to another name, or another one is to be dropped.
+/// The list is bound to another name, or another name is to be dropped.
 const NOT_DROPPED: &str = "made list #2; refused 1; end";
 
-/// What is to be bound is a variable to which nothing is bound, and so is what is to be dropped.
+/// What is to be bound is an unbound variable, and so is what is to be dropped.
 const NOT_BOUND: &str = "refused 1; refused 1; end";
 
-/// What a run prints where another byte stands in a place.
+/// What a run prints with another byte at a position.
 fn text_with(place: usize, byte: u8) -> &'static str {
     let is_letter = matches!(byte, b'A'..=b'Z' | b'a'..=b'z' | b'_');
     let is_digit = matches!(byte, b'0'..=b'9');
@@ -32,7 +32,7 @@ fn text_with(place: usize, byte: u8) -> &'static str {
         (0, b'#') => "refused 1; end",
         (0, _) if is_letter => NOT_DROPPED,
         (0, _) => "bad script 1 4",
-        // Around `=`, and in its place: nothing is bound.
+        // Around `=`, and instead of it: nothing is bound.
         (3, b'\n') => "bad script 1 3",
         (1..=3, _) => "bad script 1 2",
         // In `list`: another variable, two words, or a text; a line that ends there.
@@ -48,20 +48,20 @@ fn text_with(place: usize, byte: u8) -> &'static str {
         // One line: a list of `del`, or four words where a value is bound.
         (8, b' ') => "bad script 1 4",
         (8, _) => "bad script 1 3",
-        // In `del`: a comment, a procedure that has no end, a line that ends there.
+        // In `del`: a comment, a procedure without an end, a line that ends there.
         (9, b'#') => "made list #2; end",
         (9, b'\n') => "bad script 3 2",
         (11, b'f') => "bad script 3 7",
         (12, b'\n') => "bad script 2 3",
         (9..=12, _) => "bad script 2 2",
-        // In place of its name. A second word `=` makes the line one that binds, which has three words.
+        // Instead of its name. With a second word `=` the line is a binding, which has three words.
         (_, b'\n' | b' ' | b'=') => "bad script 2 3",
         (_, _) if is_letter => NOT_DROPPED,
         (_, _) => "bad script 2 4",
     }
 }
 
-/// The short script with this byte in this place.
+/// The short script with this byte at this position.
 fn script_with(alloc: Global, place: usize, byte: u8) -> Result<Vec<u8>, AllocError> {
     let mut script = Vec::new(alloc);
     for (at, old) in SHORT.as_bytes().iter().enumerate() {
@@ -70,7 +70,7 @@ fn script_with(alloc: Global, place: usize, byte: u8) -> Result<Vec<u8>, AllocEr
     Ok(script)
 }
 
-/// Each byte in one place, where the script has this one.
+/// Each byte at one position, where the script has this one.
 fn check_place(rt: &impl Abort, alloc: Global, place: usize, there: u8) -> Result<(), AllocError> {
     for byte in 0..=255u8 {
         let text = if byte == there {
@@ -97,18 +97,19 @@ fn each_byte_in_each_place(rt: HostRuntime) -> Result<(), Fail> {
     Ok(())
 }
 
-/// A script with a finalizer that makes a weak reference in a collection. Under each byte stands what the script that ends there is: good
-/// (a dot); or bad in its last line, with this code; or bad with 7 in the line after, where a procedure is still open.
+/// A script with a finalizer that makes a weak reference in a collection. Under each byte is what the script that ends there is:
+/// good (a dot); bad in its last line, with this code; or bad with 7 in the line after, where a procedure is still open.
 ///
-/// A line without `=` as its second word is of no form (2) until its first word is complete, and then has too few words (3). One with it has
-/// too few (3) until there is a third word, which is a variable as long as it is not the word of a form.
+/// A line without `=` as its second word has no form (2) until its first word is complete, and then too few words (3). One with
+/// it has too few (3) until there is a third word, which is a variable until it is the word of a form.
 const FRONTS: [(&str, &str); 17] = [
     ("def cb\n", "2233777"),
     ("end\n", "22.."),
     ("def d\n", "223377"),
-    // `attr` wants a value and a name.
+    // `attr` requires a value and a name.
     ("n = attr self other\n", "22337773333333777777"),
-    // `ref` is a value too: what its callback was called for. As a form it wants a value, and a second one may follow.
+    // `ref` is also a value: the weak reference of the callback. As a form it requires a value, and a second one may
+    // follow.
     ("w = ref n f\n", "223377777777"),
     ("del n\n", "223377"),
     ("end\n", "22.."),
@@ -123,11 +124,11 @@ const FRONTS: [(&str, &str); 17] = [
     ("setattr a me a\n", "2222223333333.."),
     ("del a\n", "2233.."),
     ("del b\n", "2233.."),
-    // It may have no number.
+    // It may lack a number.
     ("collect 2\n", "222222...."),
 ];
 
-/// A front that ends in the line with this number is run, or its bad line is told.
+/// Runs a prefix that ends in the line with this number, or expects its bad line.
 fn check_front(
     rt: &impl Abort,
     alloc: Global,
@@ -155,7 +156,7 @@ fn check_front(
 }
 
 #[test]
-fn each_front_of_a_script(rt: HostRuntime) -> Result<(), Fail> {
+fn each_prefix_of_a_script(rt: HostRuntime) -> Result<(), Fail> {
     let alloc = rt.alloc();
     let mut front = Vec::new(alloc);
     check_front(&rt, alloc, &front, 1, b'.')?;

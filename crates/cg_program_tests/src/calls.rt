@@ -1,6 +1,6 @@
-//! A call of the top call, and what it answers.
+//! A call of the top call, and its answer.
 //!
-//! The lines of a script, and of a text, stand with `; ` between them.
+//! The lines of a script, and of a text, are joined by `; `.
 use crate::kinds::{six, six_refusing};
 use cg_cli::{Status, gc_run};
 use cg_io::{MemSink, PlainSource, Source};
@@ -15,7 +15,7 @@ pub struct Answered {
     pub text: Vec<u8>,
 }
 
-/// Words, as the program gets them.
+/// The arguments, as the program gets them.
 pub fn words_of(alloc: Global, words: &[&str]) -> Result<Vec<String>, AllocError> {
     let mut all = Vec::new(alloc);
     for word in words {
@@ -24,8 +24,8 @@ pub fn words_of(alloc: Global, words: &[&str]) -> Result<Vec<String>, AllocError
     Ok(all)
 }
 
-/// The answer to these words and this source, with a sink of which the write with this number, from 1, fails after its first
-/// `keep` bytes.
+/// The answer to these arguments and this source. The sink fails the write with this number, counting from 1, after its
+/// first `keep` bytes.
 pub fn answer_with_fault<S: Source>(
     alloc: Global,
     words: &[&str],
@@ -43,7 +43,7 @@ pub fn answer_with_fault<S: Source>(
     })
 }
 
-/// The answer to these words and this source. No write has the number 0.
+/// The answer to these arguments and this source. No write has the number 0.
 pub fn answer_to<S: Source>(
     alloc: Global,
     words: &[&str],
@@ -52,7 +52,7 @@ pub fn answer_to<S: Source>(
     answer_with_fault(alloc, words, source, 0, 0)
 }
 
-/// The answer to these words and this source where the lists refuse the (n+1)th call of `make`.
+/// The answer to these arguments and this source, with lists that fail the (n+1)th call of `make`.
 pub fn answer_refusing<S: Source>(
     alloc: Global,
     words: &[&str],
@@ -119,12 +119,12 @@ pub fn push_numbered(bytes: &mut Vec<u8>, text: &str, number: u32) -> Result<(),
     Ok(())
 }
 
-/// Bytes as a text, to be shown where they are not as they should be.
+/// Bytes as a text, for messages.
 pub fn shown(bytes: &[u8]) -> Option<&str> {
     str::from_utf8(bytes).ok()
 }
 
-/// A run of the script with these words is to end so, and to write this text.
+/// Expects a run of the script with these arguments to end with this status and write this text.
 pub fn check(
     rt: &impl Abort,
     alloc: Global,
@@ -141,7 +141,7 @@ pub fn check(
     Ok(())
 }
 
-/// A run of the script is to end by `end`, and to write this text.
+/// Expects a run of the script to end by `end` and write this text.
 pub fn check_done(
     rt: &impl Abort,
     alloc: Global,
@@ -161,7 +161,8 @@ fn is_one_of(alloc: Global, found: &[u8], texts: &[&str]) -> Result<bool, AllocE
     Ok(false)
 }
 
-/// A run of the script is to end by `end`, and to write one of these texts: the rules leave the order of some lines free.
+/// Expects a run of the script to end by `end` and write one of these texts: the rules leave the order of some lines
+/// open.
 pub fn check_one_of(
     rt: &impl Abort,
     alloc: Global,
@@ -178,7 +179,7 @@ pub fn check_one_of(
     Ok(())
 }
 
-/// A run of these bytes is to end so, and to write this text.
+/// Expects a run of these bytes to end with this status and write this text.
 pub fn check_bytes(
     rt: &impl Abort,
     alloc: Global,
@@ -193,7 +194,7 @@ pub fn check_bytes(
     Ok(())
 }
 
-/// A run of these bytes is to end so, and to write this text, which is too long to be shown.
+/// Expects a run of these bytes to end with this status and write this text, which is too long for messages.
 pub fn check_long(
     rt: &impl Abort,
     alloc: Global,

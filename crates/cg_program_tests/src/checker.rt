@@ -1,4 +1,4 @@
-//! Words, lines and faults, through the top call of the checker.
+//! Arguments, lines and faults, through the top call of the checker.
 use cg_cert::{CheckStatus, check_run};
 use cg_io::{MemSink, MemSource, PlainSource, Source};
 use std::alloc::{AllocError, Global};
@@ -9,8 +9,8 @@ use std::test::Fail;
 static LIST: &[u8] =
     b"record 2\ngraph 1\nm 2 1 0\nr 2\nlost 2\ngraph 2\nm 2 1 0\nr 2\nlost 2\nstop\nend\n";
 
-/// Wants this status and this text of these words and this source, with a sink of which the calls with these numbers fail,
-/// each after its first two bytes.
+/// Expects this status and this text for these arguments and this source. The writes with these numbers fail, each after
+/// its first two bytes.
 fn check_call<S: Source>(
     rt: &impl Abort,
     alloc: Global,

@@ -1,5 +1,5 @@
-//! Worked scripts with collections, asked for and due, through the top call. The texts come from the rules of
-//! docs/RULES.md, worked out by hand.
+//! Worked scripts with collections, requested and automatic, through the top call. The texts come from the
+//! rules of docs/RULES.md, worked out by hand.
 use crate::calls::{check, check_done, check_long, check_one_of, lines, push_lines, push_numbered};
 use cg_cli::Status;
 use std::test::Fail;
@@ -16,7 +16,7 @@ fn cycles(rt: HostRuntime) -> Result<(), Fail> {
             "a = list; t = tuple a; append a t; del a; del t; collect 2",
             "made list #2; made tuple #3; gc start 2; free #3; free #2; gc stop 2 2 0; collected 2; end",
         ),
-        // Nothing is appended to a tuple.
+        // A tuple has no append.
         (
             "a = list; t = tuple a; append t 1; append a t; del a; del t; collect 2",
             "made list #2; made tuple #3; refused 2; gc start 2; free #3; free #2; gc stop 2 2 0; collected 2; end",
@@ -69,27 +69,27 @@ fn finalizers_in_cycles(rt: HostRuntime) -> Result<(), Fail> {
             "def cb; end; def d; n = attr self other; w = ref n f; del n; end; class C del=d; class D; f = func cb; a = new C; b = new D; setattr a other b; setattr a me a; del a; del b; collect 2",
             "made function #2; made instance #3; made instance #4; gc start 2; enter del #3; made weakref #5; leave; cleared #5; free #4; free #3; gc stop 2 2 0; collected 2; end",
         ),
-        // Brought back by count, it is in generation 0.
+        // Resurrected by count, it is in generation 0.
         (
             "def d; x = self; end; class C del=d; a = new C; del a; gens; del x",
             "made instance #2; enter del #2; leave; alive #2; gens 1 0 0 0; free #2; end",
         ),
-        // The finalizer takes the object out of its cycle: it dies in the frame that lets it go.
+        // The finalizer removes the object from its cycle: it dies in the frame that drops it.
         (
             "def d; delattr self me; end; class C del=d; a = new C; setattr a me a; del a; collect",
             "made instance #2; gc start 2; enter del #2; leave; free #2; gc stop 2 0 0; collected 0; end",
         ),
-        // It ends where a command of it is refused, and the collection goes on.
+        // The frame ends where a command of it is refused, and the collection goes on.
         (
             "def d; del q; print 1; end; class C del=d; a = new C; setattr a me a; del a; collect",
             "made instance #2; gc start 2; enter del #2; refused 1; leave; free #2; gc stop 2 1 0; collected 1; end",
         ),
-        // It sets a threshold, by which the next collection is due.
+        // It sets a threshold, which makes the next collection due.
         (
             "def d; threshold 1; end; class C del=d; threshold 0; a = new C; setattr a me a; del a; l = list; m = list; collect; n = list; o = list; count",
             "made instance #2; made list #3; made list #4; gc start 2; enter del #2; leave; free #2; gc stop 2 1 0; collected 1; made list #5; made list #6; gc start 0; gc stop 0 0 0; count 0 1 0; end",
         ),
-        // What it makes is no part of the collection.
+        // New objects of the finalizer are not part of the collection.
         (
             "def d; l = list; append l l; del l; collect; gens; end; class C del=d; a = new C; setattr a me a; del a; collect; collect",
             "made instance #2; gc start 2; enter del #2; made list #3; collected 0; gens 1 0 0 0; leave; free #2; gc stop 2 1 0; collected 1; gc start 2; free #3; gc stop 2 1 0; collected 1; end",
@@ -116,7 +116,7 @@ fn weak_references_in_collections(rt: HostRuntime) -> Result<(), Fail> {
             "def cb; del w; end; class C; f = func cb; a = new C; setattr a me a; w = ref a f; del a; collect 2",
             "made function #2; made instance #3; made weakref #4; gc start 2; cleared #4; enter callback #4; leave; free #4; free #3; gc stop 2 2 0; collected 2; end",
         ),
-        // A weak reference to what is saved by its finalizer has lost it all the same.
+        // A weak reference to an object that its finalizer resurrects has still lost it.
         (
             "def d; x = self; end; class C del=d; a = new C; setattr a me a; w = ref a; del a; collect; y = deref w; print y; print x",
             "made instance #2; made weakref #3; gc start 2; cleared #3; enter del #2; leave; alive #2; gc stop 2 0 0; collected 0; value none; value #2; end",
@@ -132,12 +132,12 @@ fn weak_references_in_collections(rt: HostRuntime) -> Result<(), Fail> {
     Ok(())
 }
 
-/// In profile 2 a weak reference without a callback keeps its referent until the second detection.
+/// In profile 2, a weak reference without a callback keeps its referent until the second reachability pass.
 #[test]
 fn weak_references_in_profile_2(rt: HostRuntime) -> Result<(), Fail> {
     let alloc = rt.alloc();
     for (script, text) in [
-        // A finalizer reaches the other object by a weak reference, and what it holds survives.
+        // A finalizer reaches the other object by a weak reference, and what it then holds survives.
         (
             "profile 2; def d; x = deref w; end; class C del=d; class D; a = new C; b = new D; w = ref b; setattr a me a; setattr a other b; del b; del a; collect 2",
             "made instance #2; made instance #3; made weakref #4; gc start 2; enter del #2; leave; alive #3; free #2; gc stop 2 1 0; collected 1; end",
@@ -146,12 +146,12 @@ fn weak_references_in_profile_2(rt: HostRuntime) -> Result<(), Fail> {
             "def d; x = deref w; end; class C del=d; class D; a = new C; b = new D; w = ref b; setattr a me a; setattr a other b; del b; del a; collect 2",
             "made instance #2; made instance #3; made weakref #4; gc start 2; cleared #4; enter del #2; leave; free #3; free #2; gc stop 2 2 0; collected 2; end",
         ),
-        // One that is condemned itself is a member with a weak reference to a member.
+        // A condemned weak reference is a member with a weak reference to a member.
         (
             "profile 2; class C; a = new C; w = ref a; setattr a me a; setattr a w w; del w; del a; collect 2",
             "made instance #2; made weakref #3; gc start 2; cleared #3; free #3; free #2; gc stop 2 2 0; collected 2; end",
         ),
-        // A callback reaches the condemned object by a weak reference that has none, and keeps it.
+        // A callback reaches the condemned object by a weak reference without a callback, and keeps it.
         (
             "profile 2; def cb; x = deref u; end; class C; f = func cb; a = new C; setattr a me a; u = ref a; w = ref a f; del a; collect 2; y = deref u; print y",
             "made function #2; made instance #3; made weakref #4; made weakref #5; gc start 2; cleared #5; enter callback #5; leave; alive #3; gc stop 2 0 0; collected 0; value #3; end",
@@ -160,22 +160,23 @@ fn weak_references_in_profile_2(rt: HostRuntime) -> Result<(), Fail> {
             "def cb; x = deref u; end; class C; f = func cb; a = new C; setattr a me a; u = ref a; w = ref a f; del a; collect 2; y = deref u; print y",
             "made function #2; made instance #3; made weakref #4; made weakref #5; gc start 2; cleared #5; cleared #4; enter callback #5; leave; free #3; gc stop 2 1 0; collected 1; value none; end",
         ),
-        // A callback keeps it and drops it again: its weak reference is a late one.
+        // A callback keeps it and drops it again: its weak reference is cleared late.
         (
             "profile 2; def cb; x = deref u; del x; end; class C; f = func cb; a = new C; setattr a me a; u = ref a; w = ref a f; del a; collect 2; y = deref u; print y",
             "made function #2; made instance #3; made weakref #4; made weakref #5; gc start 2; cleared #5; enter callback #5; leave; cleared #4; free #3; gc stop 2 1 0; collected 1; value none; end",
         ),
-        // A late one: nothing reached its referent.
+        // Cleared late: nothing reached its referent.
         (
             "profile 2; class C; a = new C; w = ref a; setattr a me a; del a; collect 2; y = deref w; print y",
             "made instance #2; made weakref #3; gc start 2; cleared #3; free #2; gc stop 2 1 0; collected 1; value none; end",
         ),
-        // Members that refer outside lose it, the newest first; one that is no member keeps it.
+        // Members that refer outside are cleared, newest first; a weak reference outside the set keeps its
+        // referent.
         (
             "profile 2; class C; b = new C; a = list; u = ref b; v = ref b; w = ref b; append a u; append a v; append a a; del u; del v; del a; collect 2; y = deref w; print y",
             "made instance #2; made list #3; made weakref #4; made weakref #5; made weakref #6; gc start 2; cleared #5; cleared #4; free #5; free #4; free #3; gc stop 2 3 0; collected 3; value #2; end",
         ),
-        // A finalizer brings a weak reference back that is condemned and refers outside: it still has its referent.
+        // A finalizer resurrects a condemned weak reference that refers outside: it still has its referent.
         (
             "profile 2; def d; x = attr self w; end; class C del=d; b = new C; a = new C; w = ref b; setattr a w w; setattr a me a; del w; del a; collect 2; y = deref x; print y",
             "made instance #2; made instance #3; made weakref #4; gc start 2; enter del #3; leave; alive #4; free #3; gc stop 2 1 0; collected 1; value #2; end",
@@ -228,7 +229,7 @@ fn tracking(rt: HostRuntime) -> Result<(), Fail> {
             "d = dict; tracked d; l = list; put d 1 l; tracked d; drop d 1; tracked d; t = tuple 1 2; u = tuple t; collect; tracked d; tracked t; collect; tracked u",
             "made dict #2; tracked no; made list #3; tracked yes; tracked yes; made tuple #4; made tuple #5; gc start 2; gc stop 2 0 0; collected 0; tracked no; tracked no; gc start 2; gc stop 2 0 0; collected 0; tracked no; end",
         ),
-        // A dictionary of atoms is untracked by a collection of 2 alone, a tuple of them by any.
+        // Only a collection of 2 untracks a dictionary of atoms; any collection untracks such a tuple.
         (
             "l = list; d = dict; put d 1 l; drop d 1; t = tuple 1; collect 1; tracked d; tracked t; collect 2; tracked d; tracked 5; tracked l",
             "made list #2; made dict #3; made tuple #4; gc start 1; gc stop 1 0 0; collected 0; tracked yes; tracked no; gc start 2; gc stop 2 0 0; collected 0; tracked no; tracked no; tracked yes; end",
@@ -266,7 +267,7 @@ fn collections_that_are_due(rt: HostRuntime) -> Result<(), Fail> {
             "disable; threshold 1; a = list; b = list; c = list; count; enable; print 1",
             "made list #2; made list #3; made list #4; count 3 0 0; gc start 0; gc stop 0 0 0; value 1; end",
         ),
-        // None is due while one is running: the objects that a finalizer makes wait for its end.
+        // None is due while one is under way: a finalizer's new objects wait for its end.
         (
             "def d; l = list; m = list; n = list; print 1; end; class C del=d; a = new C; setattr a me a; del a; threshold 2; collect",
             "made instance #2; gc start 2; enter del #2; made list #3; made list #4; made list #5; value 1; leave; free #2; gc stop 2 1 0; collected 1; end",
@@ -293,7 +294,7 @@ fn frozen_objects(rt: HostRuntime) -> Result<(), Fail> {
             "a = list; b = list; count; freeze; count; unfreeze; gens; count",
             "made list #2; made list #3; count 2 0 0; count 0 0 0; gens 0 0 2 0; count 0 0 0; end",
         ),
-        // A finalizer freezes while a collection runs: what is condemned is not frozen.
+        // A finalizer freezes during a collection: condemned objects are not frozen.
         (
             "def d; freeze; gens; end; class C del=d; l = list; a = new C; setattr a me a; del a; collect; gens",
             "made list #2; made instance #3; gc start 2; enter del #3; gens 0 0 0 1; leave; free #3; gc stop 2 1 0; collected 1; gens 0 0 0 1; end",
@@ -366,7 +367,7 @@ fn many_lists_in_one_are_dropped_and_nothing_is_left_to_collect(
     for serial in 2..=LAST_HELD {
         push_numbered(&mut wanted, "made list #", serial)?;
     }
-    // Items are given up last first, and the list that held them is the last to go.
+    // Items are given up last first, and the list that held them is the last to be freed.
     for serial in 0..LAST_HELD - 1 {
         push_numbered(&mut wanted, "free #", LAST_HELD - serial)?;
     }

@@ -1,10 +1,10 @@
-//! Deaths, frames and collections within each other, through the whole budget. The texts come from the rules of docs/RULES.md.
+//! Nested deaths, frames and collections, through the whole budget. The texts come from the rules of docs/RULES.md.
 use crate::calls::{check_long, lines, push_lines, push_numbered};
 use cg_cli::Status;
 use std::test::Fail;
 
-/// Each finalizer calls a function that makes an instance and drops it: its finalizer begins in that frame. Each object takes
-/// two of 100,000 frames, and the finalizer of the last is one too many.
+/// Each finalizer calls a function that makes an instance and drops it, whose finalizer begins in that frame. Each object
+/// takes two of 100,000 frames, and the last finalizer is one too many.
 #[test]
 fn finalizers_that_make_what_is_finalized(rt: HostRuntime) -> Result<(), Fail> {
     let alloc = rt.alloc();
@@ -26,7 +26,7 @@ fn finalizers_that_make_what_is_finalized(rt: HostRuntime) -> Result<(), Fail> {
 /// The number of the last of 100,000 instances.
 const LAST: u32 = 100_001;
 
-/// Each instance holds the one before, and its finalizer gives that up: 100,000 frames stand on each other, and each ends.
+/// Each instance holds the previous one, and its finalizer gives that up: 100,000 nested frames, and each ends.
 #[test]
 fn finalizers_that_drop_what_is_finalized(rt: HostRuntime) -> Result<(), Fail> {
     let alloc = rt.alloc();
@@ -53,8 +53,8 @@ fn finalizers_that_drop_what_is_finalized(rt: HostRuntime) -> Result<(), Fail> {
     Ok(())
 }
 
-/// 100,000 lists, each of a weak reference, its referent and the list before. A callback gives the list up that is bound, by
-/// binding the one before: its referent dies, and is called back for in that frame.
+/// 100,000 lists, each of a weak reference, its referent and the previous list. A callback drops the bound list by binding
+/// the previous one: its referent dies, and its callback runs in that frame.
 #[test]
 fn callbacks_within_callbacks(rt: HostRuntime) -> Result<(), Fail> {
     let alloc = rt.alloc();
@@ -78,7 +78,7 @@ fn callbacks_within_callbacks(rt: HostRuntime) -> Result<(), Fail> {
         push_numbered(&mut text, "cleared #", 300_002 - 3 * below)?;
         push_numbered(&mut text, "enter callback #", 300_002 - 3 * below)?;
     }
-    // The first list of all has no items.
+    // The very first list has no items.
     text.extend_from_slice(b"refused 3\n")?;
     for made in 1..=100_000u32 {
         text.extend_from_slice(b"leave\n")?;

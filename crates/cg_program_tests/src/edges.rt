@@ -1,9 +1,9 @@
-//! Words at their edges, through a run.
+//! Words at their limits, through a run.
 use crate::calls::check;
 use cg_cli::Status;
 use std::test::Fail;
 
-/// The bad word stands in a place of its own.
+/// The bad word is at a position of its own.
 const BAD: &str = "bad script 1 4";
 
 #[test]
@@ -31,7 +31,7 @@ fn numbers_at_their_edges(rt: HostRuntime) -> Result<(), Fail> {
             "d = dict; put d 9223372036854775807 1; put d -9223372036854775808 2; x = get d 9223372036854775807; print x; x = get d -9223372036854775808; print x; x = get d 9223372036854775806",
             "made dict #2; value 1; value 2; refused 4; end",
         ),
-        // The greatest counts, and ten digits.
+        // The largest count, and ten digits.
         (
             "threshold 2147483647 2147483647 2147483647; a = list; count",
             "made list #2; count 1 0 0; end",
@@ -67,7 +67,7 @@ fn numbers_past_their_edges(rt: HostRuntime) -> Result<(), Fail> {
     Ok(())
 }
 
-/// A name has at most 32 bytes, wherever it stands; a string is no name.
+/// A name has at most 32 bytes, in any place; a string is no name.
 #[test]
 fn names_at_their_edges(rt: HostRuntime) -> Result<(), Fail> {
     let alloc = rt.alloc();

@@ -1,10 +1,10 @@
-//! Two texts with each line left out, doubled and swapped with the next, and the verdict that each then gets.
+//! Two texts with each line left out, doubled and swapped with the next, and the resulting verdicts.
 use cg_cert::{Verdict, check_records};
 use std::alloc::{AllocError, Global};
 use std::process::Abort;
 use std::test::Fail;
 
-/// What is done to one of the lines.
+/// The edit of one line.
 #[derive(Clone, Copy)]
 pub enum Edit {
     LeftOut,
@@ -42,7 +42,7 @@ pub fn edited(
     Ok(text)
 }
 
-/// Wants this graph and this code of the lines with each line edited, in order.
+/// Expects this graph and this code for the lines with each line edited, in order.
 fn check_edits(
     rt: &impl Abort,
     alloc: Global,
@@ -117,7 +117,7 @@ fn lines_of_a_list_are_edited(rt: HostRuntime) -> Result<(), Fail> {
         (0, 1),
     ];
     check_edits(&rt, alloc, &LIST, Edit::Doubled, &doubled)?;
-    // The last line has no next.
+    // The last line has no successor.
     check_edits(&rt, alloc, &LIST, Edit::Swapped, &[(0, 1); 10])?;
     Ok(())
 }
@@ -149,7 +149,7 @@ fn lines_of_an_instance_are_edited(rt: HostRuntime) -> Result<(), Fail> {
         (0, 1),
     ];
     check_edits(&rt, alloc, &INSTANCE, Edit::Doubled, &doubled)?;
-    // The last line has no next.
+    // The last line has no successor.
     check_edits(&rt, alloc, &INSTANCE, Edit::Swapped, &[(0, 1); 8])?;
     Ok(())
 }

@@ -1,4 +1,4 @@
-//! Extended scripts, through the top call: their expansions, and what runs of these write. The texts come from the rules of
+//! Extended scripts, through the top call: their expansions, and what their runs write. The texts come from the rules of
 //! docs/SCRIPT.md and docs/RULES.md, worked out by hand.
 use crate::calls::{answer_to, answer_with_fault, check, lines, lines_of_spaces, shown};
 use cg_cli::Status;
@@ -7,7 +7,7 @@ use std::alloc::{AllocError, Global};
 use std::process::Abort;
 use std::test::Fail;
 
-/// The script is to be expanded, and a run of its expansion is to write this text.
+/// Expects the script to be expanded, and a run of the expansion to write this text.
 fn check_run(
     rt: &impl Abort,
     alloc: Global,
@@ -67,7 +67,7 @@ fn runs_of_expansions(rt: HostRuntime) -> Result<(), Fail> {
             Status::Done,
             "made function #2; made instance #3; made instance #4; made function #5; made weakref #6; made function #7; made weakref #8; cleared #6; enter callback #6; value 5; leave; free #3; enter call #7; free #8; enter call #2; value 5; leave; leave; enter call #5; leave; end",
         ),
-        // A value set anew under a key, and one that is dropped: their weak references go.
+        // A value replaced under a key, and a dropped one: their weak references go.
         (
             "class C; m = wmap; a = new C; wset m 1 a; wset m 1 a; wdrop m 1; x = wget m 1; print x",
             Status::Done,

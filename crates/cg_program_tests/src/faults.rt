@@ -1,4 +1,4 @@
-//! A write refused at each line, and a read refused at each call, whatever the job.
+//! A write refused at each line, and a read refused at each call, for every job.
 use crate::calls::{answer_to, answer_with_fault, lines, lines_of_spaces, shown};
 use crate::one_byte::OneByte;
 use cg_cli::Status;
@@ -7,8 +7,8 @@ use std::alloc::{AllocError, Global};
 use std::process::Abort;
 use std::test::Fail;
 
-/// A call of which all is known: its words and its script, how often it reads a source that gives the whole script at once,
-/// how it ends and its text.
+/// A call with a known result: its arguments and its script, how often it reads a source that gives the whole script at
+/// once, its status and its text.
 #[derive(Clone, Copy)]
 struct Call {
     words: &'static [&'static str],
@@ -76,7 +76,7 @@ const CALLS: [Call; 9] = [
         status: Status::Done,
         text: "record 2; graph 1; m 2 1 0; r 2; lost 2; graph 2; m 2 1 0; r 2; lost 2; stop; end",
     },
-    // An expansion is written at once, so here it has one line.
+    // An expansion is one write, so here it has one line.
     Call {
         words: &["expand"],
         script: "m = wmap",
@@ -86,7 +86,7 @@ const CALLS: [Call; 9] = [
     },
 ];
 
-/// A script of twenty lines of 1,024 bytes each, to be told apart from the others.
+/// A script of twenty distinct lines of 1,024 bytes each.
 const SPACES: Call = Call {
     words: &["run"],
     script: "twenty lines of spaces",
@@ -106,7 +106,7 @@ fn line_count(text: &[u8]) -> u32 {
     count
 }
 
-/// Where the line with this number begins, counted from 0; at the end where there are fewer lines.
+/// Where the line with this number begins, counting from 0; the end if there are fewer lines.
 fn start_of(text: &[u8], line: u32) -> usize {
     let mut begun = 0u32;
     for (at, byte) in text.iter().enumerate() {
@@ -127,7 +127,7 @@ fn front_of(text: &[u8], line: u32, keep: usize) -> &[u8] {
     &text[..end.min(text.len())]
 }
 
-/// Each write of a job fails in turn, and keeps nothing, two bytes or all of its line.
+/// Each write of a job fails in turn, after none, two or all bytes of its line.
 fn check_writes(
     rt: &impl Abort,
     alloc: Global,
@@ -175,7 +175,7 @@ fn each_write_fails_in_turn(rt: HostRuntime) -> Result<(), Fail> {
     Ok(())
 }
 
-/// A job with a source of which a read fails, or none.
+/// A job with a source that fails one read, or none.
 fn check_read<S: Source>(
     rt: &impl Abort,
     alloc: Global,
@@ -201,7 +201,7 @@ fn check_read<S: Source>(
     Ok(())
 }
 
-/// Each read of a job fails in turn, and the one after the last, with a source that gives all that is asked for.
+/// Each read of a job fails in turn, and the one after the last, with a source that gives all that is requested.
 fn check_reads(
     rt: &impl Abort,
     alloc: Global,
@@ -216,7 +216,7 @@ fn check_reads(
     Ok(())
 }
 
-/// The same with a source that gives a byte a call: as many reads as bytes, and one for the end, where it is read at all.
+/// The same with a source that gives one byte a call: as many reads as bytes, and one for the end, if it is read at all.
 fn check_reads_of_a_byte(
     rt: &impl Abort,
     alloc: Global,
@@ -244,7 +244,7 @@ fn each_read_fails_in_turn(rt: HostRuntime) -> Result<(), Fail> {
         check_reads(&rt, alloc, call, &script)?;
         check_reads_of_a_byte(&rt, alloc, call, &script)?;
     }
-    // Five reads of 4,096 bytes, and one of the end.
+    // Five reads of 4,096 bytes, and one for the end.
     let script = lines_of_spaces(alloc, 20, 0)?;
     check_reads(&rt, alloc, SPACES, &script)?;
     Ok(())

@@ -1,5 +1,5 @@
-//! Worked scripts with commands that look at the graph, through the top call. The texts come from the rules of docs/RULES.md,
-//! worked out by hand.
+//! Worked scripts with inspection commands, through the top call. The texts come from the rules of docs/RULES.md, worked out
+//! by hand.
 use crate::calls::{check_done, check_long, lines, push_lines, push_numbered};
 use cg_cli::Status;
 use std::test::Fail;
@@ -12,19 +12,19 @@ fn inspections(rt: HostRuntime) -> Result<(), Fail> {
             "a = list; b = list a; referrers a; referents b; why a; del b; why a",
             "made list #2; made list #3; referrer #3; listed 1; referent #2; listed 1; held #3; via #2; free #3; unreachable; end",
         ),
-        // None is told while a collection runs.
+        // Each is refused while a collection is under way.
         (
             "def cb; why q; end; class C; f = func cb; q = list; a = new C; setattr a me a; w = ref a f; del a; collect 2",
             "made function #2; made list #3; made instance #4; made weakref #5; gc start 2; cleared #5; enter callback #5; refused 13; leave; free #4; gc stop 2 1 0; collected 1; end",
         ),
-        // Each reference is told, each referrer once.
+        // Each reference is listed, each referrer once.
         (
             "a = list; append a a; append a a; referents a; referrers a; refs a",
             "made list #2; referent #2; referent #2; listed 2; referrer #2; listed 1; refs 3; end",
         ),
         // Another name of the object holds it.
         ("a = list; b = a; why a", "made list #2; held #2; end"),
-        // A refusal ends a frame, the lines of a list do not.
+        // A refusal ends a frame; the lines of a list do not.
         (
             "def p; referents a; referents 1; print 5; end; a = list; f = func p; call f; referrers q; why q",
             "made list #2; made function #3; enter call #3; listed 0; refused 2; leave; refused 1; refused 1; end",
@@ -39,7 +39,7 @@ fn inspections(rt: HostRuntime) -> Result<(), Fail> {
 const LAST_REFERRER: u32 = 100_002;
 
 #[test]
-fn a_list_in_which_a_hundred_thousand_lists_stand_is_told(rt: HostRuntime) -> Result<(), Fail> {
+fn a_hundred_thousand_referrers_are_listed(rt: HostRuntime) -> Result<(), Fail> {
     let alloc = rt.alloc();
     let mut script = lines(alloc, "threshold 0; k = list; a = list k")?;
     push_lines(&mut script, "a = list k a\n", LAST_REFERRER - 3)?;

@@ -10,7 +10,7 @@ use cg_kinds::ListKind;
 use cg_value::{Entry, KindCode, Val};
 use std::alloc::{AllocError, Global};
 
-/// A list kind that refuses the (n+1)th call of `make`.
+/// A list kind that fails the (n+1)th call of `make`.
 #[derive(Drop)]
 struct Refusing {
     kind: ListKind,
@@ -77,7 +77,7 @@ impl Kind for Refusing {
     }
 }
 
-/// Lists that refuse one call of `make`.
+/// Lists that fail one call of `make`.
 fn refusing_lists(alloc: Global, before: usize) -> Result<Box<dyn Kind>, AllocError>
     ensures kind { IfOk result (λ b. kind b ≡ code.List) }
     ensures empty { IfOk result (λ b. bodies b ≡ fin.empty) }
@@ -98,7 +98,7 @@ fn boxed(alloc: Global, code: KindCode) -> Result<Box<dyn Kind>, AllocError>
     Ok(boxed)
 }
 
-/// One box more.
+/// Pushes one more box.
 fn push(kinds: &mut Vec<Box<dyn Kind>>, made: Box<dyn Kind>) -> Result<(), AllocError>
     ensures codes { OnOk result (map (λ b. kind b) kinds.new.items ≡
         map (λ b. kind b) kinds.old.items ++ kind made ∷ []) }
@@ -124,7 +124,7 @@ pub fn six(alloc: Global) -> Result<Vec<Box<dyn Kind>>, AllocError>
     Ok(kinds)
 }
 
-/// Six empty kinds; the lists refuse the (n+1)th call of `make`.
+/// Six empty kinds; the lists fail the (n+1)th call of `make`.
 pub fn six_refusing(alloc: Global, before: usize) -> Result<Vec<Box<dyn Kind>>, AllocError>
     ensures kinds { IfOk result (λ kinds. map (λ b. kind b) kinds.items ≡ six_kinds) }
     ensures empty { IfOk result (λ kinds. map (λ b. bodies b) kinds.items ≡ replicate 6 fin.empty) }

@@ -13,7 +13,7 @@ fn push_frame(text: &mut Vec<u8>, first: u32, last: u32) -> Result<(), AllocErro
     Ok(())
 }
 
-/// A list and a function, and 999,998 lists are made by 1,000 frames: the last but one of the last frame is refused.
+/// A list and a function; then 1,000 frames make 999,998 lists: the last but one of the last frame is refused.
 #[test]
 fn a_million_objects_are_the_most(rt: HostRuntime) -> Result<(), Fail> {
     let alloc = rt.alloc();
@@ -32,7 +32,7 @@ fn a_million_objects_are_the_most(rt: HostRuntime) -> Result<(), Fail> {
     Ok(())
 }
 
-/// 4,000 frames append 1,000 numbers each: no entry more, and an object without entries.
+/// 4,000 frames append 1,000 numbers each: one more entry is refused, an object without entries is not.
 #[test]
 fn four_million_entries_are_the_most(rt: HostRuntime) -> Result<(), Fail> {
     let alloc = rt.alloc();

@@ -3,7 +3,7 @@ ghost use Rattle.std.specs.Prelude.{◌≡◌};
 
 use cg_io::{MemSource, ReadFailed, Source};
 
-/// A source in memory, of which each call takes one byte at most.
+/// A source in memory that gives at most one byte a call.
 #[derive(Drop)]
 pub struct OneByte {
     source: MemSource,
@@ -11,7 +11,7 @@ pub struct OneByte {
 }
 
 impl OneByte {
-    /// A source of what this one gives, before its first call.
+    /// A source with the bytes of this one, before its first call.
     pub fn new(source: MemSource) -> OneByte
         ensures source { result.source ≡ source }
         ensures calls { result.calls ≡ 0 }
@@ -19,7 +19,7 @@ impl OneByte {
         OneByte { source, calls: 0 }
     }
 
-    /// How often it was read. The count stops at the last number of 64 bits.
+    /// How often it was read. The count is capped at the largest number of 64 bits.
     pub fn calls(&self) -> u64
         ensures { result ≡ self.now.calls }
     {

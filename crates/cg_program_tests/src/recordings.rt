@@ -8,32 +8,32 @@ use std::alloc::{AllocError, Global};
 use std::process::Abort;
 use std::test::Fail;
 
-/// A list that holds itself and is thrown away: both detections find it.
+/// A list that holds itself and is thrown away: both reachability passes find it.
 const RING: &str = "a = list; append a a; del a; collect 2";
 
 const RECORD_OF_RING: &str =
     "record 2; graph 1; m 2 1 0; r 2; lost 2; graph 2; m 2 1 0; r 2; lost 2; stop";
 
-/// One with a legacy finalizer: it is set aside.
+/// One with a legacy finalizer: it is uncollectable.
 const LEGACY: &str =
     "def p; end; class C legacy=p; a = new C; setattr a me a; del a; collect 2; x = item garbage 0";
 
 const RECORDS_OF_LEGACY: &str =
     "record 2; graph 1; m 2 1 1; r 2; lost 2; legacy 2; graph 2; stop; end";
 
-/// What a finalizer brings back is not lost again.
+/// A resurrected object is not lost again.
 const BACK: &str = "def d; x = self; end; class C del=d; a = new C; setattr a me a; del a; collect";
 
 const RECORDS_OF_BACK: &str =
     "record 2; graph 1; m 2 1 0; r 2; lost 2; graph 2; m 2 2 0; r 2; stop; end";
 
-/// A list in three collections: held, not looked at, and lost.
+/// A list in three collections: held, not examined, and lost.
 const THRICE: &str = "a = list; append a a; collect 0; del a; collect 0; collect 1";
 
 const RECORDS_OF_THRICE: &str =
     "record 0; graph 1; m 2 2 0; r 2; graph 2; stop; record 0; graph 1; graph 2; stop; record 1; graph 1; m 2 1 0; r 2; lost 2; graph 2; m 2 1 0; r 2; lost 2; stop; end";
 
-/// A record of the script is to end so, and to write this text.
+/// Expects a record of the script to end with this status and write this text.
 fn check_record(
     rt: &impl Abort,
     alloc: Global,
@@ -58,10 +58,10 @@ fn records_of_rows(rt: HostRuntime) -> Result<(), Fail> {
         (LEGACY, RECORDS_OF_LEGACY),
         (BACK, RECORDS_OF_BACK),
         (THRICE, RECORDS_OF_THRICE),
-        // Nothing is recorded but collections.
+        // Only collections are recorded.
         ("", "end"),
         ("a = list; append 3 a; print garbage", "end"),
-        // Objects by which something is held, and twice.
+        // Objects that hold something, and hold it twice.
         (
             "a = list; append a a; append a a; freeze; b = list a a; collect",
             "record 2; graph 1; m 3 1 0; graph 2; stop; end",
@@ -71,7 +71,7 @@ fn records_of_rows(rt: HostRuntime) -> Result<(), Fail> {
             "profile 2; a = list; append a a; del a; collect 2",
             "record 2; graph 1; m 2 1 0; r 2; lost 2; graph 2; m 2 1 0; r 2; lost 2; stop; end",
         ),
-        // The last collection of a shutdown, and one that is due.
+        // The last collection of a shutdown, and an automatic one.
         (
             "shutdown; def p; end; class C legacy=p; a = new C; setattr a me a",
             RECORDS_OF_LEGACY,
@@ -96,7 +96,7 @@ fn a_run_that_ends_in_a_collection_is_cut(rt: HostRuntime) -> Result<(), Fail> {
         Status::Budget,
         "record 2; graph 1; m 2 1 0; r 2; lost 2; cut; end",
     )?;
-    // Behind the second graph the record has ended.
+    // The record ends after the second graph.
     check_record(
         &rt,
         alloc,
@@ -108,7 +108,7 @@ fn a_run_that_ends_in_a_collection_is_cut(rt: HostRuntime) -> Result<(), Fail> {
 }
 
 #[test]
-fn two_members_stand_in_any_order(rt: HostRuntime) -> Result<(), Fail> {
+fn two_members_come_in_any_order(rt: HostRuntime) -> Result<(), Fail> {
     let alloc = rt.alloc();
     let mut source = PlainSource::new(lines(alloc, "a = list; b = list a; collect 0")?);
     let found = answer_to(alloc, &["record"], &mut source)?;
@@ -131,7 +131,7 @@ fn two_members_stand_in_any_order(rt: HostRuntime) -> Result<(), Fail> {
 fn a_list_that_is_refused_ends_the_records(rt: HostRuntime) -> Result<(), Fail> {
     let alloc = rt.alloc();
     let script = "a = list; append a a; del a; collect 2; b = list; append b b; del b; collect 2";
-    // The garbage list, `a` and `b` are made by one call each.
+    // One call each makes the garbage list, `a` and `b`.
     for (before, text) in [(0, None), (1, None), (2, Some(RECORD_OF_RING))] {
         let mut source = PlainSource::new(lines(alloc, script)?);
         let found = answer_refusing(alloc, &["record"], &mut source, before)?;

@@ -1,11 +1,11 @@
-//! Texts of records, and bytes that are none.
+//! Texts of records, and invalid bytes.
 use crate::edits::{Edit, LIST, edited};
 use cg_records::{read_records, write_records};
 use std::alloc::{AllocError, Global};
 use std::process::Abort;
 use std::test::Fail;
 
-/// The text of what is read, or `None` where nothing is.
+/// The text of what is read, or `None` if the bytes are invalid.
 fn reread(alloc: Global, bytes: &[u8]) -> Result<Option<Vec<u8>>, AllocError> {
     match read_records(alloc, bytes)? {
         Some(records) => Ok(Some(write_records(alloc, &records)?)),
@@ -53,7 +53,7 @@ fn a_record_cut_short_is_read(rt: HostRuntime) -> Result<(), Fail> {
     Ok(())
 }
 
-/// Reads a text, which is that of some records or of none, and wants it back where it is read.
+/// Reads a text, which is valid or not, and expects it back if it is.
 fn check_text(
     rt: &impl Abort,
     alloc: Global,
@@ -78,7 +78,7 @@ fn lines_left_out_doubled_and_swapped(rt: HostRuntime) -> Result<(), Fail> {
         check_text(&rt, alloc, &text, [3, 4, 7, 8].contains(&at), at)?;
         let text = edited(alloc, &LIST, Edit::Doubled, at)?;
         check_text(&rt, alloc, &text, [2, 3, 4, 6, 7, 8].contains(&at), at)?;
-        // The last line changes places with none.
+        // The last line has nothing to swap with.
         let text = edited(alloc, &LIST, Edit::Swapped, at)?;
         check_text(&rt, alloc, &text, at == 10, at)?;
     }

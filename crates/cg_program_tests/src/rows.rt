@@ -9,7 +9,7 @@ use std::alloc::{AllocError, Global};
 use std::process::Abort;
 use std::test::Fail;
 
-/// A run of the script is to end by `budget spent`, and to write this text.
+/// Expects a run of the script to end by `budget spent` and write this text.
 fn check_spent(rt: &impl Abort, alloc: Global, script: &str, text: &str) -> Result<(), AllocError> {
     check(rt, alloc, &["run"], script, Status::Budget, text)
 }
@@ -153,7 +153,7 @@ fn frames_of_calls(rt: HostRuntime) -> Result<(), Fail> {
 fn finalizers(rt: HostRuntime) -> Result<(), Fail> {
     let alloc = rt.alloc();
     for (script, text) in [
-        // Brought back under a name; it runs once.
+        // Resurrected under a name; its finalizer runs once.
         (
             "def d; x = self; end; class C del=d; a = new C; del a; finalized x; del x",
             "made instance #2; enter del #2; leave; alive #2; finalized yes; free #2; end",
@@ -173,22 +173,22 @@ fn finalizers(rt: HostRuntime) -> Result<(), Fail> {
             "def d; print 1; append q 1; print 2; end; class C del=d; a = new C; del a; print 3",
             "made instance #2; enter del #2; value 1; refused 1; leave; free #2; value 3; end",
         ),
-        // Brought back through a list.
+        // Resurrected through a list.
         (
             "def d; append k self; end; class C del=d; k = list; a = new C; del a; del k",
             "made list #2; made instance #3; enter del #3; leave; alive #3; free #3; free #2; end",
         ),
-        // Brought back as the key of a dictionary.
+        // Resurrected as the key of a dictionary.
         (
             "def d; put k self 1; end; class C del=d; k = dict; a = new C; del a; del k",
             "made dict #2; made instance #3; enter del #3; leave; alive #3; free #3; free #2; end",
         ),
-        // Brought back as the cell of a function.
+        // Resurrected as the cell of a function.
         (
             "def h; print c0; end; def d; g = func h self; end; class C del=d; a = new C; del a; call g; del g",
             "made instance #2; enter del #2; made function #3; leave; alive #2; enter call #3; value #2; leave; free #2; free #3; end",
         ),
-        // Brought back in an attribute of its own: nothing leads to it any more.
+        // In an attribute of its own it is not resurrected: nothing refers to it any more.
         (
             "def d; setattr self me self; end; class C del=d; a = new C; del a",
             "made instance #2; enter del #2; leave; alive #2; end",
@@ -223,7 +223,7 @@ fn weak_references(rt: HostRuntime) -> Result<(), Fail> {
             "def cb; print 2; end; def d; w = ref self f; end; class C del=d; f = func cb; a = new C; del a; x = deref w; print x",
             "made function #2; made instance #3; enter del #3; made weakref #4; leave; cleared #4; enter callback #4; value 2; leave; free #3; value none; end",
         ),
-        // An object that its finalizer brings back keeps its weak references.
+        // An object that its finalizer resurrects keeps its weak references.
         (
             "def cb; print 1; end; def d; x = self; end; class C del=d; f = func cb; a = new C; w = ref a f; del a; y = deref w; print y; del y; del x",
             "made function #2; made instance #3; made weakref #4; enter del #3; leave; alive #3; value #3; cleared #4; enter callback #4; value 1; leave; free #3; end",
@@ -248,7 +248,7 @@ fn weak_references(rt: HostRuntime) -> Result<(), Fail> {
 fn callbacks(rt: HostRuntime) -> Result<(), Fail> {
     let alloc = rt.alloc();
     for (script, text) in [
-        // It binds: what the name had dies.
+        // It binds a name, whose old value dies.
         (
             "def cb; x = none; end; class C; x = list; f = func cb; a = new C; w = ref a f; del a",
             "made list #2; made function #3; made instance #4; made weakref #5; cleared #5; enter callback #5; free #2; leave; free #4; end",
@@ -258,7 +258,7 @@ fn callbacks(rt: HostRuntime) -> Result<(), Fail> {
             "def cb; del w; end; class C; f = func cb; a = new C; w = ref a f; del a",
             "made function #2; made instance #3; made weakref #4; cleared #4; enter callback #4; leave; free #4; free #3; end",
         ),
-        // And its function, which goes first.
+        // And its function, which is freed first.
         (
             "def cb; del w; del f; end; class C; f = func cb; a = new C; w = ref a f; del a",
             "made function #2; made instance #3; made weakref #4; cleared #4; enter callback #4; leave; free #2; free #4; free #3; end",
@@ -268,7 +268,7 @@ fn callbacks(rt: HostRuntime) -> Result<(), Fail> {
             "def d; print 3; end; def cb; del k; end; class C; class D del=d; f = func cb; o = new D; k = list o; del o; a = new C; w = ref a f; del a",
             "made function #2; made instance #3; made list #4; made instance #5; made weakref #6; cleared #6; enter callback #6; enter del #3; value 3; leave; free #3; free #4; leave; free #5; end",
         ),
-        // It calls, and has its cells and its weak reference.
+        // It calls, and sees its cells and its weak reference.
         (
             "def h; print c0; end; def cb; call g; print ref; print c0; end; class C; g = func h 7; f = func cb 8; a = new C; w = ref a f; del a",
             "made function #2; made function #3; made instance #4; made weakref #5; cleared #5; enter callback #5; enter call #2; value 7; leave; value #5; value 8; leave; free #4; end",
@@ -282,7 +282,7 @@ fn callbacks(rt: HostRuntime) -> Result<(), Fail> {
             "def cb; print self; end; class C; f = func cb; a = new C; w = ref a f; del a",
             "made function #2; made instance #3; made weakref #4; cleared #4; enter callback #4; refused 1; leave; free #3; end",
         ),
-        // The weak reference has given its referent up already.
+        // The weak reference is already cleared.
         (
             "def cb; x = deref ref; print x; end; class C; f = func cb; a = new C; w = ref a f; del a",
             "made function #2; made instance #3; made weakref #4; cleared #4; enter callback #4; value none; leave; free #3; end",
@@ -307,7 +307,8 @@ fn legacy_finalizers(rt: HostRuntime) -> Result<(), Fail> {
             "def p; x = self; end; class C legacy=p; a = new C; del a; del x",
             "made instance #2; enter legacy #2; leave; alive #2; enter legacy #2; leave; alive #2; end",
         ),
-        // After the finalizer and the callbacks; a weak reference that it makes is cleared without one.
+        // After the finalizer and the callbacks; a weak reference that it makes is cleared without a
+        // callback.
         (
             "def d; print 1; end; def p; w = ref self f; print 3; end; def cb; print 2; end; class C del=d legacy=p; f = func cb; a = new C; u = ref a f; del a; x = deref w; print x",
             "made function #2; made instance #3; made weakref #4; enter del #3; value 1; leave; cleared #4; enter callback #4; value 2; leave; enter legacy #3; made weakref #5; value 3; leave; cleared #5; free #3; value none; end",
@@ -330,7 +331,7 @@ fn budgets(rt: HostRuntime) -> Result<(), Fail> {
             "budget 0; def p; end; f = func p; call f",
             "made function #2; budget spent",
         ),
-        // A callback spends the last of it.
+        // A callback uses up the budget.
         (
             "budget 1; def p; end; class C; f = func p; a = new C; u = ref a f; v = ref a f; del a",
             "made function #2; made instance #3; made weakref #4; made weakref #5; cleared #5; cleared #4; enter callback #5; leave; budget spent",
@@ -347,7 +348,7 @@ fn budgets(rt: HostRuntime) -> Result<(), Fail> {
     ] {
         check_spent(&rt, alloc, script, text)?;
     }
-    // What is refused before takes none.
+    // A command refused before takes none.
     check_done(
         &rt,
         alloc,
@@ -369,7 +370,7 @@ fn the_budget_of_the_words(rt: HostRuntime) -> Result<(), Fail> {
         Status::Budget,
         "made instance #2; enter del #2; leave; free #2; made instance #3; budget spent",
     )?;
-    // It comes before that of the script.
+    // The argument takes precedence over the script.
     for (script, status, text) in [
         (
             "budget 0; def p; end; f = func p; call f",

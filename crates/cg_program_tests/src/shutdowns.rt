@@ -8,7 +8,7 @@ fn what_the_shutdown_leaves(rt: HostRuntime) -> Result<(), Fail> {
     let alloc = rt.alloc();
     for (script, text) in [
         ("shutdown", "gc start 2; gc stop 2 0 0; left 0; end"),
-        // The greatest name is given up first, and what a finalizer binds meanwhile too.
+        // The greatest name is given up first, and so is what a finalizer binds meanwhile.
         (
             "shutdown; a = list; b = list a; c = list; append c c; del c",
             "made list #2; made list #3; made list #4; free #3; free #2; gc start 2; free #4; gc stop 2 1 0; left 0; end",
@@ -35,7 +35,7 @@ fn what_the_shutdown_leaves(rt: HostRuntime) -> Result<(), Fail> {
             "shutdown; a = list; append a a; freeze",
             "made list #2; gc start 2; gc stop 2 0 0; left 1; end",
         ),
-        // The line may stand anywhere, and `quit` ends the script as its last command does.
+        // The line may be anywhere, and `quit` ends the script as its last command does.
         (
             "a = list; shutdown; quit none; b = list",
             "made list #2; free #2; gc start 2; gc stop 2 0 0; left 0; end",
@@ -50,7 +50,7 @@ fn what_the_shutdown_leaves(rt: HostRuntime) -> Result<(), Fail> {
 fn collections_that_are_due_at_the_shutdown(rt: HostRuntime) -> Result<(), Fail> {
     let alloc = rt.alloc();
     for (script, text) in [
-        // One comes before it.
+        // An automatic collection comes before it.
         (
             "shutdown; threshold 1; a = list; b = list",
             "made list #2; made list #3; gc start 0; gc stop 0 0 0; free #3; free #2; gc start 2; gc stop 2 0 0; left 0; end",

@@ -51,7 +51,7 @@ fn a_script_of_sixteen_mebibytes(rt: HostRuntime) -> Result<(), Fail> {
             Status::BadScript,
             "bad script 1 5",
         ),
-        // The last byte of the line is no byte of a script, and that comes first.
+        // The last byte of the line is not allowed in a script, and that counts first.
         (
             "",
             b'a',
@@ -76,7 +76,7 @@ fn a_script_of_sixteen_mebibytes(rt: HostRuntime) -> Result<(), Fail> {
             Status::BadScript,
             "bad script 2 5",
         ),
-        // Lines are counted where nothing stands in them.
+        // Empty lines count.
         (
             "",
             b'\n',
@@ -175,7 +175,8 @@ fn a_script_of_many_lines(rt: HostRuntime) -> Result<(), Fail> {
     Ok(())
 }
 
-/// A source that gives a byte a call is read once for each byte, and once for the end, up to 16,777,217 times.
+/// A source that gives one byte a call is read once for each byte, and once for the end, up to 16,777,217
+/// times.
 #[test]
 fn sources_are_read_a_bounded_number_of_times(rt: HostRuntime) -> Result<(), Fail> {
     let alloc = rt.alloc();

@@ -36,7 +36,7 @@ fn a_plain_source_gives_its_bytes(rt: HostRuntime) -> Result<(), Fail> {
 }
 
 #[test]
-fn a_source_in_memory_fails_where_it_is_told(rt: HostRuntime) -> Result<(), Fail> {
+fn a_source_in_memory_fails_at_the_given_read(rt: HostRuntime) -> Result<(), Fail> {
     let alloc = rt.alloc();
     let mut source = MemSource::new(Vec::from_slice(alloc, b"abcde")?, numbers(alloc, &[4, 2])?);
     reads(&rt, &mut source, b"abc");
@@ -48,7 +48,7 @@ fn a_source_in_memory_fails_where_it_is_told(rt: HostRuntime) -> Result<(), Fail
 }
 
 #[test]
-fn a_failed_write_keeps_a_front(rt: HostRuntime) -> Result<(), Fail> {
+fn a_failed_write_keeps_a_prefix(rt: HostRuntime) -> Result<(), Fail> {
     let alloc = rt.alloc();
     let mut sink = MemSink::new(alloc, numbers(alloc, &[3])?, 3);
     assert_eq!(rt; sink.write(b"made list #2\n"), Ok(()));
@@ -105,7 +105,7 @@ enum Full {
     Breaks,
 }
 
-/// A writer that takes one byte a call while it has room, each after an interruption.
+/// A writer with limited room that takes one byte a call, each after an interruption.
 #[derive(Drop)]
 struct SlowWriter {
     taken: Vec<u8>,

@@ -22,7 +22,7 @@ fn summaries_of_a_few_blocks(rt: HostRuntime) -> Result<(), Fail> {
     Ok(())
 }
 
-/// Collections are due in it: fourteen, besides the one that it asks for.
+/// Fourteen automatic collections, and the one that it asks for.
 #[test]
 fn the_summary_of_ten_thousand_blocks(rt: HostRuntime) -> Result<(), Fail> {
     let alloc = rt.alloc();
@@ -36,7 +36,7 @@ fn the_summary_of_ten_thousand_blocks(rt: HostRuntime) -> Result<(), Fail> {
     Ok(())
 }
 
-/// The garbage list and seven lists of the script are made: where one is refused there is no summary.
+/// It makes the garbage list and seven lists of the script; if one is refused there is no summary.
 #[test]
 fn a_list_that_is_refused_leaves_no_summary(rt: HostRuntime) -> Result<(), Fail> {
     let alloc = rt.alloc();

@@ -1,4 +1,4 @@
-//! Verdicts on small records, each by hand from the definitions.
+//! Verdicts on small records, worked out by hand from the definitions.
 use cg_cert::{Verdict, check_records};
 use std::alloc::{AllocError, Global};
 use std::process::Abort;
@@ -12,7 +12,7 @@ fn no(graph: u64, code: u8) -> Verdict {
     Verdict::No { graph, code }
 }
 
-/// Wants a verdict on each of the texts.
+/// Expects a verdict on each of the texts.
 fn check_texts(
     rt: &impl Abort,
     alloc: Global,
@@ -56,7 +56,7 @@ fn a_lost_list_is_found(rt: HostRuntime) -> Result<(), Fail> {
     Ok(())
 }
 
-/// An instance with a legacy finalizer is set aside, and is no candidate any more.
+/// An instance with a legacy finalizer is uncollectable, and is no longer a candidate.
 #[test]
 fn an_instance_set_aside_is_found(rt: HostRuntime) -> Result<(), Fail> {
     let texts: [(&[u8], Verdict); 5] = [
@@ -77,7 +77,7 @@ fn an_instance_set_aside_is_found(rt: HostRuntime) -> Result<(), Fail> {
             b"record 2\ngraph 1\nm 2 1 0\nr 2\nlost 2\nlegacy 2\ngraph 2\nstop\nend\n",
             no(1, 5),
         ),
-        // In a second graph nothing is set aside.
+        // In a second graph nothing is uncollectable.
         (
             b"record 2\ngraph 1\ngraph 2\nm 2 1 1\nr 2\nlost 2\nstop\nend\n",
             yes(1),
@@ -95,7 +95,7 @@ fn paths_go_on(rt: HostRuntime) -> Result<(), Fail> {
             b"record 1\ngraph 1\nm 9 1 0\nm 4 1 1\nr 6\nm 7 1 0\nr 9\nm 5 1 0\nr 7\nm 6 1 0\nr 4\nr 8\nm 8 1 0\nlost 8\nlost 6\nlost 4\nlegacy 8\nlegacy 4\nlegacy 6\ncut\nend\n",
             yes(1),
         ),
-        // One too many is lost, one too few; not all that a path leads to are set aside.
+        // One too many is lost, one too few; not all reachable ones are set aside.
         (
             b"record 1\ngraph 1\nm 9 1 0\nm 4 1 1\nr 6\nm 7 1 0\nr 9\nm 5 1 0\nr 7\nm 6 1 0\nr 4\nr 8\nm 8 1 0\nlost 8\nlost 6\nlost 4\nlost 9\nlegacy 8\nlegacy 4\nlegacy 6\ncut\nend\n",
             no(1, 4),
@@ -108,7 +108,7 @@ fn paths_go_on(rt: HostRuntime) -> Result<(), Fail> {
             b"record 1\ngraph 1\nm 9 1 0\nm 4 1 1\nr 6\nm 7 1 0\nr 9\nm 5 1 0\nr 7\nm 6 1 0\nr 4\nr 8\nm 8 1 0\nlost 8\nlost 6\nlost 4\nlegacy 4\nlegacy 6\ncut\nend\n",
             no(1, 5),
         ),
-        // A marked member that is reached sets nothing aside.
+        // A marked but reachable member sets nothing aside.
         (
             b"record 1\ngraph 1\nm 9 1 1\nr 4\nm 4 2 0\nr 4\nm 5 1 0\nr 9\ncut\nend\n",
             yes(1),
@@ -155,7 +155,7 @@ fn faults_come_in_their_order(rt: HostRuntime) -> Result<(), Fail> {
             b"record 0\ngraph 1\nm 3 3 0\nr 3\nr 3\nlost 3\ncut\nend\n",
             no(1, 4),
         ),
-        // The first faulty graph counts, over all records.
+        // The first faulty graph counts, across all records.
         (
             b"record 0\ngraph 1\ncut\nrecord 1\ngraph 1\ngraph 2\nm 3 0 0\nstop\nrecord 0\ngraph 1\nm 3 0 0\nr 4\ncut\nend\n",
             no(3, 4),

@@ -1,5 +1,5 @@
--- Which steps take entries: a release none, a death those of its object and of the weak reference that it calls back, a collection
--- those of the member that has its turn.
+-- Which steps take entries: a release takes none, a death those of its object and of the weak reference that it calls back, a
+-- collection those of the member that has its turn.
 use Rattle.std.proofs.Common.{◌≡◌, refl, sym, ◌∙◌, ap, subst, ℕ, Bool, true, false, not, inl, inr, ◌⊎◌, List, [], ◌∷◌, ◌++◌, map}
 use Rattle.std.specs.Prelude.{◌==◌, if◌then◌else◌}
 use Rattle.std.proofs.lemmas.List.{append-nil, append_assoc}
@@ -19,7 +19,7 @@ use Rattle.cg_machine.proofs.Pointwise.{IsOrder, Came}
 use Rattle.cg_machine.proofs.Starting.{starts_either}
 use Rattle.cg_machine.proofs.Advancing.{released_advances, dying_advances, phase_advances}
 
--- each object has the entries that it had, and perhaps more, but for some
+-- each object has its old entries and perhaps more, with some exceptions
 abbrev pub Longer : (ℕ → Type 0) → Object → Object → Type 0
 Longer Except x y = (x.serial ≡ y.serial) × (IsLengthened x y ⊎ Except y.serial)
 
@@ -38,7 +38,6 @@ longer_order Except = record {
   trans = λ x y z h k. (h.0 ∙ k.0, either k.1 (λ l. either h.1 (λ j. inl (j.0 ++ l.0, l.1 ∙ ap (λ es. es ++ l.0) j.1 ∙ append_assoc x.entries j.0 l.0)) (λ o. inr (subst Except k.0 o))) (λ o. inr o));
 }
 
--- the objects change
 changed_lengthens : (top : Activity) (tops : List Activity) (lines : List Event) (before after : List Object) → HasChanged top tops lines before after → Lengthens (Owns top) before after
 changed_lengthens top tops lines = changed_came (Longer (Owns top)) (longer_order (Owns top)) top tops lines (λ x y k. (sym k.later.serial, inl (same_entries x y k.entries)))
     (λ objects s es owns fewer x m e. (refl, inr (subst (Owns top) (sym e) owns))) (λ is o x e. (refl, inl (item (Ref o) ∷ [], refl)))
@@ -58,7 +57,6 @@ CallsBack (Calling []) n = ⊥
 CallsBack (Calling (weak ∷ waiting)) n = weak ≡ n
 CallsBack phase n = ⊥
 
--- what each sort of activity takes
 owned_by_release : (top : Activity) (n : ℕ) → Owns top n → (refs : List ℕ) → top ≡ Releasing refs → ⊥
 owned_by_release top n (OfEmptied o) refs e = cc
 owned_by_release top n (OfCalled o weak waiting) refs e = cc

@@ -1,5 +1,6 @@
--- The members of a final set, while its collection goes on: only members and releases hold them, they refer to nothing weakly
--- and nothing to them, no finalizer of theirs is to run, and no frame has them. What a step has to do to keep that.
+-- The members of a final set while its collection goes on: only members and releases hold them, they have no referent and no
+-- weak reference refers to them, their finalizers have run, and they are no locals of frames. What a step must do to keep
+-- this.
 use Rattle.std.proofs.Common.{◌≡◌, ◌≢◌, refl, sym, ◌∙◌, ap, subst, ℕ, ◌<◌, ◌≤◌, Bool, true, false, inl, inr, ◌⊎◌, List, [], ◌∷◌, map, Option, Some, None, arith}
 use Rattle.std.specs.Prelude.{◌==◌, ◌||◌, if◌then◌else◌, is_some}
 use Rattle.std.specs.List.{list_any}
@@ -27,7 +28,7 @@ use Rattle.cg_machine.specs.Laws.{is_stop, named}
 use Rattle.cg_machine.proofs.Starting.{begun_frame, starts_either}
 use Rattle.cg_machine.proofs.Forgotten.{IsLater, some_later, none_later}
 
--- the phases after the second detection
+-- the phases after the second reachability pass
 abbrev pub IsLate : CollectPhase → Type 0
 IsLate Turns = Unit {0}
 IsLate (Turn o) = Unit {0}
@@ -35,7 +36,7 @@ IsLate (AfterTurn o) = Unit {0}
 IsLate Ending = Unit {0}
 IsLate phase = ⊥
 
--- what an activity may have of the members
+-- what an activity may do with members
 abbrev pub Fits : List ℕ → Activity → Type 0
 Fits members (TopLevel commands) = Unit {0}
 Fits members (Framed f) = (¬ Includes members f.subject) × ((g : ℕ) → f.function ≡ Some g → ¬ Includes members g)
@@ -44,7 +45,7 @@ Fits members (Dying d) = (n : ℕ) → Includes (dying_holds d.object d.phase) n
 Fits members (ShuttingDown started) = Unit {0}
 Fits members (Collecting c) = IsLate c.phase × (has_flag c.flags save_all ≡ false)
 
--- an activity below the collection holds no member, and is the death of none
+-- an activity below the collection holds no member and is the death of none
 pub record IsOutOf (members : List ℕ) (a : Activity) : Type 0 where
   pub holds_none : (n : ℕ) → Includes (holds a) n → ¬ Includes members n
   pub no_death : (d : Death) → a ≡ Dying d → ¬ Includes members d.object
@@ -57,7 +58,7 @@ abbrev pub Clears : List ℕ → List Activity → Type 0
 Clears members [] = Unit {0}
 Clears members (a ∷ below) = ClearsIf (is_collection a) ((b : Activity) → Includes below b → IsOutOf members b) (Clears members below)
 
--- A member has no references but where it is a tuple, is dying, or has not had its turn.
+-- A member has references only if it is a tuple, is dying, or has not had its turn.
 abbrev pub IsBare : Object → Type 0
 IsBare x = (n : ℕ) → ¬ Includes (references x.entries) n
 
@@ -67,14 +68,12 @@ NotAfter stack o = (c : Collection) → Includes stack (Collecting c) → c.phas
 abbrev pub Excused : List Activity → Object → Type 0
 Excused stack x = (x.code ≡ Tuple) ⊎ IsBare x ⊎ (list_any (is_death_of x.serial) stack ≡ true) ⊎ (x.place ≡ Cand) × NotAfter stack x.serial
 
--- a member that lives
 pub record IsDone (script : Script) (x : Object) : Type 0 where
   pub refers_to_none : x.referent ≡ None
   pub ran : is_some (finalizer_of script x) ≡ true → x.finalized ≡ true
   pub no_legacy : legacy_of script x ≡ None
   pub not_aside : x.place ≢ Legacy
 
--- the invariant
 pub record Sealed (script : Script) (members : List ℕ) (objects : List Object) (names : List (Option Val)) (stack : List Activity) (next : ℕ) : Type 0 where
   pub made : (o : ℕ) → Includes members o → o < next
   pub above : (o : ℕ) → Includes members o → 1 < o
@@ -87,20 +86,19 @@ pub record Sealed (script : Script) (members : List ℕ) (objects : List Object)
   pub under : Clears members stack
   pub excused : (x : Object) → Includes objects x → Includes members x.serial → Excused stack x
 
--- a line names no member, but where it is freed
+-- a line names a member only to free it
 abbrev pub TellsOut : List ℕ → List Event → Type 0
 TellsOut members events = (event : Event) → Includes events event → (n : ℕ) → Includes (named event) n → Includes members n → event ≡ Free n
 
--- and is not that of a stop
+-- and is not a stop
 abbrev pub TellsStill : List ℕ → List Event → Type 0
 TellsStill members events = TellsOut members events × ((event : Event) → Includes events event → is_stop event ≡ false)
 
--- what a step leaves
 pub record Passes (script : Script) (members : List ℕ) (events : List Event) (after : World) : Type 0 where
   pub sealed : Sealed script members after.objects after.names after.stack after.next_serial
   pub lines : TellsStill members events
 
--- the same object, with no new finalizer to run and not set aside
+-- the same object, with no new finalizer to run and not made uncollectable
 pub record IsLesser (x y : Object) : Type 0 where
   pub later : IsLater x y
   pub finalized : x.finalized ≡ true → y.finalized ≡ true
@@ -110,18 +108,17 @@ pub record IsLesser (x y : Object) : Type 0 where
 abbrev pub IsClean : List ℕ → Object → Type 0
 IsClean members y = (o : ℕ) → Includes members o → ¬ Includes (references y.entries) o
 
--- where an object comes from: it has no more references than it had, or is no member and holds none, or is new
+-- where an object comes from: it has no more references than before, or is no member and holds none, or is new
 abbrev pub Lessens : Object → Object → Type 0
 Lessens x y = (n : ℕ) → Includes (references y.entries) n → Includes (references x.entries) n
 
--- and stays condemned
 abbrev pub Fewer : Object → Object → Type 0
 Fewer x y = Lessens x y × (x.place ≡ Cand → y.place ≡ Cand)
 
 abbrev pub Comes : List ℕ → List Object → ℕ → Object → Type 0
 Comes members before next y = ((x : Object) × Includes before x × IsLesser x y × (Fewer x y ⊎ (¬ Includes members x.serial) × IsClean members y)) ⊎ (y.serial ≡ next) × IsClean members y × ((o : ℕ) → Includes members o → y.referent ≢ Some o)
 
--- the same, but for what is condemned
+-- the same, except for condemned objects
 abbrev pub Loose : List ℕ → List Object → ℕ → Object → Type 0
 Loose members before next y = ((x : Object) × Includes before x × IsLesser x y × (Lessens x y ⊎ (¬ Includes members x.serial) × IsClean members y)) ⊎ (y.serial ≡ next) × IsClean members y × ((o : ℕ) → Includes members o → y.referent ≢ Some o)
 
@@ -129,7 +126,7 @@ pub loosen : (members : List ℕ) (before : List Object) (next : ℕ) (y : Objec
 loosen members before next y (inl x) = inl (x.0, x.1, x.2, either x.3 (λ f. inl f.0) (λ c. inr c))
 loosen members before next y (inr new) = inr new
 
--- all of them, where none is new
+-- the same for all, with no new ones
 abbrev pub Shrinks : List Object → List Object → Type 0
 Shrinks before after = (y : Object) → Includes after y → (x : Object) × Includes before x × IsLesser x y × Fewer x y
 
@@ -150,7 +147,6 @@ done_later script x y l h = record {
 pub same_shrinks : (objects : List Object) → Shrinks objects objects
 same_shrinks objects y m = (y, m, record { later = record { serial = refl; code = refl; class = refl; referent = inl refl }; finalized = λ e. e; place = λ e. e }, (λ n k. k, λ e. e))
 
--- what a change may do
 pub record IsMeek (f : Object → Object) : Type 0 where
   pub lesser : (x : Object) → IsLesser x (f x)
   pub fewer : (x : Object) → Fewer x (f x)
@@ -176,7 +172,6 @@ untracked_apart e = cc
 pub lost_shrinks : (weak : ℕ) (objects : List Object) → Shrinks objects (loses_referent weak objects)
 lost_shrinks weak objects = change_shrinks (with_referent None) (record { lesser = λ x. record { later = record { serial = refl; code = refl; class = refl; referent = inr refl }; finalized = λ e. e; place = λ e. e }; fewer = λ x. (λ n k. k, λ e. e) }) weak objects
 
--- one line or none
 pub none_out : (members : List ℕ) → TellsStill members []
 none_out members = (λ event m. absurd m, λ event m. absurd m)
 
@@ -188,7 +183,6 @@ pub one_still : (members : List ℕ) (event : Event) → is_stop event ≡ false
 one_still members event still h = (one_out members event h, λ e m. either m (λ i. subst (λ x. is_stop x ≡ false) i still) (λ none. absurd none))
 
 module _ (script : Script) (members : List ℕ) where
-  -- what any step does
   pub goes_sealed : (before after : List Object) (names now : List (Option Val)) (stack to : List Activity) (next later : ℕ) → next ≤ later → ((y : Object) → Includes after y → Loose members before next y) → ((o : ℕ) → Includes members o → ¬ Includes (name_holdings now) o)
       → ((a : Activity) → Includes to a → Fits members a) → list_any is_collection to ≡ true → (Clears members stack → Clears members to) → ((y : Object) → Includes after y → Includes members y.serial → Excused to y) → Sealed script members before names stack next → Sealed script members after now to later
   goes_sealed before after names now stack to next later more comes unnamed fits collecting under excused h = record {
@@ -207,7 +201,7 @@ module _ (script : Script) (members : List ℕ) where
     excused = excused;
   }
 
-  -- an object that lessens, or stays condemned, is excused still
+  -- an object that lost references or stays condemned is still excused
   pub still_excused : (stack to : List Activity) (x y : Object) → IsLesser x y → Lessens x y → (x.place ≡ Cand → NotAfter stack x.serial → Excused to y) → (list_any (is_death_of x.serial) stack ≡ true → list_any (is_death_of x.serial) to ≡ true) → Excused stack x → Excused to y
   still_excused stack to x y l fewer cand deaths (inl e) = inl (l.later.code ∙ e)
   still_excused stack to x y l fewer cand deaths (inr (inl bare)) = inr (inl (λ n k. bare n (fewer n k)))
@@ -222,7 +216,7 @@ module _ (script : Script) (members : List ℕ) where
       (λ clean. absurd (clean.0 inside)))
       (λ new. let low = h.made y.serial k in absurd (let e = new.0 in omega (arith, low, e)))
 
-  -- objects shrink, and the stack goes on
+  -- objects lose references, and the stack goes on
   pub shrinks_sealed : (before after : List Object) (names : List (Option Val)) (stack to : List Activity) (next : ℕ) → ((y : Object) → Includes after y → Comes members before next y) → ((a : Activity) → Includes to a → Fits members a) → list_any is_collection to ≡ true → (Clears members stack → Clears members to)
       → ((n : ℕ) → NotAfter stack n → NotAfter to n) → ((n : ℕ) → Includes members n → list_any (is_death_of n) stack ≡ true → list_any (is_death_of n) to ≡ true)
       → Sealed script members before names stack next → Sealed script members after names to next
@@ -231,11 +225,10 @@ module _ (script : Script) (members : List ℕ) where
   pub shrunk : (before after : List Object) (next : ℕ) → Shrinks before after → (y : Object) → Includes after y → Comes members before next y
   shrunk before after next shrinks y m = let x = shrinks y m in inl (x.0, x.1, x.2, inl x.3)
 
-  -- an activity that is no collection turns to another, or is pushed
+  -- an activity other than a collection is replaced or pushed
   not_after : (a b : Activity) (below : List Activity) → is_collection b ≡ false → (n : ℕ) → NotAfter (a ∷ below) n → NotAfter (b ∷ below) n
   not_after a b below none n h c m = either m (λ e. absurd (let no : false ≡ true = sym none ∙ ap is_collection e in cc)) (λ k. h c (inr k))
 
-  -- the death of another object may end
   pub turn_sealed : (a b : Activity) (below : List Activity) (before after : List Object) (names : List (Option Val)) (next : ℕ) → ((y : Object) → Includes after y → Comes members before next y) → Fits members b → is_collection a ≡ false → is_collection b ≡ false → ((n : ℕ) → Includes members n → is_death_of n a ≡ is_death_of n b)
       → Sealed script members before names (a ∷ below) next → Sealed script members after names (b ∷ below) next
   turn_sealed a b below before after names next comes fit none also same h = shrinks_sealed before after names (a ∷ below) (b ∷ below) next comes
@@ -262,7 +255,7 @@ module _ (script : Script) (members : List ℕ) where
           (λ clean. absurd (clean.0 inside)))
           (λ new. let low = h.made y.serial k in absurd (let e = new.0 in omega (arith, low, e)))
 
-  -- one object changes its place, and is excused by something else
+  -- one object moves, and is excused for another reason
   pub place_sealed : (f : Object → Object) (o : ℕ) (objects : List Object) (names : List (Option Val)) (stack : List Activity) (next : ℕ) → ((x : Object) → IsLesser x (f x)) → ((x : Object) → (f x).entries ≡ x.entries)
       → ((x : Object) → Includes objects x → x.serial ≡ o → Includes members x.serial → Excused stack (f x)) → Sealed script members objects names stack next → Sealed script members (change f o objects) names stack next
   place_sealed f o objects names stack next lesser same other h = goes_sealed objects (change f o objects) names names stack stack next next (omega arith) comes h.unnamed h.stack_fits h.collecting (λ k. k) excused h
@@ -281,7 +274,7 @@ module _ (script : Script) (members : List ℕ) where
       excused : (y : Object) → Includes (change f o objects) y → Includes members y.serial → Excused stack y
       excused y m k = let x = Includes-map_cases (λ x. if x.serial == o then f x else x) objects y m in subst (Excused stack) x.2 (one (x.0.serial == o) x.0 refl x.1 (subst (λ (z : Object). Includes members z.serial) (sym x.2) k))
 
-  -- objects that change are no members
+  -- the changed objects are no members
   pub others_come : (f : Object → Object) (o : ℕ) (before : List Object) (names : List (Option Val)) (stack : List Activity) (next : ℕ) → ((x : Object) → IsLesser x (f x)) → ((x : Object) → (f x).entries ≡ x.entries) → (¬ Includes members o) → Sealed script members before names stack next
       → (y : Object) → Includes (change f o before) y → Comes members before next y
   others_come f o before names stack next lesser same out h y m = let x = Includes-map_cases (λ x. if x.serial == o then f x else x) before y m in subst (Comes members before next) x.2 (one (x.0.serial == o) x.0 refl x.1)
@@ -294,7 +287,6 @@ module _ (script : Script) (members : List ℕ) where
   pub placed_lesser : (p : Place) → p ≢ Legacy → (x : Object) → IsLesser x (with_place p x)
   placed_lesser p apart x = record { later = record { serial = refl; code = refl; class = refl; referent = inl refl }; finalized = λ e. e; place = λ e. absurd (apart e) }
 
-  -- a frame starts
   pub starts_sealed : (spec : FrameSpec) (u : World) → (¬ Includes members spec.subject) → ((g : ℕ) → spec.func ≡ Some g → ¬ Includes members g) → Sealed script members u.objects u.names u.stack u.next_serial → (let s : Transition = start_frame script spec u in Passes script members s.0 s.1)
   starts_sealed spec u subject function h = starts_either (Passes script members) script spec u (record { sealed = h; lines = one_still members BudgetSpent refl (λ n m. absurd m) })
       (λ some. record { sealed = push_sealed (begun_frame script spec) u.stack u.objects u.names u.next_serial (subject, function) refl h; lines = one_still members (Enter spec.sort spec.subject) refl (λ n m k. absurd (either m (λ e. subject (subst (Includes members) (sym e) k)) (λ no. no))) })

@@ -1,5 +1,4 @@
--- Commands reach no member: what an operand refers to, what an object that it finds holds, and what a weak reference refers to
--- is none.
+-- Commands reach no member: no operand refers to one, no object at hand holds one, and no weak reference refers to one.
 use Rattle.std.proofs.Common.{◌≡◌, ◌≢◌, refl, sym, ◌∙◌, ap, subst, ℕ, ◌≤◌, Bool, true, false, not, ◌&&◌, inl, inr, List, [], ◌∷◌, Option, Some, None, arith}
 use Rattle.std.specs.Prelude.{◌==◌, ◌||◌, if◌then◌else◌, option_map, option_and_then, slice_get, unwrap_or}
 use Rattle.std.proofs.lemmas.Bool.{eqb-true}
@@ -33,7 +32,7 @@ use Rattle.cg_machine.proofs.Lookups.{found_at, references_of_member}
 use Rattle.cg_machine.proofs.Shapes.{IsAtHand, NoneThere, Word, ValueIn, KeyIn, ReferentOf, HasObject, IsEdit, Shape, Binds, Makes, Edits, Puts, Shows, Tells, Stays, Sets, Freezes, Unfreezes, StartsFrame, StartsCollection, Ends, Inspects, AsksWhy, TellsNumbers}
 use Rattle.cg_promises.proofs.FinalSet.{Comes, IsClean, IsLesser, Sealed, TellsStill, none_out, one_still}
 
--- places of a collection stay
+-- the places of a collection stay
 frozen_legacy : (p : Place) → frozen p ≡ Legacy → p ≡ Legacy
 frozen_legacy (Gen i) e = absurd (let no : Frozen ≡ Legacy = e in cc)
 frozen_legacy Untracked e = e
@@ -129,7 +128,7 @@ module _ (script : Script) (members : List ℕ) (w : World) (h : Sealed script m
   operand_out (Cell i) v e = cell_out (frame_on w.stack) refl i v e
   operand_out Garbage v e = same_out (Ref 1) v e (λ o m k. let same : 1 ≡ o = cc in let low = h.above o m in omega (arith, low, same))
 
-  -- what is at hand refers to none, and an object at hand is none
+  -- a value at hand refers to no member, and an object at hand is none
   hand_out : (command : Command) (v : Val) → IsAtHand w command v → IsOut v
   hand_out command v NoneThere = plain_out Nothing Nothing refl refl
   hand_out command v (Word operand u own e) = operand_out operand u e
@@ -150,7 +149,6 @@ module _ (script : Script) (members : List ℕ) (w : World) (h : Sealed script m
   edited_out : (command : Command) (x : Object) (entries : List Entry) (given_up : List ℕ) → Includes w.objects x → (¬ Includes members x.serial) → IsEdit w command x entries given_up → (o : ℕ) → Includes members o → HoldNone o entries
   edited_out command x entries given_up m out edit o i = all_free o entries (λ e k. either (edit.come e k) (λ was r. clean x m out o i (references_of_member x.entries e o was r)) (λ new. item_out command e new.1 new.2 o i))
 
-  -- what a command does
   pub record Opens (lines : List Event) (after : World) : Type 0 where
     pub next : w.next_serial ≤ after.next_serial
     pub names : (o : ℕ) → Includes members o → ¬ Includes (name_holdings after.names) o
@@ -173,7 +171,7 @@ module _ (script : Script) (members : List ℕ) (w : World) (h : Sealed script m
   binds_open : (name : ℕ) (v : Option Val) → ((o : ℕ) → Includes members o → ¬ Includes (references_of_value v) o) → Opens [] (bound w name v)
   binds_open name v out = record { next = omega arith; names = λ o m. bound_free w.names name o v (out o m) (h.unnamed o m); comes = stays; told = none_out members }
 
-  -- an object that is no member changes
+  -- the changed object is no member
   one_comes : (f : Object → Object) (s : ℕ) → (¬ Includes members s) → ((z : Object) → IsLesser z (f z)) → ((z : Object) → IsClean members (f z)) → (y : Object) → Includes (change f s w.objects) y → Comes members w.objects w.next_serial y
   one_comes f s out lesser free y m = let x = Includes-map_cases (λ x. if x.serial == s then f x else x) w.objects y m in subst (Comes members w.objects w.next_serial) x.2 (go (x.0.serial == s) x.0 refl x.1)
     where

@@ -31,7 +31,7 @@ use Rattle.cg_machine.proofs.LinesNameLive.{without_gone}
 use Rattle.cg_machine.proofs.LinesNameLive.{reversed_back}
 use Rattle.cg_promises.proofs.FinalSet.{Comes, Excused, Fewer, Fits, IsDone, IsLate, IsLesser, IsMeek, Passes, Sealed, Shrinks, change_shrinks, gen_apart, goes_sealed, loosen, lost_shrinks, none_out, one_still, others_come, place_sealed, placed_lesser, pop_sealed, push_sealed, same_shrinks, shrinks_sealed, shrunk, starts_sealed, still_excused, turn_sealed, untracked_apart, yields_sealed}
 
--- a weak reference that is found refers
+-- a listed weak reference refers
 weak_refers : (test : Object → Bool) (objects : List Object) (o weak : ℕ) (weaks : List ℕ) → weak_references_if test objects o ≡ weak ∷ weaks → (x : Object) × Includes objects x × (x.serial ≡ weak) × (x.referent ≢ None)
 weak_refers test objects o weak weaks e = go (unwrap_or (option_map test (object_at objects o)) false) e
   where
@@ -47,7 +47,7 @@ weak_refers test objects o weak weaks e = go (unwrap_or (option_map test (object
         (x.0, f.0, x.2, refers x.0.referent f.1)
     go false k = absurd (let no : [] ≡ weak ∷ weaks = k in cc)
 
--- the entries of one object become fewer
+-- one object loses entries
 shortened_shrinks : (low high : ℕ) (objects : List Object) (o : ℕ) → Rises low high objects → Shrinks objects (change (with_entries (without_last (entries_of objects o))) o objects)
 shortened_shrinks low high objects o r y m =
     let x = Includes-map_cases (λ x. if x.serial == o then with_entries (without_last (entries_of objects o)) x else x) objects y m in
@@ -68,7 +68,6 @@ marked_lesser : (x : Object) → IsLesser x (marked (with_place (Gen 0) x))
 marked_lesser x = record { later = record { serial = refl; code = refl; class = refl; referent = inl refl }; finalized = λ e. refl; place = λ e. absurd (gen_apart 0 e) }
 
 module _ (script : Script) (members : List ℕ) where
-  -- the end of a frame, and a release
   pub frame_end_sealed : (f : Frame) (below : List Activity) (v : World) → Sealed script members v.objects v.names (Framed f ∷ below) v.next_serial → (let s : Transition = frame_end f (with_stack below v) in Passes script members s.0 s.1)
   frame_end_sealed f below v h = record { sealed = by_sort f.sort f.function; lines = one_still members Leave refl (λ n m. absurd m) }
     where
@@ -102,7 +101,6 @@ module _ (script : Script) (members : List ℕ) where
       less : Sealed script members v.objects v.names (Releasing refs ∷ below) v.next_serial
       less = turn_sealed script members (Releasing (o ∷ refs)) (Releasing refs) below v.objects v.objects v.names v.next_serial (shrunk script members v.objects v.objects v.next_serial (same_shrinks v.objects)) tt refl refl (λ n m. refl) h
 
-  -- a death
   module _ (o : ℕ) (below : List Activity) (v : World) (rises : Rises 1 v.next_serial v.objects) where
     abbrev at : DyingPhase → World
     at phase = death_at o phase below v
@@ -138,7 +136,7 @@ module _ (script : Script) (members : List ℕ) where
     held : (phase : DyingPhase) → SealedAt phase → (n : ℕ) → Includes (dying_holds o phase) n → ¬ Includes members n
     held phase h = h.stack_fits (dying_now phase) (inl refl)
 
-    -- no frame of a member's own starts
+    -- no frame of a member starts
     to_run_out : (phase : DyingPhase) (p : ℕ) → SealedAt phase → option_and_then (finalizer_to_run script) (object_at v.objects o) ≡ Some p → ¬ Includes members o
     to_run_out phase p h e k = go (object_at v.objects o) refl e
       where
@@ -206,7 +204,7 @@ module _ (script : Script) (members : List ℕ) where
         fit : (n : ℕ) → Includes (waiting ++ (if is_some (callback_of v.objects weak) then weak ∷ [] else [])) n → (¬ Includes members weak) → ¬ Includes members n
         fit n m out = either (Includes-append_cases waiting (if is_some (callback_of v.objects weak) then weak ∷ [] else []) n m) (held (Clearing waiting) h n) (λ k i. out (subst (Includes members) (sym (perhaps (is_some (callback_of v.objects weak)) n k)) i))
 
-    -- the callback of a weak reference that is no member is none
+    -- the callback of a weak reference outside the set is outside too
     callback_out : (phase : DyingPhase) (weak : ℕ) → SealedAt phase → (¬ Includes members weak) → ¬ Includes members (unwrap_or (callback_of v.objects weak) 0)
     callback_out phase weak h out = go (object_at v.objects weak) refl
       where
@@ -274,7 +272,7 @@ module _ (script : Script) (members : List ℕ) where
     abbrev SealedIn : CollectPhase → Type 0
     SealedIn phase = Sealed script members v.objects v.names (Collecting (record c { phase = phase }) ∷ below) v.next_serial
 
-    -- the collection on top goes on, where none was given up at a turn
+    -- the collection goes on where its turn gave none up
     goes_in : (phase next : CollectPhase) (objects : List Object) → ((y : Object) → Includes objects y → Comes members v.objects v.next_serial y) → IsLate next → ((o : ℕ) → next ≢ AfterTurn o) → SealedIn phase → Sealed script members objects v.names (Collecting (record c { phase = next }) ∷ below) v.next_serial
     goes_in phase next objects comes late turning h = shrinks_sealed script members v.objects objects v.names (Collecting (record c { phase = phase }) ∷ below) (Collecting (record c { phase = next }) ∷ below) v.next_serial comes
         (λ x m. either m (λ e. subst (Fits members) e (late, clears)) (λ k. h.stack_fits x (inr k))) refl (λ k. k)
@@ -283,7 +281,7 @@ module _ (script : Script) (members : List ℕ) where
     none_now : (y : Object) → Includes v.objects y → Comes members v.objects v.next_serial y
     none_now = shrunk script members v.objects v.objects v.next_serial (same_shrinks v.objects)
 
-    -- one that has had its turn gets older
+    -- one that has had its turn moves to the older generation
     got_older : (phase : CollectPhase) (o : ℕ) → ((x : Object) → Includes v.objects x → x.serial ≡ o → Includes members x.serial → Excused (Collecting (record c { phase = phase }) ∷ below) (with_place (Gen (older c.generation)) x)) → SealedIn phase
         → Sealed script members (change (with_place (Gen (older c.generation))) o v.objects) v.names (Collecting (record c { phase = phase }) ∷ below) v.next_serial
     got_older phase o excused h = place_sealed script members (with_place (Gen (older c.generation))) o v.objects v.names (Collecting (record c { phase = phase }) ∷ below) v.next_serial (placed_lesser script members (Gen (older c.generation)) (gen_apart (older c.generation))) (λ x. refl) excused h
@@ -305,7 +303,6 @@ module _ (script : Script) (members : List ℕ) where
         go false true e k = record { sealed = got_older Turns x.serial (λ z i s n. inl (ap (λ (y : Object). y.code) (same_object 1 v.next_serial v.objects z x rises i m s) ∙ tuple_code x.code k)) h; lines = none_out members }
         go false false e k = record { sealed = goes_in Turns (Turn x.serial) v.objects none_now tt (λ o e. cc) h; lines = none_out members }
 
-    -- its entries are out
     turned : (o : ℕ) → last_entry (entries_of v.objects o) ≡ None → SealedIn (Turn o) → SealedIn (AfterTurn o)
     turned o empty h = goes_sealed script members v.objects v.objects v.names v.names (Collecting (record c { phase = Turn o }) ∷ below) (Collecting (record c { phase = AfterTurn o }) ∷ below) v.next_serial v.next_serial (omega arith) (λ y m. loosen members v.objects v.next_serial y (none_now y m)) h.unnamed
         (λ x m. either m (λ e. subst (Fits members) e (tt, clears)) (λ k. h.stack_fits x (inr k))) refl (λ k. k) (λ y m k. go (y.serial == o) y refl m k) h
@@ -324,7 +321,7 @@ module _ (script : Script) (members : List ℕ) where
       lines = none_out members;
     }
 
-    -- after its turn: what was excused as condemned is another
+    -- after its turn, the one excused as condemned is another
     after_sealed : (o : ℕ) → SealedIn (AfterTurn o) → Sealed script members (change (with_place (Gen (older c.generation))) o v.objects) v.names (Collecting (record c { phase = Turns }) ∷ below) v.next_serial
     after_sealed o h = turn_on (got_older (AfterTurn o) o (λ x m e k. still_excused script members (Collecting (record c { phase = AfterTurn o }) ∷ below) (Collecting (record c { phase = AfterTurn o }) ∷ below) x (with_place (Gen (older c.generation)) x) (placed_lesser script members (Gen (older c.generation)) (gen_apart (older c.generation)) x) (λ n i. i)
         (λ p w. absurd (w (record c { phase = AfterTurn o }) (inl refl) (ap (λ n. AfterTurn n) (sym e)))) (λ d. d) (h.excused x m k)) h)

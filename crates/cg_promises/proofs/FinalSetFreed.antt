@@ -1,4 +1,4 @@
--- When a collection stops, each member of its final set has been freed: of those that live, the one with the largest serial would
+-- When a collection stops, each member of its final set has been freed. Otherwise the living member with the largest serial would
 -- be held by a tuple with a larger one.
 use Rattle.std.proofs.Common.{◌≡◌, ◌≢◌, refl, sym, subst, ℕ, zero, suc, ◌+◌, ◌≤◌, true, false, inl, inr, ◌⊎◌, List, [], ◌∷◌, ◌++◌, length, arith}
 use Rattle.std.specs.Prelude.{flat_map}
@@ -29,7 +29,6 @@ use Rattle.cg_promises.proofs.FinalSetKept.{starts_sealed_world}
 use Rattle.cg_machine.proofs.LinesNameLive.{filter_lives}
 use Rattle.cg_promises.proofs.FinalizerOnceRuns.{Fit, opening_fit, run_back, run_front, run_fit, step_fit, step_goes}
 
--- a death on a stack
 pub death_on : (n : ℕ) (stack : List Activity) → list_any (is_death_of n) stack ≡ true → (d : Death) × Includes stack (Dying d) × (d.object ≡ n)
 death_on n [] e = absurd (let no : false ≡ true = e in cc)
 death_on n (a ∷ stack) e = either (true_or (is_death_of n a) (list_any (is_death_of n) stack) e) (here a refl) (λ k. let d = death_on n stack k in (d.0, inr d.1, d.2))
@@ -79,7 +78,7 @@ module _ (script : Script) (members : List ℕ) (k : ℕ) (c : Collection) (belo
   pub none_lives : (o : ℕ) → Includes members o → ¬ Includes (serials v.objects) o
   none_lives o k m = let x = Includes-map_cases (λ (z : Object). z.serial) v.objects o m in none_from v.next_serial x.0 x.1 (subst (Includes members) (sym x.2) k) (omega arith)
 
--- what is there stays, or is freed
+-- a living object stays or is freed
 run_lasts : (script : Script) (w : World) (steps : List StepTaken) → Run script w steps → Fit script w → (n : ℕ) → Includes (serials w.objects) n → Includes (serials (last_world w steps).objects) n ⊎ Includes (events_of steps) (Free n)
 run_lasts script w [] run fit n m = inl m
 run_lasts script w (step ∷ steps) run fit n m = either ((step_goes script w step.events step.world run.0 fit).lasts n m)

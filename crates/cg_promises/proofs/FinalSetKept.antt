@@ -1,4 +1,5 @@
--- From the second detection to the stop of its collection the final set is sealed, and only the line that one is freed names it.
+-- From the second reachability pass until its collection stops, the final set is sealed, and only the line that frees a member
+-- names it.
 use Rattle.std.proofs.Common.{◌≡◌, refl, sym, ◌∙◌, ap, subst, ℕ, ◌≤◌, false, inl, inr, ◌⊎◌, List, [], ◌∷◌, ◌++◌, arith}
 use Rattle.cg_value.specs.declared.Place.TheVariants.{Cand}
 use Rattle.cg_script.specs.declared.Script.{Script}
@@ -29,11 +30,11 @@ use Rattle.cg_promises.proofs.FinalSetRuns.{IsSealedWorld, is_sealed, sealed_aft
 use Rattle.cg_promises.proofs.FinalSetStart.{split_sealed}
 use Rattle.cg_promises.proofs.FinalizerOnceRuns.{Fit, opening_fit, run_back, run_front, run_fit, step_fit, step_goes}
 
--- one collection at most
+-- at most one collection
 pub alone_below : (c : Collection) (below : List Activity) → tally collections_in (Collecting c ∷ below) ≤ 1 → NoneCollects below
 alone_below c below h d m = let more = member_le collections_in below (Collecting d) m in omega (arith, h, more)
 
--- each step keeps what is condemned ready
+-- each step keeps the condemned objects without finalizers to run
 other_step : (script : Script) (w : World) (a : Activity) (below : List Activity) (events : List Event) (after : World) → w.stack ≡ a ∷ below → is_collection a ≡ false → Step script w events after → Fit script w → IsApart w → Primed script w.objects w.stack → Primed script after.objects after.stack
 other_step script w a below events after top none step fit apart h =
     let stack : IsStack script w (a ∷ below) = subst (IsStack script w) top fit.calm.stack in
@@ -71,7 +72,7 @@ opening_primed script budget = record {
   ran = λ c m. either m (λ e. absurd (cc)) (λ none. absurd none);
 }
 
--- the step of the second detection
+-- the step of the second reachability pass
 module _ (script : Script) (budget : ℕ) (before : List StepTaken) (split : StepTaken) (run : Run script (opening script budget) before) (step : Step script (last_world (opening script budget) before) split.events split.world) (splits : Splits (last_world (opening script budget) before)) where
   abbrev w : World
   w = last_world (opening script budget) before

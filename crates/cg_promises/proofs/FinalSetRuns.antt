@@ -46,7 +46,7 @@ due_none w e = go (is_due w.numbers) (is_collecting w) e
     go false t k = refl
     go true false k = let no : true ≡ false = sym k in absurd (cc)
 
--- the lines of the end of a collection name none that is condemned
+-- the lines at the end of a collection name no condemned object
 module _ (script : Script) (members : List ℕ) (c : Collection) (below : List Activity) (v : World) (stack : List Activity) (h : Sealed script members v.objects v.names stack v.next_serial) where
   aside_out : (test : Object → Bool) → ((x : Object) → test x ≡ true → x.place ≡ Legacy) → (n : ℕ) → Includes (serials (filter test v.objects)) n → ¬ Includes members n
   aside_out test aside n m k =
@@ -79,7 +79,6 @@ module _ (script : Script) (members : List ℕ) (c : Collection) (below : List A
       (both_out (GcStop c.generation c.collected (length step.told) ∷ []) (lines_if c.asked (Collected (c.collected + length step.told) ∷ [])) (one_out members (GcStop c.generation c.collected (length step.told)) (λ n m. absurd m))
       (if_out c.asked (Collected (c.collected + length step.told) ∷ []) (one_out members (Collected (c.collected + length step.told)) (λ n m. absurd m)))))
 
--- the end of a collection prints a stop
 pub stops : (front : List Event) (g m n : ℕ) (back : List Event) (events : List Event) → events ≡ front ++ GcStop g m n ∷ back → count_by is_stop events ≡ 0 → ⊥
 stops front g m n back events e none =
     let all : count_by is_stop (front ++ GcStop g m n ∷ back) ≡ count_by is_stop front + count_by is_stop (GcStop g m n ∷ back) = sum_by-append (λ x. cond (is_stop x) 1 0) front (GcStop g m n ∷ back) in
@@ -87,7 +86,7 @@ stops front g m n back events e none =
     let zero_now : count_by is_stop (front ++ GcStop g m n ∷ back) ≡ 0 = ap (count_by is_stop) (sym e) ∙ none in
     omega (arith, all, one, zero_now)
 
--- any step: its lines, that the members stay sealed where the collection does not stop, and that only its end does that
+-- any step: its lines; the members stay sealed unless the collection stops; and only its end stops it
 pub record Keeping (script : Script) (members : List ℕ) (stack : List Activity) (events : List Event) (after : World) : Type 0 where
   pub lines : TellsOut members events
   pub sealed : count_by is_stop events ≡ 0 → Sealed script members after.objects after.names after.stack after.next_serial
@@ -119,7 +118,6 @@ collect_keeps script members c below v rises clears phase events after late step
 abbrev pub IsSealedWorld : Script → List ℕ → World → Type 0
 IsSealedWorld script members w = Sealed script members w.objects w.names w.stack w.next_serial
 
--- each step keeps them so
 module _ (script : Script) (members : List ℕ) where
   abbrev StepKeeps : World → List Event → World → Type 0
   StepKeeps w events after = Keeping script members w.stack events after
@@ -147,7 +145,6 @@ module _ (script : Script) (members : List ℕ) where
     taken_sealed command a b (FromTop commands) h = turned (TopLevel (command ∷ commands)) (TopLevel commands) tt refl refl (λ n. refl) h
     taken_sealed command a b (FromFrame f commands left) h = turned (Framed f) (Framed (record f { commands = commands })) (h.stack_fits (Framed f) (inl refl)) refl refl (λ n. refl) h
 
-    -- a command is done
     module _ (b : Activity) (a : Activity) (ha : HasCommands a) (h : SealedOn a) where
       abbrev now : World
       now = on a below v
@@ -200,7 +197,7 @@ module _ (script : Script) (members : List ℕ) where
     collects = λ c below v events after step k. let fits = k.1.stack_fits (Collecting c) (inl refl) in collect_keeps script members c below v k.0.0 fits.1 c.phase events after fits.0 step k.1;
   }
 
--- none of a run's first steps stops, and none of the others
+-- neither the first steps of a run nor the others stop
 pub none_first : (xs ys : List Event) → count_by is_stop (xs ++ ys) ≡ 0 → (count_by is_stop xs ≡ 0) × (count_by is_stop ys ≡ 0)
 none_first xs ys e = let all : count_by is_stop (xs ++ ys) ≡ count_by is_stop xs + count_by is_stop ys = sum_by-append (λ x. cond (is_stop x) 1 0) xs ys in (omega (arith, all, e), omega (arith, all, e))
 
@@ -216,7 +213,7 @@ module _ (script : Script) (members : List ℕ) where
       let rest = sealed_after step.world steps run.1 (step_fit script w step.events step.world run.0 fit) both.1 (keeps.sealed both.0) in
       (rest.0, λ event m. either (Includes-append_cases step.events (events_of steps) event m) (keeps.lines event) (rest.1 event))
 
-  -- what the law says of a member that lives
+  -- what the law says of a living member
   module _ (w : World) (h : IsSealedWorld script members w) (x : Object) (m : Includes w.objects x) (k : Includes members x.serial) where
     holds_not : (a : Activity) → Fits members a → HoldsNot x.serial a
     holds_not (TopLevel commands) f = tt

@@ -1,5 +1,5 @@
--- The second detection leaves a final set that is sealed: what names, activities, survivors and objects that are not condemned
--- hold survives.
+-- The second reachability pass leaves a sealed final set: what names, activities, survivors and uncondemned objects hold
+-- survives.
 use Rattle.std.proofs.Common.{◌≡◌, ◌≢◌, refl, sym, ◌∙◌, ap, subst, ℕ, zero, suc, ◌+◌, ◌<◌, ◌≤◌, Bool, true, false, cond, inl, inr, ◌⊎◌, List, [], ◌∷◌, ◌++◌, map, length, Option, Some, None, arith}
 use Rattle.std.specs.Prelude.{◌==◌, if◌then◌else◌, filter, flat_map, option_map, option_to_list, unwrap_or, ◌||◌}
 use Rattle.cg_value.specs.declared.Place.TheVariants.{Cand, Gen, Legacy, Untracked}
@@ -34,7 +34,6 @@ use Rattle.cg_promises.proofs.FinalizerOnce.{Marks}
 use Rattle.cg_promises.proofs.FinalizersDone.{IsWanted, Primed, legacy_later, ran_later}
 use Rattle.cg_promises.proofs.FinalSet.{Fits, IsDone, NotAfter, Sealed}
 
--- counts
 pub less_held : (p : Object → Bool) (objects : List Object) (o : ℕ) → occurrences o (entry_holdings (graph_of (filter p objects))) ≤ occurrences o (entry_holdings (graph_of objects))
 less_held p [] o = omega arith
 less_held p (x ∷ objects) o = go (p x) (less_held p objects o)
@@ -43,7 +42,7 @@ less_held p (x ∷ objects) o = go (p x) (less_held p objects o)
     go true k = omega (arith, k, occurrences-append o (references x.entries) (entry_holdings (graph_of (filter p objects))), occurrences-append o (references x.entries) (entry_holdings (graph_of objects)))
     go false k = omega (arith, k, occurrences-append o (references x.entries) (entry_holdings (graph_of objects)))
 
--- one that does not pass holds more
+-- with one that does not pass, there are more holds
 pub more_held : (p : Object → Bool) (objects : List Object) (y : Object) (o : ℕ) → Includes objects y → p y ≡ false → Includes (references y.entries) o → occurrences o (entry_holdings (graph_of (filter p objects))) < occurrences o (entry_holdings (graph_of objects))
 more_held p [] y o m t k = absurd m
 more_held p (x ∷ objects) y o (inl e) t k = go (p x) (ap p e ∙ t)
@@ -69,7 +68,7 @@ edge_of (x ∷ xs) y o (inl e) k = Includes-append_left (map (edge x.serial) (re
     (subst (λ (z : Object). Includes (map (edge x.serial) (references x.entries)) (edge z.serial o)) e (Includes-map (edge x.serial) (references x.entries) o (subst (λ (z : Object). Includes (references z.entries) o) (sym e) k)))
 edge_of (x ∷ xs) y o (inr m) k = Includes-append_right (map (edge x.serial) (references x.entries)) (edges (graph_of xs)) (edge y.serial o) (edge_of xs y o m k)
 
--- What holds a member from outside the condemned makes it survive.
+-- A member that is held from outside the condemned objects survives.
 module _ (w : World) (x : Object) (m : Includes (objects_at w.objects Cand) x) where
   inside : Includes (serials_at w.objects Cand) x.serial
   inside = Includes-map (λ (z : Object). z.serial) (objects_at w.objects Cand) x m
@@ -91,7 +90,7 @@ module _ (w : World) (x : Object) (m : Includes (objects_at w.objects Cand) x) w
   next_survives : (y : Object) → Includes w.objects y → is_at Cand y ≡ true → Includes (references y.entries) x.serial → Survives w Cand y.serial → Survives w Cand x.serial
   next_survives y k t i s = next s (edge_of (objects_at w.objects Cand) y x.serial (Includes-filter (is_at Cand) w.objects y t k) i) inside
 
--- what the weak references that lose their referents leave
+-- what the clearing of weak references leaves
 record Tracks (x y : Object) : Type 0 where
   later : IsLater x y
   entries : y.entries ≡ x.entries
@@ -142,7 +141,7 @@ module _ (script : Script) (c : Collection) (below : List Activity) (v : World) 
     among : (x : Object) → Includes v.objects x → x.place ≡ Cand → Includes (objects_at v.objects Cand) x
     among x m e = Includes-filter (is_at Cand) v.objects x (at_cand x e) m
 
-    -- where an object comes from: it got older, or stands where it stood
+    -- where an object comes from: it moved to the older generation, or is where it was
     abbrev Comes : Object → Object → Type 0
     Comes x y = IsLater x y × (y.entries ≡ x.entries) × (y.finalized ≡ x.finalized) × ((includes step.alive x.serial ≡ true) × (y.place ≡ Gen (older c.generation)) ⊎ (includes step.alive x.serial ≡ false) × (y.place ≡ x.place))
 
@@ -168,7 +167,7 @@ module _ (script : Script) (c : Collection) (below : List Activity) (v : World) 
         either x.2.3 (λ old. absurd (let no : Gen (older c.generation) ≡ Cand = sym old.1 ∙ at in cc))
         (λ same. record { object = x.0; member = x.1; serial = sym x.2.0.serial ∙ y.3; place = sym same.1 ∙ at; dead = not_alive x.0.serial same.0 })
 
-    -- what survives is no member
+    -- a survivor is no member
     survivor_out : (o : ℕ) → (((x : Object) → Includes (objects_at v.objects Cand) x → x.serial ≡ o → Survives now Cand x.serial)) → ¬ Includes members o
     survivor_out o survives k = let d = dead_of o k in d.dead (survives d.object (among d.object d.member d.place) d.serial)
 
@@ -227,7 +226,7 @@ module _ (script : Script) (c : Collection) (below : List Activity) (v : World) 
         either x.2.3 (λ old. absurd (d.dead (subst (λ (z : Object). Survives now Cand z.serial) (sym one) ((step.survivors x.0.serial).0 (Includes-of step.alive x.0.serial old.0)))))
         (λ same. same.1 ∙ subst (λ (z : Object). z.place ≡ Cand) one d.place)
 
-    -- a member has lost its own referent
+    -- a member that was a weak reference is cleared
     lost_own : (y : Object) → Includes step.objects y → y.place ≡ Cand → (r : Option ℕ) → y.referent ≡ r → y.referent ≡ None
     lost_own y m place None e = e
     lost_own y m place (Some r) e =

@@ -1,5 +1,5 @@
--- What a step does to the objects and what it prints of them: an object comes from one that was there, which is marked if
--- that was, or has the next serial. A step begins a frame or frees an object in its only line, or names what is there.
+-- What a step does to objects and what it prints of them. Each object was there before, and its mark stays, or it has the
+-- next serial. A step prints one line that begins a frame or frees an object, or lines that name living objects.
 use Rattle.std.proofs.Common.{◌≡◌, refl, sym, ◌∙◌, subst, ℕ, ◌≤◌, Bool, true, false, inl, inr, ◌⊎◌, List, [], ◌∷◌, map}
 use Rattle.std.specs.Prelude.{◌==◌, if◌then◌else◌}
 use Rattle.cg_value.specs.declared.Place.{Place}
@@ -17,18 +17,17 @@ use Rattle.cg_machine.specs.Laws.{named}
 use Rattle.cg_machine.proofs.Pointwise.{IsOrder, Came, Lasts, came, came_if, came_lives, came_map, came_without, lasts_if, lasts_lives, lasts_map}
 use Rattle.cg_machine.proofs.Starting.{starts_either}
 
--- the same object later: its finalizer does not become one that has not run
+-- the same object later: a finalizer that has run stays so
 pub record Marks (x y : Object) : Type 0 where
   pub serial : y.serial ≡ x.serial
   pub code : y.code ≡ x.code
   pub class : y.class ≡ x.class
   pub finalized : x.finalized ≡ true → y.finalized ≡ true
 
--- each object was there
 abbrev pub Origin : List Object → List Object → Type 0
 Origin before after = Came Marks before after
 
--- and none is gone
+-- and none is removed
 pub record Old (before after : List Object) : Type 0 where
   pub origin : Origin before after
   pub lasts : (n : ℕ) → Includes (serials before) n → Includes (serials after) n
@@ -37,7 +36,7 @@ pub record Old (before after : List Object) : Type 0 where
 abbrev pub Follows : List Object → ℕ → List Object → Type 0
 Follows before next after = (y : Object) → Includes after y → ((x : Object) × Includes before x × Marks x y) ⊎ (y.serial ≡ next)
 
--- a serial of an object that is there, or the next one
+-- the serial of a living object, or the next one
 abbrev pub IsThere : List Object → ℕ → ℕ → Type 0
 IsThere objects next n = Includes (serials objects) n ⊎ (n ≡ next)
 
@@ -47,11 +46,11 @@ IsPlain (Enter sort n) = ⊥
 IsPlain (Free n) = ⊥
 IsPlain event = Unit {0}
 
--- such a line, which names what is there
+-- such a line, which names living objects
 abbrev pub IsTold : List Object → ℕ → Event → Type 0
 IsTold objects next event = IsPlain event × ((n : ℕ) → Includes (named event) n → IsThere objects next n)
 
--- the finalizer of an object begins: it had not run, and now it has
+-- the finalizer of an object begins: it had not run before, and has now
 pub record Begins (before after : List Object) (n : ℕ) : Type 0 where
   pub object : Object
   pub member : Includes before object
@@ -59,7 +58,7 @@ pub record Begins (before after : List Object) (n : ℕ) : Type 0 where
   pub unmarked : object.finalized ≡ false
   pub marked : (y : Object) → Includes after y → y.serial ≡ n → y.finalized ≡ true
 
--- a frame begins, of an object that is there
+-- a frame of a living object begins
 abbrev pub Enters : FrameSort → List Object → List Object → ℕ → Type 0
 Enters Del before after n = Begins before after n
 Enters Legacy before after n = Includes (serials before) n
@@ -72,11 +71,9 @@ Says before after (Enter sort n) = Enters sort before after n
 Says before after (Free n) = Includes (serials before) n × ¬ Includes (serials after) n
 Says before after event = ⊥
 
--- the lines of a step
 abbrev pub AreTold : List Object → ℕ → List Object → List Event → Type 0
 AreTold before next after events = ((event : Event) → Includes events event → IsTold before next event) ⊎ ((event : Event) × (events ≡ event ∷ []) × Says before after event)
 
--- a step
 pub record Goes (before : List Object) (next : ℕ) (events : List Event) (after : World) : Type 0 where
   pub follows : Follows before next after.objects
   pub serial : next ≤ after.next_serial
@@ -114,7 +111,6 @@ place_marks p x = record { serial = refl; code = refl; class = refl; finalized =
 pub without_old : (o : ℕ) (objects : List Object) → Origin objects (without o objects)
 without_old = came_without Marks marks_order.same
 
--- a serial that is there was there
 pub origin_lives : (before after : List Object) → Origin before after → (n : ℕ) → Includes (serials after) n → Includes (serials before) n
 origin_lives = came_lives Marks (λ x y k. k.serial)
 

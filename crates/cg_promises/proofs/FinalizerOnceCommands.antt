@@ -1,4 +1,4 @@
--- What a command prints of objects: the one that it makes, and those that its operands refer to.
+-- What a command prints of objects: the new one, and those that its operands refer to.
 use Rattle.std.proofs.Common.{◌≡◌, refl, sym, ◌∙◌, subst, ℕ, Bool, true, false, inl, inr, ◌⊎◌, List, [], ◌∷◌, ◌++◌, Option, Some, arith}
 use Rattle.std.specs.Prelude.{not, ◌&&◌, ◌||◌, if◌then◌else◌, option_to_list}
 use Rattle.cg_value.specs.declared.Val.{Val}
@@ -96,7 +96,7 @@ module _ (script : Script) (w : World) (rises : Rises 1 w.next_serial w.objects)
   known_lives : (v : Val) → IsKnown w over v → (n : ℕ) → Includes (option_to_list (reference_in v)) n → Includes (serials w.objects) n
   known_lives v known n m = either (lives_or_not w.objects n) (λ k. k) (λ g. absurd (option_free (reference_in v) n (known n (gone n g)) m))
 
-  -- what an inspection tells of lives
+  -- what an inspection reports lives
   there_lives : (n : ℕ) → HeldOrThere w n → Includes (serials w.objects) n
   there_lives n (inl held) = either (lives_or_not w.objects n) (λ k. k) (λ g. absurd (absent n (holdings w) (unheld_degree w n (gone n g).unheld) held))
   there_lives n (inr lives) = lives

@@ -1,4 +1,4 @@
--- Every step of a run tells of objects so, and what holds of the worlds of a run is kept beside.
+-- Every step of a run prints in this way, and the invariants of runs are carried along.
 use Rattle.std.proofs.Common.{refl, ℕ, true, false, inl, List, [], ◌∷◌, ◌++◌, Some, arith, None, Option, subst, sym}
 use Rattle.std.specs.Prelude.{flat_map}
 use Rattle.cg_script.specs.declared.Script.{Script}
@@ -35,7 +35,7 @@ pub record Fit (script : Script) (w : World) : Type 0 where
   pub calm : Calm script w
   pub order : HasOrder w
 
--- what a step tells of the objects before it
+-- what a step prints of the objects before it
 abbrev pub StepTells : World → List Event → World → Type 0
 StepTells w events after = Goes w.objects w.next_serial events after
 
@@ -73,7 +73,7 @@ last_told objects next w (ShuttingDown true) lines e event m =
 last_told objects next w (ShuttingDown false) lines e event m = absurd e
 last_told objects next w a lines e event m = absurd e
 
--- what the activity on top holds is there
+-- what the top activity holds lives
 held : {script : Script} (a : Activity) (below : List Activity) (v : World) → Fit script (on a below v) → (n : ℕ) → Includes (holds a) n → Includes (serials v.objects) n
 held a below v k n m = k.order.stack_lives n (Includes-append_left (holds a) (flat_map holds below) n m)
 
@@ -105,7 +105,7 @@ pub run_fit : (script : Script) (w : World) (steps : List StepTaken) → Run scr
 run_fit script w [] run fit = fit
 run_fit script w (step ∷ steps) run fit = run_fit script step.world steps run.1 (step_fit script w step.events step.world run.0 fit)
 
--- a run has its first steps and the others
+-- a run splits into its first steps and the others
 pub run_front : (script : Script) (w : World) (front back : List StepTaken) → Run script w (front ++ back) → Run script w front
 run_front script w [] back run = tt
 run_front script w (step ∷ front) back run = (run.0, run_front script step.world front back run.1)

@@ -1,4 +1,4 @@
--- While a collection is under way no condemned object has a legacy finalizer, and those that were looked at have no finalizer to
+-- While a collection is under way, no condemned object has a legacy finalizer, and those already visited have no finalizer to
 -- run.
 use Rattle.std.proofs.Common.{◌≡◌, ◌≢◌, refl, sym, ◌∙◌, ap, subst, ℕ, ◌+◌, Bool, true, false, not, ◌&&◌, inl, inr, ◌⊎◌, List, [], ◌∷◌, ◌++◌, map, length, Option, Some, None, arith}
 use Rattle.std.specs.Prelude.{◌==◌, ◌||◌, if◌then◌else◌, is_some, nat_le, option_and_then, unwrap_or}
@@ -40,7 +40,7 @@ IsWanted Cand = Unit {0}
 IsWanted Seen = Unit {0}
 IsWanted place = ⊥
 
--- no finalizer of it is to run
+-- it has no finalizer to run
 abbrev pub Ran : Script → Object → Type 0
 Ran script x = is_some (finalizer_of script x) ≡ true → x.finalized ≡ true
 
@@ -57,7 +57,7 @@ pub record Primed (script : Script) (objects : List Object) (stack : List Activi
   pub no_legacy : HaveNoLegacy script objects
   pub ran : (c : Collection) → Includes stack (Collecting c) → RanAt script c.phase objects
 
--- an object later, which is condemned only where it was
+-- an object later, which is condemned only if it was before
 pub record Lingers (x y : Object) : Type 0 where
   pub wanted : IsWanted y.place → IsWanted x.place
   pub marks : Marks x y
@@ -92,7 +92,6 @@ same_linger = (came Lingers lingers).same
 linger_trans : (before now after : List Object) → Linger before now → Linger now after → Linger before after
 linger_trans = (came Lingers lingers).trans
 
--- those that pass a test change
 if_linger : (f : Object → Object) (test : Object → Bool) (objects : List Object) → ((x : Object) → Marks x (f x)) → ((x : Object) → Includes objects x → test x ≡ true → IsWanted (f x).place → IsWanted x.place) → Linger objects (map (λ x. if test x then f x else x) objects)
 if_linger f test objects marks wanted = came_if Lingers lingers.same f test objects (λ x m t. record { wanted = wanted x m t; marks = marks x })
 
@@ -114,7 +113,6 @@ all_saved_linger = came_all_saved Lingers lingers (λ o x. record { wanted = λ 
 all_lose_linger : (wanted : Object → Bool) (weaks : List ℕ) (objects after : List Object) → AllLose wanted objects weaks after → Linger objects after
 all_lose_linger = came_all_lose Lingers lingers (λ x. record { wanted = λ w. w; marks = record { serial = refl; code = refl; class = refl; finalized = λ e. e } })
 
--- places
 merged_wanted : (g : ℕ) (p : Place) → IsWanted (merged_place g p) → IsWanted p
 merged_wanted g (Gen i) w = go (nat_le i g) w
   where
@@ -136,7 +134,7 @@ survivor_out g objects x = go (not (is_tracked x) || (g == 2) && is_dict x && ha
     go true = λ w. w
     go false = λ w. w
 
--- Those that the start condemns have no legacy finalizer.
+-- The start condemns no object with a legacy finalizer.
 module _ (script : Script) (g : ℕ) (w : World) (rises : Rises 1 w.next_serial w.objects) (chosen : Object → Bool) (places : Object → Place) (sorts : Sorts script g w chosen places) where
   condemned_legacy : (x : Object) → Includes w.objects x → is_at (Gen g) x ≡ true → IsWanted (places x) → legacy_of script x ≡ None
   condemned_legacy x m t wanted = go (legacy_of script x) refl
@@ -157,14 +155,13 @@ module _ (script : Script) (g : ℕ) (w : World) (rises : Rises 1 w.next_serial 
           let aside : IsSetAside script w (Gen g) x.serial = first has garbage in
           absurd (subst IsWanted (sorts.set_aside x member aside) wanted)
 
--- an activity that is no collection is pushed
+-- an activity other than a collection is pushed
 pub over_primed : (script : Script) (a : Activity) (objects : List Object) (stack : List Activity) → ((c : Collection) → a ≢ Collecting c) → Primed script objects stack → Primed script objects (a ∷ stack)
 over_primed script a objects stack apart h = record { no_legacy = h.no_legacy; ran = λ c m. either m (λ e. absurd (apart c e)) (h.ran c) }
 
 starts_primed : (script : Script) (spec : FrameSpec) (u : World) → Primed script u.objects u.stack → (let s : Transition = start_frame script spec u in Primed script s.1.objects s.1.stack)
 starts_primed script spec u h = starts_either (λ lines w. Primed script w.objects w.stack) script spec u h (λ some. over_primed script (begun_frame script spec) u.objects u.stack (λ c e. cc) h)
 
--- the steps of a collection
 module _ (script : Script) (c : Collection) (below : List Activity) (v : World) (rises : Rises 1 v.next_serial v.objects) (alone : NoneCollects below) where
   abbrev at : CollectPhase → World
   at phase = collection_at c phase below v
@@ -242,7 +239,7 @@ module _ (script : Script) (c : Collection) (below : List Activity) (v : World) 
       go true = goes (AfterRelease weak waiting) c (WeakCalling waiting) _ (place_linger (Gen (older c.generation)) gen_out weak v.objects) tt h
       go false = goes (AfterRelease weak waiting) (record c { collected = c.collected + 1 }) (WeakCalling waiting) v.objects same tt h
 
-  -- an object that is looked at was condemned
+  -- a visited object was condemned
   looked_at : (f : Object → Object) (o : ℕ) → ((x : Object) → Marks x (f x)) → IsMemberOf (at Finalizing) Cand o → Linger v.objects (change f o v.objects)
   looked_at f o marks member = if_linger f (λ x. x.serial == o) v.objects marks (λ x m t w.
       let z = stands_at v.objects Cand o member in
@@ -334,7 +331,7 @@ module _ (script : Script) (c : Collection) (below : List Activity) (v : World) 
   phase_primed (AfterTurn o) events after rightly step h = to after _ step.1 (goes (AfterTurn o) c Turns _ (place_linger (Gen (older c.generation)) gen_out o v.objects) tt h)
   phase_primed Ending events after rightly step h = end_primed events after step h
 
--- what a step of another activity does to what is condemned: it stood where it stands
+-- another activity's step leaves condemned objects where they were
 module _ (script : Script) (w after : World) (rises : Rises 1 w.next_serial w.objects) (follows : Follows w.objects w.next_serial after.objects) (places : (y : Object) → Includes after.objects y → IsOfCollection y.place → HadItsPlace w.objects y) where
   stood : (y : Object) → Includes after.objects y → IsOfCollection y.place → (x : Object) × Includes w.objects x × (x.place ≡ y.place) × Marks x y
   stood y m k = either (follows y m)

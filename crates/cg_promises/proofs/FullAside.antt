@@ -1,4 +1,5 @@
--- What is set aside in a full collection in which no frame begins: it keeps its references, and it is in its place or dying.
+-- Uncollectable objects in a full collection in which no frame begins: each keeps its references, and is in its place or
+-- dying.
 use Rattle.std.proofs.Common.{◌≡◌, ◌≢◌, refl, sym, ◌∙◌, ap, subst, ℕ, Bool, true, false, inl, inr, ◌⊎◌, List, ◌∷◌, map}
 use Rattle.std.specs.Prelude.{if◌then◌else◌, is_some}
 use Rattle.cg_value.specs.declared.Place.TheVariants.{Legacy}
@@ -26,7 +27,7 @@ same_death d e same = cc
 pub dies_first : (d : Death) (tops : List Activity) (n : ℕ) → Dies (Dying d ∷ tops) n → (d.object ≡ n) ⊎ Dies tops n
 dies_first d tops n e = either e.1 (λ i. inl (ap (λ (z : Death). z.object) (same_death d e.0 i) ∙ e.2)) (λ k. inr (e.0, k, e.2))
 
--- the phases of a death up to the legacy finalizer, without those in which a frame of it is underway
+-- the phases of a death up to the legacy finalizer, except those with a frame of its own
 abbrev pub IsCalm : DyingPhase → Type 0
 IsCalm Finalizer = Unit {0}
 IsCalm (Clearing waiting) = Unit {0}
@@ -39,11 +40,11 @@ module _ (script : Script) (aside : ℕ → Type 0) (start : List Object) where
   abbrev pub IsLegacy : ℕ → Type 0
   IsLegacy o = (x : Object) × Includes start x × (x.serial ≡ o) × (is_some (legacy_of script x) ≡ true)
 
-  -- what is set aside is such a one, or another that is set aside refers to it
+  -- an uncollectable object has a legacy finalizer, or another uncollectable object refers to it
   abbrev pub IsAsideBy : ℕ → Type 0
   IsAsideBy o = IsLegacy o ⊎ ((x : Object) × Includes start x × aside x.serial × Includes (references x.entries) o)
 
-  -- what is on top of the collection: releases, and deaths; one of what is set aside is due to run its legacy finalizer
+  -- on top of the collection: releases and deaths; the death of an uncollectable object will run its legacy finalizer
   abbrev pub IsLight : Activity → Type 0
   IsLight (TopLevel commands) = ⊥
   IsLight (Framed f) = ⊥
@@ -52,7 +53,7 @@ module _ (script : Script) (aside : ℕ → Type 0) (start : List Object) where
   IsLight (Collecting c) = ⊥
   IsLight (ShuttingDown started) = ⊥
 
-  -- an object that was set aside, since the start
+  -- an object that was uncollectable since the start
   pub record Waits (tops : List Activity) (x y : Object) : Type 0 where
     pub serial : y.serial ≡ x.serial
     pub refers : (o : ℕ) → Includes (references x.entries) o → Includes (references y.entries) o
@@ -62,7 +63,7 @@ module _ (script : Script) (aside : ℕ → Type 0) (start : List Object) where
   abbrev pub AllWait : List Object → List Activity → Type 0
   AllWait objects tops = (x : Object) → Includes start x → aside x.serial → (y : Object) × Includes objects y × Waits tops x y
 
-  -- and over one step
+  -- and during one step
   pub record Abides (tops : List Activity) (x y : Object) : Type 0 where
     pub serial : y.serial ≡ x.serial
     pub refers : (o : ℕ) → Includes (references x.entries) o → Includes (references y.entries) o

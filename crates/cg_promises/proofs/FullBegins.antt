@@ -1,4 +1,4 @@
--- The start of a full collection: what is looked at is kept, set aside, or condemned.
+-- The start of a full collection: each candidate is kept, uncollectable, or condemned.
 use Rattle.std.proofs.Common.{◌≡◌, refl, sym, ◌∙◌, ap, subst, ℕ, Bool, true, false, inl, inr, ◌⊎◌, List, [], ◌∷◌, Some}
 use Rattle.std.specs.Prelude.{if◌then◌else◌, is_some, option_and_then}
 use Rattle.cg_value.specs.declared.Place.{Place}
@@ -30,14 +30,14 @@ use Rattle.cg_promises.proofs.FinalizersDone.{IsWanted}
 use Rattle.cg_promises.proofs.FinalSetStart.{edge}
 use Rattle.cg_promises.proofs.UntrackedStay.{IsSlackWorld}
 
--- an object among those that are looked at
+-- an object among the candidates
 pub looked : (v : World) (o : ℕ) → IsMemberOf (merged 2 v) (Gen 2) o → (x : Object) × Includes v.objects x × (x.serial ≡ o) × Includes (objects_at (merged 2 v).objects (Gen 2)) (in_merge 2 x)
 looked v o m =
     let z = stands_at (merged 2 v).objects (Gen 2) o m in
     let x = Includes-map_cases (in_merge 2) v.objects z.0 z.1 in
     (x.0, x.1, ap (λ (q : Object). q.serial) x.2 ∙ z.3, subst (λ q. Includes (objects_at (merged 2 v).objects (Gen 2)) q) (sym x.2) (Includes-filter (is_at (Gen 2)) (merged 2 v).objects z.0 z.2 z.1))
 
--- what is set aside has a legacy finalizer, or another that is set aside refers to it
+-- an uncollectable object has a legacy finalizer, or another uncollectable object refers to it
 pub legacy_first : (script : Script) (v : World) → Rises 1 v.next_serial v.objects → (o : ℕ) → has_legacy script (merged 2 v) o ≡ true → IsMemberOf (merged 2 v) (Gen 2) o → IsLegacy script (WasAside script v) v.objects o
 legacy_first script v rises o held inside =
     let x = looked v o inside in
@@ -80,7 +80,7 @@ module _ (script : Script) (c : Collection) (below : List Activity) (v : World) 
     abbrev old : Object
     old = in_merge 2 x
 
-    -- one that is looked at
+    -- a candidate
     module _ (t : is_at (Gen 2) old ≡ true) where
       abbrev placed : Object
       placed = with_place (start.places old) old
@@ -105,7 +105,7 @@ module _ (script : Script) (c : Collection) (below : List Activity) (v : World) 
       looked_stands : StandsSo kept garbage aside placed
       looked_stands = (either (reached_decided v x.serial) (λ k. Reached k) (λ n. garbage_stands (unreached_garbage v rises near slack root x.serial member n)), λ a. inl (put a))
 
-    -- and one that is not
+    -- and one that is none
     untracked_stands : x.place ≡ Untracked → StandsSo kept garbage aside old
     untracked_stands u = (Loose (ap (λ p. (in_merge 2 (with_place p x)).place) u), λ a. absurd (member_tracked v rises near x.serial (aside_garbage script v x.serial a).member x m refl u))
 

@@ -1,4 +1,5 @@
--- A full collection in which no frame begins, up to its second detection: nothing is on top of it, and entries stay.
+-- A full collection in which no frame begins, up to its second reachability pass: nothing is on top of it, and
+-- entries stay.
 use Rattle.std.proofs.Common.{◌≡◌, ◌≢◌, refl, sym, ◌∙◌, ap, subst, ℕ, ◌<◌, Bool, true, false, inl, inr, ◌⊎◌, List, [], ◌∷◌, ◌++◌, Option, Some, None, arith}
 use Rattle.std.specs.Prelude.{◌==◌, count_by, if◌then◌else◌, option_and_then}
 use Rattle.std.proofs.lemmas.Bool.{eqb-true}
@@ -28,7 +29,7 @@ use Rattle.cg_promises.proofs.FinalSetRuns.{none_stops}
 use Rattle.cg_promises.proofs.FinalizerOnceRuns.{Fit, step_fit}
 use Rattle.cg_machine.specs.Program.{profile_of}
 
--- the phases of that time in which no frame is underway
+-- the phases before the second pass without a frame of the collection
 abbrev pub IsEarly : CollectPhase → Type 0
 IsEarly (WeakClearing waiting) = Unit {0}
 IsEarly (WeakCalling waiting) = Unit {0}
@@ -95,7 +96,6 @@ module _ (script : Script) (kept garbage aside : ℕ → Type 0) (start : List O
     weak_calling_early [] step = to _ step.1 (at Finalizing _ tt refl refl (alike_same script v.objects) stands)
     weak_calling_early (weak ∷ waiting) step = absurd (starts_none script _ _ events after step quiet running)
 
-    -- the condemned object of a serial
     is_cand : (o : ℕ) → Includes (serials_at v.objects Cand) o → (x : Object) → Includes v.objects x → (x.serial == o) ≡ true → x.place ≡ Cand
     is_cand o m x k t =
         let z = stands_at v.objects Cand o m in
@@ -119,7 +119,7 @@ module _ (script : Script) (kept garbage aside : ℕ → Type 0) (start : List O
     phase_early Split early on step = absurd (on refl)
     phase_early phase early on step = absurd early
 
-  -- the second detection of a run
+  -- the second reachability pass of a run
   pub record FoundSplit (w : World) (steps : List StepTaken) : Type 0 where
     pub front : List StepTaken
     pub split : StepTaken

@@ -1,4 +1,4 @@
--- The stop of a full collection in which no frame began: all that is tracked after it is reached.
+-- When a full collection in which no frame began stops, every tracked object is reachable.
 use Rattle.std.proofs.Common.{◌≡◌, ◌≢◌, refl, sym, ◌∙◌, ap, subst, ℕ, Bool, true, false, ◌&&◌, inl, inr, List, [], ◌∷◌, ◌++◌, map, arith}
 use Rattle.std.specs.Prelude.{◌==◌, filter, if◌then◌else◌, is_some}
 use Rattle.cg_value.specs.declared.Val.TheVariants.{Ref}
@@ -27,7 +27,7 @@ use Rattle.cg_promises.proofs.FullStands.{Rests, RestsSo, RestsReached, RestsLoo
 use Rattle.cg_promises.proofs.FullStop.{Grows, all_saved_grow, grows_trans, test_grows}
 use Rattle.cg_promises.proofs.FinalSetStart.{edge, edge_of}
 
--- what is saved is where it was
+-- saved objects stay where they were
 abbrev pub InPlace : List Object → Object → Type 0
 InPlace before y = (x : Object) × Includes before x × (x.serial ≡ y.serial) × (x.place ≡ y.place)
 
@@ -72,11 +72,11 @@ module _ (script : Script) (v : World) (rises : Rises 1 v.next_serial v.objects)
   root_lives : Includes (serials z.objects) 1
   root_lives = let x = Includes-map_cases (λ (q : Object). q.serial) u.objects 1 root in subst (Includes (serials z.objects)) x.2 (lives x.0 x.1)
 
-  -- what the garbage list names is reached
+  -- what the garbage list names is reachable
   named_reached : (n : ℕ) → IsNamed z.objects n → Includes (serials z.objects) n → IsReached z n
   named_reached n y there = further (subst (IsReached z) (sym y.2) (first (rooted_by z 1 (inr (inl refl))) root_lives)) (edge_of z.objects y.0 n y.1 y.3) there
 
-  -- one that is set aside is saved where its class has a legacy finalizer
+  -- an uncollectable object is saved if its class has a legacy finalizer
   is_kept : (y : Object) → Includes u.objects y → y.place ≡ Legacy → is_some (legacy_of script y) ≡ true → Includes step.keeps y.serial
   is_kept y m e l =
       let passes : is_saved script c y ≡ true = both (ap (λ p. same_place p Legacy) e) (or_right (has_flag c.flags save_all) (is_some (legacy_of script y)) l) in

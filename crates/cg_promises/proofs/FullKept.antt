@@ -1,4 +1,4 @@
--- From the start of a full collection up to its stop, if no frame begins: what paths lead to at the start, they lead to still.
+-- From the start of a full collection to its stop, if no frame begins: what was reachable at the start stays reachable.
 use Rattle.std.proofs.Common.{◌≡◌, refl, sym, ◌∙◌, ap, subst, ℕ, Bool, true, false, inl, inr, ◌⊎◌, List, [], ◌∷◌, ◌++◌}
 use Rattle.std.specs.Prelude.{count_by, if◌then◌else◌}
 use Rattle.std.proofs.lemmas.List.{append_assoc}
@@ -52,7 +52,6 @@ module _ (script : Script) (c : Collection) (below : List Activity) (v : World) 
   same_entries true x o m = m
   same_entries false x o m = m
 
-  -- a kept one is not condemned
   clear_anew : (x : Object) → Includes v.objects x → kept x.serial → is_condemned (place_anew (in_merge 2 x)) ≡ false
   clear_anew x m path = go (is_at (Gen 2) (in_merge 2 x)) refl
     where
@@ -63,7 +62,6 @@ module _ (script : Script) (c : Collection) (below : List Activity) (v : World) 
           ap (λ p. is_condemned (with_place p (in_merge 2 x))) (sorts.survivors (in_merge 2 x) at lives_on) ∙ survivor_uncondemned 2 (untrack 2 start.chosen objects_now) (untracked_if (start.chosen (in_merge 2 x)) (in_merge 2 x)) (in_merge 2 x)
       go false f = either (near x m) (λ u. ap (λ p. is_condemned (with_place p x)) (ap (λ p. (in_merge 2 (with_place p x)).place) u)) (λ t. absurd (let no : true ≡ false = sym t ∙ f in cc))
 
-  -- where it is after
   pub anew : (x : Object) → Includes v.objects x → Includes after.objects (place_anew (in_merge 2 x))
   anew x m = subst (λ os. Includes os (place_anew (in_merge 2 x))) (sym objects_after) (Includes-map place_anew objects_now (in_merge 2 x) (Includes-map (in_merge 2) v.objects x m))
 
@@ -112,7 +110,7 @@ module _ (script : Script) (c : Collection) (below : List Activity) (v : World) 
     };
   }
 
-  -- up to the stop
+  -- until the stop
   module _ (steps : List StepTaken) (stop : StepTaken) (run : Run script after (steps ++ stop ∷ [])) (fit : Fit script after) (quiet : count_by is_enter (events_of steps) ≡ 0) (on : count_by is_stop (events_of steps) ≡ 0) where
     pub full_then : IsFullAt script kept after.objects below v.names held there (last_world after steps)
     full_then = full_after script kept after.objects below v.names held there after steps stop run fit quiet on begins_full

@@ -1,5 +1,5 @@
--- A full collection in which no frame begins, from its second detection to its stop: what is set aside stays so, or is due to run
--- its legacy finalizer; all others are kept, untracked, or members of the final set.
+-- A full collection in which no frame begins, from its second reachability pass to its stop: uncollectable objects stay so, or
+-- will run their legacy finalizer; all others are kept, untracked, or members of the final set.
 use Rattle.std.proofs.Common.{◌≡◌, refl, sym, ◌∙◌, ap, subst, ℕ, ◌+◌, Bool, true, false, not, ◌&&◌, inl, inr, List, [], ◌∷◌, ◌++◌, map, length, Option, Some, None}
 use Rattle.std.specs.Prelude.{◌==◌, count_by, if◌then◌else◌, is_some, option_and_then}
 use Rattle.std.proofs.lemmas.Bool.{eqb-true}
@@ -46,7 +46,6 @@ module _ (script : Script) (kept aside : ℕ → Type 0) (members : List ℕ) (s
   abbrev TurnsAre : CollectPhase → Type 0
   TurnsAre phase = (o : ℕ) → Includes (handles phase) o → Includes members o
 
-  -- the invariant
   pub record Late (w : World) : Type 0 where
     pub tops : List Activity
     pub collection : Collection
@@ -73,7 +72,7 @@ module _ (script : Script) (kept aside : ℕ → Type 0) (members : List ℕ) (s
     lost_abide : (tops : List Activity) (weak : ℕ) → Abide script aside start tops v.objects (loses_referent weak v.objects)
     lost_abide tops weak = test_abide script aside start tops (with_referent None) (λ x. x.serial == weak) v.objects (λ x m t a. record { serial = refl; refers = λ o i. i; legacy = refl; place = λ e. inl e })
 
-    -- what is not set aside may change in any way
+    -- other objects may change in any way
     other_abide : (tops : List Activity) (f : Object → Object) (o : ℕ) → ¬ aside o → Abide script aside start tops v.objects (change f o v.objects)
     other_abide tops f o none = test_abide script aside start tops f (λ x. x.serial == o) v.objects (λ x m t a. absurd (none (subst aside (eqb-true x.serial o t) a)))
 
@@ -87,7 +86,6 @@ module _ (script : Script) (kept aside : ℕ → Type 0) (members : List ℕ) (s
       with_top : (a : Activity) → IsLight script aside start a → (xs : List Activity) → AllLight xs → AllLight (a ∷ xs)
       with_top a k xs l b m = either m (λ e. subst (IsLight script aside start) e k) (l b)
 
-      -- a release
       module _ (refs : List ℕ) (o : ℕ) (wait : AllWait script aside start v.objects (Releasing (o ∷ refs) ∷ tops)) where
         abbrev rest : World
         rest = with_stack (Releasing refs ∷ under) v
@@ -95,7 +93,7 @@ module _ (script : Script) (kept aside : ℕ → Type 0) (members : List ℕ) (s
         abbrev begun : Death
         begun = record { object = o; phase = Finalizer }
 
-        -- one that is set aside is held by another, but where its class has a legacy finalizer
+        -- an uncollectable object without a legacy finalizer is held by another one
         legacy_one : in_degree rest o ≡ 0 → aside o → IsLegacy script aside start o
         legacy_one none a = either (by o a) (λ l. l) (λ x. let y = wait x.0 x.1 x.2 in absurd ((none_holds rest o none).entries y.0 y.1 (y.2.refers o x.3)))
 
@@ -117,7 +115,6 @@ module _ (script : Script) (kept aside : ℕ → Type 0) (members : List ℕ) (s
           (all_wait script aside start v.objects v.objects (Releasing [] ∷ tops) tops (abide_same script aside start tops v.objects) (λ n a d. dies_without (Releasing []) tops n (λ e i. cc) d) wait)
       released_late (o ∷ refs) wait = given_late refs o wait (not (is_dying (with_stack (Releasing refs ∷ under) v) o) && (in_degree (with_stack (Releasing refs ∷ under) v) o == 0)) refl
 
-      -- a death
       module _ (o : ℕ) (phase : DyingPhase) (calm : aside o → IsCalm phase × IsLegacy script aside start o) (wait : AllWait script aside start v.objects (Dying (record { object = o; phase = phase }) ∷ tops)) where
         abbrev at : DyingPhase → World
         at p = death_at o p under v
@@ -149,7 +146,7 @@ module _ (script : Script) (kept aside : ℕ → Type 0) (members : List ℕ) (s
             go true = dying_to next (with_change (with_place Untracked) o (at next)) refl (λ s. absurd (none s)) (untracked_rest (with_place Untracked) (λ x. refl) o) (other_abide (death next ∷ tops) (with_place Untracked) o none)
             go false = ended (with_stack under (at phase)) refl none rests (abide_same script aside start tops v.objects)
 
-        -- one that is set aside has its legacy finalizer to run
+        -- an uncollectable object has its legacy finalizer to run
         has_one : option_and_then (legacy_of script) (object_at v.objects o) ≡ None → ¬ aside o
         has_one e a =
             let x = (calm a).1 in
@@ -197,7 +194,6 @@ module _ (script : Script) (kept aside : ℕ → Type 0) (members : List ℕ) (s
       dying_late o Detaching calm wait events after quiet running step = detaching_late o Detaching calm wait events after quiet running (λ a. (calm a).0) (weak_references_if (has_finalizers script) v.objects o) step
       dying_late o Emptying calm wait events after quiet running step = emptying_late o Emptying calm wait events after quiet running (λ a. (calm a).0) (last_entry (entries_of v.objects o)) step
 
-    -- the collection itself
     module _ (c : Collection) (turn : TurnsAre c.phase) (wait : AllWait script aside start v.objects []) (events : List Event) (after : World) (quiet : count_by is_enter events ≡ 0) (on : count_by is_stop events ≡ 0) where
       abbrev standing : CollectPhase → World
       standing phase = collection_at c phase below v
@@ -254,7 +250,6 @@ module _ (script : Script) (kept aside : ℕ → Type 0) (members : List ℕ) (s
       phase_late Ending late t step = absurd (stops (lines_if (has_flag c.flags uncollectable) (map GcUncollectable step.told) ++ map GcSaved step.keeps) c.generation c.collected (length step.told) (lines_if c.asked (Collected (c.collected + length step.told) ∷ [])) events step.lines on)
       phase_late phase late t step = absurd late
 
-    -- any step
     step_late : (events : List Event) (after : World) → count_by is_enter events ≡ 0 → count_by is_stop events ≡ 0 → after.outcome ≡ Running → (tops : List Activity) (c : Collection) → IsLate c.phase → AllLight tops → TurnsAre c.phase → AllWait script aside start v.objects tops
         → StepOf script (with_stack (tops ++ Collecting c ∷ below) v) (tops ++ Collecting c ∷ below) events after → Late after
     step_late events after quiet on running [] c late light turn wait step = phase_late c turn wait events after quiet on c.phase late turn step
@@ -265,7 +260,7 @@ module _ (script : Script) (kept aside : ℕ → Type 0) (members : List ℕ) (s
     step_late events after quiet on running (Dying d ∷ tops) c late light turn wait step = dying_late tops c late (λ a m. light a (inr m)) turn d.object d.phase (light (Dying d) (inl refl)) wait events after quiet running step
     step_late events after quiet on running (Collecting e ∷ tops) c late light turn wait step = absurd (light (Collecting e) (inl refl))
 
-  -- up to the stop
+  -- until the stop
   pub late_after : (w : World) (steps : List StepTaken) (stop : StepTaken) → Run script w (steps ++ stop ∷ []) → Fit script w → count_by is_enter (events_of steps) ≡ 0 → count_by is_stop (events_of steps) ≡ 0 → Late w → Late (last_world w steps)
   late_after w [] stop run fit quiet on h = h
   late_after w (step ∷ steps) stop run fit quiet on h =

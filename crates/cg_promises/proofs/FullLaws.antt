@@ -1,4 +1,4 @@
--- In every run what paths lead to when a full collection starts, they lead to when it stops, if no frame began.
+-- In every run, what is reachable when a full collection starts is reachable when it stops, if no frame began.
 use Rattle.std.proofs.Common.{◌≡◌, ◌≢◌, refl, sym, ◌∙◌, ap, subst, ℕ, ◌<◌, Bool, true, false, inl, ◌⊎◌, List, [], ◌∷◌, ◌++◌, map, arith}
 use Rattle.std.specs.Prelude.{count_by}
 use Rattle.std.proofs.lemmas.List.{append_assoc}

@@ -1,4 +1,5 @@
--- Where all that is tracked is reached, all is: an untracked object is held by what is reached, or by a tuple with a larger serial.
+-- If every tracked object is reachable, every object is: an untracked one is held by a reachable object, or by a tuple with a
+-- larger serial.
 use Rattle.std.proofs.Common.{◌≡◌, ◌≢◌, refl, sym, ◌∙◌, ap, subst, ℕ, zero, suc, ◌+◌, ◌<◌, ◌≤◌, true, false, inl, inr, ◌⊎◌, List, length, arith}
 use Rattle.std.specs.Prelude.{◌==◌}
 use Rattle.std.proofs.lemmas.Bool.{eqb-true}
@@ -48,7 +49,7 @@ module _ (k : ℕ) (w : World) (rises : Rises 1 w.next_serial w.objects) (minded
   by_kind x m = either (cases_of (same_place x.place Untracked)) (λ t. either (slack.slack x m (place_is x.place Untracked t)) (λ e. inl (excused x m e)) (λ s. inr s))
       (λ f. inl (tracked x m (λ u. let no : true ≡ false = sym (ap (λ p. same_place p Untracked) u) ∙ f in cc)))
 
-  -- it is reached, or an entry holds it
+  -- it is reachable, or an entry holds it
   holder : (x : Object) → Includes w.objects x → IsReached w x.serial ⊎ ((y : Object) × Includes w.objects y × Includes (references y.entries) x.serial)
   holder x m = either (cases_of (in_degree w x.serial == 0)) (λ t. inl (first (inl (minded.minds x.serial (here x m) (degree_free w x.serial (eqb-true (in_degree w x.serial) 0 t)))) (here x m)))
       (λ f. either (cases_of (includes (entry_holdings (graph_of w.objects)) x.serial)) (λ t. inr (entry_holder w.objects x.serial (Includes-of (entry_holdings (graph_of w.objects)) x.serial t)))

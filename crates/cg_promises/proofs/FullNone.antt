@@ -46,7 +46,7 @@ use Rattle.cg_promises.proofs.UntrackedStay.{IsSlackWorld}
 use Rattle.cg_promises.proofs.UntrackedStayRuns.{opening_slack, slack_after}
 use Rattle.cg_promises.proofs.FinalizerOnceRuns.{Fit, opening_fit, run_back, run_front, run_fit, step_fit}
 
--- none of a run's first steps, nor of the others
+-- neither the first steps of a run nor the others begin a frame
 enters_both : (front back : List StepTaken) → count_by is_enter (events_of (front ++ back)) ≡ 0 → (count_by is_enter (events_of front) ≡ 0) × (count_by is_enter (events_of back) ≡ 0)
 enters_both front back e = enters_first (events_of front) (events_of back) (subst (λ es. count_by is_enter es ≡ 0) (events_of-append front back) e)
 
@@ -84,7 +84,7 @@ module _ (script : Script) (budget : ℕ) (before : List StepTaken) (known : Tex
   minded_on more goes = subst (IsMinded (length script.names)) (last_world-append (opening script budget) before more)
       (minded_after script known (opening script budget) (before ++ more) (Run-append script (opening script budget) before more run goes) (opening_fit script budget) (opening_origin script budget) (opening_minded script known budget))
 
-  -- the run up to the second detection, and from there to the stop
+  -- the run up to the second reachability pass, and from there to the stop
   module _ (start : StepTaken) (front : List StepTaken) (split : StepTaken) (rest : List StepTaken) (stop : StepTaken) (goes : Run script v (start ∷ (front ++ split ∷ rest) ++ stop ∷ []))
       (quiet : count_by is_enter (events_of (front ++ split ∷ rest)) ≡ 0) (on : count_by is_stop (events_of (front ++ split ∷ rest)) ≡ 0) (more : 0 < count_by is_stop stop.events)
       (early : Early script (IsReached v) (WasGarbage v) (WasAside script v) v.objects v.names f.below (last_world start.world front)) (phase : early.collection.phase ≡ Split) (kept_on : (o : ℕ) → IsReached v o → IsReached stop.world o) where
@@ -121,7 +121,7 @@ module _ (script : Script) (budget : ℕ) (before : List StepTaken) (known : Tex
     on_rest : count_by is_stop (events_of rest) ≡ 0
     on_rest = (none_first split.events (events_of rest) (stops_both front (split ∷ rest) on).1).1
 
-    -- what is kept is not condemned
+    -- a kept object is not condemned
     clear : (x : Object) → Includes s.objects x → IsReached v x.serial → is_condemned x ≡ false
     clear x m k =
         let full = (full_then script f.collection f.below v start.events start.world f.top f.phase f.full fit.sound.rises (near_full script budget before run f) (faded_full script budget before run f) (begins script v f start.events start.world goes.0)
@@ -179,7 +179,7 @@ module _ (script : Script) (budget : ℕ) (before : List StepTaken) (known : Tex
     late_u : Late script kept aside members v.objects f.below (aside_by script v fit.sound.rises) apart_now u
     late_u = late_after script kept aside members v.objects f.below (aside_by script v fit.sound.rises) apart_now split.world rest stop (Run-append script split.world rest (stop ∷ []) back.1 last) fit_split quiet_rest on_rest late_now
 
-    -- the stop is the step of the end
+    -- the stop is in the step of the end
     stands : (late_u.tops ≡ []) × (late_u.collection.phase ≡ Ending)
     stands = stop_ends script (λ n. ⊥) u f.below stop.events stop.world late_u.tops late_u.collection (λ a m. light_bare script aside v.objects a (late_u.light a m)) (λ e. subst IsLate e late_u.late) more
         (subst (λ st. StepOf script (with_stack st u) st stop.events stop.world) late_u.is last.0.step)
@@ -201,7 +201,7 @@ module _ (script : Script) (budget : ℕ) (before : List StepTaken) (known : Tex
         let apart = subst IsApart (last_world-append start.world front (split ∷ rest)) (apart_on (start ∷ (front ++ split ∷ rest)) (goes.0, all)) in
         (subst (λ p. StandsRightly p x) stands.1 (apart.phases late_u.collection (subst (λ st. Includes st (Collecting late_u.collection)) (sym top_u) (inl refl)) x m)).1
 
-    -- a member that lives at the end is named by the garbage list
+    -- the garbage list names each member that lives at the end
     saved_named : has_flag early.collection.flags save_all ≡ true → (y : Object) → Includes u.objects y → Includes members y.serial → IsNamed u.objects y.serial
     saved_named flag y m k = either ((saves_after script members f.below split.world rest back.1 fit_split on_rest begun).all y.serial k) (λ cand. absurd (none_cand y m (cand y m refl))) (λ named. named)
       where

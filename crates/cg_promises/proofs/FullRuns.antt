@@ -1,4 +1,4 @@
--- What paths lead to where a full collection is to start, paths lead to up to its stop, if no frame begins.
+-- What is reachable where a full collection is about to start stays reachable until its stop, if no frame begins.
 use Rattle.std.proofs.Common.{◌≡◌, sym, ◌∙◌, subst, ℕ, ◌+◌, true, false, inl, inr, ◌⊎◌, List, [], ◌∷◌, ◌++◌, Option, arith}
 use Rattle.std.specs.Prelude.{cond, count_by, flat_map}
 use Rattle.std.specs.List.{list_any}
@@ -30,12 +30,11 @@ use Rattle.cg_promises.proofs.FinalizerOnceRuns.{Fit, step_fit}
 pub enters_first : (xs ys : List Event) → count_by is_enter (xs ++ ys) ≡ 0 → (count_by is_enter xs ≡ 0) × (count_by is_enter ys ≡ 0)
 enters_first xs ys e = let all : count_by is_enter (xs ++ ys) ≡ count_by is_enter xs + count_by is_enter ys = sum_by-append (λ x. cond (is_enter x) 1 0) xs ys in (omega (arith, all, e), omega (arith, all, e))
 
--- a step follows
+-- a next step
 pub running_still : (script : Script) (w : World) (steps : List StepTaken) (stop : StepTaken) → Run script w (steps ++ stop ∷ []) → w.outcome ≡ Running
 running_still script w [] stop run = run.0.running
 running_still script w (step ∷ steps) stop run = run.0.running
 
--- the invariant along a run
 module _ (script : Script) (kept : ℕ → Type 0) (start : List Object) (below : List Activity) (names : List (Option Val)) (held : (o : ℕ) → kept o → IsKeptBy kept start names below o) (there : (o : ℕ) → kept o → (x : Object) × Includes start x × (x.serial ≡ o)) where
   pub record IsFullAt (w : World) : Type 0 where
     pub same : w.names ≡ names
@@ -55,7 +54,7 @@ module _ (script : Script) (kept : ℕ → Type 0) (start : List Object) (below 
       full_after step.world steps stop run.1 (step_fit script w step.events step.world run.0 fit) q.1 n.1
       (one_step w step.events step.world run.0 fit q.0 n.0 (running_still script step.world steps stop run.1) h)
 
--- the roots of a world whose stack ends so
+-- the roots of a world with such a stack
 abbrev pub IsRoot : List (Option Val) → List Activity → ℕ → Type 0
 IsRoot names below o = Includes (name_holdings names) o ⊎ ((o ≡ 1) ⊎ (Includes (flat_map holds below) o ⊎ (list_any (is_death_of o) below ≡ true)))
 
@@ -66,7 +65,7 @@ root_down names c below o none (inr (inl e)) = inr (inl e)
 root_down names c below o none (inr (inr (inl m))) = inr (inr (inl (subst (λ (ns : List ℕ). Includes (ns ++ flat_map holds below) o) none m)))
 root_down names c below o none (inr (inr (inr e))) = inr (inr (inr e))
 
--- what stands below stays a root
+-- what is below stays a root
 pub root_up : (names : List (Option Val)) (tops below : List Activity) (o : ℕ) → IsRoot names below o → IsRoot names (tops ++ below) o
 root_up names tops below o (inl m) = inl m
 root_up names tops below o (inr (inl e)) = inr (inl e)
@@ -97,7 +96,7 @@ rooted_by w o (inr (inl e)) = let more = present o (1 ∷ []) (inl (sym e)) in i
 rooted_by w o (inr (inr (inl m))) = let more = present o (flat_map holds w.stack) m in inr (omega (arith, more, parts w o))
 rooted_by w o (inr (inr (inr e))) = inl e
 
--- what is reached in one world is reached in another that keeps it
+-- reachable in one world, and so in another that keeps it
 module _ (before after : World) (roots : (o : ℕ) → IsRoot before.names before.stack o → IsRoot after.names after.stack o)
     (lives : (x : Object) → Includes before.objects x → IsReached before x.serial → (y : Object) × Includes after.objects y × (y.serial ≡ x.serial) × ((o : ℕ) → Includes (references x.entries) o → Includes (references y.entries) o)) where
   lives_at : (o : ℕ) → Includes (serials before.objects) o → IsReached before o → Includes (serials after.objects) o

@@ -1,4 +1,4 @@
--- With SAVEALL each member of the final set is condemned still, or is named by the garbage list.
+-- With SAVEALL, each member of the final set is still condemned, or the garbage list names it.
 use Rattle.std.proofs.Common.{◌≡◌, refl, sym, ◌∙◌, subst, ℕ, ◌+◌, Bool, true, false, inl, inr, ◌⊎◌, List, [], ◌∷◌, ◌++◌, map, length}
 use Rattle.std.specs.Prelude.{◌==◌, count_by, if◌then◌else◌}
 use Rattle.std.proofs.lemmas.Bool.{eqb-true, eq-eqb}

@@ -1,5 +1,5 @@
--- The second detection of a full collection in which no frame began: nothing survives it, since paths led to what holds anything
--- else from the start, or it is set aside together with what it holds.
+-- The second reachability pass of a full collection in which no frame began finds no survivor: whatever is held by something
+-- else was reachable from the start, or is uncollectable together with its holder.
 use Rattle.std.proofs.Common.{◌≡◌, refl, sym, ◌∙◌, ap, subst, ℕ, ◌<◌, Bool, true, false, inl, inr, ◌⊎◌, List, [], ◌∷◌, filter, None, arith}
 use Rattle.std.specs.Prelude.{◌==◌, flat_map}
 use Rattle.cg_value.specs.declared.Place.{Place}
@@ -32,7 +32,6 @@ use Rattle.cg_promises.proofs.FinalSetStart.{edge, edge_of}
 use Rattle.cg_promises.proofs.UntrackedStay.{Excused, IsSlackWorld, IsSlackOne}
 use Rattle.cg_promises.proofs.UntrackedStayRuns.{death_found}
 
--- of the start
 abbrev pub WasGarbage : World → ℕ → Type 0
 WasGarbage v o = IsGarbage (merged 2 v) (Gen 2) o
 
@@ -43,7 +42,7 @@ pub aside_garbage : (script : Script) (v : World) (o : ℕ) → WasAside script 
 aside_garbage script v o (first held inside) = inside
 aside_garbage script v o (further path step inside) = inside
 
--- what is held more often than by those that pass is held otherwise
+-- what has more holds than those that pass give it is held by another
 held_outside : (w : World) (p : Object → Bool) (o : ℕ) → occurrences o (entry_holdings (graph_of (filter p w.objects))) < occurrences o (holdings w) → IsRoot w.names w.stack o ⊎ HasOutside p w.objects o
 held_outside w p o less = go (cases_of (includes (name_holdings w.names) o)) (cases_of (includes (1 ∷ []) o)) (cases_of (includes (flat_map holds w.stack) o))
   where
@@ -81,7 +80,7 @@ module _ (script : Script) (v : World) (c : Collection) (below : List Activity) 
   abbrev aside : ℕ → Type 0
   aside o = WasAside script v o
 
-  -- what is condemned is not kept
+  -- a condemned object is not kept
   not_kept : (x : Object) → Includes w.objects x → x.place ≡ Cand → ¬ kept x.serial
   not_kept x m e k = let no : true ≡ false = sym (ap (λ p. is_condemned (record x { place = p })) e) ∙ clear x m k in cc
 
@@ -98,12 +97,12 @@ module _ (script : Script) (v : World) (c : Collection) (below : List Activity) 
       let z = early.alike.back y i in
       further (subst kept z.2.serial k) (edge_of v.objects z.0 x.serial z.1 (subst (λ es. Includes (references es) x.serial) z.2.entries r)) (lived x m)
 
-  -- what is excused from being slack was a root
+  -- an object that may be untracked without being slack was a root
   excused_kept : (y : Object) → Includes w.objects y → Excused w.stack y.serial → kept y.serial
   excused_kept y i (inl one) = root_kept y i (inr (inl one))
   excused_kept y i (inr d) = root_kept y i (inr (inr (inr (death_found y.serial d.0 w.stack d.1 d.2))))
 
-  -- a reference of what was set aside is an edge among those that were looked at
+  -- a reference of an uncollectable object is an edge among the candidates
   arrow : (y : Object) (o : ℕ) → Includes w.objects y → Includes (references y.entries) o → IsMemberOf (merged 2 v) (Gen 2) y.serial → Includes (edges (members_at (merged 2 v) (Gen 2))) (edge y.serial o)
   arrow y o i r member =
       let z = stands_at (merged 2 v).objects (Gen 2) y.serial member in
@@ -114,7 +113,7 @@ module _ (script : Script) (v : World) (c : Collection) (below : List Activity) 
       subst (λ n. Includes (edges (members_at (merged 2 v) (Gen 2))) (edge n o)) z.3
       (edge_of (objects_at (merged 2 v).objects (Gen 2)) z.0 o (Includes-filter (is_at (Gen 2)) (merged 2 v).objects z.0 z.2 z.1) held)
 
-  -- one that is set aside holds none that is condemned
+  -- an uncollectable object holds no condemned one
   aside_holds : (y x : Object) → Includes w.objects y → Includes w.objects x → x.place ≡ Cand → Includes (references y.entries) x.serial → aside y.serial → ⊥
   aside_holds y x i m e r a = go (early.stands x m).0
     where
@@ -125,7 +124,7 @@ module _ (script : Script) (v : World) (c : Collection) (below : List Activity) 
       go (Condemned k g n) = n (further a (arrow y x.serial i r (aside_garbage script v y.serial a).member) g)
       go (SetAside u k) = let no : Cand ≡ Legacy = sym e ∙ u in cc
 
-  -- nor does any that is not condemned
+  -- nor does any uncondemned object
   none_outside : (y x : Object) → Includes w.objects y → is_at Cand y ≡ false → Includes w.objects x → x.place ≡ Cand → Includes (references y.entries) x.serial → ⊥
   none_outside y x i f m e r = go (early.stands y i).0
     where
@@ -156,7 +155,6 @@ module _ (script : Script) (v : World) (c : Collection) (below : List Activity) 
   no_survivor o (first held inside) = first_none o held inside
   no_survivor o (further path step inside) = no_survivor _ path
 
-  -- the step of the second detection
   module _ (d : Collection) (events : List Event) (after : World) (step : SplitStep d below w events after) (rightly_after : (x : Object) → Includes step.objects x → IsInLatePhase x) where
     abbrev now : List Object
     now = get_older d.generation step.alive w.objects
@@ -189,7 +187,7 @@ module _ (script : Script) (v : World) (c : Collection) (below : List Activity) 
         (test_alike script (with_place (Gen (older d.generation))) (λ x. includes step.alive x.serial) w.objects (λ x. record { serial = refl; entries = refl; legacy = refl }))
         (all_lose_alike script (loses_at_split now) step.cleared now step.objects step.lose))
 
-    -- what was set aside is there
+    -- an uncollectable object lives
     pub aside_there : (x : Object) → Includes v.objects x → aside x.serial → (y : Object) × Includes step.objects y × Alike script x y × (y.place ≡ Legacy)
     aside_there x m a =
         let y = alike_still.there x m in

@@ -1,4 +1,4 @@
--- Where an object may stand while a full collection goes on in which no frame begins: before the second detection, and after it.
+-- Where an object may be during a full collection in which no frame begins: before the second reachability pass, and after it.
 use Rattle.std.proofs.Common.{◌≡◌, refl, sym, ◌∙◌, subst, ℕ, Bool, true, false, inl, inr, ◌⊎◌, List, map}
 use Rattle.std.specs.Prelude.{if◌then◌else◌}
 use Rattle.cg_value.specs.declared.Place.{Place}
@@ -11,7 +11,8 @@ use Rattle.cg_machine.specs.Program.{legacy_of}
 use Rattle.cg_promises.proofs.FinalizersDone.{IsWanted}
 use Rattle.cg_machine.proofs.Pointwise.{IsOrder, Came, Lasts, came, came_if, came_map, lasts, lasts_if, lasts_map}
 
--- Before the second detection. Kept is what paths led to at the start, `aside` what was to be set aside then.
+-- Before the second reachability pass. `kept` is what was reachable at the start, `aside` what was uncollectable
+-- then.
 pub data Stands (kept garbage aside : ℕ → Type 0) (y : Object) : Type 0 where
   Reached : kept y.serial → Stands kept garbage aside y
   Loose : y.place ≡ Untracked → Stands kept garbage aside y
@@ -19,7 +20,7 @@ pub data Stands (kept garbage aside : ℕ → Type 0) (y : Object) : Type 0 wher
   Condemned : IsWanted y.place → garbage y.serial → ¬ aside y.serial → Stands kept garbage aside y
   SetAside : y.place ≡ Legacy → ¬ ¬ aside y.serial → Stands kept garbage aside y
 
--- what is to be set aside is so, or waits for its callback
+-- an uncollectable object is in its place, or waits for its callback
 abbrev pub IsPut : (ℕ → Type 0) → Object → Type 0
 IsPut aside y = aside y.serial → (y.place ≡ Legacy) ⊎ (y.place ≡ Pend)
 
@@ -33,11 +34,10 @@ pub data Rests (kept aside : ℕ → Type 0) (members : List ℕ) (y : Object) :
   RestsAside : y.place ≡ Legacy → ¬ ¬ aside y.serial → Rests kept aside members y
   IsFinal : Includes members y.serial → Rests kept aside members y
 
--- what is condemned is a member
+-- a condemned object is a member
 abbrev pub RestsSo : (kept aside : ℕ → Type 0) (members : List ℕ) → Object → Type 0
 RestsSo kept aside members y = Rests kept aside members y × (y.place ≡ Cand → Includes members y.serial)
 
--- a property of objects, where those that pass a test change
 pub test_all : (P : Object → Type 0) (f : Object → Object) (test : Object → Bool) (objects : List Object) → ((x : Object) → Includes objects x → test x ≡ true → P x → P (f x)) → ((x : Object) → Includes objects x → P x) → (y : Object) → Includes (map (λ x. if test x then f x else x) objects) y → P y
 test_all P f test objects h all y m = let x = Includes-map_cases (λ x. if test x then f x else x) objects y m in subst P x.2 (one (test x.0) x.0 refl x.1 (all x.0 x.1))
   where
@@ -46,7 +46,6 @@ test_all P f test objects h all y m = let x = Includes-map_cases (λ x. if test 
     one false x t m p = p
 
 module _ (kept garbage aside : ℕ → Type 0) where
-  -- in its place
   pub stands_same : (x y : Object) → y.serial ≡ x.serial → y.place ≡ x.place → StandsSo kept garbage aside x → StandsSo kept garbage aside y
   stands_same x y s p h = (go h.0, λ a. subst (λ q. (q ≡ Legacy) ⊎ (q ≡ Pend)) (sym p) (h.1 (subst aside s a)))
     where
@@ -57,7 +56,6 @@ module _ (kept garbage aside : ℕ → Type 0) where
       go (Condemned w g n) = Condemned (subst IsWanted (sym p) w) (subst garbage (sym s) g) (λ a. n (subst aside s a))
       go (SetAside u a) = SetAside (p ∙ u) (λ n. a (λ k. n (subst aside (sym s) k)))
 
-  -- among the condemned ones
   pub stands_wanted : (x y : Object) → y.serial ≡ x.serial → IsWanted x.place → IsWanted y.place → StandsSo kept garbage aside x → StandsSo kept garbage aside y
   stands_wanted x y s before after h = (go h.0, λ a. absurd (put (h.1 (subst aside s a))))
     where
@@ -82,11 +80,9 @@ module _ (kept aside : ℕ → Type 0) (members : List ℕ) where
       go (RestsAside u a) = RestsAside (p ∙ u) (λ n. a (λ k. n (subst aside (sym s) k)))
       go (IsFinal m) = IsFinal (subst (Includes members) (sym s) m)
 
-  -- untracked
   pub rests_loose : (y : Object) → y.place ≡ Untracked → RestsSo kept aside members y
   rests_loose y u = (RestsLoose u, λ e. absurd (let no : Untracked ≡ Cand = sym u ∙ e in cc))
 
-  -- a member
   pub rests_final : (y : Object) → Includes members y.serial → RestsSo kept aside members y
   rests_final y m = (IsFinal m, λ e. m)
 
@@ -96,7 +92,7 @@ pub record Alike (script : Script) (x y : Object) : Type 0 where
   pub entries : y.entries ≡ x.entries
   pub legacy : legacy_of script y ≡ legacy_of script x
 
--- each object is there still, and none is new
+-- each object is still there, and none is new
 pub record AreAlike (script : Script) (before after : List Object) : Type 0 where
   pub there : Lasts (Alike script) before after
   pub back : Came (Alike script) before after
@@ -119,7 +115,7 @@ map_alike script f objects h = record { there = lasts_map (Alike script) (alike 
 pub test_alike : (script : Script) (f : Object → Object) (test : Object → Bool) (objects : List Object) → ((x : Object) → Alike script x (f x)) → AreAlike script objects (map (λ x. if test x then f x else x) objects)
 test_alike script f test objects h = record { there = lasts_if (Alike script) (alike script).same f test objects (λ x m t. h x); back = came_if (Alike script) (alike script).same f test objects (λ x m t. h x) }
 
--- those of a place of condemned ones
+-- those in a place of condemned objects
 pub wanted_cand : (p : Place) → p ≡ Cand → IsWanted p
 wanted_cand p e = subst IsWanted (sym e) tt
 

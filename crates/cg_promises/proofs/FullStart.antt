@@ -1,5 +1,5 @@
--- Where a full collection is to start: what survives it is what a path leads to from a name, the garbage list, an activity or
--- a death, among those that it looks at.
+-- Where a full collection is about to start: a candidate survives exactly if it is reachable from a name, the garbage list,
+-- an activity or a death.
 use Rattle.std.proofs.Common.{◌≡◌, ◌≢◌, refl, sym, ◌∙◌, ap, subst, ℕ, ◌+◌, ◌<◌, Bool, true, false, inl, inr, ◌⊎◌, List, [], ◌∷◌, ◌++◌, map, filter, arith}
 use Rattle.std.specs.Prelude.{cond, flat_map, if◌then◌else◌}
 use Rattle.std.proofs.lemmas.Bool.{le-leb}
@@ -29,14 +29,13 @@ use Rattle.cg_promises.proofs.UntrackedStay.{IsSlackWorld}
 use Rattle.cg_promises.proofs.UntrackedStayRuns.{death_found}
 use Rattle.cg_promises.proofs.Generations.{IsYoung}
 
--- an edge is a reference
 pub edge_from : (xs : List Object) (p q : ℕ) → Includes (edges (graph_of xs)) (edge p q) → (y : Object) × Includes xs y × (y.serial ≡ p) × Includes (references y.entries) q
 edge_from [] p q m = absurd m
 edge_from (x ∷ xs) p q m = either (Includes-append_cases (map (edge x.serial) (references x.entries)) (edges (graph_of xs)) (edge p q) m)
     (λ k. let r = Includes-map_cases (edge x.serial) (references x.entries) (edge p q) k in (x, inl refl, ap (λ (e : Edge). e.from) r.2, subst (Includes (references x.entries)) (ap (λ (e : Edge). e.to) r.2) r.1))
     (λ k. let y = edge_from xs p q k in (y.0, inr y.1, y.2, y.3))
 
--- what is held more often than by those that pass is held by one that does not
+-- what has more holds than those that pass give it is held by one that does not pass
 abbrev pub HasOutside : (Object → Bool) → List Object → ℕ → Type 0
 HasOutside p objects o = (y : Object) × Includes objects y × (p y ≡ false) × Includes (references y.entries) o
 
@@ -70,7 +69,7 @@ pub same_graph : (g : ℕ) (objects : List Object) → graph_of (map (in_merge g
 same_graph g [] = refl
 same_graph g (x ∷ objects) = ap (λ (gr : Graph). (x.serial, x.entries) ∷ gr) (same_graph g objects)
 
--- a death holds its object while a frame of its own runs
+-- a death holds its object while the object's own code runs
 own_held : (o : ℕ) (phase : DyingPhase) → runs_own_frame phase ≡ true → Includes (dying_holds o phase) o
 own_held o AfterFinalizer e = inl refl
 own_held o AfterLegacy e = inl refl
@@ -82,7 +81,7 @@ own_held o LegacyFinalizer e = absurd (let k : false ≡ true = e in cc)
 own_held o Detaching e = absurd (let k : false ≡ true = e in cc)
 own_held o Emptying e = absurd (let k : false ≡ true = e in cc)
 
--- in a full collection all that is tracked is looked at
+-- a full collection examines every tracked object
 pub looked_at : (p : Place) → IsYoung p → ¬ IsOfCollection p → p ≢ Frozen → (p ≡ Untracked) ⊎ (same_place (merged_place 2 p) (Gen 2) ≡ true)
 looked_at Untracked young apart thawed = inl refl
 looked_at (Gen i) young apart thawed = inr (ap (λ b. same_place (if b then Gen 2 else Gen i) (Gen 2)) (le-leb i 2 young))
@@ -115,7 +114,7 @@ module _ (w : World) (rises : Rises 1 w.next_serial w.objects) (near : (x : Obje
   count_holdings : (o : ℕ) → occurrences o (holdings now) ≡ occurrences o (holdings w)
   count_holdings o = ap (occurrences o) same_holdings
 
-  -- a member stands at no other place
+  -- a member is in no other place
   pub member_tracked : (o : ℕ) → IsMemberOf now (Gen 2) o → (x : Object) → Includes w.objects x → x.serial ≡ o → x.place ≢ Untracked
   member_tracked o m x i s u =
       let z = Includes-map_cases (λ (y : Object). y.serial) members o m in
@@ -135,7 +134,7 @@ module _ (w : World) (rises : Rises 1 w.next_serial w.objects) (near : (x : Obje
   held_first : (o : ℕ) → Includes (flat_map holds w.stack) o → IsMemberOf now (Gen 2) o → Survives now (Gen 2) o
   held_first o k m = let more = present o (flat_map holds w.stack) k in let less = less_held (is_at (Gen 2)) now.objects o in first (omega (arith, more, less, same_entries o, count_holdings o, parts o)) m
 
-  -- what paths lead to survives
+  -- what is reachable survives
   module _ (faded : (d : Death) → Includes w.stack (Dying d) → runs_own_frame d.phase ≡ false → (x : Object) → Includes w.objects x → x.serial ≡ d.object → x.place ≡ Untracked) where
     dying_survives : (o : ℕ) → IsMemberOf now (Gen 2) o → is_dying w o ≡ true → Survives now (Gen 2) o
     dying_survives o m e = let d = death_on o w.stack e in go d.0 d.1 d.2 (cases_of (runs_own_frame d.0.phase))
@@ -160,7 +159,7 @@ module _ (w : World) (rises : Rises 1 w.next_serial w.objects) (near : (x : Obje
     reached_survives o (first held inside) m = either held (dying_survives o m) (λ more. let less = less_held (is_at (Gen 2)) now.objects o in first (omega (arith, more, less, same_entries o, count_holdings o)) m)
     reached_survives o (further path arrow inside) m = next_one _ o (λ k. reached_survives _ path k) arrow m
 
-  -- and the other way round
+  -- and what survives is reachable
   module _ (slack : IsSlackWorld w) (root : Includes (serials w.objects) 1) where
     outside : (o : ℕ) → 0 < occurrences o (name_holdings w.names) + occurrences o (1 ∷ []) + occurrences o (flat_map holds w.stack) → Includes (serials w.objects) o → IsReached w o
     outside o more lives = first (inr (omega (arith, more, parts o))) lives
@@ -204,6 +203,6 @@ module _ (w : World) (rises : Rises 1 w.next_serial w.objects) (near : (x : Obje
     survives_reached o (first held inside) = first_one o held inside
     survives_reached o (further path arrow inside) = next_back _ o (survives_reached _ path) arrow inside
 
-    -- what no path leads to, of those that are looked at, is garbage
+    -- an unreachable candidate is garbage
     pub unreached_garbage : (o : ℕ) → IsMemberOf now (Gen 2) o → ¬ IsReached w o → IsGarbage now (Gen 2) o
     unreached_garbage o m none = record { member = m; no_path = λ s. none (survives_reached o s) }

@@ -1,4 +1,4 @@
--- The step in which a full collection stops is that of its end.
+-- A full collection stops in the step of its end.
 use Rattle.std.proofs.Common.{◌≡◌, ◌≢◌, refl, sym, ◌∙◌, ap, subst, ℕ, ◌<◌, Bool, true, false, inl, inr, ◌⊎◌, List, [], ◌∷◌, ◌++◌, map, arith}
 use Rattle.std.specs.Prelude.{◌==◌, count_by, if◌then◌else◌}
 use Rattle.cg_value.specs.declared.Place.TheVariants.{Gen, Legacy}
@@ -26,7 +26,7 @@ use Rattle.cg_promises.proofs.FinalSetRuns.{none_stops}
 abbrev pub NoStop : List Event → Type 0
 NoStop events = (event : Event) → Includes events event → is_stop event ≡ false
 
--- A step of an activity without commands stops none, but for the end of a collection.
+-- Only the end of a collection stops it.
 quiet_line : (after : List Object) (top : Activity) (event : Event) → (IsEnding top → ⊥) → IsLineOf after top event → is_stop event ≡ false
 quiet_line after top (GcStop g collected found) on h = absurd (on h)
 quiet_line after top event on h = refl
@@ -59,7 +59,7 @@ stop_ends script kept v below events after (Releasing refs ∷ tops) c bare begu
 stop_ends script kept v below events after (Dying d ∷ tops) c bare begun more step = absurd (let none = none_stops events (subst NoStop (sym step.0) (advance_quiet script v (Dying d) (tops ++ Collecting c ∷ below) _ _ (λ k. k) (dying_advances script d.object (tops ++ Collecting c ∷ below) v d.phase))) in omega (arith, none, more))
 stop_ends script kept v below events after (Collecting e ∷ tops) c bare begun more step = absurd (bare (Collecting e) (inl refl))
 
--- What the end leaves: references are added to the garbage list alone, and places change.
+-- What the end does: only the garbage list gets references, and objects move.
 abbrev pub Grows : List Object → List Object → Type 0
 Grows before after = (x : Object) → Includes before x → (y : Object) × Includes after y × (y.serial ≡ x.serial) × ((o : ℕ) → Includes (references x.entries) o → Includes (references y.entries) o)
 
@@ -81,7 +81,7 @@ pub all_saved_grow : (keeps : List ℕ) (objects : List Object) → Grows object
 all_saved_grow [] objects = λ x m. (x, m, refl, λ o i. i)
 all_saved_grow (o ∷ keeps) objects = grows_trans objects (saved o objects) (all_saved keeps (saved o objects)) (test_grows (λ x. with_entries (x.entries ++ item (Ref o) ∷ []) x) (λ x. x.serial == 1) objects (λ x. refl) (λ x r i. appended x.entries (item (Ref o) ∷ []) r i)) (all_saved_grow keeps (saved o objects))
 
--- what paths lead to before the end, they lead to after it
+-- what is reachable before the end is reachable after it
 pub end_reached : (script : Script) (c : Collection) (below : List Activity) (w : World) (events : List Event) (after : World) → w.stack ≡ Collecting c ∷ below → c.phase ≡ Ending → EndStep script c below w events after → (o : ℕ) → IsReached w o → IsReached after o
 end_reached script c below w events after top phase step = reached_lasts w after
     (λ o r. subst (λ (u : World). IsRoot u.names u.stack o) (sym step.world) (root_down w.names c below o (ap collect_holds phase) (subst (λ st. IsRoot w.names st o) top r)))

@@ -1,4 +1,4 @@
--- A generation is 0, 1 or 2: those in which objects stand, and those of collections.
+-- Every generation, of an object or of a collection, is 0, 1 or 2.
 use Rattle.std.proofs.Common.{◌≡◌, refl, sym, ◌∙◌, subst, ℕ, ◌≤◌, Bool, true, false, not, inl, inr, List, [], ◌∷◌, ◌++◌, map, arith}
 use Rattle.std.specs.Prelude.{◌==◌, if◌then◌else◌}
 use Rattle.cg_value.specs.declared.Val.TheVariants.{Ref}
@@ -45,7 +45,6 @@ test_young f test objects h young = map_young (λ x. if test x then f x else x) 
 pub entries_young : (es : List Entry) (o : ℕ) (objects : List Object) → AreYoung objects → AreYoung (change (with_entries es) o objects)
 entries_young es o objects h = test_young (with_entries es) (λ x. x.serial == o) objects (λ x m t k. k) h
 
--- the stack
 pub push_young : (a : Activity) (stack : List Activity) (objects : List Object) → ((c : Collection) → a ≡ Collecting c → c.generation ≤ 2) → Young objects stack → Young objects (a ∷ stack)
 push_young a stack objects age h = record { places = h.places; ages = λ c m. either m (age c) (h.ages c) }
 
@@ -55,7 +54,7 @@ turn_young a b below before after young age h = record { places = young; ages = 
 pub starts_young : (script : Script) (spec : FrameSpec) (u : World) → IsYoungWorld u → IsYoungWorld (start_frame script spec u).1
 starts_young script spec u h = starts_either (λ lines. IsYoungWorld) script spec u (record { places = h.places; ages = h.ages }) (λ some. push_young (begun_frame script spec) u.stack u.objects (λ c e. cc) h)
 
--- where the objects go in a step of another activity
+-- where another activity's step moves objects
 place_young : (g : ℕ) (p : Place) → g ≤ 2 → IsPlaceIn g p → IsYoung p
 place_young g (Gen i) age h = either h (λ e. omega (arith, age, e)) (λ e. omega (arith, e))
 place_young g p age h = tt
@@ -75,7 +74,6 @@ module _ (top : Activity) (age : (c : Collection) → top ≡ Collecting c → c
   changed_young tops lines before after (LosesObject o objects owns line) h = λ x m. h x (Includes-filter_cases (λ (z : Object). not (z.serial == o)) objects x m).0
   changed_young tops lines before after (Followed first now last c d) h = changed_young tops lines now last d (changed_young tops lines first now c h)
 
--- what goes on
 continues_young : (before after : List Object) (top a : Activity) → ((c : Collection) → top ≡ Collecting c → c.generation ≤ 2) → Continues before after top a → (c : Collection) → a ≡ Collecting c → c.generation ≤ 2
 continues_young before after top a age (DeathGoesOn o phase next waits none) c e = cc
 continues_young before after top a age (DeathClears o weak waiting weaks t first lost) c e = cc

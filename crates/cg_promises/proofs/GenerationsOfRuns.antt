@@ -1,4 +1,4 @@
--- In every world of a run generations are 0, 1 and 2.
+-- In every world of a run, generations are 0, 1 and 2.
 use Rattle.std.proofs.Common.{◌≡◌, sym, subst, ℕ, ◌≤◌, Bool, true, false, not, ◌&&◌, List, [], ◌∷◌, Some, None, arith}
 use Rattle.std.specs.Prelude.{◌/◌, ◌==◌, ◌||◌, nat_lt, if◌then◌else◌}
 use Rattle.cg_value.specs.declared.Val.{Val}
@@ -27,7 +27,6 @@ use Rattle.cg_machine.proofs.Advancing.{frame_end_advances, released_advances, d
 use Rattle.cg_promises.proofs.Generations.{AreYoung, IsYoung, IsYoungWorld, Young, entries_young, map_young, push_young, advance_young, starts_young, test_young, turn_young}
 use Rattle.cg_script.specs.declared.Command.TheVariants.{Del}
 
--- a collection that is due
 due_young : (n : Numbers) → due_generation n ≤ 2
 due_young n = go (nat_lt n.two_threshold n.two_count && not (nat_lt n.pending (n.total / 4))) (nat_lt n.one_threshold n.one_count)
   where
@@ -130,7 +129,6 @@ module _ (script : Script) (below : List Activity) (v : World) where
     asks = λ g low e. begun_young a g true low h;
   }
 
--- any step
 young_steps : (script : Script) → Steps script IsYoungWorld (λ w events. IsYoungWorld)
 young_steps script = record {
   starts_due = λ a below v ha g e k. begun_young script below v a g false (due_is_young (on a below v) g e) k;

@@ -1,5 +1,5 @@
--- An object that never was in a final set without SAVEALL loses entries only by a command, by its own death, or, a weak reference,
--- by the death of what it referred to.
+-- An object that was never in a final set without SAVEALL loses entries only by a command, by its own death, or, if it is a weak
+-- reference, by its referent's death.
 use Rattle.std.proofs.Common.{◌≡◌, ◌≢◌, refl, sym, ◌∙◌, ap, subst, ℕ, ◌≤◌, true, false, inl, inr, List, [], ◌∷◌, ◌++◌, Option, Some, None, Bool}
 use Rattle.std.proofs.lemmas.List.{append_assoc, append-nil}
 use Rattle.cg_script.specs.declared.Script.{Script}
@@ -37,7 +37,6 @@ use Rattle.cg_promises.proofs.WaitingReferents.{Waited, step_waited}
 use Rattle.cg_machine.specs.Program.{declares_shutdown}
 use Rattle.cg_machine.specs.Shutdown.{greatest_bound, shut_down, after_commands}
 
--- the end of a frame leaves the objects
 ended_objects : (f : Frame) (w : World) → (frame_end f w).1.objects ≡ w.objects
 ended_objects f w = go f.sort
   where
@@ -47,7 +46,7 @@ ended_objects f w = go f.sort
     go Callback = refl
     go Call = refl
 
--- the steps of a script's end change no object
+-- the steps at the end of a script change no object
 after_objects : (b : Bool) (below : List Activity) (w : World) → (after_commands b below w).1.objects ≡ w.objects
 after_objects true below w = refl
 after_objects false below w = refl
@@ -61,19 +60,18 @@ module _ (script : Script) (budget : ℕ) where
   abbrev world : List StepTaken → World
   world done = last_world (opening script budget) done
 
-  -- what was stays so in a longer run
+  -- the past of a run is part of a longer run's past
   was_longer : (done : List StepTaken) (step : StepTaken) (n : ℕ) → WasFinal script budget done n → WasFinal script budget (done ++ step ∷ []) n
   was_longer done step n w = record { before = w.before; split = w.split; after = w.after ++ step ∷ []; is = ap (λ steps. steps ++ step ∷ []) w.is ∙ append_assoc w.before (w.split ∷ w.after) (step ∷ []); splits = w.splits; member = w.member }
 
   referred_longer : (done : List StepTaken) (step : StepTaken) (weak o : ℕ) → ReferredTo script budget done weak o → ReferredTo script budget (done ++ step ∷ []) weak o
   referred_longer done step weak o w = record { before = w.before; after = w.after ++ step ∷ []; is = ap (λ steps. steps ++ step ∷ []) w.is ∙ append_assoc w.before w.after (step ∷ []); object = w.object; member = w.member; same = w.same; refers = w.refers }
 
-  -- what the worlds of a run have of its past
+  -- what the worlds of a run know of its past
   record Past (done : List StepTaken) (w : World) : Type 0 where
     waited : Waited (ReferredTo script budget done) w.stack
     final : AreFinal (WasFinal script budget done) w.objects w.stack
 
-  -- more may be said of what was
   finals_more : (P Q : ℕ → Type 0) → ((n : ℕ) → P n → Q n) → (c : Collection) (phase : CollectPhase) (objects : List Object) → FinalAt P c phase objects → FinalAt Q c phase objects
   finals_more P Q more c Turns objects h = λ clears x m e. more x.serial (h clears x m e)
   finals_more P Q more c (Turn o) objects h = (λ clears x m e. more x.serial (h.0 clears x m e), more o h.1)
@@ -84,7 +82,6 @@ module _ (script : Script) (budget : ℕ) where
     abbrev longer : List StepTaken
     longer = done ++ step ∷ []
 
-    -- an other step
     other_final : (a : Activity) (below : List Activity) → (world done).stack ≡ a ∷ below → is_collection a ≡ false → AreFinal (WasFinal script budget longer) (world done).objects (world done).stack → AreFinal (WasFinal script budget longer) step.world.objects step.world.stack
     other_final a below top none h c m =
         let w = world done in
@@ -149,7 +146,7 @@ module _ (script : Script) (budget : ℕ) where
     is_x : (z : Object) → Includes (world before).objects z → z.serial ≡ y.serial → z ≡ x
     is_x z m e = same_object 1 (world before).next_serial (world before).objects z x fit.sound.rises m mx (e ∙ sym same)
 
-    -- where no object changes, none gets shorter
+    -- where no object changes, none loses entries
     unchanged : (next : World) → step.world ≡ next → next.objects ≡ (world before).objects → ⊥
     unchanged next e same_objects =
         let m = subst (λ os. Includes os y) (ap (λ (w : World). w.objects) e ∙ same_objects) my in

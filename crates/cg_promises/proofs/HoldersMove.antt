@@ -1,5 +1,5 @@
--- What nothing holds is dying: of the parts of a world. A step that moves what entries or activities held to another activity
--- keeps it so. A weak reference has one entry at most, so that no more is lost when its callback is taken out.
+-- Unheld objects are dying, by the parts of a world. A step that moves the holds of entries or activities to another activity
+-- keeps this. A weak reference has at most one entry, so removing its callback loses no other reference.
 use Rattle.std.proofs.Common.{◌≡◌, ◌≢◌, refl, sym, ◌∙◌, subst, ℕ, ◌<◌, Bool, true, false, inl, inr, ◌⊎◌, List, [], ◌∷◌, ◌++◌, length, map, Option, None}
 use Rattle.std.specs.Prelude.{◌==◌, ◌||◌, if◌then◌else◌, flat_map}
 use Rattle.std.specs.List.{list_any}
@@ -29,18 +29,17 @@ pub record IsFree (objects : List Object) (names : List (Option Val)) (stack : L
   pub entries_none : (x : Object) → Includes objects x → ¬ Includes (references x.entries) o
   pub stack_none : ¬ Includes (flat_map holds stack) o
 
--- then it is dying
 abbrev pub Minds : List Object → List (Option Val) → List Activity → ℕ → Type 0
 Minds objects names stack n = Includes (serials objects) n → IsFree objects names stack n → list_any (is_death_of n) stack ≡ true
 
--- A weak reference has one entry at most, and the references of a tuple have smaller serials than it.
+-- A weak reference has at most one entry, and the references of a tuple have smaller serials than the tuple.
 abbrev pub IsSingle : Object → Type 0
 IsSingle x = (x.code ≡ Weak → AtMostOne x.entries) × (x.code ≡ Tuple → (n : ℕ) → Includes (references x.entries) n → n < x.serial)
 
 abbrev pub AreSingle : List Object → Type 0
 AreSingle objects = (x : Object) → Includes objects x → IsSingle x
 
--- the invariant, for as many names
+-- the invariant, for this many names
 pub record Minded (k : ℕ) (objects : List Object) (names : List (Option Val)) (stack : List Activity) : Type 0 where
   pub minds : (n : ℕ) → Minds objects names stack n
   pub single : AreSingle objects
@@ -49,7 +48,7 @@ pub record Minded (k : ℕ) (objects : List Object) (names : List (Option Val)) 
 abbrev pub IsMinded : ℕ → World → Type 0
 IsMinded k w = Minded k w.objects w.names w.stack
 
--- what entries held is held by entries still, or moved
+-- what entries held is still held by entries, or has moved
 pub record Keeps (before after : List Object) (moved : List ℕ) : Type 0 where
   pub old : Old before after
   pub entries : (x : Object) → Includes before x → (n : ℕ) → Includes (references x.entries) n → ((y : Object) × Includes after y × Includes (references y.entries) n) ⊎ Includes moved n
@@ -65,7 +64,6 @@ keeps_trans before now after h k = record {
   single = λ s. k.single (h.single s);
 }
 
--- those that pass a test change
 pub test_keeps : (f : Object → Object) (test : Object → Bool) (objects : List Object) (moved : List ℕ) → ((x : Object) → Marks x (f x))
     → ((x : Object) → Includes objects x → test x ≡ true → (n : ℕ) → Includes (references x.entries) n → Includes (references (f x).entries) n ⊎ Includes moved n)
     → ((x : Object) → Includes objects x → test x ≡ true → IsSingle x → IsSingle (f x)) → Keeps objects (map (λ x. if test x then f x else x) objects) moved
@@ -83,7 +81,7 @@ test_keeps f test objects moved marks entries single = record {
     one true x t m s = single x m t s
     one false x t m s = s
 
--- a change that leaves entries and kind
+-- a change that keeps entries and kind
 pub record IsPlainly (f : Object → Object) : Type 0 where
   pub marks : (x : Object) → Marks x (f x)
   pub entries : (x : Object) → (f x).entries ≡ x.entries
@@ -105,7 +103,7 @@ lost = record { marks = λ x. record { serial = refl; code = refl; class = refl;
 pub lost_keeps : (weak : ℕ) (objects : List Object) → Keeps objects (loses_referent weak objects) []
 lost_keeps weak objects = change_keeps (with_referent None) weak objects lost
 
--- the stack goes on: an activity turns to another, gives up references, or ends
+-- the stack goes on: an activity is replaced, gives up references, or ends
 abbrev pub Turned : Activity → Activity → List ℕ → Type 0
 Turned a b moved = ((n : ℕ) → Includes (holds a) n → Includes (holds b) n) × ((n : ℕ) → Includes moved n → Includes (holds b) n) × ((n : ℕ) → is_death_of n a ≡ is_death_of n b)
 
@@ -128,7 +126,7 @@ turn_minded k a b below before after names moved keeps t h = stack_minded k befo
     (λ n m. Includes-append_left (holds b) (flat_map holds below) n (t.1 n m))
     (λ n e. subst (λ d. (d || list_any (is_death_of n) below) ≡ true) (t.2 n) e) h
 
--- some references go to a release on top
+-- some references move to a release on top
 pub give_minded : (k : ℕ) (references : List ℕ) (a b : Activity) (below : List Activity) (before after : List Object) (names : List (Option Val)) (moved : List ℕ) → Keeps before after moved
     → ((n : ℕ) → Includes (holds a) n → Includes references n ⊎ Includes (holds b) n) → ((n : ℕ) → Includes moved n → Includes references n ⊎ Includes (holds b) n) → ((n : ℕ) → is_death_of n a ≡ is_death_of n b)
     → Minded k before names (a ∷ below) → Minded k after names (Releasing references ∷ b ∷ below)
@@ -146,16 +144,14 @@ pub end_minded : (k : ℕ) (a : Activity) (below : List Activity) (before after 
 end_minded k a below before after names keeps none deaths h = stack_minded k before after names (a ∷ below) below [] keeps
     (λ n m. subst (λ hs. Includes (hs ++ flat_map holds below) n) none m) (λ n m. absurd m) (λ n e. subst (λ d. (d || list_any (is_death_of n) below) ≡ true) (deaths n) e) h
 
--- one is pushed
 pub push_minded : (k : ℕ) (a : Activity) (objects : List Object) (names : List (Option Val)) (stack : List Activity) → ((n : ℕ) → is_death_of n a ≡ false) → Minded k objects names stack → Minded k objects names (a ∷ stack)
 push_minded k a objects names stack deaths h = stack_minded k objects objects names stack (a ∷ stack) [] (keeps_same objects)
     (λ n m. Includes-append_right (holds a) (flat_map holds stack) n m) (λ n m. absurd m) (λ n e. subst (λ d. (d || list_any (is_death_of n) stack) ≡ true) (sym (deaths n)) e) h
 
--- a frame starts
 pub starts_minded : (k : ℕ) (script : Script) (spec : FrameSpec) (u : World) → IsMinded k u → IsMinded k (start_frame script spec u).1
 starts_minded k script spec u h = starts_either (λ lines. IsMinded k) script spec u (record { minds = h.minds; single = h.single; count = h.count }) (λ some. push_minded k (begun_frame script spec) u.objects u.names u.stack (λ n. refl) h)
 
--- what nothing holds has in-degree 0, and the other way round
+-- an object is unheld exactly if its in-degree is 0
 pub free_degree : (w : World) (o : ℕ) → IsFree w.objects w.names w.stack o → in_degree w o ≡ 0
 free_degree w o f = no_times o (holdings w) (λ m. either (Includes-append_cases (name_holdings w.names ++ (1 ∷ []) ++ entry_holdings (graph_of w.objects)) (flat_map holds w.stack) o m) front f.stack_none)
   where

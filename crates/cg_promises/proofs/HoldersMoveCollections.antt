@@ -1,4 +1,4 @@
--- What holds nothing is dying: the steps of a collection.
+-- The steps of a collection: unheld objects are dying.
 use Rattle.std.proofs.Common.{◌≡◌, ◌≢◌, refl, sym, ◌∙◌, ap, subst, ℕ, ◌<◌, ◌⊎◌, false, true, inl, inr, List, [], ◌∷◌, ◌++◌, Option, Some, None}
 use Rattle.std.specs.Prelude.{◌==◌}
 use Rattle.std.proofs.lemmas.Bool.{eqb-true}
@@ -35,7 +35,7 @@ saved_keeps o objects list = test_keeps (λ x. with_entries (x.entries ++ item (
 marks : (top : Activity) (tops : List Activity) (lines : List Event) (x y : Object) → KeepsEntries top tops lines x y → Marks x y
 marks top tops lines x y k = record { serial = k.later.serial; code = k.later.code; class = k.later.class; finalized = k.finalized }
 
--- the objects change, but for entries that are taken
+-- the objects change; no entries are taken
 changed_keeps : (top : Activity) (tops : List Activity) (lines : List Event) → ((s : ℕ) → ¬ Owns top s) → (before after : List Object) → HasChanged top tops lines before after → IsList before → Keeps before after []
 changed_keeps top tops lines none before after (NothingChanges objects) list = keeps_same objects
 changed_keeps top tops lines none before after (ChangesEach f test objects aside) list = record {
@@ -58,7 +58,7 @@ changed_keeps top tops lines none before after (LosesObject o objects owns line)
 changed_keeps top tops lines none before after (Followed first now last h k) list =
     keeps_trans first now last (changed_keeps top tops lines none first now h list) (changed_keeps top tops lines none now last k (λ y m e. let x = changed_origin top tops lines first now h y m in x.2.code ∙ list x.0 x.1 (sym x.2.serial ∙ e)))
 
--- a collection takes entries in turns alone
+-- a collection takes entries only in turns
 owns_none : (c : Collection) → ((o : ℕ) → c.phase ≢ Turn o) → (top : Activity) → top ≡ Collecting c → (s : ℕ) → ¬ Owns top s
 owns_none c other top is s (OfEmptied o) = cc
 owns_none c other top is s (OfCalled o weak waiting) = cc

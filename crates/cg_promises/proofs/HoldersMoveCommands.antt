@@ -1,4 +1,4 @@
--- Commands: what a name or an entry held is held still, or given up, and what is made is bound to a name.
+-- Commands: what a name or an entry held is still held, or is given up, and a new object is bound to a name.
 use Rattle.std.proofs.Common.{◌≡◌, ◌≢◌, refl, sym, ◌∙◌, ap, subst, ℕ, zero, suc, ◌<◌, Bool, true, false, not, ◌&&◌, inl, inr, ◌⊎◌, List, [], ◌∷◌, ◌++◌, length, Option, Some, arith}
 use Rattle.std.specs.Prelude.{◌==◌, ◌||◌, if◌then◌else◌, option_and_then, option_to_list, slice_get, slice_set}
 use Rattle.std.proofs.lemmas.Bool.{eqb-true}
@@ -26,7 +26,6 @@ use Rattle.cg_machine.proofs.Shapes.{IsAtHand, IsMutable, Shape, Binds, Makes, E
 use Rattle.cg_promises.proofs.FinalizerOnce.{Marks, map_old, old_lives}
 use Rattle.cg_promises.proofs.HoldersMove.{AreSingle, IsSingle, Keeps, keeps_same, test_keeps}
 
--- names
 bound_keeps : (names : List (Option Val)) (x : ℕ) (v : Option Val) (n : ℕ) → Includes (name_holdings names) n → Includes (name_holdings (slice_set names x v)) n ⊎ Includes (references_of_value (option_and_then (λ v. v) (slice_get names x))) n
 bound_keeps [] x v n m = absurd m
 bound_keeps (p ∷ names) zero v n m = either (Includes-append_cases (references_of_value p) (name_holdings names) n m) (λ k. inr k) (λ k. inl (Includes-append_right (references_of_value v) (name_holdings names) n k))
@@ -43,7 +42,7 @@ bound_holds [] x n h = absurd (omega (arith, h))
 bound_holds (p ∷ names) zero n h = inl refl
 bound_holds (p ∷ names) (suc x) n h = Includes-append_right (references_of_value p) (name_holdings (slice_set names x (Some (Ref n)))) n (bound_holds names x n (omega (arith, h)))
 
--- what a command does to a world whose references `given` are given up
+-- what a command does to a world, with the references it gives up
 pub record Shifts (w : World) (given : List ℕ) (after : World) : Type 0 where
   pub names : (n : ℕ) → Includes (name_holdings w.names) n → Includes (name_holdings after.names) n ⊎ Includes given n
   pub entries : (x : Object) → Includes w.objects x → (n : ℕ) → Includes (references x.entries) n → ((y : Object) × Includes after.objects y × Includes (references y.entries) n) ⊎ Includes given n
@@ -58,7 +57,7 @@ Shifting w (Collects g) = Unit {0}
 Shifting w (Explains o) = Unit {0}
 Shifting w Quits = Unit {0}
 
--- what changes is no weak reference and no tuple
+-- a changed object is no weak reference and no tuple
 abbrev pub IsApart : KindCode → Type 0
 IsApart code = (code ≢ Weak) × (code ≢ Tuple)
 
@@ -69,7 +68,6 @@ mutable_apart Inst m = (λ e. cc, λ e. cc)
 mutable_apart code m = absurd m
 
 module _ (w : World) (rises : Rises 1 w.next_serial w.objects) where
-  -- the objects change
   shifted : (after : World) (given : List ℕ) → Keeps w.objects after.objects given → after.names ≡ w.names → Shifts w given after
   shifted after given keeps e = record {
     names = λ n m. inl (subst (λ ns. Includes (name_holdings ns) n) (sym e) m);
@@ -140,7 +138,7 @@ module _ (w : World) (rises : Rises 1 w.next_serial w.objects) where
       fresh : Object
       fresh = record { serial = w.next_serial; code = kind; class = class; entries = entries; place = first_place kind; finalized = false; referent = referent }
 
-  -- what is at hand refers to what was made
+  -- a value at hand refers to the new object
   abbrev pub IsHandMade : Command → Type 0
   IsHandMade command = (v : Val) → IsAtHand w command v → (n : ℕ) → Includes (option_to_list (reference_in v)) n → n < w.next_serial
 

@@ -1,4 +1,4 @@
--- Releases, deaths and the end of a frame: what nothing holds is dying still.
+-- Releases, deaths and the end of a frame: unheld objects are still dying.
 use Rattle.std.proofs.Common.{◌≡◌, ◌≢◌, refl, sym, ◌∙◌, ap, subst, ℕ, Bool, true, false, not, ◌&&◌, inl, inr, ◌⊎◌, List, [], ◌∷◌, ◌++◌, Option, Some, None}
 use Rattle.std.specs.Prelude.{◌==◌, ◌||◌, if◌then◌else◌, flat_map, is_some, option_and_then, option_to_list, unwrap_or}
 use Rattle.std.specs.List.{list_any}
@@ -31,11 +31,9 @@ not_false : (b : Bool) → not b ≡ false → b ≡ true
 not_false true e = refl
 not_false false e = sym e
 
--- one of two that differ
 other : (o n : ℕ) → (o == n) ≡ false → o ≢ n
 other o n t e = let no : true ≡ false = sym (eq-eqb o n e) ∙ t in cc
 
--- a frame ends
 pub frame_end_minded : (k : ℕ) (f : Frame) (below : List Activity) (v : World) → IsMinded k (with_stack (Framed f ∷ below) v) → IsMinded k (frame_end f (with_stack below v)).1
 frame_end_minded k f below v h = by_sort f.sort f.function h
   where
@@ -45,7 +43,6 @@ frame_end_minded k f below v h = by_sort f.sort f.function h
     by_sort Callback function h = end_minded k (Framed (record f { sort = Callback; function = function })) below v.objects v.objects v.names (keeps_same v.objects) refl (λ n. refl) h
     by_sort Call function h = stack_minded k v.objects v.objects v.names (Framed (record f { sort = Call; function = function }) ∷ below) (Releasing (option_to_list function) ∷ below) [] (keeps_same v.objects) (λ n m. m) (λ n m. absurd m) (λ n e. e) h
 
--- a release
 pub released_minded : (k : ℕ) (references : List ℕ) (below : List Activity) (v : World) → IsMinded k (with_stack (Releasing references ∷ below) v) → IsMinded k (released references below (with_stack (Releasing references ∷ below) v)).1
 released_minded k [] below v h = end_minded k (Releasing []) below v.objects v.objects v.names (keeps_same v.objects) refl (λ n. refl) h
 released_minded k (o ∷ refs) below v h = go (not (is_dying now o) && (in_degree now o == 0)) refl
@@ -91,7 +88,6 @@ released_minded k (o ∷ refs) below v h = go (not (is_dying now o) && (in_degre
     go true e = record { minds = dies; single = keeps.single h.single; count = h.count }
     go false e = record { minds = stays e; single = h.single; count = h.count }
 
--- a death
 module _ (script : Script) (k : ℕ) (o : ℕ) (below : List Activity) (v : World) (rises : Rises 1 v.next_serial v.objects) where
   abbrev at : DyingPhase → World
   at phase = death_at o phase below v
@@ -115,7 +111,7 @@ module _ (script : Script) (k : ℕ) (o : ℕ) (below : List Activity) (v : Worl
   legacy_minded (Some p) h = starts_minded k script (record { sort = Legacy; proc = p; subject = o; func = None }) (death_at o AfterLegacy below (with_change (with_place (Gen 0)) o (at LegacyFinalizer)))
       (goes_to LegacyFinalizer AfterLegacy (change (with_place (Gen 0)) o v.objects) (change_keeps (with_place (Gen 0)) o v.objects (placed (Gen 0))) (λ n m. absurd m) h)
 
-  -- the hold of its own frame ends
+  -- a death gives up its own hold
   module _ (phase next : DyingPhase) (held : (n : ℕ) → Includes (dying_holds o phase) n → o ≡ n) (none : dying_holds o next ≡ []) (h : IsMinded k (at phase)) where
     untracked : Keeps v.objects (change (with_place Untracked) o v.objects) []
     untracked = change_keeps (with_place Untracked) o v.objects (placed Untracked)

@@ -1,4 +1,4 @@
--- In every world of a run what nothing holds is dying.
+-- In every world of a run, unheld objects are dying.
 use Rattle.std.proofs.Common.{◌≡◌, refl, sym, ◌∙◌, subst, ℕ, ◌<◌, true, false, inl, List, [], ◌∷◌, length, Some, None}
 use Rattle.std.specs.Prelude.{flat_map}
 use Rattle.std.proofs.lemmas.List.{length-replicate}
@@ -39,7 +39,6 @@ use Rattle.cg_promises.proofs.HoldersMoveCommands.{IsHandMade, Shifts, shape_shi
 use Rattle.cg_promises.proofs.FinalizerOnceCommands.{lives_or_not}
 use Rattle.cg_promises.proofs.FinalizerOnceRuns.{Fit, opening_fit, step_fit}
 
--- a command is taken, and done
 taken_member : (command : Command) (a b : Activity) (below : List Activity) → Takes command a b → Includes (flat_map commands_on (a ∷ below)) command
 taken_member command a b below (FromTop commands) = inl refl
 taken_member command a b below (FromFrame f commands left) = Includes-append_left f.commands (flat_map commands_on below) command (subst (λ cs. Includes cs command) (sym left) (inl refl))
@@ -90,12 +89,11 @@ module _ (script : Script) (count : ℕ) (below : List Activity) (v : World) whe
       asks = λ g low e. push_minded count (new_collection g true now) v.objects v.names (a ∷ below) (λ n. refl) h;
     }
 
--- a weak reference that waits in a death is one
+-- what waits in a death is a weak reference
 waits_code : (o : ℕ) (phase : DyingPhase) (below : List Activity) (v : World) → HasOrder (with_stack (Dying (record { object = o; phase = phase }) ∷ below) v) → (waiting : List ℕ) → phase ≡ Calling waiting → (weak : ℕ) → Includes waiting weak → (x : Object) → Includes v.objects x → x.serial ≡ weak → x.code ≡ Weak
 waits_code o (Calling waits) below v order waiting e weak m x i s = let same : waits ≡ waiting = cc in (order.waiting weak (Includes-append_left waits (all_waits below) weak (subst (λ ws. Includes ws weak) (sym same) m)) x i s).code
 waits_code o phase below v order waiting e weak m x i s = cc
 
--- any step
 module _ (script : Script) (known : TextsAreKnown script) where
   abbrev count : ℕ
   count = length script.names

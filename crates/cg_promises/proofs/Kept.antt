@@ -1,5 +1,5 @@
--- While a full collection goes on in which no frame begins, what names, activities below it and kept objects hold is kept: it
--- is not condemned, it does not die, and it refers to what it referred to.
+-- During a full collection in which no frame begins, what is held by names, the activities below and kept objects is kept: it
+-- is not condemned, does not die, and keeps its references.
 use Rattle.std.proofs.Common.{◌≡◌, ◌≢◌, refl, sym, ◌∙◌, ap, subst, ℕ, Bool, true, false, not, inl, inr, ◌⊎◌, List, [], ◌∷◌, ◌++◌, map, Option, None}
 use Rattle.std.specs.Prelude.{◌==◌, ◌||◌, flat_map, if◌then◌else◌}
 use Rattle.std.specs.List.{list_any}
@@ -19,13 +19,13 @@ use Rattle.cg_machine.specs.Weak.{AllLose, loses_referent}
 use Rattle.cg_machine.specs.Collect.{all_saved, is_condemned, saved}
 use Rattle.cg_machine.proofs.Releasing.{none_holds}
 
--- an object later: not condemned, and with its references
+-- an object later: not condemned, with its references
 pub record Fares (x y : Object) : Type 0 where
   pub serial : y.serial ≡ x.serial
   pub refers : (o : ℕ) → Includes (references x.entries) o → Includes (references y.entries) o
   pub clear : is_condemned y ≡ false
 
--- what a change of the objects leaves of those that are kept
+-- what a change does to the kept objects
 abbrev pub Leaves : (ℕ → Type 0) → List Object → List Object → Type 0
 Leaves kept before after = (x : Object) → Includes before x → kept x.serial → is_condemned x ≡ false → (y : Object) × Includes after y × Fares x y
 
@@ -45,7 +45,7 @@ test_leaves kept f test objects h x m k e = (if test x then f x else x, Includes
     one true t = h x m t k e
     one false t = record { serial = refl; refers = λ o i. i; clear = e }
 
--- to a place of those that are not condemned
+-- to a place of uncondemned objects
 pub placed_leaves : (kept : ℕ → Type 0) (p : Place) (test : Object → Bool) (objects : List Object) → ((x : Object) → is_condemned (with_place p x) ≡ false) → Leaves kept objects (map (λ x. if test x then with_place p x else x) objects)
 placed_leaves kept p test objects clear = test_leaves kept (with_place p) test objects (λ x m t k e. record { serial = refl; refers = λ o i. i; clear = clear x })
 
@@ -67,14 +67,14 @@ pub all_saved_leaves : (kept : ℕ → Type 0) (keeps : List ℕ) (objects : Lis
 all_saved_leaves kept [] objects = leaves_same kept objects
 all_saved_leaves kept (o ∷ keeps) objects = leaves_trans kept objects (saved o objects) (all_saved keeps (saved o objects)) (saved_leaves kept o objects) (all_saved_leaves kept keeps (saved o objects))
 
--- other entries, for one that is not kept
+-- other entries, for an object that is not kept
 pub entries_leave : (kept : ℕ → Type 0) (es : List Entry) (o : ℕ) (objects : List Object) → ¬ kept o → Leaves kept objects (change (with_entries es) o objects)
 entries_leave kept es o objects apart = test_leaves kept (with_entries es) (λ x. x.serial == o) objects (λ x m t k e. absurd (apart (subst kept (eqb-true x.serial o t) k)))
 
 pub without_leaves : (kept : ℕ → Type 0) (o : ℕ) (objects : List Object) → ¬ kept o → Leaves kept objects (without o objects)
 without_leaves kept o objects apart x m k e = (x, Includes-filter (λ (z : Object). not (z.serial == o)) objects x (ap not (either (cases_of (x.serial == o)) (λ t. absurd (apart (subst kept (eqb-true x.serial o t) k))) (λ f. f))) m, record { serial = refl; refers = λ r i. i; clear = e })
 
--- what is kept is held so
+-- each kept object is held in this way
 abbrev pub IsKeptBy : (ℕ → Type 0) → List Object → List (Option Val) → List Activity → ℕ → Type 0
 IsKeptBy kept start names below o = Includes (name_holdings names) o ⊎ ((o ≡ 1) ⊎ (Includes (flat_map holds below) o ⊎ ((list_any (is_death_of o) below ≡ true) ⊎ ((x : Object) × Includes start x × kept x.serial × Includes (references x.entries) o))))
 
@@ -84,7 +84,7 @@ turns_of (Turn o) = o ∷ []
 turns_of (AfterTurn o) = o ∷ []
 turns_of phase = []
 
--- what is on top of the collection: releases, and deaths of what is not kept
+-- on top of the collection: releases, and deaths of objects that are not kept
 abbrev pub IsBare : (ℕ → Type 0) → Activity → Type 0
 IsBare kept (TopLevel commands) = ⊥
 IsBare kept (Framed f) = ⊥
@@ -93,7 +93,6 @@ IsBare kept (Dying d) = ¬ kept d.object
 IsBare kept (Collecting c) = ⊥
 IsBare kept (ShuttingDown started) = ⊥
 
--- the invariant
 pub record Full (kept : ℕ → Type 0) (start : List Object) (below : List Activity) (objects : List Object) (stack : List Activity) : Type 0 where
   pub tops : List Activity
   pub collection : Collection
@@ -109,7 +108,7 @@ lives_on kept start before after leaves h x m k =
     let b = leaves a.0 a.1 (subst kept (sym a.2.serial) k) a.2.clear in
     (b.0, b.1, record { serial = b.2.serial ∙ a.2.serial; refers = λ o r. b.2.refers o (a.2.refers o r); clear = b.2.clear })
 
--- a release never finds a kept one at 0
+-- a release never brings a kept object to 0
 pub death_in : (o : ℕ) (tops below : List Activity) → list_any (is_death_of o) below ≡ true → list_any (is_death_of o) (tops ++ below) ≡ true
 death_in o [] below e = e
 death_in o (a ∷ tops) below e = or_true (is_death_of o a) (death_in o tops below e)

@@ -1,4 +1,4 @@
--- A full collection in which no frame begins keeps what is kept, up to its stop.
+-- A full collection in which no frame begins keeps the kept objects until its stop.
 use Rattle.std.proofs.Common.{◌≡◌, ◌≢◌, refl, sym, ◌∙◌, ap, subst, ℕ, ◌+◌, Bool, true, false, not, ◌&&◌, inl, inr, List, [], ◌∷◌, ◌++◌, map, length, Option, Some, None, arith}
 use Rattle.std.specs.Prelude.{◌==◌, cond, count_by, if◌then◌else◌, is_some, option_and_then}
 use Rattle.std.proofs.lemmas.Bool.{eqb-true}
@@ -30,7 +30,6 @@ use Rattle.cg_promises.proofs.Kept.{Fares, Full, IsBare, IsKeptBy, Leaves, all_l
 use Rattle.cg_promises.proofs.FinalSetRuns.{stops}
 use Rattle.cg_promises.proofs.UntrackedStayStart.{not_false}
 
--- no frame begins
 pub starts_none : (script : Script) (spec : FrameSpec) (u : World) (events : List Event) (after : World) → Yields (start_frame script spec u) events after → count_by is_enter events ≡ 0 → after.outcome ≡ Running → ⊥
 starts_none script spec u events after step quiet running = starts_either (λ es w. events ≡ es → after ≡ w → ⊥) script spec u
     (λ e k. let no : BudgetIsSpent ≡ Running = sym (ap (λ (z : World). z.outcome) k) ∙ running in cc)
@@ -52,7 +51,7 @@ module _ (script : Script) (kept : ℕ → Type 0) (start : List Object) (below 
   full : (tops : List Activity) (c : Collection) (w : World) → w.names ≡ v.names → w.stack ≡ tops ++ Collecting c ∷ below → Leaves kept v.objects w.objects → ((a : Activity) → Includes tops a → IsBare kept a) → ((o : ℕ) → Includes (turns_of c.phase) o → ¬ kept o) → c.phase ≢ Start → IsFull w
   full tops c w names is leaves bare turn begun = record { names = names; full = record { tops = tops; collection = c; is = is; bare = bare; turn = turn; begun = begun; lives = lives_on kept start v.objects w.objects leaves lives } }
 
-  -- what is condemned is not kept
+  -- a condemned object is not kept
   not_kept : (x : Object) → Includes v.objects x → is_condemned x ≡ true → ¬ kept x.serial
   not_kept x m e k =
       let z = there x.serial k in
@@ -146,7 +145,6 @@ module _ (script : Script) (kept : ℕ → Type 0) (start : List Object) (below 
         dying_full Detaching step = detaching_full (weak_references_if (has_finalizers script) v.objects o) step
         dying_full Emptying step = emptying_full (last_entry (entries_of v.objects o)) step
 
-  -- the collection itself
   module _ (c : Collection) (events : List Event) (after : World) (quiet : count_by is_enter events ≡ 0) (on : count_by is_stop events ≡ 0) (running : after.outcome ≡ Running) where
     abbrev standing : CollectPhase → World
     standing phase = collection_at c phase below v
@@ -239,7 +237,6 @@ module _ (script : Script) (kept : ℕ → Type 0) (start : List Object) (below 
     phase_full (AfterTurn o) turn begun step = to after _ step.1 (goes_to c Turns _ refl refl (aged o) (λ p m. absurd m) (λ e. cc))
     phase_full Ending turn begun step = absurd (stops (lines_if (has_flag c.flags uncollectable) (map GcUncollectable step.told) ++ map GcSaved step.keeps) c.generation c.collected (length step.told) (lines_if c.asked (Collected (c.collected + length step.told) ∷ [])) events step.lines on)
 
-  -- any step
   pub step_full : (events : List Event) (after : World) → count_by is_enter events ≡ 0 → count_by is_stop events ≡ 0 → after.outcome ≡ Running → (tops : List Activity) (c : Collection) → ((a : Activity) → Includes tops a → IsBare kept a) → ((o : ℕ) → Includes (turns_of c.phase) o → ¬ kept o) → c.phase ≢ Start
       → StepOf script (with_stack (tops ++ Collecting c ∷ below) v) (tops ++ Collecting c ∷ below) events after → IsFull after
   step_full events after quiet on running [] c bare turn begun step = phase_full c events after quiet on running c.phase turn begun step

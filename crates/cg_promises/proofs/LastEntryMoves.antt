@@ -1,4 +1,4 @@
--- The last entry of an object is taken out, or the callback of a weak reference: what that moves.
+-- What moves when the last entry of an object, or the callback of a weak reference, is removed.
 use Rattle.std.proofs.Common.{◌≡◌, refl, sym, ◌∙◌, ap, subst, ℕ, zero, suc, ◌-◌, inl, inr, ◌⊎◌, List, [], ◌∷◌, length, Option, Some, None, arith}
 use Rattle.std.proofs.lemmas.Bool.{eqb-true}
 use Rattle.std.specs.Prelude.{◌==◌, get_or, option_map, option_to_list, slice_get, take, unwrap_or}
@@ -15,7 +15,6 @@ use Rattle.cg_machine.proofs.Lookups.{at_member, callback_at, references_take}
 use Rattle.cg_machine.proofs.Moves.{AtMostOne, Goes, past, goes_first}
 use Rattle.cg_promises.proofs.HoldersMove.{AreSingle, Keeps, test_keeps}
 
--- the last one goes
 cut_goes : (entries : List Entry) (i : ℕ) (old : Entry) (n : ℕ) → slice_get entries i ≡ Some old → length entries ≡ suc i → Goes entries (take i entries) (entry_references old) n
 cut_goes [] i old n e l = λ m. absurd m
 cut_goes (x ∷ []) zero old n e l = let same : x ≡ old = cc in subst (λ o. Goes (x ∷ []) [] (entry_references o) n) same (goes_first x [] [] n (λ k. k))
@@ -35,7 +34,7 @@ last_none (x ∷ entries) e =
 pub entries_of_member : (low high : ℕ) (objects : List Object) (x : Object) (o : ℕ) → Rises low high objects → Includes objects x → x.serial ≡ o → entries_of objects o ≡ x.entries
 entries_of_member low high objects x o r m e = ap (λ k. unwrap_or (option_map (λ (z : Object). z.entries) k) []) (subst (λ s. object_at objects s ≡ Some x) e (at_member low high objects x r m))
 
--- the last entry of an object is taken out
+-- the last entry of an object is removed
 pub shortened_single : (entries : List Entry) → AtMostOne entries → AtMostOne (without_last entries)
 shortened_single entries (inl e) = inl (ap without_last e)
 shortened_single entries (inr s) = inl (ap without_last s.1)
@@ -47,7 +46,7 @@ shortened_keeps low high objects o e r last = test_keeps (with_entries (without_
     (λ x m t s. let same = entries_of_member low high objects x o r m (eqb-true x.serial o t) in
     (λ c. subst (λ es. AtMostOne (without_last es)) (sym same) (shortened_single x.entries (s.0 c)), λ c n k. s.1 c n (subst (λ es. Includes (references es) n) same (references_take _ (entries_of objects o) n k))))
 
--- the callback of a weak reference is taken out
+-- the callback of a weak reference is removed
 single_callback : (entries : List Entry) (n : ℕ) → AtMostOne entries → Includes (references entries) n → callback_in entries ≡ Some n
 single_callback entries n (inl e) m = absurd (subst (λ es. Includes (references es) n) e m)
 single_callback entries n (inr s) m = subst (λ es. callback_in es ≡ Some n) (sym s.1) (either (Includes-append_cases (entry_references (item s.0)) [] n (subst (λ es. Includes (references es) n) s.1 m))

@@ -1,4 +1,4 @@
--- The finalizer of an object that has run never begins again, and an object that is gone is never named again.
+-- A finalizer that has run never begins again, and a freed object is never named again.
 use Rattle.std.proofs.Common.{◌≡◌, refl, sym, ◌∙◌, ap, subst, ℕ, ◌+◌, ◌<◌, ◌≤◌, Bool, true, false, cond, inl, inr, ◌⊎◌, List, [], ◌∷◌, ◌++◌, arith}
 use Rattle.std.specs.Prelude.{◌==◌, count_by}
 use Rattle.std.proofs.lemmas.Bool.{eqb-true}
@@ -53,7 +53,7 @@ none_counted n (event ∷ events) h =
     let no : ◌≡◌ {A = ℕ} (cond (is_finalizer_of n event) 1 0) 0 = ap (λ b. cond b 1 0) (plain_no n event (h event (inl refl))) in
     omega (arith, count_cons n event events, no, none_counted n events (λ e m. h e (inr m)))
 
--- its finalizer has run, or it is gone
+-- its finalizer has run, or it is freed
 pub record IsSpent (n : ℕ) (w : World) : Type 0 where
   pub made : n < w.next_serial
   pub marked : (x : Object) → Includes w.objects x → x.serial ≡ n → x.finalized ≡ true
@@ -97,7 +97,6 @@ module _ (script : Script) (n : ℕ) where
   one_line : (event : Event) (events : List Event) → events ≡ event ∷ [] → count_by (is_finalizer_of n) events ≡ cond (is_finalizer_of n event) 1 0
   one_line event events e = ap (count_by (is_finalizer_of n)) e ∙ let c = count_cons n event [] in omega (arith, c)
 
-  -- a step after it has run, and any step
   spent_none : (w after : World) (events : List Event) → Fit script w → Goes w.objects w.next_serial events after → IsSpent n w → count_by (is_finalizer_of n) events ≡ 0
   spent_none w after events fit h s = either h.told (λ t. none_counted n events (λ e m. (t e m).0))
       (λ t. one_line t.0 events t.1 ∙ ap (λ b. cond b 1 0) ((said w after t.0 fit t.2).spent s))
@@ -130,7 +129,7 @@ module _ (script : Script) (n : ℕ) where
 pub one_finalizer : OneFinalizerEach
 one_finalizer script budget steps run n = run_once script n (opening script budget) steps run (opening_fit script budget)
 
--- An object was there and is gone.
+-- An object lived and is freed.
 pub record WasThere (n : ℕ) (w : World) : Type 0 where
   pub made : n < w.next_serial
   pub gone : ¬ Includes (serials w.objects) n
@@ -168,7 +167,7 @@ module _ (script : Script) (n : ℕ) where
   gone_now : (w : World) → Fit script w → WasThere n w → IsGone w n
   gone_now w fit g = (no_times n (holdings w) (λ m. g.gone (held_live w fit.order n m)), λ x m e. let z = fit.calm.referred x m n e in g.gone (subst (Includes (serials w.objects)) z.2 (Includes-map (λ (y : Object). y.serial) w.objects z.0 z.1)))
 
-  -- the step that frees it has no other line
+  -- the step that frees it prints no other line
   one_free : (front back : List Event) (event : Event) → front ++ Free n ∷ back ≡ event ∷ [] → (back ≡ []) × (event ≡ Free n)
   one_free [] back event e = (let k : back ≡ [] = cc in k, let k : event ≡ Free n = cc in k)
   one_free (x ∷ []) back event e = absurd (let no : Free n ∷ back ≡ [] = cc in cc)
@@ -195,14 +194,14 @@ no_names_of_dead script budget before step after run n front back e =
       λ event m. ends.1 event (subst (λ (b : List Event). Includes (b ++ events_of after) event) freed.0 m),
     )
 
--- The same of the lines of a run alone: the line stands in one step, and those after it in that step and the later ones.
+-- The same for the lines of a run alone: the line is in one step, and those after it in that step and later ones.
 module _ (script : Script) (n : ℕ) where
   strip : (xs ys front back : List Event) → ((event : Event) → Includes xs event → IsPlain event) → xs ++ ys ≡ front ++ Free n ∷ back → (rest : List Event) × (ys ≡ rest ++ Free n ∷ back)
   strip [] ys front back plain e = (front, e)
   strip (x ∷ xs) ys [] back plain e = absurd (let same : x ≡ Free n = cc in subst IsPlain same (plain x (inl refl)))
   strip (x ∷ xs) ys (f ∷ front) back plain e = strip xs ys front back (λ event m. plain event (inr m)) (let same : xs ++ ys ≡ front ++ Free n ∷ back = cc in same)
 
-  -- a line that stands alone in its step
+  -- a line that is the only one of its step
   alone : (w : World) (step : StepTaken) (steps : List StepTaken) → Run script w (step ∷ steps) → Fit script w → (event : Event) → step.events ≡ event ∷ [] → Says w.objects step.world.objects event
       → ((front back : List Event) → events_of steps ≡ front ++ Free n ∷ back → (e : Event) → Includes back e → ¬ Includes (named e) n) → (front back : List Event) → event ∷ events_of steps ≡ front ++ Free n ∷ back → (e : Event) → Includes back e → ¬ Includes (named e) n
   alone w step steps run fit event one says later [] back e =

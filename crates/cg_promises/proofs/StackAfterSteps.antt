@@ -1,4 +1,4 @@
--- The stack that a step of a collection leaves, and that an object which has its turn without SAVEALL was in its final set.
+-- The stack after a step of a collection; and an object that has its turn without SAVEALL was in its final set.
 use Rattle.std.proofs.Common.{◌≡◌, ◌≢◌, refl, sym, ◌∙◌, ap, subst, ℕ, ◌+◌, Bool, true, false, inl, inr, List, [], ◌∷◌, ◌++◌, map, length, Option, Some, None}
 use Rattle.std.specs.Prelude.{◌==◌, if◌then◌else◌}
 use Rattle.cg_value.specs.declared.Entry.{Entry}
@@ -19,7 +19,7 @@ use Rattle.cg_machine.proofs.Advances.{Advance, Plainly, WithFrame, Continues, D
 use Rattle.cg_machine.proofs.Starting.{begun_frame, starts_either}
 use Rattle.cg_machine.proofs.Places.{place_is}
 
--- a collection that stands at an early phase goes on at one
+-- a collection in an early phase goes on to one
 module _ (script : Script) (v : World) (c : Collection) (below : List Activity) (alone : NoneCollects below) where
   abbrev AreEarly : List Activity → Type 0
   AreEarly stack = IsEarly c.phase → c.phase ≢ Split → (d : Collection) → Includes stack (Collecting d) → IsEarly d.phase
@@ -48,7 +48,7 @@ module _ (script : Script) (v : World) (c : Collection) (below : List Activity) 
       let early = continues_early v.objects objects (Collecting c) a k refl in
       starts_either (λ es w. AreEarly w.stack) script spec (record v { objects = objects; stack = a ∷ below }) early (λ some. over_early (begun_frame script spec) (a ∷ below) (λ d i. cc) early)
 
--- what is condemned was in the final set, and so is what has its turn
+-- a condemned object, or one that has its turn, was in the final set
 abbrev pub Finals : (ℕ → Type 0) → Collection → List Object → Type 0
 Finals Was c objects = has_flag c.flags save_all ≡ false → (x : Object) → Includes objects x → x.place ≡ Cand → Was x.serial
 
@@ -61,7 +61,7 @@ FinalAt Was c phase objects = Unit {0}
 abbrev pub AreFinal : (ℕ → Type 0) → List Object → List Activity → Type 0
 AreFinal Was objects stack = (c : Collection) → Includes stack (Collecting c) → FinalAt Was c c.phase objects
 
--- what stands there stood there
+-- what is there was there before
 abbrev pub Stood : List Object → List Object → Type 0
 Stood before after = (y : Object) → Includes after y → y.place ≡ Cand → (x : Object) × Includes before x × (x.serial ≡ y.serial) × (x.place ≡ Cand)
 
@@ -87,7 +87,7 @@ saved_stood o objects = if_stood (λ x. with_entries (x.entries ++ item (Ref o) 
 pub finals_stay : (Was : ℕ → Type 0) (c d : Collection) (before after : List Object) → d.flags ≡ c.flags → Stood before after → Finals Was c before → Finals Was d after
 finals_stay Was c d before after flags stood h clears y m e = let x = stood y m e in subst Was x.2 (h (subst (λ f. has_flag f save_all ≡ false) flags clears) x.0 x.1 x.3)
 
--- a step that is no collection's
+-- another activity's step
 pub final_stays : (Was : ℕ → Type 0) (before after : List Object) → Stood before after → (c : Collection) (phase : CollectPhase) → FinalAt Was c phase before → FinalAt Was c phase after
 final_stays Was before after stood c Turns h = finals_stay Was c c before after refl stood h
 final_stays Was before after stood c (Turn o) h = (finals_stay Was c c before after refl stood h.0, h.1)

@@ -1,4 +1,4 @@
--- Collections: untracked objects are slack still, and what is given up and placed anew is no tuple.
+-- Collections: untracked objects stay slack, and what is given up and moved is no tuple.
 use Rattle.std.proofs.Common.{◌≡◌, ◌≢◌, refl, sym, ◌∙◌, ap, subst, ℕ, ◌+◌, Bool, true, false, inl, inr, List, [], ◌∷◌, ◌++◌, map, length, Option, Some, None}
 use Rattle.std.specs.Prelude.{◌==◌, ◌||◌, if◌then◌else◌, option_and_then, option_map, unwrap_or}
 use Rattle.std.proofs.lemmas.Bool.{eqb-true}
@@ -48,7 +48,6 @@ older_tracked n e = cc
 all_lose_still : (hard : ℕ → Type 0) (wanted : Object → Bool) (weaks : List ℕ) (objects after : List Object) → AllLose wanted objects weaks after → Still hard objects after
 all_lose_still hard = came_all_lose (Goes hard) (goes hard) (λ x. record { stays = record { serial = refl; code = refl; untracked = λ a u. u }; loses = inr (λ u. (u, λ o i. i)) })
 
--- the garbage list gets entries
 abbrev IsRoot : ℕ → Type 0
 IsRoot n = n ≡ 1
 
@@ -65,15 +64,15 @@ saved_place o objects y m = let x = Includes-map_cases (λ x. if x.serial == 1 t
     go true x k e = (x, k, ap (λ (z : Object). z.serial) e, ap (λ (z : Object). z.place) e)
     go false x k e = (x, k, ap (λ (z : Object). z.serial) e, ap (λ (z : Object). z.place) e)
 
--- those of a place of tracked ones go to another
+-- those in a tracked place move to another
 spread_still : (hard : ℕ → Type 0) (p q : Place) (objects : List Object) → same_place Untracked p ≡ false → q ≢ Untracked → Still hard objects (map (λ x. if is_at p x then with_place q x else x) objects)
 spread_still hard p q objects apart tracked = test_still hard (with_place q) (is_at p) objects (λ x m t. placed_goes hard q x tracked (λ a. is_tracked_at p x apart t))
 
--- one goes to a place of tracked ones that is no untracked tuple
+-- an object other than an untracked tuple moves to a tracked place
 one_still : (hard : ℕ → Type 0) (p : Place) (o : ℕ) (objects : List Object) → p ≢ Untracked → ((x : Object) → Includes objects x → x.serial ≡ o → is_tuple x ≡ true → x.place ≢ Untracked) → Still hard objects (change (with_place p) o objects)
 one_still hard p o objects tracked apart = test_still hard (with_place p) (λ x. x.serial == o) objects (λ x m t. placed_goes hard p x tracked (apart x m (eqb-true x.serial o t)))
 
--- what stands at a place of tracked ones, by its serial
+-- what is in a tracked place, by its serial
 member_tracked : (next : ℕ) (p : Place) (objects : List Object) (o : ℕ) → Rises 1 next objects → same_place Untracked p ≡ false → Includes (serials_at objects p) o → (x : Object) → Includes objects x → x.serial ≡ o → x.place ≢ Untracked
 member_tracked next p objects o rises apart m x i s =
     let z = Includes-map_cases (λ (y : Object). y.serial) (objects_at objects p) o m in
@@ -85,7 +84,7 @@ survivor_inside : (w : World) (p : Place) (o : ℕ) → Survives w p o → Inclu
 survivor_inside w p o (first held inside) = inside
 survivor_inside w p o (further path arrow inside) = inside
 
--- what loses its referent in the weak phase is a weak reference
+-- what the weak phase clears is a weak reference
 loses_weak : (profile : ℕ) (objects : List Object) (x : Object) → ((r : ℕ) → x.referent ≡ Some r → x.code ≡ Weak) → loses_in_weak_phase profile objects x ≡ true → x.code ≡ Weak
 loses_weak profile objects x codes e = go x.referent refl (refers_early profile objects x e)
   where
@@ -106,7 +105,7 @@ module _ (script : Script) (c : Collection) (below : List Activity) (v : World) 
   same : Still Never v.objects v.objects
   same = still_same Never v.objects
 
-  -- what its phase has at hand
+  -- what the phase has at hand
   abbrev AtHand : CollectPhase → Type 0
   AtHand phase = (o : ℕ) → Includes (handles phase) o → IsNoTuple v.next_serial v.objects o
 
@@ -173,7 +172,7 @@ module _ (script : Script) (c : Collection) (below : List Activity) (v : World) 
       either_one o (inl e) = subst (IsNoTuple v.next_serial v.objects) e waits_here
       either_one o (inr k) = absurd k
 
-  -- what was at hand gets older
+  -- what was at hand moves to the older generation
   handed : (phase : CollectPhase) (o : ℕ) → Includes (handles phase) o → IsSlackWorld (at phase) → Still Never v.objects (change (with_place (Gen (older c.generation))) o v.objects)
   handed phase o m h = one_still Never (Gen (older c.generation)) o v.objects (older_tracked (older c.generation)) (λ x i s t. absurd (false_true (sym t ∙ (at_hand phase h o m).1 x i s)))
 

@@ -1,4 +1,4 @@
--- Commands: an untracked dictionary that gets what may be tracked becomes tracked, so that untracked objects are slack still.
+-- Commands: an untracked dictionary that gets a value that may be tracked becomes tracked, so untracked objects stay slack.
 use Rattle.std.proofs.Common.{◌≡◌, refl, sym, ◌∙◌, ap, subst, ◌≢◌, ℕ, Bool, true, false, not, ◌&&◌, inl, inr, ◌⊎◌, List, [], ◌∷◌, ◌++◌, Option, Some, None, arith}
 use Rattle.std.specs.Prelude.{◌==◌, ◌||◌, if◌then◌else◌, option_and_then, option_to_list}
 use Rattle.std.proofs.lemmas.Bool.{eqb-true, eq-eqb}
@@ -34,7 +34,7 @@ option_holds (Some n) o (inr k) = absurd k
 from_free : (xs ys : List ℕ) (o : ℕ) → (¬ Includes xs o → ¬ Includes ys o) → Includes ys o → Includes xs o
 from_free xs ys o h m = either (cases_of (includes xs o)) (λ t. Includes-of xs o t) (λ f. absurd (h (λ k. let no : true ≡ false = sym (includes-of xs o k) ∙ f in cc) m))
 
--- a dictionary holds what it held, and the key and the value
+-- a dictionary holds its old entries, the key and the value
 put_from : (entries : List Entry) (key v : Val) (o : ℕ) → Includes (references (put entries key v)) o → Includes (references entries) o ⊎ ((reference_in key ≡ Some o) ⊎ (reference_in v ≡ Some o))
 put_from entries key v o m =
     either (Includes-append_cases (references entries) values_held o (from_free (references entries ++ values_held) (references (put entries key v)) o (λ none. put_free entries key v o
@@ -46,7 +46,7 @@ put_from entries key v o m =
     values_held : List ℕ
     values_held = option_to_list (reference_in key) ++ option_to_list (reference_in v)
 
--- entries that are among others refer to no more
+-- entries among others have no other references
 references_within : (xs ys : List Entry) → ((e : Entry) → Includes xs e → Includes ys e) → (o : ℕ) → Includes (references xs) o → Includes (references ys) o
 references_within [] ys h o m = absurd m
 references_within (x ∷ xs) ys h o m = either (Includes-append_cases (entry_references x) (references xs) o m) (references_of_member ys x o (h x (inl refl))) (references_within xs ys (λ e k. h e (inr k)) o)
@@ -55,7 +55,7 @@ references_within (x ∷ xs) ys h o m = either (Includes-append_cases (entry_ref
 abbrev IsOther : Object → Type 0
 IsOther x = (¬ (is_tuple x ≡ true)) × (¬ (is_dict x ≡ true))
 
--- what changes is a dictionary or neither, and never a tuple
+-- a changed object is a dictionary or neither, never a tuple
 mutable_other : (x : Object) → IsMutable x.code → IsOther x ⊎ (x.code ≢ ListKind)
 mutable_other x m = go x.code m
   where
@@ -74,7 +74,7 @@ mutable_no_tuple x m = go x.code m
     go Inst k e = let no : false ≡ true = e in cc
     go c k e = absurd k
 
--- a dictionary alone is untracked when it is made
+-- only a new dictionary is untracked
 first_dict : (kind : KindCode) → first_place kind ≡ Untracked → kind ≡ Dict
 first_dict ListKind e = absurd (let no : Gen 0 ≡ Untracked = e in cc)
 first_dict Tuple e = absurd (let no : Gen 0 ≡ Untracked = e in cc)
@@ -102,7 +102,7 @@ unfrozen_untracked : (p : Place) → unfrozen p ≡ Untracked → p ≡ Untracke
 unfrozen_untracked Frozen e = absurd (let no : Gen 2 ≡ Untracked = e in cc)
 unfrozen_untracked p e = e
 
--- where a command leaves objects
+-- how a command leaves the objects
 module _ (w : World) (rises : Rises 1 w.next_serial w.objects) (live : (x : Object) → Includes w.objects x → (o : ℕ) → Includes (references x.entries) o → Includes (serials w.objects) o) (h : IsSlackWorld w) where
   abbrev pub Slacks : Effect → Type 0
   Slacks (Changes wants_memory lines given_up after) = Slack after.next_serial after.objects w.stack
@@ -117,7 +117,7 @@ module _ (w : World) (rises : Rises 1 w.next_serial w.objects) (live : (x : Obje
   one : (x z : Object) → Includes w.objects x → Includes w.objects z → (z.serial == x.serial) ≡ true → x ≡ z
   one x z m k t = sym (same_object 1 w.next_serial w.objects z x rises k m (eqb-true z.serial x.serial t))
 
-  -- an untracked one that is neither
+  -- an untracked object that is neither
   excused : (x : Object) → Includes w.objects x → IsOther x → x.place ≡ Untracked → Excused w.stack x.serial
   excused x m other u = either (h.slack x m u) (λ e. e) (λ k. absurd (either k.0 other.0 other.1))
 
@@ -174,7 +174,7 @@ module _ (w : World) (rises : Rises 1 w.next_serial w.objects) (live : (x : Obje
     not_here : (z : Object) → Includes w.objects z → (z.serial == x.serial) ≡ true → ¬ (is_tuple z ≡ true)
     not_here z k t a = no_tuple (ap is_tuple (one x z m k t) ∙ a)
 
-    -- any for now
+    -- no restriction
     abbrev Always : ℕ → Type 0
     Always n = Unit {0}
 
@@ -226,7 +226,6 @@ module _ (w : World) (rises : Rises 1 w.next_serial w.objects) (live : (x : Obje
     put_slack : Slack w.next_serial after_put w.stack
     put_slack = moved after_put (test_still (Fine w.stack after_put) put_in (λ z. z.serial == x.serial) w.objects (λ z k t. put_loses z k (one x z m k t) (becomes z) refl refl))
 
-  -- a new object
   made_slack : (kind : KindCode) (class : Option ℕ) (entries : List Entry) (referent : Option ℕ) → (first_place kind ≡ Untracked → (kind ≡ Dict) × (entries ≡ [])) → IsSlackWorld (with_new w kind class entries referent)
   made_slack kind class entries referent bare = record {
     slack = λ y m u. either (Includes-append_cases w.objects (fresh ∷ []) y m) (λ k. either (h.slack y k u) (λ e. inl e) (λ s. inr (s.0, λ o r. loose_on o (s.1 o r) (live y k o r))))

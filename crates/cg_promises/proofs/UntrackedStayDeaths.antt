@@ -1,4 +1,4 @@
--- Releases, deaths and the end of a frame: untracked objects are slack still.
+-- Releases, deaths and the end of a frame: untracked objects stay slack.
 use Rattle.std.proofs.Common.{◌≡◌, ◌≢◌, refl, sym, ◌∙◌, ap, subst, ℕ, Bool, true, false, not, ◌&&◌, inl, inr, List, [], ◌∷◌, ◌++◌, Option, Some, None}
 use Rattle.std.specs.Prelude.{◌==◌, if◌then◌else◌, is_some, option_and_then, option_to_list, slice_get, unwrap_or}
 use Rattle.std.proofs.lemmas.Bool.{eqb-true}
@@ -53,21 +53,20 @@ no_finalizer script x t = go x.finalized
 no_legacy : (script : Script) (x : Object) → is_tuple x ≡ true → legacy_of script x ≡ None
 no_legacy script x t = ap (λ k. option_and_then (λ c. c.legacy) k) (no_class script x t)
 
--- what is found by a serial and has something that tuples have not is no tuple
+-- an object found with something that tuples lack is no tuple
 pub no_tuple : (f : Object → Option ℕ) (next : ℕ) (objects : List Object) (o p : ℕ) → Rises 1 next objects → ((x : Object) → is_tuple x ≡ true → f x ≡ None) → option_and_then f (object_at objects o) ≡ Some p → (x : Object) → Includes objects x → x.serial ≡ o → ¬ (is_tuple x ≡ true)
 no_tuple f next objects o p rises none e x m s t =
     let at : object_at objects o ≡ Some x = subst (λ n. object_at objects n ≡ Some x) s (at_member 1 next objects x rises m) in
     let is : f x ≡ Some p = sym (ap (option_and_then f) at) ∙ e in
     let no : None ≡ Some p = sym (none x t) ∙ is in cc
 
--- the last entry of an object is taken out
+-- the last entry of an object is removed
 pub shortened_still : (hard : ℕ → Type 0) (next : ℕ) (objects : List Object) (o : ℕ) → Rises 1 next objects → Still hard objects (change (with_entries (without_last (entries_of objects o))) o objects)
 shortened_still hard next objects o rises = test_still hard (with_entries (without_last (entries_of objects o))) (λ x. x.serial == o) objects (λ x m t. record {
   stays = record { serial = refl; code = refl; untracked = λ a u. u };
   loses = inr (λ u. (u, λ r i. subst (λ es. Includes (references es) r) (entries_of_member 1 next objects x o rises m (eqb-true x.serial o t)) (references_take _ (entries_of objects o) r i)));
 })
 
--- a frame ends
 pub frame_end_slack : (f : Frame) (below : List Activity) (v : World) → IsSlackWorld (with_stack (Framed f ∷ below) v) → IsSlackWorld (frame_end f (with_stack below v)).1
 frame_end_slack f below v h = by_sort f.sort f.function
   where
@@ -80,7 +79,6 @@ frame_end_slack f below v h = by_sort f.sort f.function
     by_sort Callback function = rest
     by_sort Call function = push_slack v.next_serial (Releasing (option_to_list function)) below v.objects (λ c e. cc) rest
 
--- a release
 pub released_slack : (references : List ℕ) (below : List Activity) (v : World) → IsSlackWorld (with_stack (Releasing references ∷ below) v) → IsSlackWorld (released references below (with_stack (Releasing references ∷ below) v)).1
 released_slack [] below v h = end_slack v.next_serial (Releasing []) below v.objects (λ d e. cc) h
 released_slack (o ∷ refs) below v h = either_way (λ lines. IsSlackWorld) (not (is_dying now o) && (in_degree now o == 0)) ([], begin_death o now) ([], now)
@@ -100,7 +98,6 @@ released_slack (o ∷ refs) below v h = either_way (λ lines. IsSlackWorld) (not
     death : Activity
     death = Dying (record { object = o; phase = Finalizer })
 
--- a death
 module _ (script : Script) (o : ℕ) (below : List Activity) (v : World) (rises : Rises 1 v.next_serial v.objects) where
   abbrev at : DyingPhase → World
   at phase = death_at o phase below v
@@ -108,7 +105,7 @@ module _ (script : Script) (o : ℕ) (below : List Activity) (v : World) (rises 
   abbrev dying_now : DyingPhase → Activity
   dying_now phase = Dying (record { object = o; phase = phase })
 
-  -- one of below, or the top
+  -- an activity below, or the top
   excused_here : (phase : DyingPhase) (to : List Activity) (after : List Object) → ((d : Death) → Includes below (Dying d) → Includes to (Dying d)) → (runs_own_frame phase ≡ false → Fine to after o) → (n : ℕ) → Excused (dying_now phase ∷ below) n → Fine to after n
   excused_here phase to after on top n (inl e) = inl (inl e)
   excused_here phase to after on top n (inr f) = either f.1 (λ e. here f.0 e f.2 f.3) (λ m. inl (inr (f.0, on f.0 m, f.2, f.3)))
@@ -124,7 +121,6 @@ module _ (script : Script) (o : ℕ) (below : List Activity) (v : World) (rises 
   death_slack hard phase next after still fine top h = moves_slack hard v.next_serial v.objects after (dying_now phase ∷ below) (dying_now next ∷ below) still fine
       (excused_here phase (dying_now next ∷ below) after (λ d m. inr m) top) (λ c m. either m (λ e. cc) (λ k. h.handled c (inr k))) h
 
-  -- it fades on
   fades : (next : DyingPhase) (after : List Object) → runs_own_frame next ≡ false → Fine (dying_now next ∷ below) after o
   fades next after e = inl (inr (record { object = o; phase = next }, inl refl, refl, e))
 
@@ -150,7 +146,7 @@ module _ (script : Script) (o : ℕ) (below : List Activity) (v : World) (rises 
   legacy_slack (Some p) e h = starts_slack script (record { sort = Legacy; proc = p; subject = o; func = None }) (death_at o AfterLegacy below (with_change (with_place (Gen 0)) o (at LegacyFinalizer)))
       (revived (with_place (Gen 0)) LegacyFinalizer AfterLegacy (no_tuple (legacy_of script) v.next_serial v.objects o p rises (no_legacy script) e) (λ x. refl) (λ x. refl) (λ x. refl) h)
 
-  -- the hold of its own frame ends
+  -- a death gives up its own hold
   after_frame_slack : (phase next : DyingPhase) → runs_own_frame phase ≡ true → runs_own_frame next ≡ false → IsSlackWorld (at phase) → IsSlackWorld (after_frame o next below (at phase)).1
   after_frame_slack phase next own e h = either_way (λ lines. IsSlackWorld) (in_degree (at next) o == 0) ([], with_change (with_place Untracked) o (at next)) (Alive o ∷ [], with_stack below (at phase))
       (death_slack (λ n. n ≡ o) phase next (change (with_place Untracked) o v.objects) (test_still (λ n. n ≡ o) (with_place Untracked) (λ x. x.serial == o) v.objects (λ x m t. record { stays = record { serial = refl; code = refl; untracked = λ a u. refl }; loses = inl (eqb-true x.serial o t) }))

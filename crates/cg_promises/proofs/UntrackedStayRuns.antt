@@ -58,7 +58,6 @@ module _ (script : Script) (below : List Activity) (v : World) where
     asks = λ g low e. begun_slack a g true h;
   }
 
--- any step
 abbrev Holds : Script → World → Type 0
 Holds script w = Fit script w × IsSlackWorld w
 
@@ -86,7 +85,6 @@ opening_slack script budget = record {
   handled = λ c m. either m (λ e. cc) (λ no. absurd no);
 }
 
--- what the law says
 pub death_found : (n : ℕ) (d : Death) (stack : List Activity) → Includes stack (Dying d) → d.object ≡ n → list_any (is_death_of n) stack ≡ true
 death_found n d [] m e = absurd m
 death_found n d (a ∷ stack) (inl i) e = or_left (is_death_of n a) (list_any (is_death_of n) stack) (subst (λ b. is_death_of n b ≡ true) (sym i) (eq-eqb d.object n e))

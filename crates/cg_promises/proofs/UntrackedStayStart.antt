@@ -1,4 +1,4 @@
--- The start of a collection: what it untracks refers to untracked tuples alone.
+-- The start of a collection: an object that it untracks refers only to untracked tuples.
 use Rattle.std.proofs.Common.{◌≡◌, refl, sym, ◌∙◌, ap, subst, ℕ, Bool, true, false, not, ◌&&◌, inl, inr, ◌⊎◌, List, [], ◌∷◌, map, Some}
 use Rattle.std.specs.Prelude.{◌==◌, ◌||◌, nat_le, if◌then◌else◌, option_map, unwrap_or}
 use Rattle.std.specs.List.{list_any}
@@ -26,7 +26,7 @@ pub not_false : (b : Bool) → not b ≡ true → b ≡ false
 not_false true e = sym e
 not_false false e = refl
 
--- a list of which none passes
+-- none of a list passes
 any_of : (f : ℕ → Bool) (xs : List ℕ) (x : ℕ) → Includes xs x → f x ≡ true → list_any f xs ≡ true
 any_of f [] x m t = absurd m
 any_of f (y ∷ xs) x (inl e) t = or_left (f y) (list_any f xs) (subst (λ z. f z ≡ true) (sym e) t)
@@ -46,7 +46,7 @@ merge_still hard g objects = map_still hard (λ x. with_place (merged_place g x.
   loses = inr (λ u. (merged_untracked g x.place u, λ o i. i));
 })
 
--- what a pass untracks keeps its kind and entries
+-- an object that a pass untracks keeps its kind and entries
 same_tuple : (b : Bool) (x : Object) → is_tuple (untracked_if b x) ≡ is_tuple x
 same_tuple true x = refl
 same_tuple false x = refl
@@ -75,7 +75,7 @@ module _ (script : Script) (g : ℕ) (w : World) (chosen : Object → Bool) (pla
   abbrev after : List Object
   after = sorted g places w.objects
 
-  -- one that is untracked survives, if it were known
+  -- if such an object is untracked, it survives
   not_dead : (x : Object) → Includes (objects_at w.objects (Gen g)) x → places x ≡ Untracked → ¬ (¬ Survives w (Gen g) x.serial)
   not_dead x m u dead = aside (λ s. let no : Legacy ≡ Untracked = sym (sorts.set_aside x m s) ∙ u in cc)
     where
@@ -91,7 +91,7 @@ module _ (script : Script) (g : ℕ) (w : World) (chosen : Object → Bool) (pla
   passes : (x : Object) → Includes (objects_at w.objects (Gen g)) x → places x ≡ Untracked → test x ≡ true
   passes x m u = either (cases_of (test x)) (λ e. e) (λ e. absurd (not_dead x m u (λ s. let placed : Gen (older g) ≡ Untracked = sym (sorts.survivors x m s ∙ ap (λ b. if b then Untracked else Gen (older g)) e) ∙ u in let no : Gen (older g) ≡ Untracked = placed in cc)))
 
-  -- it is a tuple or a dictionary, without tracked ones in it
+  -- it is a tuple or a dictionary without tracked objects in it
   abbrev IsBare : Object → Type 0
   IsBare x = ((is_tuple x ≡ true) ⊎ (is_dict x ≡ true)) × (has_none_tracked passed x ≡ true)
 
@@ -109,7 +109,7 @@ module _ (script : Script) (g : ℕ) (w : World) (chosen : Object → Bool) (pla
       let dict = (true_and (g == 2) (is_dict (untracked_if (chosen x) x)) parts.0).1 in
       (inr (sym (same_dict (chosen x) x) ∙ dict), sym (same_none passed (chosen x) x) ∙ parts.1))
 
-  -- what it refers to is an untracked tuple after
+  -- what it refers to is an untracked tuple afterwards
   placed : (b c : Bool) (x : Object) → Includes w.objects x → is_at (Gen g) x ≡ b → chosen x ≡ c → is_tracked (untracked_if (b && c) x) ≡ false → (if b then with_place (places x) x else x).place ≡ Untracked
   placed false c x m t k u = place_is x.place Untracked (not_true (same_place x.place Untracked) u)
   placed true true x m t k u =
@@ -144,7 +144,7 @@ module _ (script : Script) (g : ℕ) (w : World) (chosen : Object → Bool) (pla
       let k = loose_at o z.0 z.1 (sym (sorted_serial (is_at (Gen g) z.0) z.0) ∙ ap (λ (q : Object). q.serial) z.2 ∙ s) (not_tracked x o e r) in
       (ap is_tuple (sym z.2) ∙ sorted_tuple (is_at (Gen g) z.0) z.0 ∙ k.0, ap (λ (q : Object). q.place) (sym z.2) ∙ k.1)
 
-  -- those that are looked at anew
+  -- those that the pass examines again
   abbrev pub Anew : ℕ → Type 0
   Anew n = (y : Object) → Includes after y → y.serial ≡ n → y.place ≡ Untracked → IsSlackOne after y
 

@@ -1,4 +1,4 @@
--- A weak reference that waits in a death was one to the object that dies.
+-- A weak reference that waits in a death referred to the dying object.
 use Rattle.std.proofs.Common.{◌≡◌, ◌≢◌, refl, sym, ap, subst, ℕ, Bool, true, false, inl, inr, List, [], ◌∷◌, ◌++◌, Option, Some, None}
 use Rattle.std.specs.Prelude.{◌==◌, if◌then◌else◌, filter, option_map, unwrap_or}
 use Rattle.std.proofs.lemmas.Bool.{eqb-true}
@@ -24,7 +24,7 @@ use Rattle.cg_machine.proofs.ShapeLaws.{changes_leave}
 use Rattle.cg_machine.proofs.Invariants.{CommandSteps, HasCommands, Steps, any_step, emptied, on}
 use Rattle.cg_machine.proofs.LinesNameLive.{reversed_back}
 
--- an object refers to another weakly now
+-- an object is a weak reference to another now
 abbrev pub RefersNow : List Object → ℕ → ℕ → Type 0
 RefersNow objects weak o = (x : Object) × Includes objects x × (x.serial ≡ weak) × (x.referent ≡ Some o)
 
@@ -44,7 +44,7 @@ refers_now test objects o weak weaks e = go (unwrap_or (option_map test (object_
     go false k = absurd (let no : [] ≡ weak ∷ weaks = k in cc)
 
 module _ (P : ℕ → ℕ → Type 0) where
-  -- each that waits in a death is of its object
+  -- each one waiting in a death referred to its object
   abbrev pub Waited : List Activity → Type 0
   Waited stack = (d : Death) → Includes stack (Dying d) → (weak : ℕ) → Includes (death_waits d.phase) weak → P weak d.object
 
@@ -60,7 +60,7 @@ module _ (P : ℕ → ℕ → Type 0) where
   starts : (script : Script) (spec : FrameSpec) (u : World) → Waited u.stack → Waited (start_frame script spec u).1.stack
   starts script spec u h = starts_either (λ lines w. Waited w.stack) script spec u h (λ some. push_other (begun_frame script spec) u.stack (λ d e. cc) h)
 
-  -- what goes on in a step of another activity
+  -- what goes on in another activity's step
   module _ (objects after : List Object) (below : List Activity) (now_refers : (weak o : ℕ) → RefersNow objects weak o → P weak o) where
     perhaps : (b : Bool) (weak n : ℕ) → Includes (if b then weak ∷ [] else []) n → weak ≡ n
     perhaps true weak n m = either m (λ e. e) (λ none. absurd none)
@@ -85,7 +85,6 @@ module _ (P : ℕ → ℕ → Type 0) where
   advance_waited script top below v refers h lines after (Plainly tops objects numbers ls t c n none) = tops_waited v.objects objects below refers top tops t h
   advance_waited script top below v refers h lines after (WithFrame spec a objects s c held m) = starts script spec (record v { objects = objects; stack = a ∷ below }) (continues_waited v.objects objects below refers top a c h)
 
-  -- a command
   emptied_waited : (a : Activity) (below : List Activity) → HasCommands a → Waited below → Waited (emptied a ∷ below)
   emptied_waited (TopLevel commands) below ha rest = push_other (TopLevel []) below (λ d e. cc) rest
   emptied_waited (Framed f) below ha rest = push_other (Framed (record f { commands = [] })) below (λ d e. cc) rest
@@ -108,7 +107,6 @@ module _ (P : ℕ → ℕ → Type 0) where
         here : Waited (a ∷ below)
         here = push_other a below (no_death a ha) rest
 
-    -- any step
     waits_in_steps : Steps script (λ w. ((weak o : ℕ) → RefersNow w.objects weak o → P weak o) × Waited w.stack) StepWaits
     waits_in_steps = record {
       starts_due = λ a below v ha g e k. push_other (new_collection g false (on a below v)) (a ∷ below) (λ d e. cc) k.1;

@@ -1,4 +1,4 @@
--- What a full collection in which no frame begins leaves in reach.
+-- What stays reachable in a full collection in which no frame begins.
 use Rattle.std.specs.Prelude.{◌≡◌, ℕ, ◌<◌, List, ◌++◌, ◌∷◌, [], count_by}
 use Rattle.cg_script.specs.declared.Script.{Script}
 use Rattle.cg_graph.specs.Member.{Includes}
@@ -9,11 +9,11 @@ use Rattle.cg_machine.specs.World.{World}
 use Rattle.cg_machine.specs.Run.{StepTaken, IsRun, events_of, world_after}
 use Rattle.cg_machine.specs.Laws.{IsRooted, StartsFull, is_enter, is_stop}
 
--- a list of objects leads to it from one that is dying, or held by a root
+-- reachable from an object that is dying or held by a root
 abbrev pub IsReached : World → ℕ → Type 0
 IsReached w o = Reach (IsRooted w) (Includes (serials w.objects)) (edges (graph_of w.objects)) o
 
--- What paths lead to when a full collection starts, they lead to when it stops, if no frame began.
+-- What is reachable when a full collection starts is reachable when it stops, if no frame began.
 abbrev pub ReachedIsKept : Type 0
 ReachedIsKept = (script : Script) (budget : ℕ) (before during : List StepTaken) (stop : StepTaken) → IsRun script budget (before ++ during ++ stop ∷ [])
     → StartsFull (world_after script budget before) → count_by is_enter (events_of during ++ stop.events) ≡ 0 → count_by is_stop (events_of during) ≡ 0 → 0 < count_by is_stop stop.events

@@ -1,4 +1,5 @@
--- What is untracked. (Developer guide, "optimization: delay tracking containers". That this never hides a cycle is ours.)
+-- Which objects are untracked. (Developer guide, "optimization: delay tracking containers". That this never hides a cycle
+-- is ours.)
 use Rattle.std.specs.Prelude.{◌≡◌, ◌≢◌, ℕ, true, false, List, ◌⊎◌}
 use Rattle.cg_value.specs.declared.Place.TheVariants.{Untracked}
 use Rattle.cg_script.specs.declared.Script.{Script}
@@ -17,12 +18,12 @@ pub record IsLooseTuple (objects : List Object) (o : ℕ) : Type 0 where
   pub tuple : is_tuple object ≡ true
   pub untracked : object.place ≡ Untracked
 
--- a tuple or a dictionary that refers to untracked tuples alone
+-- a tuple or a dictionary that refers only to untracked tuples
 pub record IsSlack (objects : List Object) (x : Object) : Type 0 where
   pub kind : (is_tuple x ≡ true) ⊎ (is_dict x ≡ true)
   pub refers : (o : ℕ) → Includes (references x.entries) o → IsLooseTuple objects o
 
--- Each untracked object is so, but for the garbage list and those that are dying.
+-- This holds for each untracked object, except the garbage list and dying objects.
 abbrev pub UntrackedAreSlack : Type 0
 UntrackedAreSlack = (script : Script) (budget : ℕ) (steps : List StepTaken) → IsRun script budget steps
     → (x : Object) → Includes (world_after script budget steps).objects x → x.place ≡ Untracked → x.serial ≢ 1 → is_dying (world_after script budget steps) x.serial ≡ false → IsSlack (world_after script budget steps).objects x

@@ -9,7 +9,7 @@ use Rattle.cg_machine.specs.World.{Outcome, Ended, BudgetIsSpent}
 use Rattle.cg_machine.specs.Run.{StepTaken, IsWholeRun}
 use Rattle.cg_machine.specs.Lines.{text_of}
 
--- a script, the budget that it is run with, how its run ends, and what is printed
+-- a script, its budget, how its run ends, and what it prints
 pub record WorkedScript : Type 0 where
   pub script : Script
   pub budget : ℕ

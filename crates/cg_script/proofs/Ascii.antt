@@ -1,4 +1,4 @@
--- Printable bytes without a space are text.
+-- Printable bytes without a space are valid text.
 use Rattle.std.proofs.Common.{◌≡◌, ℕ, zero, suc, ◌<◌, List, [], ◌∷◌, Bool, true, false, ◌&&◌, ◌||◌, get_or, slice_index, drop, arith, refl, sym, ap}
 use Rattle.std.specs.List.{list_all}
 use Rattle.std.specs.Str.{IsUtf8}
@@ -35,7 +35,7 @@ names_are_graphic (b ∷ bs) e = let h = both (is_name_byte b) _ e in joined (is
 pub identifier_is_graphic : (word : List ℕ) → is_identifier word ≡ true → list_all is_graphic word ≡ true
 identifier_is_graphic word e = names_are_graphic word (both _ (list_all is_name_byte word) e).1
 
--- the first byte of a name may stand in it
+-- the first byte of a name may also occur later in it
 pub name_behind : (word : List ℕ) → begins_name (slice_index word 0) ≡ true → list_all is_name_byte (drop 1 word) ≡ list_all is_name_byte word
 name_behind [] e = refl
 name_behind (b ∷ bs) e = sym (ap (λ t. (t || is_digit b) && list_all is_name_byte bs) e)

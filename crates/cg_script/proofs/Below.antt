@@ -38,7 +38,7 @@ pub any_below : {A : Type 0} (p : A → Bool) (xs : List A) → list_any p xs �
 any_below p [] e = absurd (cc)
 any_below p (x ∷ xs) e = below_step (p x) (list_any p xs) _ _ e (any_below p xs)
 
--- the place of a text that is there or was added
+-- the place of an old or new text
 pub place_below : (texts : List (List ℕ)) (text : List ℕ) → text_number texts text < length (with_text texts text)
 place_below texts text = by (has_text texts text) refl
   where

@@ -1,4 +1,4 @@
--- The line of a class, whose finalizer is printed before its legacy finalizer.
+-- The line of a class: its finalizer is printed before its legacy finalizer.
 use Rattle.std.proofs.Common.{◌≡◌, ℕ, List, [], ◌∷◌, ◌++◌, length, map, take, drop, Bool, true, false, cond, ◌&&◌, ◌||◌, Option, None, Some, refl, sym, ap, ◌∙◌, arith, codes, inl, inr, ◌⊎◌}
 use Rattle.std.specs.Str.{bytes_eq}
 use Rattle.std.proofs.lemmas.Slice.Eq.{bytes_eq-Decides}
@@ -101,7 +101,7 @@ module _ (n : Naming) (known : Known) (names : Names n known.procs known.classes
   case : (f : List ℕ) → fits Finalizer f ≡ true → is_unknown (finalizer_of known.procs (after_prefix (codes "del=") f) f) ≡ false → Case f
   case f fit defined = cases n known.procs f (after_prefix (codes "del=") f) names.procs_begin refl fit defined
 
-  -- the class of one finalizer's part, or two
+  -- a class with one finalizer, or two
   abbrev words1 : List ℕ → Part → List (List ℕ)
   words1 c p = class_words n (record { name = text_number known.texts c; del = option_or (del_if (Some p)) None; legacy = option_or (legacy_if (Some p)) None })
 

@@ -1,4 +1,4 @@
--- How many lines and texts a script that some bytes spell has, and how long its texts are.
+-- Bounds on the lines, the texts and the length of texts of a script that some bytes spell.
 use Rattle.std.proofs.Common.{◌≡◌, ℕ, suc, ◌+◌, ◌≤◌, List, [], ◌∷◌, ◌++◌, length, Bool, true, false, cond, Option, None, Some, sym, subst, arith, length-drop, ◌==◌}
 use Rattle.std.specs.List.{All}
 use Rattle.std.proofs.lemmas.List.Elements.{All-nil, All-cons, All-append, All-filter, All-head, All-tail, All-weaker}
@@ -20,7 +20,6 @@ use Rattle.cg_script.proofs.Says.{says_of_line}
 use Rattle.cg_script.proofs.Lines.{passed_before_last, says_before_last}
 use Rattle.cg_script.proofs.Walk.{each_line}
 
--- the number of lines
 abbrev Few : ℕ → Known → List (List ℕ) → List Said → Type 0
 Few number known texts saids = number ≤ 400001 → length saids + number ≤ 400001
 

@@ -53,14 +53,14 @@ absent n k e = by (nat_lt n k) refl e
     by true t e = absurd (cc)
     by false t e = ltb-false n k t
 
--- the bytes up to the separator's place, and those behind it
+-- the bytes before the separator, and those after it
 pub cut_at : (sep i : ℕ) (bytes : List ℕ) → position (λ b. b == sep) bytes ≡ Some i
     → pieces sep bytes ≡ take i bytes ∷ pieces sep (take (length bytes - (i + 1)) (drop (i + 1) bytes))
 cut_at sep i bytes e =
     let at = found _ _ i e in
     rw all_taken (first_piece sep bytes (omega (arith, at.1)) ∙ ap (λ n. take n bytes ∷ pieces sep (drop (n + 1) bytes)) at.0)
 
--- all bytes, where there is no separator
+-- all bytes, if there is no separator
 pub cut_none : (sep : ℕ) (bytes : List ℕ) → 0 < length bytes → position (λ b. b == sep) bytes ≡ None
     → pieces sep bytes ≡ bytes ∷ pieces sep (take (length bytes - length bytes) (drop (length bytes) bytes))
 cut_none sep bytes some e =
@@ -70,7 +70,7 @@ cut_none sep bytes some e =
     let none : drop (n + 1) bytes ≡ [] = drop_of_length-le bytes (omega arith) in
     rw (all_taken, drop-length) (first_piece sep bytes some ∙ ap (λ l. l ∷ pieces sep (drop (n + 1) bytes)) whole ∙ ap (λ l. bytes ∷ pieces sep l) none)
 
--- the first piece is a word where it is not empty
+-- the first piece is a word if it is not empty
 pub words_cut : (bytes word rest : List ℕ) → pieces 32 bytes ≡ word ∷ pieces 32 rest → words_of bytes ≡ cond (has_bytes word) (word ∷ words_of rest) (words_of rest)
 words_cut bytes word rest e = ap (filter has_bytes) e
 
@@ -101,7 +101,7 @@ same_place : (bytes : List ℕ) → (position_or_len odd bytes < length bytes �
 same_place [] h = refl
 same_place (b ∷ bs) h = step_same b (position_or_len odd bs) (position_or_len (λ c. c == 10) bs) bs (is_printable b) refl (same_place bs) h
 
--- the bytes before the first one at which a search stops
+-- the bytes before the first one that stops a search
 module _ (stops passes : ℕ → Bool) (turned : (b : ℕ) → passes b ≡ not (stops b)) where
   before_stop : (bytes : List ℕ) → list_all passes (take (position_or_len stops bytes) bytes) ≡ true
   before_stop [] = refl
@@ -125,7 +125,7 @@ not_not : (t : Bool) → t ≡ not (not t)
 not_not true = refl
 not_not false = refl
 
--- so are those of a line printable
+-- so the bytes of a printable line are
 pub line_is_printable : (i : ℕ) (bytes : List ℕ) → position odd bytes ≡ Some i → list_all is_printable (take i bytes) ≡ true
 line_is_printable = passes_before odd is_printable (λ b. not_not (is_printable b))
 
@@ -140,7 +140,7 @@ line_at i bytes e feed =
     let same : position_or_len (λ b. b == 10) bytes ≡ position_or_len odd bytes = same_place bytes (λ within. ap (λ k. get_or bytes k 0) at.0 ∙ feed) in
     cut_at 10 i bytes (ap (λ k. cond (nat_lt k (length bytes)) (Some k) None) same ∙ e)
 
--- a last line with no line feed
+-- a last line without a line feed
 pub last_line : (bytes : List ℕ) → 0 < length bytes → position odd bytes ≡ None
     → lines_of bytes ≡ bytes ∷ lines_of (take (length bytes - length bytes) (drop (length bytes) bytes))
 last_line bytes some e =
@@ -155,7 +155,7 @@ not_true : (t : Bool) → not t ≡ true → t ≡ false
 not_true true e = absurd (cc)
 not_true false e = refl
 
--- a line feed comes behind the first byte that is not printable, if that is none
+-- if the first byte that is not printable is no line feed, the line feed comes later
 far_feed : (i p : ℕ) (bytes : List ℕ) → p ≡ position_or_len (λ b. b == 10) bytes → i < length bytes → ((k : ℕ) → k < i → odd (get_or bytes k 0) ≡ false) → get_or bytes i 0 ≢ 10 → i < p
 far_feed i p bytes ep within before other = by (nat_lt i p) refl
   where

@@ -35,7 +35,7 @@ grows i (suc k) =
     let r = grows i k in
     rw e (omega arith)
 
--- so many digits fit in 64 bits
+-- this many digits fit in 64 bits
 pub fits_bits : (v d i : ℕ) → v + 1 ≤ 10 ^ i → i < 19 → d ≤ 57 → v * 10 + (d - 48) < 18446744073709551616
 fits_bits v d i small few digit =
     let e : (18 - i) + i ≡ 18 = omega arith in

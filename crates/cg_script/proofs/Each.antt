@@ -1,4 +1,4 @@
--- What holds of each line of a script, and with it of its items.
+-- A property of each line of a script holds of its items.
 use Rattle.std.proofs.Common.{◌≡◌, ℕ, ◌+◌, ◌<◌, ◌≤◌, List, [], ◌∷◌, drop, length, Bool, true, false, refl, ap, subst, ◌∙◌, arith}
 use Rattle.std.specs.Prelude.{flat_map}
 use Rattle.std.specs.List.{All}
@@ -26,7 +26,7 @@ abbrev pub EachSaid : (Said → Type 0) → List Said → Type 0
 EachSaid P [] = Unit {0}
 EachSaid P (s ∷ ss) = P s × EachSaid P ss
 
--- a fact on a line that is good by its words, with the number of all texts
+-- a property of each line that is good in itself, given the number of all texts
 abbrev pub Holds : (ℕ → Said → Type 0) → Type 0
 Holds P = (n number : ℕ) (known : Known) (line : List ℕ) (form : Form) (words : List (List ℕ)) → says form words ≡ meaning number line → length (texts_from known.texts form 0 words) ≤ n
     → P n (said form (parts_of known form words))
@@ -44,7 +44,7 @@ module _ (P : ℕ → Said → Type 0) (holds : Holds P) where
       let grown = texts_grow form words known.texts 0 in
       (omega arith, (holds (length texts) number known line form words m below, behind.1)))
 
-  -- what the lines of a script say, which are few and a profile the first of them, with its texts, which are short
+  -- what the lines of a script say: they are few, a profile comes first, and the texts are short
   pub record SaidSo (texts : List (List ℕ)) (items : List Item) : Type 0 where
     pub saids : List Said
     pub items_so : items_of false saids ≡ items
@@ -70,7 +70,7 @@ module _ (P : ℕ → Said → Type 0) (holds : Holds P) where
   pub said_so : (bytes : List ℕ) (texts : List (List ℕ)) (items : List Item) → reading bytes ≡ spells texts items → SaidSo texts items
   said_so bytes texts items e = script_so (lines_of bytes) (lines_from nothing_known 1 (lines_of bytes)) refl texts items e
 
--- what a good line says names texts below the number of all
+-- a good line names texts below the number of all
 pub texts_hold : Holds (λ n s. Below n (said_texts s))
 texts_hold n number known line form words m below =
     let ps = parts_of known form words in
@@ -97,7 +97,7 @@ items_below n inside (Ends ∷ later) each = items_below n false later each.1
 items_below n true (Does command ∷ later) each = items_below n true later each.1
 items_below n false (Does command ∷ later) each = below-append n (command_texts command) (flat_map item_texts (items_of false later)) each.0 (items_below n false later each.1)
 
--- each script that some bytes spell names its own texts
+-- each script that some bytes spell uses its own texts
 pub known_texts : (bytes : List ℕ) (texts : List (List ℕ)) (items : List Item) → reading bytes ≡ spells texts items → All (λ k. k < length texts) (flat_map item_texts items)
 known_texts bytes texts items e =
     let so = said_so (λ n s. Below n (said_texts s)) texts_hold bytes texts items e in

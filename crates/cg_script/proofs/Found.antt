@@ -1,4 +1,5 @@
--- The form that a word picks is found among those whose words begin as it does and are as long; by what form it is, it is that of a line `x = ..` or of another.
+-- The form for a word is found among those with the same first byte and length; it is either the form of a line `x = ..` or of
+-- another line.
 use Rattle.std.proofs.Common.{◌≡◌, ℕ, List, [], ◌∷◌, ◌++◌, Bool, true, false, cond, not, ◌&&◌, ◌||◌, ◌<◌, length, nat_le, get_or, Option, Some, None, refl, sym, ap, ◌∙◌, arith}
 use Rattle.std.specs.List.{list_all}
 use Rattle.std.specs.Option.{is_none}
@@ -12,7 +13,7 @@ use Rattle.cg_script.proofs.Rows.{by_words-is}
 use Rattle.cg_script.specs.Alike.{forms_like}
 use Rattle.cg_script.proofs.Alike.{named_forms_like}
 
--- what is true of each of some forms is true of the one that is found
+-- a property of each of some forms holds of the one found
 found_all : (p : Form → Bool) (these : List Form) (w : List ℕ) (form : Form) → list_all p these ≡ true → named (by_words these) w ≡ Some form → p form ≡ true
 found_all p [] w form all e = absurd (cc)
 found_all p (f ∷ these) w form all e = by (p f) (bytes_eq w (word_of f)) refl all e (found_all p these w form)
@@ -22,7 +23,7 @@ found_all p (f ∷ these) w form all e = by (p f) (bytes_eq w (word_of f)) refl 
     by true false eq all e later = later all e
     by false b eq all e later = absurd (cc)
 
--- no form has a word so short
+-- no form has a word this short
 long_enough : Form → Bool
 long_enough form = nat_le 3 (length (word_of form))
 
@@ -71,7 +72,7 @@ none_is : (m : Option Form) → is_none m ≡ true → m ≡ None
 none_is None e = refl
 none_is (Some form) e = absurd (cc)
 
--- The form that a word picks is that of a line `x = ..` where it is such a one, and else that of another line.
+-- The form for a word is that of a line `x = ..` if there is one, and else that of another line.
 record Splits (w : List ℕ) : Type 0 where
   pub binding : named bindings w ≡ kept binds (named words_of_forms w)
   pub opener : named openers w ≡ kept (λ form. not (binds form)) (named words_of_forms w)
@@ -108,7 +109,7 @@ binding_kept w found e = ap (kept binds) e ∙ sym (splits w).binding
 pub opener_kept : (w : List ℕ) (found : Option Form) → found ≡ named words_of_forms w → kept (λ form. not (binds form)) found ≡ named openers w
 opener_kept w found e = ap (kept (λ form. not (binds form))) e ∙ sym (splits w).opener
 
--- one of both is reserved where it is
+-- one of both is reserved if it is
 pub reserved_by_word : (w : List ℕ) → (reserves (named openers w) || reserves (named bindings w)) ≡ reserves (named words_of_forms w)
 reserved_by_word w =
     let s = splits w in

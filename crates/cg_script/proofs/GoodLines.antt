@@ -1,4 +1,4 @@
--- Words of a form that are read as they are written, and stay so as they are printed.
+-- Words of a form that are read as written, and still are after printing.
 use Rattle.std.proofs.Common.{◌≡◌, ℕ, ◌+◌, ◌≤◌, List, [], ◌∷◌, length, Bool, true, false, cond, not, ◌||◌, ◌&&◌, ◌==◌, nat_lt, Option, None, Some, refl, sym, ap, subst, ◌∙◌, arith, codes, ◌⊎◌, inl, inr}
 use Rattle.std.specs.Prelude.{slice_index, unwrap_or}
 use Rattle.std.specs.List.{list_all}
@@ -25,12 +25,12 @@ use Rattle.cg_script.proofs.Joined.{and_both, EachSound, weight, words_of-joined
 use Rattle.cg_script.proofs.NormalWords.{word_again, normal, alike, Alike, AllNames, names_by_test, named_nowhere}
 use Rattle.cg_script.proofs.Shown.{normal_from}
 
--- the first words of a line pick the form
+-- the first words of a line select the form
 abbrev pub Picks : Form → List (List ℕ) → Type 0
 Picks form words =
     ((word_is words 1 (codes "=") ≡ false) × (named openers (word_at words 0) ≡ Some form)) ⊎ ((word_is words 1 (codes "=") ≡ true) × ((length words == 2) ≡ false) × (binding_form words ≡ form))
 
--- words that, with one space between them, are read as a line of the form
+-- words that, separated by one space, are read as a line of the form
 pub record Good (form : Form) (words : List (List ℕ)) : Type 0 where
   pub fit : all_fit form 0 words ≡ true
   pub single : repeats_finalizer form words ≡ false
@@ -100,7 +100,7 @@ good_says number form words good before =
     ∙ worded_formed form words good.picks
     ∙ formed_says form words good
 
--- the words of each line that is read are so
+-- the words of each parsed line are such words
 formed_form : (other : Form) (others : List (List ℕ)) (form : Form) (words : List (List ℕ)) → says form words ≡ formed other others → other ≡ form
 formed_form other others form words e =
     let b = not_bad (nat_lt (length others) (row other).fewest || nat_lt (row other).most (length others)) 3 _ form words e in
@@ -148,7 +148,7 @@ good_line number line form words m =
       unpassed = ap is_passed of.words_are ∙ p.1;
     }
 
--- what words that are printed keep of those that are read
+-- what printed words keep of those that were read
 pub record WordsAgain (form : Form) (place : ℕ) (ws vs : List (List ℕ)) : Type 0 where
   pub fit : all_fit form place vs ≡ true
   pub parts : (procs classes texts : List (List ℕ)) → parts_from procs classes texts form place vs ≡ parts_from procs classes texts form place ws
@@ -180,7 +180,7 @@ words_again form (w ∷ ws) place fit sound =
       sound = ((here.some, here.graphic), later.sound);
     }
 
--- the form is picked by the words that are printed too
+-- the printed words select the form too
 to_false : (b : Bool) → (b ≡ true → ⊥) → b ≡ false
 to_false true never = absurd (never refl)
 to_false false never = refl
@@ -291,7 +291,7 @@ good_again form ws good =
       unpassed = passed_again form ws ∙ good.unpassed;
     }
 
--- words that say what others say, and leave the same known
+-- words that say the same as others, and lead to the same knowledge
 pub record Same (known : Known) (form : Form) (ws vs : List (List ℕ)) : Type 0 where
   pub said_same : said form (parts_of known form vs) ≡ said form (parts_of known form ws)
   pub texts_same : texts_from known.texts form 0 vs ≡ texts_from known.texts form 0 ws

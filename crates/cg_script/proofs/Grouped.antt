@@ -13,17 +13,15 @@ use Rattle.cg_script.specs.Commands.{said}
 use Rattle.cg_script.specs.Reading.{items_of, body_of, is_misplaced, procs_after, classes_after, budget_after, shutdown_after, inside_after, known_after}
 use Rattle.cg_script.specs.Views.{is_placed, inside_behind}
 
--- one item more
 pub item_more : (items : List Item) (item : Item) (rest : List Item) → (items ++ item ∷ []) ++ rest ≡ items ++ item ∷ rest
 item_more items item rest = append_assoc items (item ∷ []) rest
 
--- one command more in the body of a procedure
 pub body_more : (items : List Item) (name : ℕ) (body : List Command) (command : Command) (later : List Said)
     → items ++ variants.Def (record { name = name; body = (body ++ command ∷ []) ++ body_of later }) ∷ items_of true later
     ≡ items ++ variants.Def (record { name = name; body = body ++ body_of (Does command ∷ later) }) ∷ items_of true (Does command ∷ later)
 body_more items name body command later = ap (λ b. items ++ variants.Def (record { name = name; body = b }) ∷ items_of true later) (append_assoc body (command ∷ []) (body_of later))
 
--- the procedure is ended
+-- the procedure ends
 pub body_ends : (items : List Item) (name : ℕ) (body : List Command) (later : List Said)
     → (items ++ variants.Def (record { name = name; body = body }) ∷ []) ++ items_of false later
     ≡ items ++ variants.Def (record { name = name; body = body ++ body_of (Ends ∷ later) }) ∷ items_of true (Ends ∷ later)
@@ -35,12 +33,12 @@ pub ends_inside : (inside : Bool) → not inside ≡ false → inside ≡ true
 ends_inside true e = refl
 ends_inside false e = absurd (cc)
 
--- a profile that is not misplaced stands outside procedures, and is the first line
+-- a well placed profile is outside procedures, and is the first line
 pub first_outside : (inside started : Bool) → (inside || started) ≡ false → (inside ≡ false) × (started ≡ false)
 first_outside true started e = absurd (cc)
 first_outside false started e = (refl, e)
 
--- what a line of a form says stands where the form may stand
+-- what a line of a form says is where the form may be
 pub placed : (known : Known) (form : Form) (parts : List Part) → is_misplaced known form ≡ false → is_placed (said form parts) known.inside ≡ true
 placed known forms.Profile parts e = ap not (first_outside known.inside known.started e).0
 placed known forms.Shutdown parts e = ap not e
@@ -50,13 +48,13 @@ placed known forms.Def parts e = ap not e
 placed known forms.End parts e = ends_inside known.inside e
 placed known form parts e = refl
 
--- a procedure is open behind what a line says where one is open behind its form
+-- a procedure is open after what a line says exactly if it is after its form
 pub inside_said : (form : Form) (parts : List Part) (inside : Bool) → inside_behind (said form parts) inside ≡ inside_after inside form
 inside_said forms.Def parts inside = refl
 inside_said forms.End parts inside = refl
 inside_said form parts inside = refl
 
--- what is known behind a line, by its parts
+-- what is known after a line, given its parts
 module _ (known : Known) (form : Form) (words texts procs classes : List (List ℕ)) (budget shutdown started inside : Bool) where
   pub known_so : texts ≡ texts_from known.texts form 0 words → procs ≡ procs_after known.procs form words → classes ≡ classes_after known.classes form words → budget ≡ budget_after known.budget form
       → shutdown ≡ shutdown_after known.shutdown form → started ≡ true → inside ≡ inside_after known.inside form

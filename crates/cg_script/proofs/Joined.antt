@@ -1,4 +1,4 @@
--- The words of a line that was written with one space between them, and the lines of a text that was written with line feeds.
+-- The words of a line written with one space between them, and the lines of a text written with line feeds.
 use Rattle.std.proofs.Common.{◌≡◌, ℕ, suc, ◌+◌, ◌≤◌, List, [], ◌∷◌, ◌++◌, length, length-append, map, filter, Bool, true, false, cond, ◌&&◌, ◌==◌, nat_le, refl, ap, ◌∙◌, arith, append_assoc, append-nil}
 use Rattle.std.specs.Prelude.{flat_map}
 use Rattle.std.specs.List.{list_all}
@@ -8,7 +8,7 @@ use Rattle.cg_script.specs.Words.{is_printable}
 use Rattle.cg_script.specs.Canonical.{behind_space, joined, line_of_words}
 use Rattle.cg_script.proofs.Ascii.{both}
 
--- bytes that are printable and no space
+-- printable bytes other than the space
 abbrev pub Graphic : List ℕ → Type 0
 Graphic [] = Unit {0}
 Graphic (b ∷ bs) = ((33 ≤ b) × (b ≤ 126)) × Graphic bs
@@ -17,12 +17,12 @@ abbrev pub EachGraphic : List (List ℕ) → Type 0
 EachGraphic [] = Unit {0}
 EachGraphic (w ∷ ws) = Graphic w × EachGraphic ws
 
--- words of such bytes, none of them empty
+-- nonempty words of such bytes
 abbrev pub EachSound : List (List ℕ) → Type 0
 EachSound [] = Unit {0}
 EachSound (w ∷ ws) = ((1 ≤ length w) × Graphic w) × EachSound ws
 
--- bytes of which none is a separator
+-- bytes without a separator
 abbrev None : ℕ → List ℕ → Type 0
 None separator [] = Unit {0}
 None separator (b ∷ bs) = ((b == separator) ≡ false) × None separator bs
@@ -118,7 +118,7 @@ lines_of-written (ws ∷ lines) sound =
     ∙ piece_first 10 (joined ws) (flat_map line_of_words lines) refl (printable_none (joined ws) (printable_joined ws sound.0))
     ∙ ap (λ l. joined ws ∷ l) (lines_of-written lines sound.1)
 
--- the bytes of words, with one more for each
+-- the bytes of words, plus one for each
 abbrev pub weight : List (List ℕ) → ℕ
 weight [] = 0
 weight (w ∷ ws) = (length w + 1) + weight ws
@@ -131,7 +131,7 @@ pub length-joined : (ws : List (List ℕ)) → 1 ≤ length ws → length (joine
 length-joined [] some = absurd (omega arith)
 length-joined (w ∷ ws) some = let more = length-behind ws in let parts = length-append w (flat_map behind_space ws) in omega arith
 
--- the words of a line weigh no more than it and one byte
+-- the words of a line weigh at most its length plus one
 onto_weight : (b n : ℕ) (ps : List (List ℕ)) → weight ps ≤ n + 1 → weight (onto b ps) ≤ suc n + 1
 onto_weight b n [] h = omega arith
 onto_weight b n (p ∷ ps) h = omega arith
@@ -155,7 +155,7 @@ filter_weight (p ∷ ps) = kept_weight p (filter has_bytes ps) (has_bytes p) (we
 pub words_weight : (line : List ℕ) → weight (words_of line) ≤ length line + 1
 words_weight line = let a = filter_weight (pieces 32 line) in let b = pieces_weight 32 line in omega arith
 
--- the words of a printable line are sound
+-- the words of a printable line are graphic
 graphic_onto : (b : ℕ) (ps : List (List ℕ)) → 33 ≤ b → b ≤ 126 → EachGraphic ps → EachGraphic (onto b ps)
 graphic_onto b [] low high each = (((low, high), tt), tt)
 graphic_onto b (p ∷ ps) low high each = (((low, high), each.0), each.1)

@@ -1,4 +1,4 @@
--- Each text that a script names is one of its texts.
+-- Each text that a script names is its own.
 use Rattle.std.proofs.Common.{◌≡◌, ℕ, zero, suc, ◌+◌, ◌<◌, ◌≤◌, List, [], ◌∷◌, length, Bool, true, false, if◌then◌else◌, Option, None, Some, refl, sym, ap, subst, ◌∙◌, arith, codes}
 use Rattle.std.specs.Prelude.{slice_index}
 use Rattle.std.specs.Str.{bytes_eq}
@@ -155,7 +155,7 @@ said_texts (Begins name) = name ∷ []
 said_texts Ends = []
 said_texts (Does command) = command_texts command
 
--- so by the words of the line
+-- so do the words of the line
 same_texts : (s : Said) → said_by operand_texts s ≡ said_texts s
 same_texts (Declares (items.Class c)) = refl
 same_texts (Declares (items.Def p)) = refl

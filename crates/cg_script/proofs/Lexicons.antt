@@ -1,4 +1,4 @@
--- What is remembered stays right while texts come.
+-- What is remembered stays true as texts are added.
 use Rattle.std.proofs.Common.{◌≡◌, ℕ, ◌+◌, ◌<◌, ◌≤◌, List, [], ◌∷◌, ◌++◌, length, get_or, slice_get, Bool, true, false, not, cond, eqb, ◌||◌, Option, Some, None, nat_lt, Result, Ok, Err, OnOk, OnErr, refl, sym, ap, subst, ◌∙◌, arith, length-append}
 use Rattle.std.specs.List.{All, list_any, position_or_len}
 use Rattle.std.specs.Str.{bytes_eq}
@@ -26,7 +26,7 @@ before_end m n a lt = grind (arith, nat_tests)
 number_stays : {A : Type 0} (p : A → Bool) (xs : List A) (y : A) → list_any p xs ≡ true → position_or_len p (xs ++ y ∷ []) ≡ position_or_len p xs
 number_stays p xs y e = position_or_len_push p xs y ∙ before_end (position_or_len p xs) (length xs) _ (any_below p xs e)
 
--- a text that comes changes nothing of those before
+-- a new text changes none of the earlier ones
 with_one : (texts : List (List ℕ)) (text : List ℕ) (n : ℕ) → IsVariableAt texts n → IsVariableAt (with_text texts text) n
 with_one texts text n at = by (has_text texts text)
   where
@@ -44,7 +44,7 @@ grown : {T E : Type 0} (r : Result T E) (old new : List (List ℕ)) (text : List
 grown (Ok x) old new text ok err n at = subst (λ ts. IsVariableAt ts n) (sym ok) (with_one old text n at)
 grown (Err e) old new text ok err n at = subst (λ ts. IsVariableAt ts n) (sym err) at
 
--- so what is remembered stays right, whether a text came or none did
+-- so what is remembered stays true, with or without a new text
 pub remembered_on : {T E : Type 0} (r : Result T E) (old new : List (List ℕ)) (text : List ℕ) (known : List (Option ℕ)) → OnOk r (new ≡ with_text old text) → OnErr r (new ≡ old)
     → All (IsRemembered old) known → All (IsRemembered new) known
 remembered_on r old new text known ok err all = λ k d within. IfSome_then (get_or known k d) (all k d within) (grown r old new text ok err)
@@ -58,7 +58,7 @@ own_end : (m n : ℕ) (b : Bool) → m ≤ n → b ≡ true → cond (eqb m n) (
 own_end m n true le e = grind (arith, nat_tests)
 own_end m n false le e = absurd (cc)
 
--- a variable that was read stands where its number says
+-- a variable that was read has its number
 module _ (old : List (List ℕ)) (word : List ℕ) (is : is_variable word ≡ true) where
   abbrev number : ℕ
   number = text_number old word
@@ -109,7 +109,7 @@ remembered_at texts known place n all e = by (nat_lt place (length known)) refl
     by true at = let within : place < length known = grind (arith, nat_tests, at) in subst (IsRemembered texts) e (all place None within)
     by false at = let past : length known ≤ place = grind (arith, nat_tests, at) in let none : None ≡ Some n = sym (get_or_past known place None past) ∙ e in absurd (cc)
 
--- a word that is the text with a number that is remembered
+-- a word equal to the text with a remembered number
 pub same_text : (texts : List (List ℕ)) (n : ℕ) (word text : List ℕ) → IsVariableAt texts n → slice_get texts n ≡ Some text → text ≡ word
     → (is_variable word ≡ true) × (n ≡ text_number texts word) × (texts ≡ with_text texts word)
 same_text texts n word text at e same =

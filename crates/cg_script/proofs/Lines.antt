@@ -14,7 +14,7 @@ use Rattle.cg_script.specs.Commands.{said}
 use Rattle.cg_script.specs.Reading.{nothing_known, procs_after, classes_after, fault_in, says_or_bad, checked, meant, Lines, good, spoilt, also_said, with_later, lines_from, items_of, Reading, spells, faulty, script_of}
 use Rattle.cg_script.specs.Views.{known_of, grouped, Takes, script_after, reading_after}
 
--- the reading behind a draft, by the meaning of the first line
+-- the reading after a draft, by the meaning of the first line
 by_meaning : Draft → ℕ → Meaning → List (List ℕ) → Reading
 by_meaning draft number m lines = script_after draft (with_later (known_of draft) number m (λ behind. lines_from behind (number + 1) lines))
 
@@ -65,7 +65,7 @@ not_too_many false true many rest e = absurd (cc)
 not_too_many false false true rest e = absurd (cc)
 not_too_many false false false rest e = refl
 
--- a line that is not bad is not one too many
+-- a good line is not one too many
 good_before_last : (number : ℕ) (line : List ℕ) → is_good (meaning number line) ≡ true → number ≤ 400001 → number + 1 ≤ 400001
 unfolding meaning
 good_before_last number line e below =
@@ -94,7 +94,7 @@ script_of_all draft none closed (good texts later) =
     ap (λ b. spells texts (grouped draft.items b later)) closed ∙ ap (λ is. spells texts (is ++ items_of false later)) none
 script_of_all draft none closed (spoilt n c) = refl
 
--- the reading behind no line
+-- the reading of no lines
 pub reads_all : (draft : Draft) (lines : List (List ℕ)) → known_of draft ≡ nothing_known → draft.items ≡ [] → draft.begun ≡ None
     → reading_after draft 1 lines ≡ script_of (lines_from nothing_known 1 lines)
 reads_all draft lines known none closed = ap (λ k. script_after draft (lines_from k 1 lines)) known ∙ script_of_all draft none closed (lines_from nothing_known 1 lines)

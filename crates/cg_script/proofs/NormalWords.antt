@@ -1,4 +1,4 @@
--- The words as they are printed: those that were read, with numbers without leading zeros.
+-- The words as printed: those that were read, with numbers without leading zeros.
 use Rattle.std.proofs.Common.{◌≡◌, ℕ, zero, suc, ◌^◌, ◌<◌, ◌≤◌, List, [], ◌∷◌, length, length-drop, drop, Bool, true, false, cond, ◌&&◌, if◌then◌else◌, ◌==◌, nat_le, Option, None, Some, refl, sym, ap, subst, ◌∙◌, arith, ◌⊎◌, inl, inr}
 use Rattle.std.specs.Prelude.{slice_index, decimal, is_some, pos, negsuc, neg_ℤ}
 use Rattle.std.specs.Fmt.{signed_decimal}
@@ -63,7 +63,7 @@ first_digit : (w : List ℕ) → 1 ≤ length w → list_all is_digit w ≡ true
 first_digit [] some e = absurd (omega arith)
 first_digit (d ∷ ds) some e = digit_parts d (both (is_digit d) (list_all is_digit ds) e).0
 
--- what digits that were printed keep of those that were read
+-- what printed digits keep of those that were read
 record DigitsAgain (w v : List ℕ) : Type 0 where
   digits : list_all is_digit v ≡ true
   value : decimal_value v ≡ decimal_value w
@@ -97,7 +97,7 @@ digits_again w some e small =
       light = length-decimal-le (length w) (decimal_value w) some bound small;
     }
 
--- what a number that was printed keeps of that which was read
+-- what a printed number keeps of the one that was read
 pub record NumberAgain (w v : List ℕ) : Type 0 where
   pub number : is_number v ≡ true
   pub same : number_of v ≡ number_of w
@@ -191,7 +191,7 @@ number_again w e = by (has_minus w) refl
     by false minus =
         subst (λ z. NumberAgain w (signed_decimal z)) (sym (ap (λ b. cond b (neg_ℤ (pos (decimal_value (drop 1 w)))) (pos (decimal_value w))) minus)) (positive w minus e)
 
--- what a word that was printed keeps of that which was read
+-- what a printed word keeps of the one that was read
 pub record WordAgain (s : Sort) (w v : List ℕ) : Type 0 where
   pub fit : fits s v ≡ true
   pub part : (procs classes texts : List (List ℕ)) → part_of procs classes texts s v ≡ part_of procs classes texts s w
@@ -250,12 +250,12 @@ atoms_named : AllNames atoms
 unfolding atoms
 atoms_named = names_by_test atoms refl
 
--- the word of a value, by the value with a word of its own
+-- the word of a value, or its keyword
 abbrev pub normal_value : Option Operand → List ℕ → List ℕ
 normal_value (Some operand) w = w
 normal_value None w = if is_quoted w then w else if begins_name (slice_index w 0) then w else signed_decimal (number_of w)
 
--- a word as it is printed
+-- a word as printed
 abbrev pub normal : Sort → List ℕ → List ℕ
 normal Value w = normal_value (named atoms w) w
 normal Number w = signed_decimal (number_of w)
@@ -328,7 +328,7 @@ word_again Proc w fit some graphic = same_word Proc w fit some graphic
 word_again Finalizer w fit some graphic = same_word Finalizer w fit some graphic
 word_again Flag w fit some graphic = same_word Flag w fit some graphic
 
--- a word that is printed otherwise begins with no letter, before and after
+-- a word that is printed differently does not begin with a letter, before or after
 abbrev pub Alike : List ℕ → List ℕ → Type 0
 Alike w v = (v ≡ w) ⊎ ((begins_name (slice_index w 0) ≡ false) × (begins_name (slice_index v 0) ≡ false))
 

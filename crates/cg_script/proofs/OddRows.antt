@@ -1,4 +1,4 @@
--- The lines that are printed in other words: `ref` without a callback, `collect` without a generation, flags, and a class.
+-- The lines that are printed differently: `ref` without a callback, `collect` without a generation, flags, and a class.
 use Rattle.std.proofs.Common.{◌≡◌, ℕ, ◌+◌, ◌≤◌, List, [], ◌∷◌, ◌++◌, length, Bool, true, false, cond, ◌&&◌, nat_le, Option, None, Some, refl, sym, ap, subst, ◌∙◌, arith, codes, inl, inr, ◌⊎◌}
 use Rattle.std.specs.Prelude.{slice_index, unwrap_or, bit_or}
 use Rattle.std.specs.Str.{bytes_eq}
@@ -24,7 +24,7 @@ use Rattle.cg_script.proofs.GoodLines.{Good}
 use Rattle.cg_script.proofs.NormalWords.{le_test}
 use Rattle.cg_script.proofs.Rows.{Given, Row, plain_row, said_words}
 
--- whether words are sound
+-- whether words are graphic
 abbrev graphic_test : List ℕ → Bool
 graphic_test [] = true
 graphic_test (b ∷ bs) = (nat_le 33 b && nat_le b 126) && graphic_test bs
@@ -76,7 +76,7 @@ collect_row n known names [] given = record {
 collect_row n known names (g ∷ []) given = plain_row n known names forms.Collect (codes "collect" ∷ g ∷ []) given refl
 collect_row n known names (g ∷ h ∷ rest) given = absurd (omega (arith, given.good.most))
 
--- a callback that is none is left out
+-- a callback none is left out
 callback_cases : (texts : List (List ℕ)) (operand : Operand) → (operand ≡ operands.None) ⊎ (callback_words texts operand ≡ value_word texts operand ∷ [])
 callback_cases texts operands.None = inl refl
 callback_cases texts (operands.Int k) = inr refl

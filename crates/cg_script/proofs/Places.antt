@@ -37,7 +37,7 @@ pub length-with_text_if : (texts : List (List ℕ)) (text : Option (List ℕ)) �
 length-with_text_if texts None = omega arith
 length-with_text_if texts (Some text) = length-with_text texts text
 
--- the sort of a place by those of the first places
+-- the sort of a place, given those of the first places
 pub sort_here : (form : Form) (places : List Sort) (i : ℕ) (s : Sort) → places ≡ (row form).places → s ≡ slice_index_or places i Value → s ≡ sort_at form i
 sort_here form places i s are e = e ∙ ap (λ l. slice_index_or l i Value) are
 

@@ -1,4 +1,5 @@
--- The classes of lines, the positions of their procedures and commands, and what they declare: one line on, and how one is found by its number.
+-- The classes of lines, the positions of their procedures and commands, and their declarations: with one more line, and how a
+-- lookup by number finds each.
 use Rattle.std.proofs.Common.{◌≡◌, ◌||◌, refl, sym, ◌∙◌, ap, ℕ, zero, suc, List, [], ◌∷◌, ◌++◌, length, map, Option, Some, None}
 use Rattle.std.specs.Prelude.{slice_get, option_map}
 use Rattle.std.proofs.lemmas.Option.{slice_get-map}
@@ -10,7 +11,7 @@ use Rattle.cg_script.specs.declared.item.Item.TheVariants.{Profile, Shutdown, Bu
 use Rattle.cg_script.specs.Items.{commands_of, procedures, classes, declared_profile, declared_budget, declares_shutdown, StandAt, IsIndexOf, AreDeclared}
 use Rattle.std.specs.Option.{option_or}
 
--- What is read off lines one by one.
+-- What is computed line by line.
 record IsByLines {A : Type 0} (read : List Item → List A) : Type 0 where
   append : (xs ys : List Item) → read (xs ++ ys) ≡ read xs ++ read ys
 
@@ -50,7 +51,7 @@ classes_by_lines = record { append = by }
     by (Def p ∷ xs) ys = by xs ys
     by (Run c ∷ xs) ys = by xs ys
 
--- what lines declare, and those behind them
+-- what lines declare, then the ones after them
 profile_append : (xs ys : List Item) → declared_profile (xs ++ ys) ≡ option_or (declared_profile xs) (declared_profile ys)
 profile_append [] ys = refl
 profile_append (Profile n ∷ xs) ys = refl
@@ -78,7 +79,7 @@ shutdown_append (Class c ∷ xs) ys = shutdown_append xs ys
 shutdown_append (Def p ∷ xs) ys = shutdown_append xs ys
 shutdown_append (Run c ∷ xs) ys = shutdown_append xs ys
 
--- the position of a line, for each thing that is read off it
+-- the position of a line, for each computed list
 own_procedure : (items : List Item) (at : ℕ) (item : Item) → slice_get items at ≡ Some item
     → map (slice_get items) (map (λ p. at) (procedures (item ∷ []))) ≡ map (λ p. Some (Def p)) (procedures (item ∷ []))
 own_procedure items at (Profile n) e = refl
@@ -97,7 +98,7 @@ own_command items at (Class c) e = refl
 own_command items at (Def p) e = refl
 own_command items at (Run c) e = ap (λ o. o ∷ []) e
 
--- a list with one more at its end
+-- a list with one more member at its end
 module _ {X : Type 0} where
   snoc_old : (xs : List X) (x : X) (i : ℕ) (y : X) → slice_get xs i ≡ Some y → slice_get (xs ++ x ∷ []) i ≡ Some y
   snoc_old [] x i y e = absurd (cc)
@@ -108,7 +109,7 @@ module _ {X : Type 0} where
   snoc_new [] x = refl
   snoc_new (z ∷ xs) x = snoc_new xs x
 
--- What stands somewhere stands there also with one line more.
+-- What has a position keeps it with one more line.
 stand_longer : {A : Type 0} (line : A → Item) (items : List Item) (item : Item) (positions : List ℕ) (those : List A)
     → StandAt line items positions those → StandAt line (items ++ item ∷ []) positions those
 stand_longer line items item [] [] stand = refl
@@ -120,7 +121,7 @@ stand_longer line items item (p ∷ ps) (x ∷ xs) stand =
     (λ j. snoc_old items item p (line x) first j ∷ stand_longer line items item ps xs rest j)
 
 module _ (items : List Item) (item : Item) where
-  -- one line more, of which this is read
+  -- one more line, with this result
   stand_more : {A : Type 0} (line : A → Item) (read : List Item → List A) → IsByLines read → (positions : List ℕ)
       → map (slice_get (items ++ item ∷ [])) (map (λ x. length items) (read (item ∷ []))) ≡ map (λ x. Some (line x)) (read (item ∷ []))
       → StandAt line items positions (read items) → StandAt line (items ++ item ∷ []) (positions ++ map (λ x. length items) (read (item ∷ []))) (read (items ++ item ∷ []))
@@ -130,7 +131,7 @@ module _ (items : List Item) (item : Item) where
       ∙ sym (map-append (λ x. Some (line x)) (read items) (read (item ∷ [])))
       ∙ ap (map (λ x. Some (line x))) (sym (by.append items (item ∷ [])))
 
-  -- the index with one line more
+  -- the index with one more line
   pub index_more : (at : ℕ) (old new : Index) → at ≡ length items
       → new.classes.items ≡ old.classes.items ++ classes (item ∷ [])
       → new.procedures.items ≡ old.procedures.items ++ map (λ p. at) (procedures (item ∷ []))
@@ -146,7 +147,7 @@ module _ (items : List Item) (item : Item) where
         ∙ stand_more Run commands_of commands_by_lines old.commands.items (own_command (items ++ item ∷ []) (length items) item (snoc_new items item)) before.commands;
   }
 
-  -- what is declared, with one line more
+  -- the declarations, with one more line
   pub declared_more : (old new : Declared)
       → new.profile ≡ option_or old.profile (declared_profile (item ∷ []))
       → new.budget ≡ option_or old.budget (declared_budget (item ∷ []))
@@ -158,7 +159,7 @@ module _ (items : List Item) (item : Item) where
     shutdown = shutdown ∙ ap (λ b. b || declares_shutdown (item ∷ [])) before.shutdown ∙ sym (shutdown_append items (item ∷ []));
   }
 
--- What stands at a number of one list stands there in the other.
+-- What one list has at a number, the other has too.
 some_of : {A B C : Type 0} (f : A → C) (g : B → C) (x : Option A) (y : Option B) (a : A) → x ≡ Some a → option_map f x ≡ option_map g y → (b : B) × (y ≡ Some b) × (f a ≡ g b)
 some_of f g None y a is e = absurd (cc)
 some_of f g (Some x) None a is e = absurd (cc)

@@ -1,4 +1,4 @@
--- The profile that a line declares is 1 or 2, and stands in the first line.
+-- A declared profile is 1 or 2, and is the first line.
 use Rattle.std.proofs.Common.{◌≡◌, ℕ, ◌≤◌, List, [], ◌∷◌, length, drop, Bool, true, false, nat_le, refl, sym, ◌∙◌, arith}
 use Rattle.std.specs.List.{All}
 use Rattle.std.proofs.lemmas.List.Elements.{All-nil, All-cons, All-drop}
@@ -55,7 +55,7 @@ abbrev pub NoProfiles : List Said → Type 0
 NoProfiles [] = Unit {0}
 NoProfiles (s ∷ ss) = SaysNoProfile s × NoProfiles ss
 
--- no line behind the first says a profile, nor the first where another is known
+-- no line after the first says a profile, nor does the first if another is known
 abbrev ProfilesFirst : ℕ → Known → List (List ℕ) → List Said → Type 0
 ProfilesFirst number known texts saids = (known.started ≡ true → NoProfiles saids) × NoProfiles (drop 1 saids)
 
@@ -76,7 +76,7 @@ items_no_profile inside (Ends ∷ later) none = items_no_profile false later non
 items_no_profile true (Does command ∷ later) none = items_no_profile true later none.1
 items_no_profile false (Does command ∷ later) none = All-cons IsNoProfile (items.Run command) (items_of false later) tt (items_no_profile false later none.1)
 
--- a profile is the first of the items
+-- a profile is the first item
 pub profile_is_first : (inside : Bool) (saids : List Said) → NoProfiles (drop 1 saids) → All IsNoProfile (drop 1 (items_of inside saids))
 profile_is_first inside [] none = All-nil IsNoProfile
 profile_is_first inside (Declares item ∷ later) none = items_no_profile inside later none

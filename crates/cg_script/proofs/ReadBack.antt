@@ -1,4 +1,4 @@
--- The canonical bytes of a script that some bytes spell are read as this script.
+-- The canonical bytes of a script that some bytes spell are read back as this script.
 use Rattle.std.proofs.Common.{◌≡◌, ℕ, ◌+◌, ◌≤◌, List, [], ◌∷◌, ◌++◌, length, map, Bool, true, false, cond, ◌&&◌, ◌==◌, Option, None, Some, refl, sym, ap, subst, ◌∙◌, arith, codes, inl, inr, ◌⊎◌, append_assoc}
 use Rattle.std.specs.Prelude.{flat_map, unwrap_or}
 use Rattle.std.specs.Str.{bytes_eq}
@@ -30,7 +30,7 @@ use Rattle.cg_script.proofs.Rows.{Given, Row, said_words, opener_is, binding_is,
 use Rattle.cg_script.proofs.OddRows.{collect_row, ref_row, flags_row}
 use Rattle.cg_script.proofs.ClassRows.{class_row}
 
--- what is printed of a line that is read
+-- what is printed of a parsed line
 module _ (n : Naming) (known : Known) (names : Names n known.procs known.classes) where
   opener_row : (form : Form) (ws : List (List ℕ)) → named openers (word_at ws 0) ≡ Some form → Given n known form ws → Row n known form ws
   opener_row form [] e given = let never : true ≡ false = given.good.unpassed in absurd (cc)
@@ -70,7 +70,7 @@ module _ (n : Naming) (known : Known) (names : Names n known.procs known.classes
       by (inl p) = opener_row form ws p.1 given
       by (inr p) = binding_row form ws p.0 p.1 p.2 given
 
-  -- the printed line says the same, and leaves the same known
+  -- the printed line says the same, and leads to the same knowledge
   record Again (form : Form) (ws : List (List ℕ)) : Type 0 where
     words : List (List ℕ)
     printed : said_words n (said form (parts_of known form ws)) ≡ words
@@ -110,7 +110,7 @@ module _ (n : Naming) (known : Known) (names : Names n known.procs known.classes
   pub line_sound : (form : Form) (ws : List (List ℕ)) → Given n known form ws → Faultless known form ws → EachSound (said_words n (said form (parts_of known form ws)))
   line_sound form ws given clean = let a = again form ws given clean in subst (λ l. EachSound l) (sym a.printed) a.sound
 
--- lines of which procedures are begun and ended in turn, and declarations stand outside them
+-- lines in which procedures open and close in turn, with declarations outside them
 abbrev Nested : Bool → List Said → Type 0
 Nested inside [] = inside ≡ false
 Nested inside (Declares (items.Profile profile) ∷ later) = (inside ≡ false) × Nested inside later
@@ -210,7 +210,7 @@ lines_said n true (BeginsProc name ∷ later) nested = let never : true ≡ fals
 lines_said n true (Ends ∷ later) nested = ap (λ (l : List (List (List ℕ))). end_words ∷ l) (lines_said n false later nested.1)
 lines_said n true (Does command ∷ later) nested = ap (λ (l : List (List (List ℕ))). command_words n command ∷ l) (lines_said n true later nested)
 
--- what a line defines is the next of all
+-- what a line defines is the next one of all
 define_step : (all names : List (List ℕ)) (place : ℕ) (name : List ℕ) (later : List ℕ) → has_text names name ≡ false → text_of all place ≡ name
     → names ++ map (text_of all) (place ∷ later) ≡ with_text names name ++ map (text_of all) later
 define_step all names place name later fresh is =
@@ -237,7 +237,7 @@ module _ (known : Known) (all : List (List ℕ)) where
       (text_found all known.texts c (begins_along (with_text known.texts c) (texts_from (with_text known.texts c) forms.Class 2 ws) all (begins_texts forms.Class ws (with_text known.texts c) 2) begins))
   classes_step form ws later enough fresh begins = refl
 
--- What the lines from a number on say is read again where it is printed, from any number up to that one.
+-- What the lines from a number on say is read back from their printed form, from any number up to that one.
 record Back (number : ℕ) (known : Known) (texts : List (List ℕ)) (saids : List Said) : Type 0 where
   begins : Begins known.texts texts
   nested : Nested known.inside saids

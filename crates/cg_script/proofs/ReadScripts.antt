@@ -1,4 +1,4 @@
--- What laws ask of a script is true of each that was read.
+-- What laws require of a script holds of each parsed one.
 use Rattle.std.proofs.Common.{◌≤◌, length}
 use Rattle.std.specs.List.{All}
 use Rattle.cg_script.specs.declared.item.Script.{Script}
@@ -7,7 +7,7 @@ use Rattle.cg_script.specs.ReadScripts.{WasRead}
 use Rattle.cg_script.proofs.Each.{known_texts}
 use Rattle.cg_script.proofs.SpelledScripts.{short_texts}
 
--- it names its own texts alone
+-- it uses its own texts
 pub read_known : (script : Script) → WasRead script → TextsAreKnown script
 read_known script (bytes, spelled) = known_texts bytes script.names script.items spelled
 

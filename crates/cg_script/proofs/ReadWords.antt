@@ -1,4 +1,4 @@
--- What is read where a word fits its place, and what is wrong with the words of a line.
+-- What is read if a word fits its place, and what is wrong with the words of a line.
 use Rattle.std.proofs.Common.{◌≡◌, ℕ, ◌≤◌, List, [], length, Bool, true, false, not, ◌||◌, Option, Some, None, if◌then◌else◌, nat_lt, refl, sym, ap, ◌∙◌, arith}
 use Rattle.std.proofs.lemmas.Bool.Decides.{nat_tests}
 use Rattle.std.proofs.lemmas.List.{length-map}
@@ -18,7 +18,7 @@ use Rattle.cg_script.specs.Parts.{Known, parts_of, has_unknown, value_text, oper
 use Rattle.cg_script.specs.Reading.{is_misplaced, is_repeated, fault_in, says_or_bad, checked}
 use Rattle.cg_script.proofs.Places.{texts_of}
 
--- what is read is read where a test holds
+-- what is read is read if a test holds
 pub read_so : {A : Type 0} (b : Bool) (x a : A) → Some x ≡ (if b then Some a else None) → (b ≡ true) × (x ≡ a)
 read_so true x a e = (refl, (let s : x ≡ a = cc in s))
 read_so false x a e = absurd (cc)
@@ -35,7 +35,7 @@ pub not_read_as : {A B : Type 0} (b : Bool) (a : A) (other : B) → None ≡ (if
 not_read_as true a other e = absurd (cc)
 not_read_as false a other e = refl
 
--- a word that is none of the other values is one where it is a number
+-- a word that is no other value is one if it is a number
 pub number_read : (word : List ℕ) (texts : List (List ℕ)) (found : Option Operand) → named atoms word ≡ None → is_quoted word ≡ false → begins_name (slice_index word 0) ≡ false
     → found ≡ (if is_number word then Some (operands.Int (number_of word)) else None) → found ≡ (if is_value word then Some (operand_or (named atoms word) texts word) else None)
 number_read word texts found no_atom unquoted unnamed e =
@@ -44,7 +44,7 @@ number_read word texts found no_atom unquoted unnamed e =
     ∙ (λ j. if unquoted j then operands.Str (text_number texts (string_text word)) else if unnamed j then operands.Name (text_number texts word) else operands.Int (number_of word)) in
     e ∙ sym (λ j. if value j then Some (operand j) else None)
 
--- one that begins as a name is one where it is a variable, which is its text
+-- one that begins like a name is one if it is a variable, which is its text
 pub name_value : (word : List ℕ) → named atoms word ≡ None → is_quoted word ≡ false → begins_name (slice_index word 0) ≡ true → is_value word ≡ is_variable word
 name_value word no_atom unquoted begins = λ j. if is_some (no_atom j) then true else if unquoted j then list_all is_graphic word else if begins j then is_variable word else is_number word
 
@@ -64,7 +64,7 @@ or_true : (a : Bool) → (a || true) ≡ true
 or_true true = refl
 or_true false = refl
 
--- words of a number that the form takes
+-- words of a number that the form allows
 module _ (form : Form) (ws : List (Bor (List ℕ))) (enough : (row form).fewest ≤ length ws) (few : length ws ≤ (row form).most) where
   by_words : formed form (texts_of ws) ≡ (if not (all_fit form 0 (texts_of ws)) || repeats_finalizer form (texts_of ws) then bad 4 else says form (texts_of ws))
   by_words =
@@ -81,7 +81,7 @@ module _ (form : Form) (ws : List (Bor (List ℕ))) (enough : (row form).fewest 
   pub good_words : true ≡ all_fit form 0 (texts_of ws) → repeats_finalizer form (texts_of ws) ≡ false → None ≡ code_of (formed form (texts_of ws))
   good_words e single = sym (ap code_of (by_words ∙ (λ j. if not (sym e j) || single j then bad 4 else says form (texts_of ws))))
 
--- what is bad by its words alone stays so
+-- what is bad in itself stays bad
 pub bad_stays : (known : Known) (m : Meaning) (code : ℕ) → Some code ≡ code_of m → Some code ≡ code_of (checked known m)
 bad_stays known passed code e = absurd (cc)
 bad_stays known (says form words) code e = absurd (cc)
@@ -105,7 +105,7 @@ code_or : (fault : Option ℕ) (form : Form) (words : List (List ℕ)) → code_
 code_or None form words = refl
 code_or (Some code) form words = refl
 
--- the texts do not tell where a line may stand, nor whether it is there again
+-- the texts do not affect where a line may be, nor whether it is a duplicate
 misplaced_by : (texts : List (List ℕ)) (known : Known) (form : Form)
     → is_misplaced (record { texts = texts; procs = known.procs; classes = known.classes; budget = known.budget; shutdown = known.shutdown; started = known.started; inside = known.inside }) form ≡ is_misplaced known form
 misplaced_by texts known forms.End = refl
@@ -124,7 +124,7 @@ repeated_by texts known forms.Budget words = refl
 repeated_by texts known forms.Shutdown words = refl
 repeated_by texts known form words = refl
 
--- what is wrong with words that are good by themselves, where their texts are among those that are known already
+-- what is wrong with words that are good in themselves and have known texts
 module _ (known : Known) (texts : List (List ℕ)) (form : Form) (words : List (List ℕ)) (good : None ≡ code_of (formed form words)) where
   code_so : code_of (checked known (formed form words)) ≡ fault_in known form words
   code_so = ap (λ m. code_of (checked known m)) (formed_says form words good) ∙ code_or (fault_in known form words) form words
@@ -138,7 +138,7 @@ module _ (known : Known) (texts : List (List ℕ)) (form : Form) (words : List (
       (λ j. if (m ∙ misplaced_by texts known form) j then Some 7 else if (r ∙ repeated_by texts known form words) j then Some 8 else if u j then Some 6 else None)
       ∙ sym code_so
 
--- a line in which nothing is wrong behind what is known
+-- a line in which nothing is wrong after what is known
 pub taken_says : (known : Known) (form : Form) (words : List (List ℕ)) → None ≡ code_of (checked known (formed form words)) → (says form words ≡ formed form words) × (None ≡ fault_in known form words)
 taken_says known form words e =
     let good = good_before known (formed form words) e in

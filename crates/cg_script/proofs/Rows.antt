@@ -1,4 +1,4 @@
--- The words of what each form says: those that were read, as they are printed.
+-- The words of what each form says: those that were read, as printed.
 use Rattle.std.proofs.Common.{◌≡◌, ℕ, ◌+◌, ◌≤◌, List, [], ◌∷◌, length, map, Bool, true, false, cond, Some, refl, sym, ap, subst, ◌∙◌, arith, codes}
 use Rattle.std.specs.Str.{bytes_eq}
 use Rattle.std.proofs.lemmas.List.{get_or_past}
@@ -31,13 +31,13 @@ said_words n (Declares (items.Run c)) = []
 said_words n (BeginsProc name) = def_words n name
 said_words n Ends = end_words
 
--- a line that is good behind what is known, and its texts among all
+-- a line that is good after what is known, with its texts among all
 pub record Given (n : Naming) (known : Known) (form : Form) (ws : List (List ℕ)) : Type 0 where
   pub good : Good form ws
   pub begins : Begins (texts_from known.texts form 0 ws) n.texts
   pub defined : has_unknown (parts_of known form ws) ≡ false
 
--- What is printed of a line: other words that stand for the same, as they are printed.
+-- What is printed of a line: other words that stand for the same, as printed.
 pub record Row (n : Naming) (known : Known) (form : Form) (ws : List (List ℕ)) : Type 0 where
   pub standing : List (List ℕ)
   pub good : Good form standing
@@ -72,7 +72,7 @@ pub shape3 : (P : List (List ℕ) → Type 0) (ws : List (List ℕ)) → length 
 shape3 P [] e p = absurd (omega arith)
 shape3 P (a ∷ ws) e p = shape2 (λ l. P (a ∷ l)) ws (omega arith) (p a)
 
--- the values behind the first places of a form
+-- the values after the first places of a form
 values_plain : (n : Naming) (procs classes : List (List ℕ)) (form : Form) (ws texts : List (List ℕ)) (place : ℕ) → ((i : ℕ) → place ≤ i → sort_at form i ≡ Value)
     → map (value_word n.texts) (map (λ part. value_or (Some part)) (parts_from procs classes texts form place ws)) ≡ shown_from n procs classes texts form place ws
 values_plain n procs classes form [] texts place values = refl
@@ -84,7 +84,7 @@ values_plain n procs classes form (w ∷ ws) texts place values =
     ap (λ (v : List ℕ). v ∷ map (value_word n.texts) (map (λ part. value_or (Some part)) (parts_from procs classes more form (place + 1) ws))) here
     ∙ ap (λ l. shown n (sort_at form place) (part_of procs classes texts (sort_at form place) w) w ∷ l) later
 
--- a form among some is found by its word
+-- a form is found by its word
 pub by_words-is : (these : List Form) (w : List ℕ) (form : Form) → named (by_words these) w ≡ Some form → w ≡ word_of form
 by_words-is [] w form e = absurd (cc)
 by_words-is (f ∷ these) w form e = by (bytes_eq w (word_of f)) refl e (by_words-is these w form)
@@ -116,7 +116,7 @@ module _ (n : Naming) (known : Known) (names : Names n known.procs known.classes
   plain : (form : Form) (ws : List (List ℕ)) → Given n known form ws → Plain n known form ws → Row n known form ws
   plain form ws given p = plain_row n known names form ws given p
 
-  -- lines of no, one, two or three words behind the first
+  -- lines with no to three words after the first
   alone : (form : Form) (rest : List (List ℕ)) → length rest ≡ 0 → Plain n known form (word_of form ∷ []) → Opened form rest
   alone form rest e p = shape0 (Opened form) rest e (λ given. plain form (word_of form ∷ []) given p)
 
@@ -136,7 +136,7 @@ module _ (n : Naming) (known : Known) (names : Names n known.procs known.classes
   threshold_row (a ∷ b ∷ c ∷ []) given = plain forms.Threshold (codes "threshold" ∷ a ∷ b ∷ c ∷ []) given refl
   threshold_row (a ∷ b ∷ c ∷ d ∷ rest) given = absurd (omega (arith, given.good.most))
 
-  -- a form that some first word picks; what is printed otherwise is given
+  -- a form selected by a first word; what is printed differently is given
   pub opened : (form : Form) (rest : List (List ℕ)) → ((rest : List (List ℕ)) → Opened forms.Collect rest) → ((rest : List (List ℕ)) → Opened forms.Flags rest) → ((rest : List (List ℕ)) → Opened forms.Class rest) → named openers (word_of form) ≡ Some form → Opened form rest
   unfolding openers
   opened forms.Del rest co fl cl found given = one forms.Del rest (omega (arith, given.good.enough, given.good.most)) (λ a. refl) given
@@ -192,7 +192,7 @@ module _ (n : Naming) (known : Known) (names : Names n known.procs known.classes
       (ap (λ l. text_of n.texts (text_number known.texts a) ∷ codes "=" ∷ codes "func" ∷ name_of n.texts n.procs (count_or (Some (part_of known.procs known.classes (with_text known.texts a) (sort_at forms.MakeFunc 3) p))) ∷ l)
       (values_plain n known.procs known.classes forms.MakeFunc rest (with_text known.texts a) 4 (λ i h. get_or_past (row forms.MakeFunc).places i Value h)))
 
-  -- a form that some third word picks
+  -- a form selected by a third word
   pub bound : (form : Form) (a : List ℕ) (rest : List (List ℕ)) → ((a : List ℕ) (rest : List (List ℕ)) → Bound forms.MakeRef a rest) → named bindings (word_of form) ≡ Some form → Bound form a rest
   unfolding bindings
   bound forms.MakeList a rest re found given =

@@ -1,4 +1,4 @@
--- The words of a line that is good by its words alone.
+-- The words of a line that is good in itself.
 use Rattle.std.proofs.Common.{◌≡◌, ℕ, ◌≤◌, List, length, Bool, true, false, not, ◌||◌, ◌==◌, if◌then◌else◌, Option, Some, None, refl, ap, subst, arith, nat_lt, codes}
 use Rattle.std.proofs.lemmas.Bool.Decides.{nat_tests}
 use Rattle.std.specs.List.{list_all}
@@ -9,7 +9,7 @@ use Rattle.cg_script.specs.Words.{is_printable}
 use Rattle.cg_script.specs.Forms.{row, openers}
 use Rattle.cg_script.specs.Meanings.{Meaning, passed, says, bad, all_fit, repeats_finalizer, formed, formed_if, binding_form, worded, is_passed, meaning}
 
--- the words fit their places, and their number is one that is read
+-- the words fit their places, and their number is allowed
 pub record Fitting (form : Form) (words : List (List ℕ)) : Type 0 where
   pub fit : all_fit form 0 words ≡ true
   pub enough : (row form).fewest ≤ length words

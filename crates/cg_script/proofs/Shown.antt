@@ -1,4 +1,4 @@
--- The words that are printed of the parts of a line: those of the line as they are printed.
+-- The words printed for the parts of a line: those of the line, as printed.
 use Rattle.std.proofs.Common.{◌≡◌, ℕ, suc, ◌+◌, ◌<◌, List, [], ◌∷◌, ◌++◌, length, map, Bool, true, false, cond, not, ◌||◌, Option, None, Some, refl, sym, ap, ◌∙◌, arith, codes, append_assoc, append-nil, nat_lt}
 use Rattle.std.specs.Prelude.{slice_index, slice_index_or, decimal, pos}
 use Rattle.std.specs.Fmt.{signed_decimal}
@@ -22,7 +22,7 @@ use Rattle.cg_script.specs.Commands.{text_or, value_or, number_or, count_or}
 use Rattle.cg_script.specs.Canonical.{Naming, text_of, name_of, value_word}
 use Rattle.cg_script.proofs.NormalWords.{normal, normal_value}
 
--- a list begins another
+-- a list is a prefix of another
 pub record Begins (xs ys : List (List ℕ)) : Type 0 where
   pub more : List (List ℕ)
   pub is : ys ≡ xs ++ more
@@ -50,7 +50,7 @@ begins_texts form (word ∷ words) texts place =
     let more = with_text_if texts (text_in (sort_at form place) word) in
     begins_along texts more (texts_from more form (place + 1) words) (begins_if texts (text_in (sort_at form place) word)) (begins_texts form words more (place + 1))
 
--- the text at a place of a list is the same in a longer one
+-- the text at a place is the same in a longer list
 step_place : (b : Bool) (n : ℕ) (x : List ℕ) (xs : List (List ℕ)) (text : List ℕ) → (b ≡ true → text ≡ x) → (b ≡ false → slice_index_or xs n [] ≡ text) → slice_index_or (x ∷ xs) (cond (not b) (1 + n) 0) [] ≡ text
 step_place true n x xs text here later = sym (here refl)
 step_place false n x xs text here later = let e : 1 + n ≡ suc n = omega arith in ap (λ k. slice_index_or (x ∷ xs) k []) e ∙ later refl
@@ -73,7 +73,7 @@ new_text (x ∷ xs) more text e =
     rest true b e = absurd (cc)
     rest false b e = e
 
--- the text of a word has its place in all texts
+-- the text of a word has its number among all texts
 pub text_found : (all texts : List (List ℕ)) (text : List ℕ) → Begins (with_text texts text) all → text_of all (text_number texts text) ≡ text
 text_found all texts text begins = by (has_text texts text) refl begins
   where
@@ -81,7 +81,7 @@ text_found all texts text begins = by (has_text texts text) refl begins
     by true e begins = ap (λ l. slice_index_or l (text_number texts text) []) begins.is ∙ there_text texts begins.more text e
     by false e begins = ap (λ l. slice_index_or l (text_number texts text) []) begins.is ∙ new_text texts begins.more text e
 
--- so has the name of a procedure or class that is defined
+-- so has the name of a defined procedure or class
 found_step : (n k m : ℕ) → cond (nat_lt n m) (Some n) None ≡ Some k → (n ≡ k) × (nat_lt n m ≡ true)
 found_step n k m e = by (nat_lt n m) refl e
   where
@@ -104,7 +104,7 @@ name_found all names name k begins e =
     let below : position_or_len (bytes_eq name) names < length names = let t = at.1 in grind (arith, nat_tests) in
     ap (λ l. slice_index_or l k []) begins.is ∙ ap (λ n. slice_index_or (names ++ begins.more) n []) (sym at.0) ∙ in_list names begins.more name below
 
--- the word of a part at a place that asks so, beside the word that was read
+-- the word of a part at its place, next to the word that was read
 abbrev pub shown : Naming → Sort → Part → List ℕ → List ℕ
 shown n Key p w = w
 shown n Variable p w = text_of n.texts (text_or (Some p))
@@ -125,12 +125,12 @@ shown_from n procs classes texts form place [] = []
 shown_from n procs classes texts form place (w ∷ ws) =
     shown n (sort_at form place) (part_of procs classes texts (sort_at form place) w) w ∷ shown_from n procs classes (with_text_if texts (text_in (sort_at form place) w)) form (place + 1) ws
 
--- the words as they are printed
+-- the words as printed
 abbrev pub normal_from : Form → ℕ → List (List ℕ) → List (List ℕ)
 normal_from form place [] = []
 normal_from form place (w ∷ ws) = normal (sort_at form place) w ∷ normal_from form (place + 1) ws
 
--- the words of the values that have their own
+-- the keywords for values
 SpelledBy : List (List ℕ) → List (List ℕ × Operand) → Type 0
 SpelledBy texts [] = Unit {0}
 SpelledBy texts (row ∷ rows) = (value_word texts row.1 ≡ row.0) × SpelledBy texts rows
@@ -184,7 +184,7 @@ counted_name : (all names : List (List ℕ)) (name : List ℕ) (found : Option �
 counted_name all names name None e begins known = absurd (cc)
 counted_name all names name (Some k) e begins known = name_found all names name k begins e
 
--- what the names of a script are, beside those that are known
+-- the names of a script, next to those already known
 pub record Names (n : Naming) (procs classes : List (List ℕ)) : Type 0 where
   pub procs_begin : Begins procs (map (text_of n.texts) n.procs)
   pub classes_begin : Begins classes (map (text_of n.texts) n.classes)

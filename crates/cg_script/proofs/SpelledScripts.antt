@@ -1,4 +1,4 @@
--- What is true of each script that some bytes spell.
+-- Properties of each script that some bytes spell.
 use Rattle.std.proofs.Common.{◌≡◌, ℕ, ◌≤◌, List, [], ◌∷◌, length, length-drop, drop, Bool, true, false, ap, subst, arith, Result, Ok, Err, Some, nat_le}
 use Rattle.std.specs.Prelude.{IfOk}
 use Rattle.std.specs.List.{All}
@@ -125,11 +125,11 @@ items_spelled n inside (Ends ∷ later) few each = items_spelled n false later (
 items_spelled n true (Does command ∷ later) few each = items_spelled n true later (omega arith) each.1
 items_spelled n false (Does command ∷ later) few each = All-cons (IsSpelledItem n) (items.Run command) (items_of false later) each.0 (items_spelled n false later (omega arith) each.1)
 
--- the texts of a script that was read
+-- the texts of a parsed script
 pub short_texts : (bytes : List ℕ) (script : Script) → reading bytes ≡ spells script.names script.items → All (λ text. length text ≤ 1024) script.names
 short_texts bytes script e = (said_so IsSpelledSaid lines_spelled bytes script.names script.items e).short
 
--- a script that was read, with few texts
+-- a parsed script, with few texts
 pub spelled_script : (bytes : List ℕ) (script : Script) → reading bytes ≡ spells script.names script.items → length script.names ≤ 25600000 → IsSpelled script
 spelled_script bytes script e few_texts =
     let n = length script.names in

@@ -1,4 +1,4 @@
--- The words at the front of some bytes.
+-- The words at the beginning of some bytes.
 use Rattle.std.proofs.Common.{◌≡◌, ◌≢◌, ℕ, zero, suc, ◌+◌, ◌-◌, ◌<◌, ◌≤◌, List, [], ◌∷◌, ◌++◌, length, take, drop, filter, get_or, Bool, true, false, cond, not, ◌&&◌, ◌||◌, ◌==◌, refl, sym, ap, ◌∙◌, arith, nat_lt, Some, None, position, length-append, length-drop, append_assoc, append-nil}
 use Rattle.std.proofs.lemmas.Bool.Decides.{nat_tests}
 use Rattle.std.proofs.lemmas.List.{take_all, take_more, length-take-le, get_or-drop, take-append-le, get_or-take, length-take}
@@ -47,7 +47,7 @@ one_piece b (c ∷ w) h =
     let p = both (plain b) (list_all plain (c ∷ w)) h in
     ap (λ t. cond t ([] ∷ pieces 32 (c ∷ w)) (onto b (pieces 32 (c ∷ w)))) (plain_other b p.0) ∙ ap (onto b) (one_piece c w p.1)
 
--- with no space all is one word
+-- without a space, everything is one word
 pub word_alone : (w : List ℕ) → list_all plain w ≡ true → words_of w ≡ filter has_bytes (w ∷ [])
 word_alone [] h = refl
 word_alone (b ∷ w) h = ap (filter has_bytes) (one_piece b w h)
@@ -66,11 +66,11 @@ take_front zero xs ys = refl
 take_front (suc n) [] ys = refl
 take_front (suc n) (x ∷ xs) ys = ap (λ l. x ∷ l) (take_front n xs ys)
 
--- These words, with those of what follows, are the first ones of some bytes.
+-- These words, with those of the rest, are the first ones of some bytes.
 abbrev pub AreFirst : List (List ℕ) → List ℕ → Type 0
 AreFirst words done = (rest : List ℕ) → take MOST_FOUND (words ++ words_of rest) ≡ take MOST_FOUND (words_of (done ++ rest))
 
--- with one word more and its space
+-- one more word and its space
 pub first_more : (words now : List (List ℕ)) (done w : List ℕ) → list_all plain w ≡ true → now ≡ take MOST_FOUND (words ++ filter has_bytes (w ∷ [])) → AreFirst words done
     → AreFirst now (done ++ (w ++ 32 ∷ []))
 first_more words now done w h e inv rest =
@@ -82,7 +82,7 @@ first_more words now done w h e inv rest =
     ∙ inv (w ++ 32 ∷ rest)
     ∙ ap (λ bs. take MOST_FOUND (words_of bs)) (sym (append_assoc done (w ++ 32 ∷ []) rest ∙ ap (λ bs. done ++ bs) (append_assoc w (32 ∷ []) rest)))
 
--- with one word more, behind which the line ends
+-- one more word, which ends the line
 pub first_last : (words now : List (List ℕ)) (done w : List ℕ) → list_all plain w ≡ true → now ≡ take MOST_FOUND (words ++ filter has_bytes (w ∷ [])) → AreFirst words done
     → now ≡ take MOST_FOUND (words_of (done ++ w))
 first_last words now done w h e inv = e ∙ ap (λ ws. take MOST_FOUND (words ++ ws)) (sym (word_alone w h)) ∙ inv w
@@ -104,7 +104,7 @@ module _ (words : List (Bor (List ℕ))) where
       let n = length-texts words in
       sym (ap (λ t. take MOST_FOUND (texts_of words ++ cond t (piece ∷ []) [])) (empty_piece piece e) ∙ ap (take MOST_FOUND) (append-nil (texts_of words)) ∙ take_all MOST_FOUND (texts_of words) (omega (arith, n, few)))
 
-  -- another one is
+  -- any other is one
   pub one_found : (now : List (Bor (List ℕ))) (piece : Bor (List ℕ)) → now ≡ words ++ piece ∷ [] → length words < MOST_FOUND → 0 < length piece.now
       → texts_of now ≡ take MOST_FOUND (texts_of words ++ filter has_bytes (piece.now ∷ []))
   one_found now piece e few some =
@@ -134,17 +134,16 @@ place_none bytes h =
     let is : position_or_len odd bytes ≡ length bytes = prefix_len_is (λ b. not (odd b)) bytes (length bytes) 0 whole (λ k l. printable_at bytes k h l) (λ w. absurd (omega (arith, w))) in
     sym (ap (λ k. cond (nat_lt k (length bytes)) (Some k) None) is ∙ ap (λ t. cond t (Some (length bytes)) None) (is_not_below (length bytes)))
 
--- a byte that may not stand in a word, and is no space
+-- a byte that may not be part of a word, and is no space
 pub stops : (b : ℕ) → plain b ≡ false → b ≢ 32 → odd b ≡ true
 stops b e other = grind (arith, nat_tests)
 
--- a walk over some bytes that has come to a place, with a word that began at another
+-- a walk over some bytes that has reached a position, with a word that began at another
 module _ (bytes : List ℕ) (start at : ℕ) (started : start ≤ at) where
-  -- the bytes so far are those before the word and its own
+  -- the bytes so far are those before the word and the word's own
   pub word_behind : take at bytes ≡ take start bytes ++ take (at - start) (drop start bytes)
   word_behind = let n : start + (at - start) ≡ at = omega (arith, started) in sym (ap (λ k. take k bytes) n) ∙ take-add start (at - start) bytes
 
-  -- and one byte more
   module _ (within : at < length bytes) where
     word_longer : take (at + 1 - start) (drop start bytes) ≡ take (at - start) (drop start bytes) ++ get_or bytes at 0 ∷ []
     word_longer =
@@ -174,7 +173,7 @@ pub few_found : (words : List (Bor (List ℕ))) (all : List (List ℕ)) → text
 few_found words all e = omega (arith, length-texts words, ap length e, length-take MOST_FOUND all)
 
 module _ (words : List (Bor (List ℕ))) (all : List (List ℕ)) (e : texts_of words ≡ take MOST_FOUND all) where
-  -- too many are seen
+  -- too many are found
   pub too_many : (long last : Bool) → MOST_WORDS < length words → true ≡ (long || nat_lt MOST_WORDS (length all) || last)
   too_many long last many =
       let n = length-texts words in let k = length-take MOST_FOUND all in let s = ap length e in

@@ -1,4 +1,4 @@
--- Tables of words: what is found in them.
+-- Look-ups in tables of words.
 use Rattle.std.proofs.Common.{◌≡◌, ℕ, ◌+◌, ◌<◌, ◌≤◌, List, ◌∷◌, length, map, get_or, drop, true, false, cond, Option, Some, None, sym, ap, ◌∙◌}
 use Rattle.std.proofs.lemmas.List.{drop_more}
 use Rattle.std.proofs.Math.ListN.{drop_of_length-le}
@@ -10,7 +10,7 @@ pub drop_step : {A : Type 0} (xs : List A) (i : ℕ) (x : A) → i < length xs �
 drop_step xs i x h is = drop_more xs i x h ∙ ap (λ y. y ∷ drop (i + 1) xs) (sym is)
 
 module _ {A B : Type 0} (f : A → List ℕ × B) (word : List ℕ) (rows : List A) (i : ℕ) where
-  -- a row with another word is passed
+  -- a row with another word is skipped
   pub named_more : (row : A) → i < length rows → row ≡ get_or rows i row → bytes_eq word (f row).0 ≡ false → (whole : Option B) → named (map f (drop i rows)) word ≡ whole
       → named (map f (drop (i + 1) rows)) word ≡ whole
   named_more row h is e whole inv =

@@ -1,4 +1,4 @@
--- Only a line of a form with a place that asks for a procedure or class of an earlier line can name one that is not there.
+-- Only a line of a form with a place for an earlier procedure or class can name an unknown one.
 use Rattle.std.proofs.Common.{◌≡◌, ℕ, zero, suc, ◌+◌, List, [], ◌∷◌, Bool, true, false, ◌&&◌, ◌||◌, refl, sym, ap, ◌∙◌, slice_index_or}
 use Rattle.std.specs.List.{list_any}
 use Rattle.cg_script.specs.declared.form.Form.{Form}
@@ -7,7 +7,7 @@ use Rattle.cg_script.specs.declared.form.Sort.TheVariants.{Key, Variable, Name, 
 use Rattle.cg_script.specs.Forms.{row, sort_at}
 use Rattle.cg_script.specs.Parts.{part_of, parts_from, with_text_if, text_in, is_unknown, has_unknown, asks_for_defined, names_defined}
 
--- what another place asks for is never one that no earlier line defines
+-- at another place, nothing is unknown
 known_part : (procs classes texts : List (List ℕ)) (sort : Sort) (word : List ℕ) → asks_for_defined sort ≡ false → is_unknown (part_of procs classes texts sort word) ≡ false
 known_part procs classes texts Key word other = refl
 known_part procs classes texts Variable word other = refl
@@ -26,7 +26,7 @@ neither : (a b : Bool) → (a || b) ≡ false → (a ≡ false) × (b ≡ false)
 neither true b e = absurd (cc)
 neither false b e = (refl, e)
 
--- a place past the first ones asks for a value
+-- a place after the first ones takes a value
 other_place : (places : List Sort) (place : ℕ) → list_any asks_for_defined places ≡ false → asks_for_defined (slice_index_or places place Value) ≡ false
 other_place [] place none = refl
 other_place (sort ∷ places) zero none = (neither (asks_for_defined sort) (list_any asks_for_defined places) none).0
@@ -40,7 +40,7 @@ known_parts procs classes texts form place (word ∷ words) none =
     (known_part procs classes texts (sort_at form place) word (other_place (row form).places place none))
     ∙ known_parts procs classes (with_text_if texts (text_in (sort_at form place) word)) form (place + 1) words none
 
--- so it is enough to look at the parts of lines of such forms
+-- so it is enough to check the parts of lines of such forms
 pub unknown_where_asked : (procs classes texts : List (List ℕ)) (form : Form) (words : List (List ℕ))
     → (names_defined form && has_unknown (parts_from procs classes texts form 0 words)) ≡ has_unknown (parts_from procs classes texts form 0 words)
 unknown_where_asked procs classes texts form words = by (names_defined form) refl

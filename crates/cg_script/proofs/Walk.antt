@@ -1,4 +1,4 @@
--- What is shown of all lines of a script, line by line, where none is bad.
+-- Properties of all lines of a script, line by line, if none is bad.
 use Rattle.std.proofs.Common.{◌≡◌, ℕ, ◌+◌, List, [], ◌∷◌, Bool, true, false, cond, Option, None, Some, refl, sym, subst}
 use Rattle.cg_script.specs.declared.form.Form.{Form}
 use Rattle.cg_script.specs.declared.part.Said.{Said}
@@ -7,7 +7,7 @@ use Rattle.cg_script.specs.Parts.{Known, parts_of}
 use Rattle.cg_script.specs.Commands.{said}
 use Rattle.cg_script.specs.Reading.{fault_in, says_or_bad, checked, meant, known_after, Lines, good, spoilt, also_said, with_later, lines_from}
 
--- a line of a form, with nothing wrong behind what is known
+-- a line of a form, with nothing wrong after what is known
 record Clean (known : Known) (m : Meaning) (form : Form) (words : List (List ℕ)) : Type 0 where
   says_so : m ≡ says form words
   clean : fault_in known form words ≡ None
@@ -46,8 +46,8 @@ meant_passed : (known : Known) (number : ℕ) (line : List ℕ) → meant known 
 unfolding meant
 meant_passed known number line e = checked_passed known (meaning number line) e
 
--- A fact on what lines say from a number on, behind what is known, with all texts of the script. It holds of no lines, and each
--- line keeps it.
+-- A property of what lines say from a number on, given what is known and all texts of the script. It holds for no lines, and
+-- each line keeps it.
 module _ (Fact : ℕ → Known → List (List ℕ) → List Said → Type 0)
     (at_end : (number : ℕ) (known : Known) → known.inside ≡ false → Fact number known known.texts [])
     (by_passed : (number : ℕ) (known : Known) (line : List ℕ) (texts : List (List ℕ)) (saids : List Said) → passed ≡ meaning number line → Fact (number + 1) known texts saids → Fact number known texts saids)

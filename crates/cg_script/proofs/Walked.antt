@@ -1,4 +1,4 @@
--- What holds of the number of each word of a line holds of the numbers in what the line says.
+-- A property of the number of each word of a line holds of the numbers in what the line says.
 use Rattle.std.proofs.Common.{ℕ, zero, suc, ◌<◌, List, [], ◌∷◌, ◌++◌, map, drop, Bool, true, false, Some, arith, refl, ◌≡◌}
 use Rattle.std.specs.Prelude.{flat_map}
 use Rattle.cg_script.specs.declared.command.Operand.{Operand}
@@ -26,7 +26,7 @@ pub hold_both : (Holds : ℕ → Type 0) (xs ys : List ℕ) → AllHold Holds xs
 hold_both Holds [] ys a b = b
 hold_both Holds (x ∷ xs) ys a b = (a.0, hold_both Holds xs ys a.1 b)
 
--- the places that ask for a text
+-- the places for a text
 abbrev pub is_text : Sort → Bool
 is_text Variable = true
 is_text Name = true
@@ -41,7 +41,7 @@ is_text Budget = false
 is_text Count = false
 is_text Flag = false
 
--- what the words of a declaration, and of a line, come to: its name is a word as in an operand
+-- the words of a declaration, or of a line, as operands: its name counts as a variable
 abbrev pub item_by : (Operand → List ℕ) → Item → List ℕ
 item_by of (items.Class c) = of (operands.Name c.name)
 item_by of (items.Def p) = of (operands.Name p.name) ++ flat_map (words_by of) p.body
@@ -56,7 +56,7 @@ said_by of (Begins name) = of (operands.Name name)
 said_by of Ends = []
 said_by of (Does command) = words_by of command
 
--- What a word comes to has a property where its text has it.
+-- A word as operand has a property if its text has it.
 pub record WordsHold (of : Operand → List ℕ) (Holds : ℕ → Type 0) : Type 0 where
   pub nothing : AllHold Holds (of operands.None)
   pub name : (k : ℕ) → Holds k → AllHold Holds (of (operands.Name k))

@@ -1,4 +1,4 @@
--- What is written of a line, of a procedure and of all items.
+-- What is written for a line, a procedure and all items.
 use Rattle.std.proofs.Common.{◌≡◌, ℕ, List, [], ◌∷◌, ◌++◌, refl, sym, ap, ◌∙◌, append_assoc, append-nil, map}
 use Rattle.std.specs.Prelude.{flat_map, slice_get, option_map, unwrap_or, Option, Some, None}
 use Rattle.std.proofs.lemmas.Grind.{flat_map-append}
@@ -61,7 +61,7 @@ name_there name texts those n x is = name_by name texts those n ∙ ap (λ o. un
 pub name_missing : {A : Type 0} (name : A → ℕ) (texts : List (List ℕ)) (those : List A) (n : ℕ) → slice_get those n ≡ None → name_of texts (map name those) n ≡ []
 name_missing name texts those n is = name_by name texts those n ∙ ap (λ o. unwrap_or (option_map (λ y. text_of texts (name y)) o) []) is
 
--- all lines of a script, behind no bytes
+-- all lines of a script, after no bytes
 pub all_written : (texts : List (List ℕ)) (items : List Item) (start out : List ℕ) → start ≡ [] → out ≡ start ++ flat_map (λ item. flat_map line_of_words (item_lines (naming_of texts items) item)) items → out ≡ canonical texts items
 unfolding canonical
 all_written texts items start out none e =

@@ -1,9 +1,9 @@
--- The rows of a table and the forms whose words begin with a byte and have a number of bytes. (Ours.)
+-- The rows of a table and the forms whose words have a given first byte and length. (Ours.)
 use Rattle.std.specs.Prelude.{ℕ, List, Bool, ◌&&◌, ◌==◌, length, filter, slice_index}
 use Rattle.cg_script.specs.declared.form.Form.{Form}
 use Rattle.cg_script.specs.Forms.{word_of}
 
--- whether a word begins with a byte and has a number of bytes
+-- a word has this first byte and length
 abbrev pub is_alike : ℕ → ℕ → List ℕ → Bool
 is_alike byte count word = (slice_index word 0 == byte) && (length word == count)
 

@@ -1,4 +1,4 @@
--- The canonical bytes of a script: its lines in order, the words of each with one space between them. (Ours.)
+-- The canonical bytes of a script: its lines in order, the words of each separated by one space. (Ours.)
 use Rattle.std.specs.Prelude.{ℕ, List, [], ◌∷◌, ◌++◌, ◌==◌, map, flat_map, codes, decimal, bit_and, slice_index_or, if◌then◌else◌, Option, None, Some}
 use Rattle.std.specs.Fmt.{signed_decimal}
 use Rattle.cg_script.specs.declared.command.Operand.{Operand}
@@ -12,7 +12,7 @@ use Rattle.cg_script.specs.declared.form.Form.TheVariants as forms
 use Rattle.cg_script.specs.Items.{procedures, classes}
 use Rattle.cg_script.specs.Forms.{word_of}
 
--- what the numbers in a script stand for: texts, and of the procedures and classes in order the numbers of their names
+-- what the numbers in a script stand for: texts, and the numbers of the names of procedures and classes, in order
 pub record Naming : Type 0 where
   pub texts : List (List ℕ)
   pub procs : List ℕ
@@ -37,22 +37,22 @@ value_word texts operands.WeakLocal = codes "ref"
 value_word texts (operands.Cell n) = codes "c" ++ decimal n
 value_word texts operands.Garbage = codes "garbage"
 
--- the word of a callback, which none has not
+-- the word of a callback; none has no word
 abbrev pub callback_words : List (List ℕ) → Operand → List (List ℕ)
 callback_words texts operands.None = []
 callback_words texts callback = value_word texts callback ∷ []
 
--- the word of a count that may be absent
+-- the word of an optional count
 abbrev pub count_words : Option ℕ → List (List ℕ)
 count_words None = []
 count_words (Some n) = decimal n ∷ []
 
--- the word of a finalizer behind `del=` or `legacy=`
+-- the word of a finalizer after `del=` or `legacy=`
 abbrev pub finalizer_words : List ℕ → Naming → Option ℕ → List (List ℕ)
 finalizer_words prefix n None = []
 finalizer_words prefix n (Some proc) = (prefix ++ name_of n.texts n.procs proc) ∷ []
 
--- the word of a debug flag, where its bit is set
+-- the word of a debug flag, if its bit is set
 abbrev pub flag_words : ℕ → ℕ → List ℕ → List (List ℕ)
 flag_words bits bit word = if bit_and bits bit == 0 then [] else word ∷ []
 
@@ -97,7 +97,7 @@ command_words n (commands.Why name) = word_of forms.Why ∷ text_of n.texts name
 command_words n commands.Count = word_of forms.Count ∷ []
 command_words n commands.Gens = word_of forms.Gens ∷ []
 
--- of the other lines
+-- the words of the other lines
 abbrev pub profile_words : ℕ → List (List ℕ)
 profile_words profile = word_of forms.Profile ∷ decimal profile ∷ []
 
@@ -135,11 +135,11 @@ classes_in lines = map (λ c. c.name) (classes lines)
 abbrev pub naming_of : List (List ℕ) → List Item → Naming
 naming_of texts lines = record { texts = texts; procs = procs_in lines; classes = classes_in lines }
 
--- a word behind another
+-- a word after another
 abbrev pub behind_space : List ℕ → List ℕ
 behind_space word = 32 ∷ word
 
--- words with one space between them
+-- words separated by one space
 abbrev pub joined : List (List ℕ) → List ℕ
 joined [] = []
 joined (word ∷ words) = word ++ flat_map behind_space words

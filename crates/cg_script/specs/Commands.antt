@@ -22,12 +22,12 @@ abbrev pub value_or : Option Part → Operand
 value_or (Some (parts.Value operand)) = operand
 value_or other = operands.None
 
--- a part's number, or another where there is no word
+-- a part's number, or a default without a word
 abbrev pub number_or : ℤ → Option Part → ℤ
 number_or n (Some (parts.Number m)) = m
 number_or n other = n
 
--- a part's count, or none where there is no word
+-- a part's count, or none without a word
 abbrev pub count_if : Option Part → Option ℕ
 count_if (Some (parts.Count n)) = Some n
 count_if other = None
@@ -37,7 +37,7 @@ abbrev pub count_or : Option Part → ℕ
 count_or (Some (parts.Count n)) = n
 count_or other = 0
 
--- the finalizer or else the legacy finalizer that a part names
+-- the finalizer, or else the legacy finalizer, that a part names
 abbrev pub del_if : Option Part → Option ℕ
 del_if (Some (parts.Finalizer n)) = Some n
 del_if other = None
@@ -46,7 +46,7 @@ abbrev pub legacy_if : Option Part → Option ℕ
 legacy_if (Some (parts.Legacy n)) = Some n
 legacy_if other = None
 
--- the part at a place, counted from 0
+-- the part at a place, counting from 0
 abbrev pub part_at : List Part → ℕ → Option Part
 part_at line place = slice_get line place
 

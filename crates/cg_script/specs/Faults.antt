@@ -1,4 +1,4 @@
--- What a fault of reading stands for. (Ours.)
+-- What a fault of reading means. (Ours.)
 use Rattle.std.specs.Prelude.{◌≡◌}
 use Rattle.cg_script.specs.declared.fault.ScriptFault.{ScriptFault}
 use Rattle.cg_script.specs.declared.fault.ScriptFault.TheVariants.{Bad, OutOfMemory}

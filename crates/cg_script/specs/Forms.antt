@@ -1,13 +1,13 @@
--- The table of forms: for each command and each declaration its word, the number of its words, and what the place of each asks
--- for. (Ours.)
+-- The table of forms: for each command and each declaration its word, the number of its words, and what each place requires.
+-- (Ours.)
 use Rattle.std.specs.Prelude.{ℕ, List, [], ◌∷◌, ◌++◌, Bool, true, false, map, codes, slice_index_or}
 use Rattle.cg_script.specs.declared.form.Form.{Form}
 use Rattle.cg_script.specs.declared.form.Form.TheVariants as forms
 use Rattle.cg_script.specs.declared.form.Sort.{Sort}
 use Rattle.cg_script.specs.declared.form.Sort.TheVariants.{Key, Variable, Name, Class, Proc, Finalizer, Value, Number, Profile, Budget, Count, Flag}
 
--- What a form asks for: its word, whether no variable may be that word, the sorts of its first places, and the least and the
--- greatest number of its words. Each place past the first ones asks for a value.
+-- What a form requires: its word, whether that word is reserved, the sorts of its first places, and the least and the
+-- greatest number of its words. Further places take values.
 pub record FormRow : Type 0 where
   pub word : List ℕ
   pub reserved : Bool
@@ -15,11 +15,11 @@ pub record FormRow : Type 0 where
   pub fewest : ℕ
   pub most : ℕ
 
--- a row, with its number of words from and to
+-- a row, with its least and greatest number of words
 abbrev pub asks : List ℕ → Bool → List Sort → ℕ → ℕ → FormRow
 asks word reserved places fewest most = record { word = word; reserved = reserved; places = places; fewest = fewest; most = most }
 
--- that of a form whose word is reserved
+-- a row with a reserved word
 abbrev pub takes : List ℕ → List Sort → ℕ → ℕ → FormRow
 takes word places fewest most = asks word true places fewest most
 
@@ -69,7 +69,7 @@ row forms.Class = takes (codes "class") (Key ∷ Name ∷ Finalizer ∷ Finalize
 row forms.Def = takes (codes "def") (Key ∷ Name ∷ []) 2 2
 row forms.End = takes (codes "end") (Key ∷ []) 1 1
 
--- the sort of a place, counted from 0
+-- the sort of a place, counting from 0
 abbrev pub sort_at : Form → ℕ → Sort
 sort_at form place = slice_index_or (row form).places place Value
 
@@ -77,12 +77,12 @@ sort_at form place = slice_index_or (row form).places place Value
 abbrev pub word_of : Form → List ℕ
 word_of form = (row form).word
 
--- the forms of lines `x = ..` that a third word picks; any other line of that form binds a value
+-- the forms of lines `x = ..` selected by a third word; any other such line binds a value
 abbrev pub binding_forms : List Form
 binding_forms = forms.MakeList ∷ forms.MakeTuple ∷ forms.MakeDict ∷ forms.MakeInst ∷ forms.MakeFunc ∷ forms.MakeRef ∷ forms.Item ∷ forms.Get
     ∷ forms.Attr ∷ forms.Deref ∷ []
 
--- the forms of the other lines, which their first word picks
+-- the forms of the other lines, selected by the first word
 abbrev pub opening_forms : List Form
 opening_forms = forms.Del ∷ forms.Append ∷ forms.SetItem ∷ forms.DelItem ∷ forms.Put ∷ forms.Remove ∷ forms.SetAttr ∷ forms.DelAttr ∷ forms.Call
     ∷ forms.Quit ∷ forms.Collect ∷ forms.Enable ∷ forms.Disable ∷ forms.Threshold ∷ forms.Flags ∷ forms.Freeze ∷ forms.Unfreeze ∷ forms.Print
@@ -99,14 +99,14 @@ bindings = by_words binding_forms
 unfoldable pub openers : List (List ℕ × Form)
 openers = by_words opening_forms
 
--- all forms that a word picks
+-- all forms that a word selects
 abbrev pub worded_forms : List Form
 worded_forms = binding_forms ++ opening_forms
 
 unfoldable pub words_of_forms : List (List ℕ × Form)
 words_of_forms = by_words worded_forms
 
--- whether a form is one of lines `x = ..` that a third word picks
+-- whether a form is a line `x = ..` selected by a third word
 abbrev pub binds : Form → Bool
 binds forms.MakeList = true
 binds forms.MakeTuple = true

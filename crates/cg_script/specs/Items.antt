@@ -1,5 +1,5 @@
--- The lines of a script by what they are: its commands outside procedures, its procedures and its classes, each found by its
--- number among its own. (Ours.)
+-- The lines of a script by kind: its commands outside procedures, its procedures and its classes, each found by its number.
+-- (Ours.)
 use Rattle.std.specs.Prelude.{◌≡◌, ℕ, Bool, true, false, List, [], ◌∷◌, map, Option, Some, None, unwrap_or, slice_get}
 use Rattle.cg_script.specs.declared.command.Command.{Command}
 use Rattle.cg_script.specs.declared.item.ClassDef.{ClassDef}
@@ -19,7 +19,7 @@ commands_of (Class c ∷ items) = commands_of items
 commands_of (Def p ∷ items) = commands_of items
 commands_of (Run c ∷ items) = c ∷ commands_of items
 
--- the procedures, in order: procedures and classes are named by their position among their own
+-- the procedures, in order: procedures and classes are numbered by their position among their kind
 abbrev pub procedures : List Item → List Proc
 procedures [] = []
 procedures (Profile n ∷ items) = procedures items
@@ -39,17 +39,17 @@ classes (Class c ∷ items) = c ∷ classes items
 classes (Def p ∷ items) = classes items
 classes (Run c ∷ items) = classes items
 
--- the profile that is declared first, if one is
+-- the first declared profile, if any
 abbrev pub declared_profile : List Item → Option ℕ
 declared_profile [] = None
 declared_profile (Profile n ∷ items) = Some n
 declared_profile (item ∷ items) = declared_profile items
 
--- the profile, 1 where none is declared
+-- the profile, by default 1
 abbrev pub profile_of : List Item → ℕ
 profile_of items = unwrap_or (declared_profile items) 1
 
--- the budget that is declared first, if one is
+-- the first declared budget, if any
 abbrev pub declared_budget : List Item → Option ℕ
 declared_budget [] = None
 declared_budget (Budget n ∷ items) = Some n

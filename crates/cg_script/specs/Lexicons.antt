@@ -1,4 +1,4 @@
--- Texts of which it is known that they are variables. (Ours.)
+-- Texts known to be variables. (Ours.)
 use Rattle.std.specs.Prelude.{◌≡◌, ℕ, List, true, Option, Some, slice_get, IfSome}
 use Rattle.cg_value.specs.Texts.{has_text, text_number}
 use Rattle.cg_script.specs.Words.{is_variable}
@@ -11,6 +11,6 @@ pub record IsVariableAt (texts : List (List ℕ)) (number : ℕ) : Type 0 where
   pub there : has_text texts text ≡ true
   pub numbered : text_number texts text ≡ number
 
--- what is remembered, if something is
+-- what is remembered, if anything
 abbrev pub IsRemembered : List (List ℕ) → Option ℕ → Type 0
 IsRemembered texts known = IfSome known (IsVariableAt texts)

@@ -14,7 +14,7 @@ use Rattle.cg_script.specs.Tables.{named}
 use Rattle.cg_script.specs.Words.{is_printable, is_identifier, is_variable, is_value, is_number, is_count, is_profile, names_finalizer, names_legacy, flags}
 use Rattle.cg_script.specs.Forms.{row, sort_at, bindings, openers}
 
--- what a line means: nothing, since it is ignored; these words in a form; or a bad line, with its code
+-- what a line means: nothing, if it is ignored; these words in a form; or a bad line, with its code
 pub data Meaning : Type 0 where
   passed : Meaning
   says : Form → List (List ℕ) → Meaning
@@ -26,7 +26,7 @@ code_of passed = None
 code_of (says form words) = None
 code_of (bad code) = Some code
 
--- a word has the form that its place asks for
+-- a word has the form that its place requires
 abbrev pub fits : Sort → List ℕ → Bool
 fits Key word = true
 fits Variable word = is_variable word
@@ -41,7 +41,7 @@ fits Budget word = is_count MOST_BUDGET word
 fits Count word = is_count MOST_COUNT word
 fits Flag word = is_some (named flags word)
 
--- the words from a place on have the forms that their places ask for
+-- the words from a place on have the forms that their places require
 abbrev pub all_fit : Form → ℕ → List (List ℕ) → Bool
 all_fit form place [] = true
 all_fit form place (word ∷ words) = fits (sort_at form place) word && all_fit form (place + 1) words
@@ -59,7 +59,7 @@ formed form words =
     else if not (all_fit form 0 words) || repeats_finalizer form words then bad 4
     else says form words
 
--- the form of a line `x = ..`: its third word picks it, but a lone `ref` is a value
+-- the form of a line `x = ..`: its third word selects it, but a lone `ref` is a value
 abbrev pub binding_form : List (List ℕ) → Form
 binding_form words = if word_is words 2 (codes "ref") && (length words == 3) then forms.Bind else unwrap_or (named bindings (word_at words 2)) forms.Bind
 
@@ -79,7 +79,7 @@ abbrev pub is_passed : List (List ℕ) → Bool
 is_passed [] = true
 is_passed (word ∷ words) = slice_index word 0 == 35
 
--- the line of this number
+-- the line with this number
 unfoldable pub meaning : ℕ → List ℕ → Meaning
 meaning number line =
     if not (list_all is_printable line) then bad 1

@@ -14,8 +14,8 @@ use Rattle.cg_script.specs.Tables.{named}
 use Rattle.cg_script.specs.Words.{begins_name, is_quoted, string_text, number_of, decimal_value, after_prefix, atoms, flags}
 use Rattle.cg_script.specs.Forms.{row, sort_at}
 
--- What the lines before have brought: texts in the order in which they stand, names of procedures and of classes, whether a budget,
--- whether a shutdown, whether a line that is not ignored, and whether a procedure is open.
+-- What earlier lines have contributed: texts in order of appearance, names of procedures and of classes, whether there was a
+-- budget, a shutdown, a line that is not ignored, and whether a procedure is open.
 pub record Known : Type 0 where
   pub texts : List (List ℕ)
   pub procs : List (List ℕ)
@@ -25,12 +25,12 @@ pub record Known : Type 0 where
   pub started : Bool
   pub inside : Bool
 
--- the text of a value that has no word of its own
+-- the text of a value that is no keyword
 abbrev pub value_text : Option Operand → List ℕ → Option (List ℕ)
 value_text (Some operand) word = None
 value_text None word = if is_quoted word then Some (string_text word) else if begins_name (slice_index word 0) then Some word else None
 
--- the text that a word at such a place has
+-- the text of a word at its place
 abbrev pub text_in : Sort → List ℕ → Option (List ℕ)
 text_in Key word = None
 text_in Variable word = Some word
@@ -45,7 +45,7 @@ text_in Budget word = None
 text_in Count word = None
 text_in Flag word = None
 
--- the texts with that of a word, which goes last where it is new
+-- the texts with that of a word, appended if it is new
 abbrev pub with_text_if : List (List ℕ) → Option (List ℕ) → List (List ℕ)
 with_text_if texts None = texts
 with_text_if texts (Some text) = with_text texts text
@@ -58,12 +58,12 @@ operand_or None texts word =
     else if begins_name (slice_index word 0) then operands.Name (text_number texts word)
     else operands.Int (number_of word)
 
--- the number of a procedure or class, where an earlier line defines it
+-- the number of a procedure or class, if an earlier line defines it
 abbrev pub numbered : Option ℕ → Part
 numbered None = parts.Unknown
 numbered (Some n) = parts.Count n
 
--- the number of a procedure or class among those that earlier lines define
+-- the number of a procedure or class among those defined earlier
 abbrev pub defined_number : List (List ℕ) → List ℕ → Option ℕ
 defined_number names name = position (bytes_eq name) names
 
@@ -85,7 +85,7 @@ abbrev pub finalizer_of : List (List ℕ) → Option (List ℕ) → List ℕ →
 finalizer_of procs (Some name) word = finalizer (defined_number procs name)
 finalizer_of procs None word = legacy_of procs (after_prefix (codes "legacy=") word)
 
--- what a word at such a place stands for, by the procedures, the classes and the texts before it; its text has the place in the texts that it has or gets
+-- what a word stands for at its place, given the procedures, classes and texts before it; its text keeps or gets its number
 abbrev pub part_of : List (List ℕ) → List (List ℕ) → List (List ℕ) → Sort → List ℕ → Part
 part_of procs classes texts Key word = parts.Bare
 part_of procs classes texts Variable word = parts.Text (text_number texts word)
@@ -119,17 +119,17 @@ abbrev pub is_unknown : Part → Bool
 is_unknown parts.Unknown = true
 is_unknown part = false
 
--- a procedure or class is named that no earlier line defines
+-- it names a procedure or class that no earlier line defines
 abbrev pub has_unknown : List Part → Bool
 has_unknown line = list_any is_unknown line
 
--- a place asks for a procedure or class of an earlier line
+-- a place requires an earlier procedure or class
 abbrev pub asks_for_defined : Sort → Bool
 asks_for_defined Class = true
 asks_for_defined Proc = true
 asks_for_defined Finalizer = true
 asks_for_defined sort = false
 
--- a place of a line of this form asks for such a procedure or class
+-- a place of a line of this form requires one
 abbrev pub names_defined : Form → Bool
 names_defined form = list_any asks_for_defined (row form).places

@@ -1,4 +1,4 @@
--- What the words that the printer writes stand for. (Ours.)
+-- The words that the printer writes. (Ours.)
 use Rattle.std.specs.Prelude.{ℕ, List, [], ◌∷◌, ◌++◌, codes, decimal}
 use Rattle.std.specs.Fmt.{signed_decimal}
 use Rattle.cg_script.specs.declared.printer.Piece.{Piece}
@@ -23,7 +23,7 @@ piece_bytes n (Class number) = name_of n.texts n.classes number
 piece_bytes n (Finalizer number) = codes "del=" ++ name_of n.texts n.procs number
 piece_bytes n (Legacy number) = codes "legacy=" ++ name_of n.texts n.procs number
 
--- the word, where there is one
+-- the word, if any
 abbrev pub piece_words : Naming → Piece → List (List ℕ)
 piece_words n Absent = []
 piece_words n piece = piece_bytes n piece ∷ []

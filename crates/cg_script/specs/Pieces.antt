@@ -1,4 +1,4 @@
--- The pieces of some bytes round a separator, and with them lines and words. (Ours.)
+-- Splitting bytes at a separator: lines and words. (Ours.)
 use Rattle.std.specs.Prelude.{ℕ, List, [], ◌∷◌, Bool, true, false, filter, ◌==◌, if◌then◌else◌, slice_index_or}
 use Rattle.std.specs.Str.{bytes_eq}
 
@@ -7,7 +7,7 @@ abbrev pub onto : ℕ → List (List ℕ) → List (List ℕ)
 onto b [] = (b ∷ []) ∷ []
 onto b (p ∷ ps) = (b ∷ p) ∷ ps
 
--- A separator ends a piece. What follows the last one is a piece where it is not empty.
+-- A separator ends a piece. What follows the last one is a piece if it is not empty.
 abbrev pub pieces : ℕ → List ℕ → List (List ℕ)
 pieces separator [] = []
 pieces separator (b ∷ bs) = if b == separator then [] ∷ pieces separator bs else onto b (pieces separator bs)
@@ -24,7 +24,7 @@ lines_of bytes = pieces 10 bytes
 abbrev pub words_of : List ℕ → List (List ℕ)
 words_of line = filter has_bytes (pieces 32 line)
 
--- the word at a place, counted from 0, or no bytes past the last
+-- the word at a place, counting from 0, or no bytes after the last
 abbrev pub word_at : List (List ℕ) → ℕ → List ℕ
 word_at words place = slice_index_or words place []
 

@@ -1,4 +1,4 @@
--- A script that was read. (Ours.)
+-- A parsed script. (Ours.)
 use Rattle.std.specs.Prelude.{◌≡◌, ℕ, List}
 use Rattle.cg_script.specs.declared.item.Script.{Script}
 use Rattle.cg_script.specs.Reading.{reading, spells}

@@ -1,7 +1,7 @@
 -- How the bytes of a script are read. (Ours.)
 --
--- Beside the codes of `Meanings`: 6 a procedure or class that no earlier line defines, 7 a declaration in the wrong place, 8 a second
--- definition.
+-- In addition to the codes in `Meanings`: 6 a procedure or class that no earlier line defines, 7 a declaration in the wrong
+-- place, 8 a second definition.
 use Rattle.std.specs.Prelude.{ℕ, ◌+◌, List, [], ◌∷◌, Bool, true, false, not, ◌||◌, if◌then◌else◌, Option, None, Some}
 use Rattle.cg_value.specs.Texts.{has_text, with_text}
 use Rattle.cg_script.specs.declared.command.Command.{Command}
@@ -20,7 +20,7 @@ use Rattle.cg_script.specs.Commands.{said}
 abbrev pub nothing_known : Known
 nothing_known = record { texts = []; procs = []; classes = []; budget = false; shutdown = false; started = false; inside = false }
 
--- an `end` outside a procedure, a declaration inside one, or a profile behind another line
+-- an `end` outside a procedure, a declaration inside one, or a profile after another line
 abbrev pub is_misplaced : Known → Form → Bool
 is_misplaced known forms.End = not known.inside
 is_misplaced known forms.Def = known.inside
@@ -30,7 +30,7 @@ is_misplaced known forms.Shutdown = known.inside
 is_misplaced known forms.Profile = known.inside || known.started
 is_misplaced known form = false
 
--- a procedure or class that is defined already, or a second budget or shutdown
+-- a procedure or class that exists already, or a second budget or shutdown
 abbrev pub is_repeated : Known → Form → List (List ℕ) → Bool
 is_repeated known forms.Def words = has_text known.procs (word_at words 1)
 is_repeated known forms.Class words = has_text known.classes (word_at words 1)
@@ -38,7 +38,7 @@ is_repeated known forms.Budget words = known.budget
 is_repeated known forms.Shutdown words = known.shutdown
 is_repeated known form words = false
 
--- what is wrong with a line of this form, by what earlier lines say
+-- what is wrong with a line of this form, given what earlier lines say
 abbrev pub fault_in : Known → Form → List (List ℕ) → Option ℕ
 fault_in known form words =
     if is_misplaced known form then Some 7
@@ -55,7 +55,7 @@ checked known passed = passed
 checked known (says form words) = says_or_bad (fault_in known form words) form words
 checked known (bad code) = bad code
 
--- what the line of this number means, by what earlier lines say
+-- what the line with this number means, given what earlier lines say
 unfoldable pub meant : Known → ℕ → List ℕ → Meaning
 meant known number line = checked known (meaning number line)
 
@@ -93,7 +93,7 @@ known_after known form words = record {
   inside = inside_after known.inside form;
 }
 
--- What some lines say: texts and what each line says, in order, or the first bad line with its code.
+-- What some lines say: texts and what each line says, in order; or the first bad line with its code.
 pub data Lines : Type 0 where
   good : List (List ℕ) → List Said → Lines
   spoilt : ℕ → ℕ → Lines
@@ -102,13 +102,13 @@ abbrev pub also_said : Said → Lines → Lines
 also_said s (good texts later) = good texts (s ∷ later)
 also_said s (spoilt number code) = spoilt number code
 
--- a line of this meaning, and those behind it
+-- a line with this meaning, and the ones after it
 abbrev pub with_later : Known → ℕ → Meaning → (Known → Lines) → Lines
 with_later known number passed later = later known
 with_later known number (says form words) later = also_said (said form (parts_of known form words)) (later (known_after known form words))
 with_later known number (bad code) later = spoilt number code
 
--- the lines from this number on; a procedure that is open at the end is a fault of the line behind the last
+-- the lines from this number on; a procedure still open at the end is a fault of the line after the last
 abbrev pub lines_from : Known → ℕ → List (List ℕ) → Lines
 lines_from known number [] = if known.inside then spoilt number 7 else good known.texts []
 lines_from known number (line ∷ lines) =
@@ -122,7 +122,7 @@ body_of (Declares item ∷ later) = []
 body_of (Begins name ∷ later) = []
 body_of (Ends ∷ later) = []
 
--- the items of a script; the commands inside a procedure are in its body
+-- the items of a script; the commands of a procedure are in its body
 abbrev pub items_of : Bool → List Said → List Item
 items_of inside [] = []
 items_of inside (Declares item ∷ later) = item ∷ items_of inside later

@@ -1,4 +1,4 @@
--- What is true of the lines of a script that some bytes spell. (Ours.)
+-- Properties of the lines of a script that some bytes spell. (Ours.)
 use Rattle.std.specs.Prelude.{ℕ, ◌<◌, ◌≤◌, drop, length}
 use Rattle.std.specs.List.{All}
 use Rattle.cg_script.specs.declared.command.Command.{Command}
@@ -16,12 +16,12 @@ HasFewWords (MakeTuple name items) = length items ≤ MOST_WORDS
 HasFewWords (MakeFunc name proc cells) = length cells ≤ 8
 HasFewWords command = Unit {0}
 
--- The texts that it names are among those of the script, and it has few words.
+-- The texts that it names are the script's, and it has few words.
 pub record IsSpelledCommand (names : ℕ) (command : Command) : Type 0 where
   pub known : All (λ n. n < names) (command_texts command)
   pub few_words : HasFewWords command
 
--- a command that is not the collector's
+-- a command other than the collector's
 abbrev pub IsForObjects : Command → Type 0
 IsForObjects (Collect generation) = ⊥
 IsForObjects Enable = ⊥
@@ -34,7 +34,7 @@ IsForObjects Count = ⊥
 IsForObjects Gens = ⊥
 IsForObjects command = Unit {0}
 
--- what is true of a line: of its command, of those of a procedure, that a profile is 1 or 2, and that a budget is at most 100,000
+-- the property of a line: of its command, or of those of a procedure; a profile is 1 or 2, and a budget at most 100,000
 abbrev pub IsSpelledItem : ℕ → Item → Type 0
 IsSpelledItem names (Profile n) = (1 ≤ n) × (n ≤ 2)
 IsSpelledItem names Shutdown = Unit {0}
@@ -43,13 +43,13 @@ IsSpelledItem names (Class c) = Unit {0}
 IsSpelledItem names (Def p) = (length p.body ≤ MOST_LINES) × All (IsSpelledCommand names) p.body
 IsSpelledItem names (Run c) = IsSpelledCommand names c
 
--- a line that is no profile
+-- a line other than a profile
 abbrev pub IsNoProfile : Item → Type 0
 IsNoProfile (Profile n) = ⊥
 IsNoProfile item = Unit {0}
 
--- What is true of a script that some bytes spell: of its lines, that a profile is the first of them, and that a text, which
--- stands in a line, has at most 1,024 bytes.
+-- The properties of a script that some bytes spell: those of its lines; a profile comes first; and a text, as part of a
+-- line, has at most 1,024 bytes.
 pub record IsSpelled (script : Script) : Type 0 where
   pub lines : All (IsSpelledItem (length script.names)) script.items
   pub profile_first : All IsNoProfile (drop 1 script.items)

@@ -24,13 +24,13 @@ operand_texts Garbage = []
 abbrev pub operands_texts : List Operand → List ℕ
 operands_texts operands = flat_map operand_texts operands
 
--- The number of the name that an operand is, if it is a variable. A string may have the same number: it is no name.
+-- The number of a variable's name, for an operand that is one. A string may have the same number, but is no name.
 abbrev pub operand_names : Operand → List ℕ
 operand_names (Name x) = x ∷ []
 operand_names operand = []
 
--- What the words of a command come to, in the order in which they stand in its line: a name that it binds is a word as in an operand,
--- and an attribute is a string; classes and procedures have numbers of their own.
+-- The words of a command as operands, in line order: a name that it binds counts as a variable, and an attribute as a string.
+-- Classes and procedures have numbers of their own.
 abbrev pub words_by : (Operand → List ℕ) → Command → List ℕ
 words_by of (MakeList name items) = of (Name name) ++ flat_map of items
 words_by of (MakeTuple name items) = of (Name name) ++ flat_map of items
@@ -74,7 +74,7 @@ words_by of Gens = []
 abbrev pub command_texts : Command → List ℕ
 command_texts command = words_by operand_texts command
 
--- the names that it speaks of
+-- the names that it uses
 abbrev pub command_names : Command → List ℕ
 command_names command = words_by operand_names command
 
@@ -87,6 +87,6 @@ item_texts (Class c) = c.name ∷ []
 item_texts (Def p) = p.name ∷ flat_map command_texts p.body
 item_texts (Run c) = command_texts c
 
--- Each text that a line names is one of the script's. Every script that some bytes spell is so.
+-- Each text that a line names is the script's. This holds for every script that some bytes spell.
 abbrev pub TextsAreKnown : Script → Type 0
 TextsAreKnown script = All (λ n. n < length script.names) (flat_map item_texts script.items)

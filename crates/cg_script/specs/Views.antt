@@ -1,4 +1,4 @@
--- What the parts of the reader stand for. (Ours.)
+-- What the parts of the reader represent. (Ours.)
 use Rattle.std.specs.Prelude.{◌≡◌, ℕ, ◌+◌, ◌*◌, ◌≤◌, List, ◌∷◌, ◌++◌, Bool, true, false, not, length, Option, None, Some, is_some}
 use Rattle.cg_script.specs.declared.item.Item.{Item}
 use Rattle.cg_script.specs.declared.item.Item.TheVariants as variants
@@ -15,7 +15,7 @@ use Rattle.cg_script.specs.Parts.{Known, parts_of}
 use Rattle.cg_script.specs.Commands.{said}
 use Rattle.cg_script.specs.Reading.{Lines, good, spoilt, lines_from, known_after, items_of, body_of, Reading, spells, faulty}
 
--- what a line of these words means by them alone
+-- what a line of these words means in itself
 abbrev pub meaning_of : Line → List (List ℕ) → Meaning
 meaning_of lines.Passed words = passed
 meaning_of (lines.Of form) words = formed form words
@@ -25,19 +25,19 @@ meaning_of (lines.Bad code) words = bad code
 abbrev pub known_of : Draft → Known
 known_of draft = record { texts = draft.names; procs = draft.procs; classes = draft.classes; budget = draft.budget; shutdown = draft.shutdown; started = draft.started; inside = is_some draft.begun }
 
--- these items, and behind them those of what is said later; a procedure that is begun goes on
+-- these items, then those said later; an open procedure goes on
 abbrev pub grouped : List Item → Option Begun → List Said → List Item
 grouped items None later = items ++ items_of false later
 grouped items (Some begun) later = items ++ variants.Def (record { name = begun.name; body = begun.body.items ++ body_of later }) ∷ items_of true later
 
--- a declaration stands outside procedures, and `end` inside one
+-- a declaration is outside procedures, and `end` inside one
 abbrev pub is_placed : Said → Bool → Bool
 is_placed (Declares item) inside = not inside
 is_placed (Begins name) inside = not inside
 is_placed Ends inside = inside
 is_placed (Does command) inside = true
 
--- whether a procedure is begun behind this
+-- whether a procedure is open after this
 abbrev pub inside_behind : Said → Bool → Bool
 inside_behind (Declares item) inside = inside
 inside_behind (Begins name) inside = true
@@ -53,7 +53,7 @@ abbrev pub script_after : Draft → Lines → Reading
 script_after draft (good texts later) = spells texts (grouped draft.items draft.begun later)
 script_after draft (spoilt number code) = faulty number code
 
--- the reading of these lines behind a draft
+-- the reading of these lines after a draft
 abbrev pub reading_after : Draft → ℕ → List (List ℕ) → Reading
 reading_after draft number lines = script_after draft (lines_from (known_of draft) number lines)
 

@@ -13,7 +13,7 @@ use Rattle.cg_script.specs.Forms.{row, openers, bindings}
 abbrev pub is_printable : ℕ → Bool
 is_printable b = nat_le 32 b && nat_le b 126
 
--- `!` to `~`: a printable byte that is no space
+-- `!` to `~`: a printable byte other than the space
 abbrev pub is_graphic : ℕ → Bool
 is_graphic b = nat_le 33 b && nat_le b 126
 
@@ -33,11 +33,11 @@ begins_name b = is_letter b || (b == 95)
 abbrev pub is_name_byte : ℕ → Bool
 is_name_byte b = begins_name b || is_digit b
 
--- at most a number of bytes and at least 1, the first of which is no digit
+-- 1 to this many bytes, the first of which is no digit
 abbrev pub is_identifier : List ℕ → Bool
 is_identifier word = nat_le 1 (length word) && nat_le (length word) MOST_NAME_BYTES && begins_name (slice_index word 0) && list_all is_name_byte word
 
--- the values with a word of their own
+-- the keywords for values
 unfoldable pub atoms : List (List ℕ × Operand)
 atoms = (codes "none", operands.None) ∷ (codes "self", operands.SelfLocal) ∷ (codes "ref", operands.WeakLocal) ∷ (codes "garbage", operands.Garbage)
     ∷ (codes "c0", operands.Cell 0) ∷ (codes "c1", operands.Cell 1) ∷ (codes "c2", operands.Cell 2) ∷ (codes "c3", operands.Cell 3)
@@ -48,7 +48,7 @@ abbrev pub reserves : Option Form → Bool
 reserves None = false
 reserves (Some form) = (row form).reserved
 
--- the words that no variable may be: of values, and of forms
+-- the reserved words: keywords for values, and words of forms
 abbrev pub is_reserved : List ℕ → Bool
 is_reserved word = is_some (named atoms word) || reserves (named openers word) || reserves (named bindings word)
 
@@ -59,7 +59,7 @@ is_variable word = is_identifier word && not (is_reserved word)
 abbrev pub string_text : List ℕ → List ℕ
 string_text word = drop 1 word
 
--- at least 1 digit, and at most a number of them
+-- 1 to this many digits
 abbrev pub are_digits : ℕ → List ℕ → Bool
 are_digits most word = nat_le 1 (length word) && nat_le (length word) most && list_all is_digit word
 
@@ -75,7 +75,7 @@ decimal_value digits = decimal_after 0 digits
 abbrev pub has_minus : List ℕ → Bool
 has_minus word = slice_index word 0 == 45
 
--- 1 to 19 digits, perhaps behind `-`, of a whole number of 64 bits with sign
+-- 1 to 19 digits, perhaps after `-`, of a signed number of 64 bits
 abbrev pub is_number : List ℕ → Bool
 is_number word =
     if has_minus word then are_digits 19 (drop 1 word) && nat_le (decimal_value (drop 1 word)) 9223372036854775808
@@ -93,11 +93,11 @@ is_count most word = are_digits 10 word && nat_le (decimal_value word) most
 abbrev pub is_profile : List ℕ → Bool
 is_profile word = is_count MOST_PROFILE word && nat_le 1 (decimal_value word)
 
--- a word that begins with `'`: a string, which is what follows
+-- a word that begins with `'`: a string, whose text follows
 abbrev pub is_quoted : List ℕ → Bool
 is_quoted word = slice_index word 0 == 39
 
--- one of these, or by its first byte a string, a variable or a number
+-- a keyword, or by its first byte a string, a variable or a number
 abbrev pub is_value : List ℕ → Bool
 is_value word =
     if is_some (named atoms word) then true
@@ -105,11 +105,11 @@ is_value word =
     else if begins_name (slice_index word 0) then is_variable word
     else is_number word
 
--- what follows some bytes that a word begins with
+-- what follows a prefix of a word
 abbrev pub after_prefix : List ℕ → List ℕ → Option (List ℕ)
 after_prefix prefix word = if bytes_eq (take (length prefix) word) prefix then Some (drop (length prefix) word) else None
 
--- an identifier after such bytes
+-- an identifier after such a prefix
 abbrev pub is_identifier_after : Option (List ℕ) → Bool
 is_identifier_after None = false
 is_identifier_after (Some rest) = is_identifier rest

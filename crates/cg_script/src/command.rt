@@ -1,7 +1,7 @@
-//! Commands and the words in them.
+//! Commands and their operands.
 use crate::members::Operands;
 
-/// What a word of a command stands for: an atom, a variable, or a local of the frame that runs.
+/// What an operand of a command is: an atom, a variable, or a local of the running frame.
 #[derive(Clone, Copy, Debug, PartialEq, Eq, Default, Drop)]
 pub enum Operand {
     /// The value none.
@@ -9,7 +9,7 @@ pub enum Operand {
     None,
     /// A whole number.
     Int(i64),
-    /// A text, by its number among the script's names.
+    /// A string, by its number among the script's texts.
     Str(u32),
     /// A variable, by the number of its name.
     Name(u32),
@@ -23,7 +23,8 @@ pub enum Operand {
     Garbage,
 }
 
-/// A command, one variant for each row of the table of commands (docs/SCRIPT.md). Names, classes and procedures go by number.
+/// A command, one variant for each row of the table of commands (docs/SCRIPT.md). Names, classes and procedures appear by
+/// number.
 #[derive(Drop)]
 pub enum Command {
     /// `x = list v*`: a new list of the values, bound to x.
@@ -57,81 +58,81 @@ pub enum Command {
         target: Operand,
         callback: Operand,
     },
-    /// `x = v`: x is bound to the value.
+    /// `x = v`: binds x to the value.
     Bind {
         name: u32,
         value: Operand,
     },
-    /// `del x`: x is unbound.
+    /// `del x`: unbinds x.
     Del {
         name: u32,
     },
-    /// `append L v`: the value goes last.
+    /// `append L v`: appends the value.
     Append {
         list: Operand,
         value: Operand,
     },
-    /// `setitem L i v`: item i is replaced.
+    /// `setitem L i v`: replaces item i.
     SetItem {
         list: Operand,
         index: i64,
         value: Operand,
     },
-    /// `delitem L i`: item i is taken out.
+    /// `delitem L i`: removes item i.
     DelItem {
         list: Operand,
         index: i64,
     },
-    /// `put D K v`: the key gets the value.
+    /// `put D K v`: sets the value under the key.
     Put {
         dict: Operand,
         key: Operand,
         value: Operand,
     },
-    /// `drop D K`: the entry is taken out.
+    /// `drop D K`: removes the entry.
     Remove {
         dict: Operand,
         key: Operand,
     },
-    /// `setattr O n v`: the attribute gets the value.
+    /// `setattr O n v`: sets the attribute.
     SetAttr {
         object: Operand,
         attr: u32,
         value: Operand,
     },
-    /// `delattr O n`: the attribute is taken out.
+    /// `delattr O n`: removes the attribute.
     DelAttr {
         object: Operand,
         attr: u32,
     },
-    /// `x = item L i`: x is bound to item i.
+    /// `x = item L i`: binds x to item i.
     Item {
         name: u32,
         list: Operand,
         index: i64,
     },
-    /// `x = get D K`: x is bound to the value under the key.
+    /// `x = get D K`: binds x to the value under the key.
     Get {
         name: u32,
         dict: Operand,
         key: Operand,
     },
-    /// `x = attr O n`: x is bound to the attribute.
+    /// `x = attr O n`: binds x to the attribute.
     Attr {
         name: u32,
         object: Operand,
         attr: u32,
     },
-    /// `x = deref w`: x is bound to the referent, or to none.
+    /// `x = deref w`: binds x to the referent, or to none.
     Deref {
         name: u32,
         weak: Operand,
     },
-    /// `call f`: a frame of the function's procedure is started.
+    /// `call f`: starts a frame of the function's procedure.
     Call {
         func: Operand,
     },
-    /// `quit v`: where v is none the frame ends, and at the top the script's commands.
+    /// `quit v`: if v is none, ends the frame, or at the top the script's commands.
     Quit {
         value: Operand,
     },
@@ -139,9 +140,9 @@ pub enum Command {
     Collect {
         generation: i64,
     },
-    /// `enable`: automatic collections are switched on.
+    /// `enable`: switches automatic collections on.
     Enable,
-    /// `disable`: automatic collections are switched off.
+    /// `disable`: switches automatic collections off.
     Disable,
     /// `threshold a [b [c]]`: the thresholds; an absent one keeps its value.
     Threshold {
@@ -149,44 +150,44 @@ pub enum Command {
         second: Option<u32>,
         third: Option<u32>,
     },
-    /// `debug` and words: the debug flags are the union of the words.
+    /// `debug` and words: sets the debug flags to the union of the words.
     Flags {
         bits: u32,
     },
-    /// `freeze`: the generations move to the permanent one.
+    /// `freeze`: moves the generations to the permanent one.
     Freeze,
-    /// `unfreeze`: the permanent generation moves to generation 2.
+    /// `unfreeze`: moves the permanent generation to generation 2.
     Unfreeze,
-    /// `print v`: the value is printed.
+    /// `print v`: prints the value.
     Print {
         value: Operand,
     },
-    /// `refs v`: the in-degree of an object is printed.
+    /// `refs v`: prints the in-degree of an object.
     Refs {
         value: Operand,
     },
-    /// `tracked v`: whether the collector has the object.
+    /// `tracked v`: prints whether an object is tracked.
     Tracked {
         value: Operand,
     },
-    /// `finalized v`: whether its finalizer has been called.
+    /// `finalized v`: prints whether an object's finalizer was called.
     Finalized {
         value: Operand,
     },
-    /// `referents v`: what the entries of an object refer to. (`gc.get_referents`.)
+    /// `referents v`: prints the objects that an object refers to. (`gc.get_referents`.)
     Referents {
         value: Operand,
     },
-    /// `referrers v`: the objects whose entries refer to an object. (`gc.get_referrers`.)
+    /// `referrers v`: prints the objects that refer to an object. (`gc.get_referrers`.)
     Referrers {
         value: Operand,
     },
-    /// `why x`: a shortest path of holders that leads to the value of x, that x holds it left out.
+    /// `why x`: prints a shortest path of holders to the value of x, ignoring x itself.
     Why {
         name: u32,
     },
-    /// `count`: the three counts.
+    /// `count`: prints the three counts.
     Count,
-    /// `gens`: the sizes of the generations and of the permanent one.
+    /// `gens`: prints the sizes of the generations and of the permanent one.
     Gens,
 }

@@ -1,4 +1,4 @@
-//! A script that is being read.
+//! A partly read script.
 ghost use Rattle.std.specs.Prelude.{◌≡◌, ◌+◌, ◌-◌, ◌^◌, ◌<◌, ◌≤◌, List, [], ◌∷◌, true, false, length, map, IfOk, OnOk, is_some, Ok, None};
 ghost use Rattle.cg_script.specs.declared.part.Said.{Said as AnySaid};
 ghost use Rattle.cg_script.specs.declared.part.Said.TheVariants.{Does, Ends};
@@ -19,7 +19,7 @@ use crate::word::text_of_identifier;
 use cg_value::Names;
 use std::alloc::{AllocError, Global};
 
-/// A procedure that is begun.
+/// An open procedure.
 #[derive(Drop)]
 pub(crate) struct Begun {
     pub name: u32,
@@ -35,13 +35,13 @@ pub(crate) struct Draft {
     pub classes: Names,
     pub budget: bool,
     pub shutdown: bool,
-    /// Whether a line was not ignored.
+    /// Whether some line was not ignored.
     pub started: bool,
     pub items: Items,
     pub begun: Option<Begun>,
 }
 
-/// No line yet.
+/// The draft before the first line.
 pub(crate) fn empty(alloc: Global) -> Draft
     ensures known { known_of result ≡ nothing_known }
     ensures items { result.items ≡ [] }
@@ -60,7 +60,7 @@ pub(crate) fn empty(alloc: Global) -> Draft
     }
 }
 
-/// Whether a declaration stands inside a procedure, `end` outside one, or a profile behind another line.
+/// Whether a declaration is inside a procedure, `end` is outside one, or a profile follows another line.
 fn stands_wrong(draft: &Draft, form: Form) -> bool
     ensures { result ≡ is_misplaced (known_of draft.now) form }
 {
@@ -73,7 +73,7 @@ fn stands_wrong(draft: &Draft, form: Form) -> bool
     }
 }
 
-/// Whether a procedure or class is defined already, or a budget or a shutdown declared.
+/// Whether it defines an existing procedure or class, or a second budget or shutdown.
 fn defines_again(draft: &Draft, form: Form, words: &[&[u8]]) -> bool
     requires fit { all_fit form 0 (map (λ w. w.now) words.now) ≡ true }
     requires enough { (row form).fewest ≤ length words.now }
@@ -88,7 +88,7 @@ fn defines_again(draft: &Draft, form: Form, words: &[&[u8]]) -> bool
     }
 }
 
-/// What the line defines is known from now on.
+/// Records what the line defines.
 fn define(draft: &mut Draft, form: Form, words: &[&[u8]]) -> Result<(), AllocError>
     requires fit { all_fit form 0 (map (λ w. w.now) words.now) ≡ true }
     requires enough { (row form).fewest ≤ length words.now }
@@ -125,7 +125,7 @@ fn define(draft: &mut Draft, form: Form, words: &[&[u8]]) -> Result<(), AllocErr
     }
 }
 
-/// A command goes to the procedure that is begun, or else to the items.
+/// Adds a command to the open procedure, or else to the items.
 #[inline(always)]
 fn push_command(
     items: &mut Items,
@@ -146,7 +146,7 @@ fn push_command(
     Ok(())
 }
 
-/// The procedure that is begun goes to the items.
+/// Adds the open procedure to the items.
 fn close(items: &mut Items, begun: &mut Option<Begun>) -> Result<(), AllocError>
     requires { is_some begun.old ≡ true }
     ensures grouped { OnOk result ((later : List AnySaid) → grouped items.new begun.new later ≡ grouped items.old begun.old (Ends ∷ later)) }
@@ -164,7 +164,7 @@ fn close(items: &mut Items, begun: &mut Option<Begun>) -> Result<(), AllocError>
     }
 }
 
-/// What a line says goes to the items, or to the procedure that is begun.
+/// Adds what a line says to the items, or to the open procedure.
 #[inline(always)]
 fn push(
     alloc: Global,
@@ -200,7 +200,8 @@ const DEFINED_TWICE: u8 = 8;
 /// A procedure or class that no earlier line defines.
 const NOT_DEFINED: u8 = 6;
 
-/// Takes words as a line of a form, or answers the code of what is wrong with them. Their parts go into a list that is empty before.
+/// Takes words as a line of a form, or answers the code of what is wrong with them. `parts` is a buffer for their parts, empty
+/// before.
 pub(crate) fn take_words(
     draft: &mut Draft,
     form: Form,
@@ -216,7 +217,7 @@ pub(crate) fn take_words(
     ensures few_names { result ≡ Ok None → length draft.new.names ≤ length draft.old.names + MOST_WORDS }
     ensures few_items { result ≡ Ok None → length draft.new.items ≤ length draft.old.items + 1 }
 {
-    // The texts of a line that is bad need not be forgotten: no line behind it is read.
+    // The texts of a bad line may stay: no later line is read.
     if let Some(code) = read_parts(
         parts,
         form,
@@ -237,7 +238,7 @@ pub(crate) fn take_words(
         return Ok(Some(NOT_DEFINED));
     }
     define(draft, form, words)?;
-    // `?` would move what is said twice more, for each line.
+    // `?` would move the result twice more for each line.
     match said_of(draft.alloc, form, parts.as_slice()) {
         Ok(what) => push(draft.alloc, &mut draft.items, &mut draft.begun, what)?,
         Err(fault) => return Err(fault),

@@ -52,7 +52,7 @@ pub enum Form {
     End,
 }
 
-/// What the place of a word asks for.
+/// What a word must be at its place.
 #[derive(Clone, Copy, Debug, PartialEq, Eq)]
 pub enum Sort {
     /// The words of the form itself.
@@ -60,9 +60,9 @@ pub enum Sort {
     Variable,
     /// An attribute, or the name of a procedure or class that the line defines.
     Name,
-    /// A class of an earlier line.
+    /// A class defined earlier.
     Class,
-    /// A procedure of an earlier line.
+    /// A procedure defined earlier.
     Proc,
     /// `del=P` or `legacy=P`.
     Finalizer,
@@ -78,14 +78,14 @@ pub enum Sort {
     Flag,
 }
 
-/// What a form asks for.
+/// What a form requires.
 #[derive(Clone, Copy)]
 pub(crate) struct FormRow {
-    /// The word that picks it; none for `x = v`.
+    /// The word that selects it; empty for `x = v`.
     pub word: &'static [u8],
-    /// Whether no variable may be that word.
+    /// Whether this word is reserved, so that no variable may have it.
     pub reserved: bool,
-    /// The sorts of the first places; each place past them asks for a value.
+    /// The sorts of the first places; further places take values.
     pub places: &'static [Sort],
     /// The least number of words.
     pub fewest: usize,
@@ -126,7 +126,7 @@ fn takes(word: &'static [u8], places: &'static [Sort], fewest: usize, most: usiz
     asks(word, true, places, fewest, most)
 }
 
-/// What a form asks for.
+/// What a form requires.
 pub(crate) fn row_for(form: Form) -> FormRow
     ensures word { result.word.now ≡ (row_of form).word }
     ensures reserved { result.reserved ≡ (row_of form).reserved }
@@ -184,7 +184,7 @@ pub(crate) fn row_for(form: Form) -> FormRow
     }
 }
 
-/// The sort of a place, counted from 0, by the sorts of the first places.
+/// The sort of a place, counting from 0, given the sorts of the first places.
 #[inline(always)]
 pub(crate) fn sort_in(places: &[Sort], place: usize) -> Sort
     ensures { result ≡ slice_index_or places.now place Sort.Value }
@@ -202,7 +202,7 @@ pub(crate) fn word_of(form: Form) -> &'static [u8]
     row_for(form).word
 }
 
-/// The form among these that has a word.
+/// The form with this word among these.
 #[inline(always)]
 fn form_with(forms: &[Form], word: &[u8]) -> Option<Form>
     ensures { result ≡ named_in (by_words forms.now) word.now }
@@ -215,7 +215,7 @@ fn form_with(forms: &[Form], word: &[u8]) -> Option<Form>
     None
 }
 
-/// The forms whose words begin with this byte and have this number of bytes.
+/// The forms whose words begin with this byte and have this length.
 fn forms_like(byte: u8, count: usize) -> &'static [Form]
     ensures { result.now ≡ forms_like byte count worded_forms }
 {
@@ -261,7 +261,7 @@ fn forms_like(byte: u8, count: usize) -> &'static [Form]
 /// The fewest bytes of the word of a form.
 const FEWEST_BYTES: usize = 3;
 
-/// The form that this word picks, in a line `x = ..` or in another.
+/// The form that this word selects, for a line `x = ..` or another.
 #[tactic(auto, using(crate::proofs::Found::short_names_none))]
 #[inline(always)]
 pub(crate) fn form_named(word: &[u8]) -> Option<Form>
@@ -277,7 +277,7 @@ pub(crate) fn form_named(word: &[u8]) -> Option<Form>
     form_with(forms, word)
 }
 
-/// Whether a form is one of lines `x = ..` that a third word picks.
+/// Whether a form is a line `x = ..` selected by a third word.
 fn binds(form: Form) -> bool
     ensures { result ≡ binds form }
 {
@@ -296,7 +296,7 @@ fn binds(form: Form) -> bool
     )
 }
 
-/// The form of a line `x = ..` with this third word, but for lines that bind a value.
+/// The form of a line `x = ..` with this third word, unless it binds a value.
 pub(crate) fn binding_named(word: &[u8]) -> Option<Form>
     ensures { result ≡ named_in bindings word.now }
 {

@@ -1,5 +1,5 @@
-//! What lines declare of the whole script, and where its procedures and its commands outside procedures stand among them, so that
-//! each is found by its number.
+//! What lines declare for the whole script, and the positions of its procedures and of its commands outside procedures, to find
+//! each by number.
 ghost use Rattle.std.specs.Prelude.{◌≡◌, ◌||◌, ◌++◌, ◌∷◌, [], List, map, IfOk, OnOk, OnErr};
 ghost use Rattle.std.specs.Option.{option_or};
 ghost use Rattle.cg_script.specs.declared.item.Item.{Item as AnyItem};
@@ -8,7 +8,7 @@ ghost use Rattle.cg_script.specs.Items.{classes, procedures, commands_of, declar
 use crate::item::{ClassDef, Item};
 use std::alloc::{AllocError, Global};
 
-/// The profile and the budget that some lines declare, and whether they declare a shutdown.
+/// The profile and the budget that lines declare, and whether they declare a shutdown.
 #[derive(Clone, Copy)]
 pub(crate) struct Declared {
     pub profile: Option<u8>,
@@ -17,7 +17,7 @@ pub(crate) struct Declared {
 }
 
 impl Declared {
-    /// What no lines declare.
+    /// No declarations.
     pub fn new() -> Declared
         ensures { AreDeclared [] result }
     {
@@ -39,7 +39,7 @@ impl Declared {
         declared
     }
 
-    /// Adds a line behind the others.
+    /// Adds one more line.
     #[inline(always)]
     pub fn add(&mut self, item: &Item)
         ensures profile { self.new.profile ≡ option_or self.old.profile (declared_profile (item.now ∷ [])) }
@@ -55,7 +55,8 @@ impl Declared {
     }
 }
 
-/// The classes of some lines, and the positions of their procedures and of their commands outside procedures.
+/// The classes among some lines, and the positions of their procedures and of their commands outside
+/// procedures.
 #[derive(Drop)]
 pub(crate) struct Index {
     pub classes: Vec<ClassDef>,
@@ -64,7 +65,7 @@ pub(crate) struct Index {
 }
 
 impl Index {
-    /// The index of no lines. It takes no memory yet.
+    /// The index of no lines. Allocates nothing yet.
     pub fn new(alloc: Global) -> Index
         ensures { IsIndexOf [] result }
     {
@@ -75,7 +76,7 @@ impl Index {
         }
     }
 
-    /// The index of these lines. It answers `AllocError` only where memory runs out.
+    /// The index of these lines. Answers `AllocError` only if memory runs out.
     pub fn of(alloc: Global, items: &[Item]) -> Result<Index, AllocError>
         ensures { IfOk result (λ index. IsIndexOf items.now index) }
     {
@@ -86,8 +87,8 @@ impl Index {
         Ok(index)
     }
 
-    /// Adds the line at a position, behind those that stand before it. It answers `AllocError` only where memory runs out, and
-    /// then it is the index of those.
+    /// Adds the line at a position, after those before it. Answers `AllocError` only if memory runs out; then the index is
+    /// unchanged.
     #[inline(always)]
     pub fn add(&mut self, at: usize, item: &Item) -> Result<(), AllocError>
         ensures classes { OnOk result (self.new.classes.items ≡ self.old.classes.items ++ classes (item.now ∷ [])) }
@@ -102,7 +103,7 @@ impl Index {
             Item::Class(class) => self.classes.push(*class)?,
             Item::Def(_) => self.procedures.push(at)?,
             Item::Run(_) => {
-                // Most lines are of these, and this way the call for more room is made where there is none alone.
+                // Most lines are commands. In this form, the call that grows the list is made only when it is full.
                 self.commands.reserve(1)?;
                 self.commands.push_reserved(at);
             }

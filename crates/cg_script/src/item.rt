@@ -22,10 +22,11 @@ pub struct Proc {
     pub body: Commands,
 }
 
-/// A declaration, or a command outside procedures. Procedures and classes are named by their position among their own.
+/// A declaration, or a command outside procedures. Procedures and classes are numbered by their position among their
+/// kind.
 #[derive(Drop)]
 pub enum Item {
-    /// Which rules weak references without a callback follow in a collection: 1, those of CPython, or 2.
+    /// Which rules weak references without a callback follow in a collection: 1, CPython's, or 2.
     Profile(u8),
     /// At the end all names are given up, and what is left is collected and counted.
     Shutdown,
@@ -47,23 +48,22 @@ pub struct Script {
 }
 
 impl Script {
-    /// Which rules weak references without a callback follow in a collection: 1, those of CPython, which hold where no line
-    /// says otherwise, or 2. It takes no memory, and constant time.
+    /// Which rules weak references without a callback follow in a collection: 1, CPython's and the default, or 2. Constant
+    /// time, no allocation.
     pub fn profile(&self) -> u8
         ensures { result ≡ profile_of self.now.items }
     {
         self.items.profile()
     }
 
-    /// How many frames may start, if a line says so: 0 to 100,000. It takes no memory, and constant time.
+    /// How many frames may start, 0 to 100,000, if a line declares it. Constant time, no allocation.
     pub fn budget(&self) -> Option<u32>
         ensures { result ≡ declared_budget self.now.items }
     {
         self.items.budget()
     }
 
-    /// Whether all names are given up at the end, and what is left is collected and counted. It takes no memory, and constant
-    /// time.
+    /// Whether all names are given up at the end, and what is left is collected and counted. Constant time, no allocation.
     pub fn shutdown(&self) -> bool
         ensures { result ≡ declares_shutdown self.now.items }
     {

@@ -1,4 +1,4 @@
-//! The texts of a script that is being read.
+//! The texts of a script while it is read.
 ghost use Rattle.std.specs.Prelude.{◌≡◌, ◌-◌, ◌^◌, ◌<◌, [], true, length, IfOk, IfSome, OnOk};
 ghost use Rattle.cg_value.specs.Texts.{text_number, with_text};
 ghost use Rattle.cg_script.specs.Words.{is_variable};
@@ -8,12 +8,13 @@ use cg_value::Names;
 use std::alloc::{AllocError, Global};
 use std::marker::Model;
 
-/// How many places there are for variables.
+/// How many slots there are for variables.
 const PLACES: usize = 1024;
 
-/// The place of a variable that is this word. Words may share one, and then the last that was read has it.
+/// The slot of a variable that is this word. Words may share one; the last one read keeps it.
 ///
-/// Most names of a long script end in numbers: those that differ in up to three digits at their end share none.
+/// Most names in a long script end in numbers: names that differ only in their last three digits, at most,
+/// never share a slot.
 #[inline(always)]
 fn place_of(word: &[u8]) -> usize
     ensures { result < PLACES }
@@ -27,12 +28,12 @@ fn place_of(word: &[u8]) -> usize
     mixed % PLACES
 }
 
-/// The texts of a script that is being read: contracts see the list of their bytes, in the order of their numbers.
+/// The texts of a script while it is read. Contracts see the list of their bytes, in the order of their numbers.
 #[derive(Drop)]
 pub(crate) struct Lexicon {
     names: Names,
-    // Numbers of texts that are variables, each at its place. A word that is one of these texts is a variable, and is not looked
-    // at again.
+    // Numbers of texts known to be variables, each in its slot. A word equal to such a text is a variable, without further
+    // checks.
     variables: [Option<u32>; PLACES],
 }
 
@@ -49,7 +50,7 @@ impl Model for Lexicon {
 }
 
 impl Lexicon {
-    /// No text. It takes no memory yet.
+    /// No text. Allocates nothing yet.
     pub fn new(alloc: Global) -> Lexicon
         ensures { result ≡ [] }
     {
@@ -59,8 +60,7 @@ impl Lexicon {
         }
     }
 
-    /// The number of this word, where it is a variable and is remembered. Then it is compared with one text, and nothing else
-    /// is asked of it.
+    /// The number of this word, if it is a remembered variable. This compares it with one text only.
     #[inline(always)]
     pub fn remembered(&self, word: &[u8]) -> Option<u32>
         ensures variable { IfSome result (λ number. is_variable word.now ≡ true) }
@@ -75,7 +75,7 @@ impl Lexicon {
         }
     }
 
-    /// The number of a variable, which is remembered from now on. It answers `AllocError` only where memory runs out.
+    /// The number of a variable, which is then remembered. Answers `AllocError` only if memory runs out.
     pub fn learn(&mut self, word: &[u8]) -> Result<u32, AllocError>
         requires variable { is_variable word.now ≡ true }
         requires room { length self.old < 2 ^ 32 - 1 }
@@ -87,7 +87,7 @@ impl Lexicon {
         Ok(number)
     }
 
-    /// The number of a text. It answers `AllocError` only where memory runs out.
+    /// The number of a text. Answers `AllocError` only if memory runs out.
     pub fn intern(&mut self, text: &str) -> Result<u32, AllocError>
         requires { length self.old < 2 ^ 32 - 1 }
         ensures number { IfOk result (λ number. number ≡ text_number self.old text.now) }
@@ -96,7 +96,7 @@ impl Lexicon {
         self.names.intern(text)
     }
 
-    /// The texts alone.
+    /// The texts.
     pub fn into_names(self) -> Names
         ensures { result ≡ self }
     {

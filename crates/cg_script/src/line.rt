@@ -1,4 +1,4 @@
-//! What a line means by its words alone.
+//! What a line means by its words alone, without earlier lines.
 ghost use Rattle.std.specs.Prelude.{◌≡◌, ◌<◌, ◌≤◌, ◌+◌, length, map, take, true, false, nat_lt, ◌||◌, ◌==◌};
 ghost use Rattle.std.specs.List.{list_all};
 ghost use Rattle.cg_script.specs.Pieces.{word_is, words_of};
@@ -9,14 +9,14 @@ ghost use Rattle.cg_script.specs.Views.{meaning_of};
 use crate::form::{Form, binding_named, opener_named};
 use crate::limits::{MOST_FOUND, MOST_LINE_BYTES, MOST_LINES, MOST_WORDS};
 
-/// What a line means, beside its words.
+/// What a line means, apart from its words.
 #[derive(Clone, Copy)]
 pub(crate) enum Line {
     /// Nothing: it is ignored.
     Passed,
-    /// Its words are to be read as this form; whether they fit it is not looked at yet.
+    /// Its words select this form; whether they fit it is checked later.
     Of(Form),
-    /// Nothing that is read: the code of what is wrong with it.
+    /// It is bad, with this code.
     Bad(u8),
 }
 
@@ -68,7 +68,7 @@ fn line_of_words(words: &[&[u8]]) -> Line
     }
 }
 
-/// Whether a line of these words is ignored: it has none, or it is a comment.
+/// Whether a line of these words is ignored: it is empty or a comment.
 fn is_passed_over(words: &[&[u8]]) -> bool
     ensures { result ≡ is_passed (map (λ w. w.now) words.now) }
 {
@@ -90,7 +90,7 @@ fn is_too_long(number: u32, line: &[u8], words: &[&[u8]]) -> bool
     line.len() > MOST_LINE_BYTES || number == MOST_LINES + 1
 }
 
-/// What the line of this number means, by its words, if all its bytes are printable.
+/// What the line with this number means, by its words, if all its bytes are printable.
 #[tactic(auto, unfolding(crate::specs::Meanings::meaning))]
 pub(crate) fn read_line(number: u32, line: &[u8], printable: bool, words: &[&[u8]]) -> Line
     requires printable { printable ≡ list_all is_printable line.now }

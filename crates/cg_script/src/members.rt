@@ -14,7 +14,7 @@ use smallvec::SmallVec;
 use std::alloc::{AllocError, Global};
 use std::marker::Model;
 
-/// The operands of a command, in order. One takes no memory of its own: so most lines of a script take none.
+/// The operands of a command, in order. One operand is stored inline, so most lines allocate nothing.
 #[derive(Drop)]
 pub struct Operands {
     members: SmallVec<Operand, 1>,
@@ -30,7 +30,7 @@ impl Model for Operands {
 }
 
 impl Operands {
-    /// These members in order. It takes no memory.
+    /// These members in order. Allocates nothing.
     pub fn new(members: Vec<Operand>) -> Operands
         ensures { result ≡ members.items }
     {
@@ -39,7 +39,7 @@ impl Operands {
         }
     }
 
-    /// These members in order. It takes no memory.
+    /// These members in order. Allocates nothing.
     pub(crate) fn of_few(members: SmallVec<Operand, 1>) -> Operands
         ensures { result ≡ members.items }
     {
@@ -70,7 +70,7 @@ impl Model for Commands {
 }
 
 impl Commands {
-    /// These members in order. It takes no memory.
+    /// These members in order. Allocates nothing.
     pub fn new(members: Vec<Command>) -> Commands
         ensures { result ≡ members.items }
     {
@@ -85,10 +85,10 @@ impl Commands {
     }
 }
 
-/// The lines of a script, in order. What they declare of the whole script is at hand.
+/// The lines of a script, in order, with what they declare for the whole script.
 ///
-/// With an index, as those of a script that was read have one, classes, procedures and commands outside procedures are each found
-/// by their number in constant time; without, by going over the lines before.
+/// With an index, as a parsed script has one, a class, a procedure or a command outside procedures is found by number in constant
+/// time; without one, by a search through the lines.
 #[derive(Drop)]
 pub struct Items {
     members: Vec<Item>,
@@ -108,7 +108,7 @@ impl Model for Items {
     ghost invariant = { λ m. AreDeclared m.members.items m.declared × IsIndexIfAny m.members.items m.index };
 }
 
-/// The position at a number, if there is one.
+/// The position at a number, if any.
 fn position_in(positions: &Vec<usize>, number: usize) -> Option<usize>
     ensures found { result ≡ slice_get positions.now.items number }
     ensures few { OnSome result (number + 1 < 2 ^ 64) }
@@ -116,7 +116,7 @@ fn position_in(positions: &Vec<usize>, number: usize) -> Option<usize>
     positions.get(number).copied()
 }
 
-/// The procedure in the line at a position, if it is one.
+/// The procedure in the line at a position, if it has one.
 fn procedure_at(items: &[Item], at: usize) -> Option<&Proc>
     ensures { (p : AnyProc) → slice_get items.now at ≡ Some (Def p) → option_copied result ≡ Some p }
 {
@@ -126,7 +126,7 @@ fn procedure_at(items: &[Item], at: usize) -> Option<&Proc>
     }
 }
 
-/// The command in the line at a position, if it is one.
+/// The command in the line at a position, if it has one.
 fn command_at(items: &[Item], at: usize) -> Option<&Command>
     ensures { (c : AnyCommand) → slice_get items.now at ≡ Some (Run c) → option_copied result ≡ Some c }
 {
@@ -136,7 +136,7 @@ fn command_at(items: &[Item], at: usize) -> Option<&Command>
     }
 }
 
-/// The procedure with a number, by an index of the lines.
+/// The procedure with a number, by the index.
 fn indexed_procedure<'a>(items: &'a [Item], index: &Index, number: usize) -> Option<&'a Proc>
     requires { IsIndexOf items.now index.now }
     ensures { option_copied result ≡ slice_get (procedures items.now) number }
@@ -147,7 +147,7 @@ fn indexed_procedure<'a>(items: &'a [Item], index: &Index, number: usize) -> Opt
     }
 }
 
-/// The command outside procedures with a number, by an index of the lines.
+/// The command outside procedures with a number, by the index.
 fn indexed_command<'a>(items: &'a [Item], index: &Index, number: usize) -> Option<&'a Command>
     requires { IsIndexOf items.now index.now }
     ensures found { option_copied result ≡ slice_get (commands_of items.now) number }
@@ -173,7 +173,7 @@ fn index_line(index: &mut Option<Index>, at: usize, item: &Item) -> Result<(), A
 }
 
 impl Items {
-    /// These members in order, without an index. It takes no memory.
+    /// These members in order, without an index. Allocates nothing.
     pub fn new(members: Vec<Item>) -> Items
         ensures { result ≡ members.items }
     {
@@ -185,7 +185,7 @@ impl Items {
         }
     }
 
-    /// These members in order, with an index. It answers `AllocError` only where memory runs out.
+    /// These members in order, with an index. Answers `AllocError` only if memory runs out.
     pub fn indexed(alloc: Global, members: Vec<Item>) -> Result<Items, AllocError>
         ensures { IfOk result (λ items. items ≡ members.items) }
     {
@@ -198,7 +198,7 @@ impl Items {
         })
     }
 
-    /// No member, with an index. It takes no memory yet.
+    /// No member, with an index. Allocates nothing yet.
     pub(crate) fn empty(alloc: Global) -> Items
         ensures { result ≡ [] }
     {
@@ -209,8 +209,8 @@ impl Items {
         }
     }
 
-    /// Adds a member behind the others, and to the index while it is at hand. It answers `AllocError` only where memory runs out,
-    /// and then nothing has changed.
+    /// Appends a member, and adds it to the index while it is at hand. Answers `AllocError` only if memory runs out; then nothing
+    /// has changed.
     #[inline(always)]
     pub(crate) fn push(&mut self, item: Item) -> Result<(), AllocError>
         ensures ok { OnOk result (self.new ≡ self.old ++ item ∷ []) }
@@ -230,28 +230,28 @@ impl Items {
         self.members.as_slice()
     }
 
-    /// The profile that they declare, or 1 where none does. It takes constant time.
+    /// The declared profile, or 1. Constant time.
     pub fn profile(&self) -> u8
         ensures { result ≡ profile_of self.now }
     {
         self.declared.profile.unwrap_or(1)
     }
 
-    /// The budget that they declare, if they declare one. It takes constant time.
+    /// The declared budget, if any. Constant time.
     pub fn budget(&self) -> Option<u32>
         ensures { result ≡ declared_budget self.now }
     {
         self.declared.budget
     }
 
-    /// Whether they declare a shutdown. It takes constant time.
+    /// Whether they declare a shutdown. Constant time.
     pub fn shutdown(&self) -> bool
         ensures { result ≡ declares_shutdown self.now }
     {
         self.declared.shutdown
     }
 
-    /// The class with a number, if there is one. Classes are numbered from 0, in their order. By an index it takes constant time.
+    /// The class with a number, if any. Classes are numbered from 0, in order. Constant time with an index.
     pub fn class(&self, number: u32) -> Option<ClassDef>
         ensures { result ≡ slice_get (classes self.now) number }
     {
@@ -261,8 +261,7 @@ impl Items {
         }
     }
 
-    /// The procedure with a number, if there is one. Procedures are numbered from 0, in their order. By an index it takes constant
-    /// time.
+    /// The procedure with a number, if any. Procedures are numbered from 0, in order. Constant time with an index.
     pub fn procedure(&self, number: u32) -> Option<&Proc>
         ensures { option_copied result ≡ slice_get (procedures self.now) number }
     {
@@ -272,11 +271,10 @@ impl Items {
         }
     }
 
-    /// The command outside procedures with a number, if there is one. They are numbered from 0, in their order. By an index it
-    /// takes constant time.
+    /// The command outside procedures with a number, if any. They are numbered from 0, in order. Constant time with an index.
     pub fn command(&self, number: usize) -> Option<&Command>
         ensures found { option_copied result ≡ slice_get (commands_of self.now) number }
-        // The number of the one after it is a number too.
+        // The number after it also fits.
         ensures few { OnSome result (number + 1 < 2 ^ 64) }
     {
         match &self.index {

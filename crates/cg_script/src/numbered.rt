@@ -1,11 +1,11 @@
-//! Look-ups by number among lines without an index, by search.
+//! Look-ups by number in lines without an index.
 ghost use Rattle.std.specs.Prelude.{◌≡◌, ◌+◌, ◌<◌, ◌^◌, ◌∷◌, [], OnSome, slice_get, option_copied, option_to_list};
 ghost use Rattle.cg_script.specs.Items.{classes, procedures, commands_of};
 
 use crate::command::Command;
 use crate::item::{ClassDef, Item, Proc};
 
-/// The class in a line, if it is one.
+/// The class in a line, if it has one.
 fn class_in(item: &Item) -> Option<ClassDef>
     ensures { option_to_list result ≡ classes (item.now ∷ []) }
 {
@@ -15,7 +15,7 @@ fn class_in(item: &Item) -> Option<ClassDef>
     }
 }
 
-/// The procedure in a line, if it is one.
+/// The procedure in a line, if it has one.
 fn procedure_in(item: &Item) -> Option<&Proc>
     ensures { option_to_list (option_copied result) ≡ procedures (item.now ∷ []) }
 {
@@ -25,7 +25,7 @@ fn procedure_in(item: &Item) -> Option<&Proc>
     }
 }
 
-/// The command in a line, if it is one.
+/// The command in a line, if it has one.
 fn command_in(item: &Item) -> Option<&Command>
     ensures { option_to_list (option_copied result) ≡ commands_of (item.now ∷ []) }
 {

@@ -26,7 +26,7 @@ use std::alloc::AllocError;
 /// What a word of a line stands for.
 #[derive(Clone, Copy, Debug, PartialEq, Eq, Default)]
 pub enum Part {
-    /// Nothing beside the form.
+    /// Nothing besides the form.
     #[default]
     Bare,
     /// A text, by its number.
@@ -61,7 +61,7 @@ pub enum Said {
 /// The parts of a line.
 pub(crate) type Parts = Vec<Part>;
 
-/// What a string stands for, unless a byte of it is not printable or a space.
+/// What a string stands for, unless it has a byte that is not printable, or a space.
 fn read_string(word: &[u8], names: &mut Lexicon) -> Result<Option<Operand>, AllocError>
     requires quoted { is_quoted word.now ≡ true }
     requires room { length names.old < 2 ^ 32 - 1 }
@@ -74,7 +74,7 @@ fn read_string(word: &[u8], names: &mut Lexicon) -> Result<Option<Operand>, Allo
     Ok(Some(Operand::Str(names.intern(text_of(&word[1..]))?)))
 }
 
-/// What a word that is no value of its own and begins as a name stands for where it is a variable.
+/// What a word that begins like a name and is no keyword for a value stands for, if it is a variable.
 fn read_name(word: &[u8], names: &mut Lexicon) -> Result<Option<Operand>, AllocError>
     requires other { named_in atoms word.now ≡ None }
     requires begins { begins_name (slice_index word.now 0) ≡ true }
@@ -97,7 +97,7 @@ fn read_whole(word: &[u8]) -> Option<Operand>
     }
 }
 
-/// What a word stands for where it is a value; its text goes to the names.
+/// What a word stands for if it is a value; its text is added to the names.
 fn read_value(word: &[u8], names: &mut Lexicon) -> Result<Option<Operand>, AllocError>
     requires room { length names.old < 2 ^ 32 - 1 }
     ensures operand { IfOk result (λ operand. operand ≡ (if is_value word.now then Some (operand_or (named_in atoms word.now) names.old word.now) else None)) }
@@ -118,7 +118,7 @@ fn read_value(word: &[u8], names: &mut Lexicon) -> Result<Option<Operand>, Alloc
     Ok(read_whole(word))
 }
 
-/// The number of a procedure or class, where the word may name one.
+/// The number of a procedure or class, if the word may name one.
 #[inline(always)]
 fn read_defined(names: &Names, word: &[u8]) -> Option<Part>
     ensures { result ≡ (if is_identifier word.now then Some (numbered (defined_number names.now word.now)) else None) }
@@ -166,7 +166,7 @@ fn finalizer_in(procs: &Names, word: &[u8]) -> Part
     }
 }
 
-/// What a word stands for where it is `del=P` or `legacy=P`.
+/// What a word stands for if it is `del=P` or `legacy=P`.
 fn read_finalizer(procs: &Names, word: &[u8]) -> Option<Part>
     ensures { result ≡ (if fits Sort.Finalizer word.now then Some (finalizer_of procs.now (after_prefix (codes "del=") word.now) word.now) else None) }
 {
@@ -176,7 +176,7 @@ fn read_finalizer(procs: &Names, word: &[u8]) -> Option<Part>
     Some(finalizer_in(procs, word))
 }
 
-/// What a word stands for where it may name a variable; its text goes to the names.
+/// What a word stands for if it may name a variable; its text is added to the names.
 #[inline(always)]
 fn read_variable(word: &[u8], names: &mut Lexicon) -> Result<Option<Part>, AllocError>
     requires room { length names.old < 2 ^ 32 - 1 }
@@ -192,7 +192,8 @@ fn read_variable(word: &[u8], names: &mut Lexicon) -> Result<Option<Part>, Alloc
     Ok(Some(Part::Text(names.learn(word)?)))
 }
 
-/// What a word stands for where it may name an attribute, a procedure or a class; its text goes to the names.
+/// What a word stands for if it may name an attribute, a procedure or a class; its text is added to the
+/// names.
 fn read_identifier(word: &[u8], names: &mut Lexicon) -> Result<Option<Part>, AllocError>
     requires room { length names.old < 2 ^ 32 - 1 }
     ensures part { IfOk result (λ part. part ≡ (if is_identifier word.now then Some (Text (text_number names.old word.now)) else None)) }
@@ -210,7 +211,7 @@ fn read_identifier(word: &[u8], names: &mut Lexicon) -> Result<Option<Part>, All
     Ok(Some(Part::Text(names.intern(text_of_identifier(word))?)))
 }
 
-/// The count that a word writes, where it is one.
+/// The count that a word writes, if any.
 fn read_count(fits: bool, word: &[u8]) -> Option<Part>
     requires digits { fits ≡ true → are_digits 10 word.now ≡ true }
     requires few { fits ≡ true → decimal_value word.now ≤ MOST_COUNT }
@@ -222,7 +223,7 @@ fn read_count(fits: bool, word: &[u8]) -> Option<Part>
     Some(Part::Count(count_of_word(word)))
 }
 
-/// What a word stands for where it is a value.
+/// What a word stands for if it is a value.
 fn read_value_part(word: &[u8], names: &mut Lexicon) -> Result<Option<Part>, AllocError>
     requires room { length names.old < 2 ^ 32 - 1 }
     ensures part { IfOk result (λ part. part ≡ (if is_value word.now then Some (ValueOf (operand_or (named_in atoms word.now) names.old word.now)) else None)) }
@@ -252,7 +253,7 @@ fn read_flag(word: &[u8]) -> Option<Part>
     }
 }
 
-/// What a word at such a place stands for, where it has the form that the place asks for; its text goes to the names.
+/// What a word stands for at its place, if it has the form required there; its text is added to the names.
 fn read_part(
     sort: Sort,
     word: &[u8],
@@ -292,10 +293,10 @@ fn has_two_alike(form: Form, words: &[&[u8]]) -> bool
     }
 }
 
-/// A word that has not the form that its place asks for.
+/// A word has the wrong form for its place.
 const WORD_FORM: u8 = 4;
 
-/// Reads the parts of a line of this form into a list that is empty before, or answers the code of what is wrong with its words by themselves.
+/// Reads the parts of a line of this form into an empty list, or answers the code of what is wrong with its words in themselves.
 pub(crate) fn read_parts(
     parts: &mut Parts,
     form: Form,
@@ -346,8 +347,8 @@ fn has_unknown_part(parts: &[Part]) -> bool
     parts.iter().any(|part| matches!(part, Part::Unknown))
 }
 
-/// Whether a procedure or class is named that no earlier line defines. Most lines are of forms that name none: their parts are
-/// not looked at.
+/// Whether it names a procedure or class that no earlier line defines. Most lines have forms that cannot: their parts are not
+/// checked.
 pub(crate) fn names_unknown(form: Form, parts: &[Part]) -> bool
     ensures { result ≡ (names_defined form && has_unknown parts.now) }
 {

@@ -6,7 +6,7 @@ ghost use Rattle.cg_script.specs.Words.{is_printable};
 
 use crate::limits::MOST_FOUND;
 
-/// The words of a line, each a part of it: all of them, unless there are too many.
+/// The words of a line, as slices of it: all of them, unless there are too many.
 pub(crate) type Words<'a> = Vec<&'a [u8]>;
 
 /// The first place of a byte.
@@ -29,14 +29,14 @@ fn cut(bytes: &[u8], separator: u8) -> (&[u8], &[u8])
     }
 }
 
-/// Whether a byte may stand in a word: it is printable, and no space.
+/// Whether a byte may be part of a word: it is printable, and no space.
 fn may_stand_in_word(byte: u8) -> bool
     ensures { result ≡ not (not (is_printable byte) || byte == 32) }
 {
     (33..=126).contains(&byte)
 }
 
-/// Takes a piece of a line as a word, unless it is empty, or there are too many.
+/// Adds a piece of a line as a word, unless it is empty or there are too many.
 fn push_word<'a>(words: &mut Words<'a>, piece: &'a [u8])
     requires few { length words.old.items ≤ MOST_FOUND }
     requires room { MOST_FOUND ≤ vec_capacity words.old }
@@ -52,7 +52,7 @@ fn push_word<'a>(words: &mut Words<'a>, piece: &'a [u8])
     }
 }
 
-/// The first place of a byte that is not printable, as a line feed is. The words before it go into a list that is empty before.
+/// The first position of a byte that is not printable; a line feed is not. Puts the words before it into an empty list.
 fn find_words<'a>(bytes: &'a [u8], words: &mut Words<'a>) -> Option<usize>
     requires empty { words.old.items ≡ [] }
     requires room { MOST_FOUND ≤ vec_capacity words.old }
@@ -80,8 +80,8 @@ fn find_words<'a>(bytes: &'a [u8], words: &mut Words<'a>) -> Option<usize>
     None
 }
 
-/// The first line, what follows its line feed, and whether all bytes of the line are printable. If they are, its words go into a
-/// list that is empty before.
+/// The first line, what follows its line feed, and whether all bytes of the line are printable. If so, puts its words into an
+/// empty list.
 pub(crate) fn cut_line<'a>(bytes: &'a [u8], words: &mut Words<'a>) -> (&'a [u8], &'a [u8], bool)
     requires some { 0 < length bytes.now }
     requires empty { words.old.items ≡ [] }

@@ -1,4 +1,4 @@
-//! Printing a script: its canonical bytes, which are read as the same script again.
+//! Prints a script: its canonical bytes, which are read back as the same script.
 ghost use Rattle.std.specs.Prelude.{◌≡◌, ◌++◌, ◌∷◌, [], map, flat_map, codes, decimal, IfOk, OnOk};
 ghost use Rattle.std.specs.Fmt.{signed_decimal};
 ghost use Rattle.cg_script.specs.Canonical.{text_of, name_of, value_word, callback_words, count_words, finalizer_words, flag_words, command_words, class_words, def_words, end_words, item_lines, procs_in, classes_in, behind_space, line_of_words, canonical, Naming as AnyNaming};
@@ -24,20 +24,20 @@ pub(crate) enum Piece<'a> {
     Count(u32),
     Proc(u32),
     Class(u32),
-    /// A procedure behind `del=`.
+    /// A procedure after `del=`.
     Finalizer(u32),
-    /// A procedure behind `legacy=`.
+    /// A procedure after `legacy=`.
     Legacy(u32),
 }
 
-/// What the numbers in a script stand for: its texts, and its lines, which have the procedures and classes.
+/// What the numbers in a script stand for: its texts, and its lines with the procedures and classes.
 #[derive(Drop)]
 pub(crate) struct Named<'a> {
     pub names: &'a Names,
     pub items: &'a Items,
 }
 
-/// The text of a number, or no bytes where it has none.
+/// The text of a number, or no bytes if it has none.
 fn text<'a>(names: &'a Names, number: u32) -> &'a [u8]
     ensures { result.now ≡ text_of names.now number }
 {
@@ -48,7 +48,7 @@ fn text<'a>(names: &'a Names, number: u32) -> &'a [u8]
     }
 }
 
-/// The name of a procedure, or no bytes where there is none of this number.
+/// The name of a procedure, or no bytes if there is none with this number.
 fn proc_name<'a>(naming: &Named<'a>, number: u32) -> &'a [u8]
     ensures { result.now ≡ name_of naming.now.names.now (procs_in naming.now.items.now) number }
 {
@@ -58,7 +58,7 @@ fn proc_name<'a>(naming: &Named<'a>, number: u32) -> &'a [u8]
     }
 }
 
-/// The name of a class, or no bytes where there is none of this number.
+/// The name of a class, or no bytes if there is none with this number.
 fn class_name<'a>(naming: &Named<'a>, number: u32) -> &'a [u8]
     ensures { result.now ≡ name_of naming.now.names.now (classes_in naming.now.items.now) number }
 {
@@ -80,7 +80,7 @@ fn write_count(out: &mut Vec<u8>, count: u32) -> Result<(), AllocError>
     out.extend_from_slice(Buffer::new().format(count).as_bytes())
 }
 
-/// Writes some bytes and others behind them.
+/// Writes some bytes and then others.
 fn write_both(out: &mut Vec<u8>, front: &[u8], back: &[u8]) -> Result<(), AllocError>
     ensures { OnOk result (out.new.items ≡ out.old.items ++ front.now ++ back.now) }
 {
@@ -129,7 +129,7 @@ fn write_piece(out: &mut Vec<u8>, naming: &Named<'_>, piece: Piece<'_>) -> Resul
     }
 }
 
-/// Writes a word behind a space, where there is one.
+/// Writes a space and a word, if there is a word.
 fn write_behind(out: &mut Vec<u8>, naming: &Named<'_>, piece: Piece<'_>) -> Result<(), AllocError>
     ensures { OnOk result (out.new.items ≡ out.old.items ++ flat_map behind_space (piece_words (names_by naming.now) piece.entry)) }
 {
@@ -165,7 +165,7 @@ fn write_values(out: &mut Vec<u8>, names: &Names, values: &[Operand]) -> Result<
     Ok(())
 }
 
-/// Writes a line: its words, and its values behind them.
+/// Writes a line: its words, then its values.
 fn write_line(
     out: &mut Vec<u8>,
     naming: &Named<'_>,
@@ -183,7 +183,7 @@ fn write_line(
     Ok(())
 }
 
-/// A debug flag, where its bit is set.
+/// A debug flag, if its bit is set.
 fn flag<'a>(bits: u32, bit: u32, word: &'a [u8]) -> Piece<'a>
     ensures { (naming : AnyNaming) → piece_words naming result ≡ flag_words bits bit word.now }
 {
@@ -615,12 +615,12 @@ fn write_items(out: &mut Vec<u8>, naming: &Named<'_>, items: &[Item]) -> Result<
     Ok(())
 }
 
-/// The canonical bytes of a script: its lines in order, each with a line feed, the words with one space between them.
+/// The canonical bytes of a script: its lines in order, each with a line feed, the words separated by one space.
 ///
-/// Numbers have no leading zeros, a callback that is none is left out, `del=` stands before `legacy=`, `collect` has its
-/// generation, and the flags of `debug` stand in the order stats, collectable, uncollectable, saveall. A number of a text,
-/// procedure or class that the script does not have is printed as no bytes; no script that was read has one. `AllocError`
-/// comes only where memory runs out.
+/// Numbers have no leading zeros, a callback none is left out, `del=` comes before `legacy=`, `collect` has its
+/// generation, and the flags of `debug` are in the order stats, collectable, uncollectable, saveall. The number of a text,
+/// procedure or class that the script lacks is printed as no bytes; a parsed script has no such number. Answers
+/// `AllocError` only if memory runs out.
 pub fn print(alloc: Global, script: &Script) -> Result<Vec<u8>, AllocError>
     ensures { IfOk result (λ bytes. bytes.items ≡ canonical script.now.names script.now.items) }
 {

@@ -18,11 +18,10 @@ use crate::part::Parts;
 use crate::pieces::cut_line;
 use std::alloc::Global;
 
-/// A procedure that is begun and not ended.
+/// A procedure without its `end`.
 const NO_END: u8 = 7;
 
-/// Takes the line of this number, whose bytes are all printable or not, by its words. Their parts go into a list that serves all
-/// lines.
+/// Takes the line with this number by its words; its bytes are all printable or not. All lines share one list for their parts.
 fn take_line(
     draft: &mut Draft,
     number: u32,
@@ -50,7 +49,7 @@ fn take_line(
     }
 }
 
-/// Takes all lines, and answers the number that the line behind them would have.
+/// Takes all lines, and answers the number of the line after them.
 fn take_lines(draft: &mut Draft, bytes: &[u8]) -> Result<u32, ScriptFault>
     requires { IsSmall draft.old 1 }
     ensures ok { IfOk result (λ number. reading_after draft.new number [] ≡ reading_after draft.old 1 (lines_of bytes.now)) }
@@ -59,7 +58,7 @@ fn take_lines(draft: &mut Draft, bytes: &[u8]) -> Result<u32, ScriptFault>
 {
     let mut number: u32 = 1;
     let mut rest = bytes;
-    // One list serves all lines: emptied, it keeps its room, which is enough for any line.
+    // One list serves all lines: cleared, it keeps its room, which is enough for any line.
     let Ok(mut words) = Vec::with_capacity(draft.alloc, MOST_FOUND) else {
         return Err(ScriptFault::OutOfMemory);
     };
@@ -78,7 +77,7 @@ fn take_lines(draft: &mut Draft, bytes: &[u8]) -> Result<u32, ScriptFault>
     Ok(number)
 }
 
-/// The script, unless a procedure is not ended.
+/// The script, unless a procedure is still open.
 fn finish(draft: Draft, number: u32) -> Result<Script, ScriptFault>
     requires { IsSmall draft number }
     ensures ok { IfOk result (λ script. reading_after draft number [] ≡ spells script.names script.items) }
@@ -98,19 +97,19 @@ fn finish(draft: Draft, number: u32) -> Result<Script, ScriptFault>
     })
 }
 
-/// The script that the bytes spell. Lines end with line feeds, and are counted from 1.
+/// The script that the bytes spell. Lines end with line feeds, and count from 1.
 ///
-/// `Bad` has the first bad line and its code: 1 where the line has a byte that is not printable ASCII, 5 where it is longer
-/// than 1,024 bytes, has more than 64 words or the number 400,001, 2 where its form is unknown, 3 where the number of its
-/// words is wrong, 4 where a word has not the form that its place asks, 7 where a declaration stands in the wrong place, a
-/// profile behind another line, or a procedure is open at the end, 8 where a procedure, a class, the budget or the shutdown is there already, 6 where no earlier line
+/// `Bad` has the first bad line and its code: 1 if the line has a byte that is not printable ASCII, 5 if it is longer than 1,024
+/// bytes, has more than 64 words or the number 400,001, 2 if its form is unknown, 3 if it has the wrong number of words, 4 if a
+/// word has the wrong form for its place, 7 if a declaration is in the wrong place, a profile follows another line, or a
+/// procedure is open at the end, 8 if a procedure, a class, the budget or the shutdown exists already, 6 if no earlier line
 /// defines a procedure or class. `OutOfMemory` may come for any bytes. (Ours.)
 pub fn parse(alloc: Global, bytes: &[u8]) -> Result<Script, ScriptFault>
-    // The script is exactly the one that the bytes spell, and the fault is that of their first bad line.
+    // The script is exactly what the bytes spell, and the fault is that of their first bad line.
     ensures ok { IfOk result (λ script. reading bytes.now ≡ spells script.names script.items) }
     ensures fault { IfErr result (λ fault. IsFault fault (reading bytes.now)) }
 
-    // What the layers above rest on.
+    // What the layers above rely on.
     ensures known { IfOk result TextsAreKnown }
     ensures few_texts { IfOk result (λ script. length script.names ≤ MOST_TEXTS) }
     ensures few_items { IfOk result (λ script. length script.items ≤ MOST_LINES) }

@@ -40,7 +40,7 @@ fn value_at(parts: &[Part], place: usize) -> Operand
     }
 }
 
-/// The number at a place, or another where there is no word.
+/// The number at a place, or a default without a word.
 fn number_at(parts: &[Part], place: usize, other: i64) -> i64
     ensures { result ≡ number_or other (part_at parts.now place) }
 {

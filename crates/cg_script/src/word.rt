@@ -29,7 +29,7 @@ fn has_name_bytes(bytes: &[u8]) -> bool
     bytes.iter().all(|byte| may_stand_in_name(*byte))
 }
 
-/// Whether a word that begins as a name goes on as one. What begins a name may stand in it, and is not looked at twice.
+/// Whether a word that begins like a name is one. The first byte is not checked again.
 fn goes_on_as_name(word: &[u8]) -> bool
     requires { begins_name (slice_index word.now 0) ≡ true }
     ensures { result ≡ list_all is_name_byte word.now }
@@ -66,15 +66,15 @@ fn is_reserved_for_form(word: &[u8]) -> bool
     reserves(form_named(word))
 }
 
-/// Whether no variable may be this word: it has a meaning of its own somewhere in the language.
+/// Whether no variable may have this word: the language gives it a meaning.
 fn is_reserved_word(word: &[u8]) -> bool
     ensures { result ≡ is_reserved word.now }
 {
     atom(word).is_some() || is_reserved_for_form(word)
 }
 
-/// Whether a word may name a variable: 1 to 32 letters, digits and `_`, of which the first is no digit, and no word of the
-/// language. (Ours.)
+/// Whether a word may name a variable: 1 to 32 letters, digits and `_`, not beginning with a digit, and not reserved.
+/// (Ours.)
 #[inline(always)]
 pub fn is_variable(word: &[u8]) -> bool
     ensures { result ≡ is_variable word.now }
@@ -82,7 +82,7 @@ pub fn is_variable(word: &[u8]) -> bool
     is_identifier_word(word) && !is_reserved_word(word)
 }
 
-/// Whether a word that is no value of its own and begins as a name may name a variable.
+/// Whether a word that begins like a name and is no keyword for a value may name a variable.
 pub(crate) fn is_free_name(word: &[u8]) -> bool
     requires other { named_in atoms word.now ≡ None }
     requires begins { begins_name (slice_index word.now 0) ≡ true }
@@ -91,7 +91,7 @@ pub(crate) fn is_free_name(word: &[u8]) -> bool
     word.len() <= MOST_NAME_BYTES && goes_on_as_name(word) && !is_reserved_for_form(word)
 }
 
-/// Whether bytes are printable, and none of them is a space.
+/// Whether bytes are printable and contain no space.
 pub(crate) fn is_graphic_text(bytes: &[u8]) -> bool
     ensures { result ≡ list_all is_graphic bytes.now }
 {
@@ -104,7 +104,7 @@ pub(crate) fn text_of(word: &[u8]) -> &str
     requires { list_all is_graphic word.now ≡ true }
     ensures { result.now ≡ word.now }
 {
-    // Printable bytes are text, which need not be found out again.
+    // Printable bytes are valid text; this skips a second check.
     unsafe { str::from_utf8_unchecked(word) }
 }
 
@@ -176,7 +176,7 @@ fn has_minus_sign(word: &[u8]) -> bool
     word.first() == Some(&b'-')
 }
 
-/// The number that 1 to 19 digits write, unless it is greater than this.
+/// The number that 1 to 19 digits write, unless it exceeds this.
 fn digits_up_to(word: &[u8], most: u64) -> Option<u64>
     ensures { result ≡ (if are_digits 19 word.now && nat_le (decimal_value word.now) most then Some (decimal_value word.now) else None) }
 {
@@ -187,7 +187,7 @@ fn digits_up_to(word: &[u8], most: u64) -> Option<u64>
     if number <= most { Some(number) } else { None }
 }
 
-/// The number that a word writes, if it is one.
+/// The number that a word writes, if any.
 pub(crate) fn number_in(word: &[u8]) -> Option<i64>
     ensures { result ≡ (if is_number word.now then Some (number_of word.now) else None) }
 {
@@ -210,7 +210,7 @@ fn is_number_word(word: &[u8]) -> bool
     number_in(word).is_some()
 }
 
-/// A number with the sign changed.
+/// The negated number.
 fn negative(number: u64) -> i64
     requires { number ≤ 9223372036854775808 }
     ensures { result ≡ neg_ℤ (pos number) }
@@ -256,7 +256,7 @@ static CELLS: [(&[u8], Operand); 8] = [
     (b"c7", Operand::Cell(7)),
 ];
 
-/// The values with a word of their own that begins with this byte and has this number of bytes.
+/// The keywords for values that begin with this byte and have this length.
 #[tactic(auto, unfolding(crate::specs::Words::atoms))]
 fn atoms_like(byte: u8, count: usize) -> &'static [(&'static [u8], Operand)]
     ensures { map (λ row. (row.0.now, row.1)) result.now ≡ rows_like byte count atoms }
@@ -271,8 +271,7 @@ fn atoms_like(byte: u8, count: usize) -> &'static [(&'static [u8], Operand)]
     }
 }
 
-/// The value with a word of its own that a word with bytes is, if it is one. Only those that begin as it does and are as long are
-/// compared with it.
+/// The value of a keyword, for a nonempty word. Compares the word only with those of the same first byte and length.
 #[inline(always)]
 fn atom_among_like(word: &[u8]) -> Option<Operand>
     requires { 1 ≤ length word.now }
@@ -285,10 +284,10 @@ fn atom_among_like(word: &[u8]) -> Option<Operand>
     named(rows, word)
 }
 
-/// The fewest bytes of a value's own word.
+/// The length of the shortest keyword for a value.
 const FEWEST_ATOM_BYTES: usize = 2;
 
-/// The value with a word of its own that a word is, if it is one. Most names are too short for it.
+/// The value of a keyword. Most names are too short to be one.
 #[inline(always)]
 pub(crate) fn atom(word: &[u8]) -> Option<Operand>
     ensures { result ≡ named_in atoms word.now }
@@ -300,7 +299,7 @@ pub(crate) fn atom(word: &[u8]) -> Option<Operand>
 }
 
 /// Whether a word stands for a value: `none`, `self`, `ref`, `garbage`, `c0` to `c7`, a string, a variable, or a whole number of
-/// 64 bits. No string has a space in it. (Ours.)
+/// 64 bits. A string contains no space. (Ours.)
 pub fn is_value(word: &[u8]) -> bool
     ensures { result ≡ is_value word.now }
 {
@@ -316,7 +315,7 @@ pub fn is_value(word: &[u8]) -> bool
     is_number_word(word)
 }
 
-/// What follows some bytes that a word begins with.
+/// What follows a prefix of a word.
 fn after<'a>(prefix: &[u8], word: &'a [u8]) -> Option<&'a [u8]>
     ensures { option_map (λ rest. rest.now) result ≡ after_prefix prefix.now word.now }
 {

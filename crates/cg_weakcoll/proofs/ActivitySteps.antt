@@ -1,4 +1,4 @@
--- What a step that is not a command's does to names, objects and the stack.
+-- What a step other than a command's does to names, objects and the stack.
 use Rattle.std.proofs.Common.{◌≡◌, refl, sym, ap, subst, ℕ, ◌-◌, Bool, true, false, inl, inr, ◌⊎◌, List, [], ◌∷◌, ◌++◌, map, Some, None}
 use Rattle.std.specs.Prelude.{◌==◌, if◌then◌else◌, flat_map, unwrap_or}
 use Rattle.cg_value.specs.declared.Place.{Place}
@@ -23,7 +23,7 @@ use Rattle.cg_machine.proofs.Forgotten.{IsLater, later_refl, later_trans}
 use Rattle.cg_laws.specs.Apart.{IsFound}
 use Rattle.cg_machine.proofs.Pointwise.{IsOrder, Came, came, came_if}
 
--- the weak references whose callbacks are still to come
+-- the weak references whose callbacks are still to run
 abbrev pub to_call_in : CollectPhase → List ℕ
 to_call_in (WeakClearing waiting) = waiting
 to_call_in (WeakCalling waiting) = waiting
@@ -42,11 +42,10 @@ to_call (ShuttingDown started) = []
 abbrev pub all_to_call : List Activity → List ℕ
 all_to_call stack = flat_map to_call stack
 
--- an object dies and loses its weak references, or is condemned
+-- an object dies and its weak references are cleared, or it is condemned
 abbrev pub IsLost : World → ℕ → Type 0
 IsLost w referent = ((d : Death) × (waiting : List ℕ) × Includes w.stack (Dying d) × (d.object ≡ referent) × (d.phase ≡ Clearing waiting)) ⊎ ((z : Object) × Includes w.objects z × (z.serial ≡ referent) × (is_condemned z ≡ true))
 
--- a weak reference had such a referent
 pub record Loses (w : World) (weak : ℕ) : Type 0 where
   pub object : Object
   pub member : Includes w.objects object
@@ -55,11 +54,11 @@ pub record Loses (w : World) (weak : ℕ) : Type 0 where
   pub refers : object.referent ≡ Some referent
   pub lost : IsLost w referent
 
--- one that is to be called after a step
+-- one whose callback is still to run after a step
 abbrev pub Waited : World → ℕ → Type 0
 Waited w weak = Includes (all_to_call w.stack) weak ⊎ Loses w weak
 
--- the procedure of a frame that no command began
+-- the procedure of a frame that no command started
 abbrev pub BegunBy : Script → World → FrameSort → ℕ → ℕ → Type 0
 BegunBy script w Del o p = (x : Object) × Includes w.objects x × (x.serial ≡ o) × (finalizer_of script x ≡ Some p)
 BegunBy script w Legacy o p = (x : Object) × Includes w.objects x × (x.serial ≡ o) × (legacy_of script x ≡ Some p)
@@ -80,15 +79,15 @@ IsRaised script w (Dying d) = (weak : ℕ) → Includes (death_waits d.phase) we
 IsRaised script w (Collecting c) = (weak : ℕ) → Includes (to_call_in c.phase) weak → Waited w weak
 IsRaised script w (ShuttingDown started) = ⊥
 
--- an object is condemned or set aside
+-- an object is condemned or uncollectable
 abbrev pub IsAside : World → ℕ → Type 0
 IsAside w n = (z : Object) × Includes w.objects z × (z.serial ≡ n) × IsFound z.place
 
--- a collection that starts finds that it does not survive
+-- a starting collection finds it unreachable
 abbrev pub IsCollected : World → ℕ → Type 0
 IsCollected w n = (g : ℕ) × IsMemberOf (merged g w) (Gen g) n × ¬ Survives (merged g w) (Gen g) n
 
--- the same object later: it refers to what it referred to, or to what is set aside; it is set aside where it was, or is collected
+-- the same object later: it keeps its references, or refers to partitioned objects; it stays partitioned, or is collected
 pub record Ages (w : World) (x y : Object) : Type 0 where
   pub later : IsLater x y
   pub refers : (n : ℕ) → Includes (references y.entries) n → Includes (references x.entries) n ⊎ IsAside w n
@@ -97,14 +96,13 @@ pub record Ages (w : World) (x y : Object) : Type 0 where
 abbrev pub Grows : World → List Object → List Object → Type 0
 Grows w before after = Came (Ages w) before after
 
--- a callback begins, of the first that is to be called on top
+-- a callback begins, the next one of the top activity
 pub record Called (w : World) (below tops : List Activity) (events : List Event) (n : ℕ) : Type 0 where
   pub rest : List ℕ
   pub first : all_to_call w.stack ≡ n ∷ (rest ++ all_to_call below)
   pub others : (a : Activity) → Includes tops a → (m : ℕ) → Includes (to_call a) m → Includes rest m
   pub alone : events ≡ Enter Callback n ∷ []
 
--- a step
 pub record Acts (script : Script) (w : World) (below : List Activity) (events : List Event) (after : World) : Type 0 where
   pub names : after.names ≡ w.names
   pub serial : after.next_serial ≡ w.next_serial
@@ -136,7 +134,7 @@ grows_trans w = (came (Ages w) (ages w)).trans
 pub grows_if : (w : World) (f : Object → Object) (test : Object → Bool) (objects : List Object) → ((x : Object) → Includes objects x → test x ≡ true → Ages w x (f x)) → Grows w objects (map (λ x. if test x then f x else x) objects)
 grows_if w = came_if (Ages w) (same_ages w)
 
--- a place of those that are not set aside
+-- a place of unpartitioned objects
 pub grows_place : (w : World) (p : Place) (s : ℕ) (objects : List Object) → ¬ IsFound p → Grows w objects (change (with_place p) s objects)
 grows_place w p s objects apart = grows_if w (with_place p) (λ x. x.serial == s) objects (λ x m t. record { later = record { serial = refl; code = refl; class = refl; referent = inl refl }; refers = λ n i. inl i; place = λ f. absurd (apart f) })
 
@@ -144,7 +142,7 @@ pub grows_lost : (w : World) (s : ℕ) (objects : List Object) → Grows w objec
 grows_lost w s objects = grows_if w (with_referent None) (λ x. x.serial == s) objects (λ x m t. record { later = record { serial = refl; code = refl; class = refl; referent = inr refl }; refers = λ n i. inl i; place = λ f. inl f })
 
 module _ (script : Script) (w : World) (below : List Activity) where
-  -- a step that begins no callback
+  -- a step that starts no callback
   pub acts : (events : List Event) (after : World) → after.names ≡ w.names → after.next_serial ≡ w.next_serial → Grows w w.objects after.objects → (tops : List Activity) → after.stack ≡ tops ++ below
       → ((a : Activity) → Includes tops a → IsRaised script w a) → ((n : ℕ) → ¬ Includes events (Enter Callback n)) → Acts script w below events after
   acts events after names serial grows tops stack raised none = record { names = names; serial = serial; grows = grows; tops = tops; stack = stack; raised = raised; callbacks = λ n m. absurd (none n m) }
@@ -164,7 +162,6 @@ module _ (script : Script) (w : World) (below : List Activity) where
   either_acts true x y h k = h
   either_acts false x y h k = k
 
-  -- a frame starts
   pub starts_acts : (spec : FrameSpec) (u : World) (t : Activity) → u.names ≡ w.names → u.next_serial ≡ w.next_serial → Grows w w.objects u.objects → u.stack ≡ t ∷ below → IsRaised script w t → BegunBy script w spec.sort spec.subject spec.proc
       → (spec.sort ≡ Callback → (rest : List ℕ) × (all_to_call w.stack ≡ spec.subject ∷ (rest ++ all_to_call below)) × ((m : ℕ) → Includes (to_call t) m → Includes rest m)) → (let s : Transition = start_frame script spec u in Acts script w below s.0 s.1)
   starts_acts spec u t names serial grows stack raised by called = go (u.budget == 0)

@@ -29,7 +29,7 @@ use Rattle.cg_weakcoll.proofs.ActivitySteps.{Acts, Ages, ages, Grows, IsAside, L
 use Rattle.cg_weakcoll.proofs.ActivityStepsDeaths.{shortened_grows, to_run_is}
 use Rattle.cg_machine.proofs.Pointwise.{all_saved_by, came, came_all_lose}
 
--- places that are told apart
+-- distinct places
 found_at_place : (p q : Place) → IsFound q → same_place p q ≡ true → IsFound p
 found_at_place Cand q f e = tt
 found_at_place Seen q f e = tt
@@ -73,7 +73,7 @@ survivor_apart : (b : Bool) (n : ℕ) → ¬ IsFound (if b then Untracked else G
 survivor_apart true n f = f
 survivor_apart false n f = f
 
--- lines that begin no callback
+-- lines that start no callback
 none_mapped : {X : Type 0} (f : X → Event) (xs : List X) (n : ℕ) → ((x : X) → f x ≢ Enter Callback n) → ¬ Includes (map f xs) (Enter Callback n)
 none_mapped f xs n h m = let x = Includes-map_cases f xs (Enter Callback n) m in h x.0 x.2
 
@@ -84,7 +84,7 @@ none_if false lines n h m = m
 none_appended : (xs ys : List Event) (n : ℕ) → ¬ Includes xs (Enter Callback n) → ¬ Includes ys (Enter Callback n) → ¬ Includes (xs ++ ys) (Enter Callback n)
 none_appended xs ys n h k m = either (Includes-append_cases xs ys (Enter Callback n) m) h k
 
--- a condemned object is found by its serial
+-- a condemned object, found by its serial
 condemned_at : (objects : List Object) (o : ℕ) → is_condemned_in objects o ≡ true → (z : Object) × Includes objects z × (z.serial ≡ o) × (is_condemned z ≡ true)
 condemned_at objects o t = go (object_at objects o) refl t
   where
@@ -99,7 +99,6 @@ module _ (script : Script) (c : Collection) (below : List Activity) (v : World) 
   to : (w after next : World) (events : List Event) → after ≡ next → Acts script w below events next → Acts script w below events after
   to w after next events e h = subst (Acts script w below events) (sym e) h
 
-  -- the collection goes on
   goes : (phase : CollectPhase) (d : Collection) (events : List Event) (after : World) → after.names ≡ v.names → after.next_serial ≡ v.next_serial → after.stack ≡ Collecting d ∷ below → Grows (at phase) v.objects after.objects
       → ((weak : ℕ) → Includes (to_call_in d.phase) weak → Waited (at phase) weak) → ((n : ℕ) → ¬ Includes events (Enter Callback n)) → Acts script (at phase) below events after
   goes phase d events after names serial stack grows waits none = acts script (at phase) below events after names serial grows (Collecting d ∷ []) stack (one_raised script (at phase) below (Collecting d) waits) none
@@ -114,7 +113,6 @@ module _ (script : Script) (c : Collection) (below : List Activity) (v : World) 
   same : (phase : CollectPhase) → Grows (at phase) v.objects v.objects
   same phase = grows_same (at phase) v.objects
 
-  -- the start
   module _ (events : List Event) (after : World) (step : StartStep script (at Start) c below events after) where
     abbrev in_merge : Object → Object
     in_merge x = with_place (merged_place c.generation x.place) x
@@ -148,7 +146,6 @@ module _ (script : Script) (c : Collection) (below : List Activity) (v : World) 
     start_acts : Acts script (at Start) below events after
     start_acts = subst (λ (u : World). Acts script (at Start) below events u) (sym step.world) (goes Start (record c { phase = WeakClearing [] }) events _ refl refl refl start_grows (λ weak m. absurd m) start_none)
 
-  -- a weak reference loses its referent
   referent_of : (w : World) → w.objects ≡ v.objects → (x : Object) → Includes v.objects x → (test : Bool) (r : Option ℕ) → x.referent ≡ r → waits v.objects x.serial ≡ true
       → (test && unwrap_or (option_map (λ o. is_condemned_in v.objects o || is_condemned x) r) false) ≡ true → Loses w x.serial
   referent_of w is x m test None e calls t = absurd (let no : false ≡ true = (true_and test false t).1 in cc)
@@ -203,7 +200,7 @@ module _ (script : Script) (c : Collection) (below : List Activity) (v : World) 
       (goes (AfterRelease weak waiting) (record c { phase = WeakCalling waiting }) [] _ refl refl refl (grows_place (at (AfterRelease weak waiting)) (Gen (older c.generation)) weak v.objects (λ f. f)) (waits_still (AfterRelease weak waiting)) (λ n m. m))
       (goes (AfterRelease weak waiting) (record c { collected = c.collected + 1; phase = WeakCalling waiting }) [] _ refl refl refl (same (AfterRelease weak waiting)) (waits_still (AfterRelease weak waiting)) (λ n m. m))
 
-  -- a condemned object is looked at
+  -- a condemned object is visited
   seen_ages : (f : Object → Object) (o : ℕ) → Includes (serials_at v.objects Cand) o → ((x : Object) → Includes v.objects x → IsFound x.place → Ages (at Finalizing) x (f x)) → Grows (at Finalizing) v.objects (change f o v.objects)
   seen_ages f o cand h = grows_if (at Finalizing) f (λ x. x.serial == o) v.objects (λ x m t.
       let z = Includes-map_cases (λ (q : Object). q.serial) (objects_at v.objects Cand) o cand in
@@ -221,7 +218,7 @@ module _ (script : Script) (c : Collection) (below : List Activity) (v : World) 
   finalizing_acts events after (inr step) = yields_acts script (at Finalizing) below ([], collection_at c Split below (replaced_place Seen Cand (at Finalizing))) events after step.1
       (goes Finalizing (record c { phase = Split }) [] _ refl refl refl (grows_if (at Finalizing) (with_place Cand) (is_at Seen) v.objects (λ x m t. record { later = record { serial = refl; code = refl; class = refl; referent = inl refl }; refers = λ n i. inl i; place = λ g. inl (found_at_place x.place Seen tt t) })) (λ weak m. absurd m) (λ n m. m))
 
-  -- the second detection
+  -- the second reachability pass
   all_lose_grows : (w : World) (wanted : Object → Bool) (weaks : List ℕ) (objects after : List Object) → AllLose wanted objects weaks after → Grows w objects after
   all_lose_grows w = came_all_lose (Ages w) (ages w) (λ x. record { later = record { serial = refl; code = refl; class = refl; referent = inr refl }; refers = λ n i. inl i; place = λ f. inl f })
 
@@ -232,7 +229,7 @@ module _ (script : Script) (c : Collection) (below : List Activity) (v : World) 
       (all_lose_grows (at Split) _ step.cleared (get_older c.generation step.alive v.objects) step.objects step.lose))
       (λ weak m. absurd m) (λ n m. none_appended (map Alive step.alive) (map Cleared step.cleared) n (none_mapped Alive step.alive n (λ x e. cc)) (none_mapped Cleared step.cleared n (λ x e. cc)) (subst (λ (es : List Event). Includes es (Enter Callback n)) step.lines m)))
 
-  -- what is saved is set aside
+  -- a saved object was partitioned
   saved_grows : (w : World) (o : ℕ) (objects : List Object) → IsAside w o → Grows w objects (saved o objects)
   saved_grows w o objects aside = grows_if w (λ x. with_entries (x.entries ++ item (Ref o) ∷ []) x) (λ x. x.serial == 1) objects (λ x m t. record {
     later = record { serial = refl; code = refl; class = refl; referent = inl refl };
@@ -265,7 +262,6 @@ module _ (script : Script) (c : Collection) (below : List Activity) (v : World) 
   empties_acts o None = gives (Turn o) (o ∷ []) (record c { phase = AfterTurn o }) _ refl refl refl (same (Turn o)) (λ weak m. absurd m)
   empties_acts o (Some entry) = gives (Turn o) (entry_references entry) (record c { phase = Turn o }) _ refl refl refl (shortened_grows (at (Turn o)) 1 v.next_serial v.objects o rises) (λ weak m. absurd m)
 
-  -- the end
   end_acts : (events : List Event) (after : World) → EndStep script c below (at Ending) events after → Acts script (at Ending) below events after
   end_acts events after step = to (at Ending) after _ events step.world (acts script (at Ending) below events _ refl refl grows [] refl (λ a m. absurd m) none)
     where

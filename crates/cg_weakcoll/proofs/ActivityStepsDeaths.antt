@@ -1,4 +1,4 @@
--- What the steps of frames that end, of releases and of deaths do.
+-- What the steps of ending frames, releases and deaths do.
 use Rattle.std.proofs.Common.{◌≡◌, refl, sym, ap, subst, ℕ, Bool, true, false, not, ◌&&◌, inl, inr, List, [], ◌∷◌, ◌++◌, Option, Some, None}
 use Rattle.std.specs.Prelude.{◌==◌, if◌then◌else◌, filter, is_some, option_and_then, option_map, option_to_list, unwrap_or}
 use Rattle.std.proofs.lemmas.Bool.{eqb-true}
@@ -27,7 +27,7 @@ use Rattle.cg_machine.proofs.LinesNameLive.{found_with, reversed_back, to_run}
 use Rattle.cg_promises.proofs.WaitingReferents.{RefersNow}
 use Rattle.cg_weakcoll.proofs.ActivitySteps.{Acts, Grows, Loses, Waited, acts, all_to_call, either_acts, grows_if, grows_lost, grows_place, grows_same, one_raised, starts_acts, two_raised}
 
--- entries that are taken out
+-- removed entries
 pub shortened_grows : (w : World) (low high : ℕ) (objects : List Object) (o : ℕ) → Rises low high objects → Grows w objects (change (with_entries (without_last (entries_of objects o))) o objects)
 shortened_grows w low high objects o r = grows_if w (with_entries (without_last (entries_of objects o))) (λ x. x.serial == o) objects (λ x m t. record {
   later = record { serial = refl; code = refl; class = refl; referent = inl refl };
@@ -38,7 +38,7 @@ shortened_grows w low high objects o r = grows_if w (with_entries (without_last 
 pub called_grows : (w : World) (weak : ℕ) (objects : List Object) → Grows w objects (change (with_entries []) weak objects)
 called_grows w weak objects = grows_if w (with_entries []) (λ x. x.serial == weak) objects (λ x m t. record { later = record { serial = refl; code = refl; class = refl; referent = inl refl }; refers = λ n i. absurd i; place = λ f. inl f })
 
--- the first weak reference that loses an object refers to it
+-- the first weak reference to be cleared refers to the object
 refers_now : (test : Object → Bool) (objects : List Object) (o weak : ℕ) (weaks : List ℕ) → weak_references_if test objects o ≡ weak ∷ weaks → RefersNow objects weak o
 refers_now test objects o weak weaks e = go (unwrap_or (option_map test (object_at objects o)) false) e
   where
@@ -59,7 +59,6 @@ pub to_run_is : (script : Script) (objects : List Object) (o p : ℕ) → option
 to_run_is script objects o p e = let x = found_with (finalizer_to_run script) objects o p e in (x.0, x.1, x.2, (to_run script x.0 p x.3).1)
 
 module _ (script : Script) where
-  -- a frame ends
   pub frame_end_acts : (f : Frame) (below : List Activity) (v : World) → (let t : Transition = frame_end f (with_stack below v) in Acts script (with_stack (Framed f ∷ below) v) below t.0 t.1)
   frame_end_acts f below v = by_sort f.sort f.function
     where
@@ -78,7 +77,6 @@ module _ (script : Script) where
       by_sort Callback function = ends
       by_sort CallFrame function = acts script w below (Leave ∷ []) (gives_up_function CallFrame function (with_stack below v)) refl refl (grows_same w v.objects) (Releasing (option_to_list function) ∷ []) refl (one_raised script w below (Releasing (option_to_list function)) tt) none
 
-  -- a release
   pub released_acts : (refs : List ℕ) (below : List Activity) (v : World) → (let t : Transition = released refs below (with_stack (Releasing refs ∷ below) v) in Acts script (with_stack (Releasing refs ∷ below) v) below t.0 t.1)
   released_acts [] below v = acts script (with_stack (Releasing [] ∷ below) v) below [] (with_stack below v) refl refl (grows_same (with_stack (Releasing [] ∷ below) v) v.objects) [] refl (λ a m. absurd m) (λ n m. m)
   released_acts (o ∷ refs) below v = either_acts script w below (not (is_dying now o) && (in_degree now o == 0)) ([], begin_death o now) ([], now)
@@ -94,7 +92,6 @@ module _ (script : Script) where
       dead : Grows w v.objects (change (λ x. with_referent None (with_place Untracked x)) o v.objects)
       dead = grows_if w (λ x. with_referent None (with_place Untracked x)) (λ x. x.serial == o) v.objects (λ x m t. record { later = record { serial = refl; code = refl; class = refl; referent = inr refl }; refers = λ n i. inl i; place = λ f. absurd f })
 
-  -- a death
   module _ (o : ℕ) (below : List Activity) (v : World) (rises : Rises 1 v.next_serial v.objects) where
     abbrev at : DyingPhase → World
     at phase = death_at o phase below v
@@ -102,7 +99,6 @@ module _ (script : Script) where
     abbrev stands : DyingPhase → Activity
     stands phase = Dying (record { object = o; phase = phase })
 
-    -- the death goes on
     goes : (phase next : DyingPhase) (events : List Event) (objects : List Object) → Grows (at phase) v.objects objects → ((weak : ℕ) → Includes (death_waits next) weak → Waited (at phase) weak) → ((n : ℕ) → ¬ Includes events (Enter Callback n))
         → Acts script (at phase) below events (record (at next) { objects = objects })
     goes phase next events objects grows waits none = acts script (at phase) below events (record (at next) { objects = objects }) refl refl grows (stands next ∷ []) refl (one_raised script (at phase) below (stands next) waits) none

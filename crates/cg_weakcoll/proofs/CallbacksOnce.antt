@@ -1,4 +1,4 @@
--- Weak references whose callbacks are still to come: they lost their referent. Each callback begins once.
+-- Weak references whose callbacks are still to run are cleared. Each callback begins once.
 use Rattle.std.proofs.Common.{◌≡◌, refl, sym, ◌∙◌, ap, subst, ℕ, ◌<◌, ◌≤◌, true, false, cond, inl, inr, ◌⊎◌, List, [], ◌∷◌, ◌++◌, Some, None, arith}
 use Rattle.std.specs.Prelude.{◌==◌}
 use Rattle.std.proofs.lemmas.Bool.{eq-eqb}
@@ -21,7 +21,7 @@ use Rattle.cg_weakcoll.proofs.ActivitySteps.{Acts, Called, IsAside, IsCollected,
 use Rattle.cg_laws.specs.Apart.{IsFound}
 use Rattle.cg_weakcoll.proofs.KnownOfRuns.{Known}
 
--- one of a stack has it to call
+-- an activity of the stack has it to call
 pub to_call_of : (stack : List Activity) (n : ℕ) → Includes (all_to_call stack) n → (a : Activity) × Includes stack a × Includes (to_call a) n
 to_call_of [] n m = absurd m
 to_call_of (a ∷ stack) n m = either (Includes-append_cases (to_call a) (all_to_call stack) n m) (λ i. (a, inl refl, i)) (λ i. let b = to_call_of stack n i in (b.0, inr b.1, b.2))
@@ -31,7 +31,7 @@ to_call_in_stack [] a n m i = absurd m
 to_call_in_stack (b ∷ stack) a n (inl e) i = Includes-append_left (to_call b) (all_to_call stack) n (subst (λ (x : Activity). Includes (to_call x) n) (sym e) i)
 to_call_in_stack (b ∷ stack) a n (inr m) i = Includes-append_right (to_call b) (all_to_call stack) n (to_call_in_stack stack a n m i)
 
--- these are among those that wait, and not more often
+-- the former are among those that wait, at most as often
 one_waits : (n : ℕ) (a : Activity) → occurrences n (to_call a) ≤ occurrences n (waits_of a)
 one_waits n (TopLevel commands) = omega arith
 one_waits n (Framed f) = omega arith
@@ -65,17 +65,17 @@ waits_among_members n xs more = go (cases_of (includes xs n))
     go (inl t) = Includes-of xs n t
     go (inr f) = let none = no_times n xs (λ m. let no : true ≡ false = sym (includes-of xs n m) ∙ f in cc) in absurd (omega (arith, none, more))
 
--- what is to be called has lost its referent
+-- a weak reference whose callback is still to run is cleared
 pub lost_referent : (script : Script) (budget : ℕ) (w : World) (n : ℕ) → Known script budget w → Includes (all_to_call w.stack) n → (x : Object) → Includes w.objects x → x.serial ≡ n → IsWaiting x
 lost_referent script budget w n k m x i s = k.lawful.orderly.waiting n (waits_among_members n (all_waits w.stack) (waits_among n w.stack m)) x i s
 
--- a weak reference whose callback will never begin
+-- a weak reference whose callback will never run
 pub record Spent (s : ℕ) (w : World) : Type 0 where
   pub made : s < w.next_serial
   pub unreferred : (x : Object) → Includes w.objects x → x.serial ≡ s → x.referent ≡ None
   pub uncalled : ¬ Includes (all_to_call w.stack) s
 
--- what a step does for a weak reference that was made
+-- what a step does for an existing weak reference
 pub record Tells (s : ℕ) (w : World) (events : List Event) (after : World) : Type 0 where
   pub serial : w.next_serial ≤ after.next_serial
   pub comes : (y : Object) → Includes after.objects y → y.serial ≡ s → (x : Object) × Includes w.objects x × IsLater x y
@@ -83,7 +83,7 @@ pub record Tells (s : ℕ) (w : World) (events : List Event) (after : World) : T
   pub places : (o : ℕ) (y : Object) → Includes after.objects y → y.serial ≡ o → o < w.next_serial → IsFound y.place → IsAside w o ⊎ IsCollected w o
   pub begins : Includes events (Enter Callback s) → Includes (all_to_call w.stack) s × (¬ Includes (all_to_call after.stack) s) × (events ≡ Enter Callback s ∷ [])
 
--- a step of the machine by itself
+-- a step of an activity other than commands
 pub acted_tells : (script : Script) (budget s : ℕ) (w : World) (a : Activity) (below : List Activity) (events : List Event) (after : World) → Known script budget w → w.stack ≡ a ∷ below → Acts script w below events after → Tells s w events after
 acted_tells script budget s w a below events after k top acts = record {
   serial = let e = acts.serial in omega (arith, e);
@@ -113,7 +113,6 @@ acted_tells script budget s w a below events after k top acts = record {
         let more = present s (c.rest ++ all_to_call below) twice in
         absurd (omega (arith, once, all, is, cons, here, more))
 
--- what is spent stays so
 pub spent_stays : (s : ℕ) (w : World) (events : List Event) (after : World) → Tells s w events after → Spent s w → Spent s after × ¬ Includes events (Enter Callback s)
 spent_stays s w events after t h = (
   record {
@@ -124,7 +123,7 @@ spent_stays s w events after t h = (
   λ m. h.uncalled (t.begins m).0,
 )
 
--- a callback that begins is spent
+-- once its callback begins, it is spent
 pub begun_spent : (script : Script) (budget s : ℕ) (w : World) (events : List Event) (after : World) → Known script budget w → Tells s w events after → s < w.next_serial → Includes events (Enter Callback s) → Spent s after
 begun_spent script budget s w events after k t low m = record {
   made = let l = t.serial in omega (arith, low, l);

@@ -1,4 +1,4 @@
--- The lines that are written for other lines have none of the names of a `finalize` line.
+-- The lines written for other lines contain none of the names of a `finalize` line.
 use Rattle.std.proofs.Common.{◌≡◌, ◌≢◌, ℕ, zero, suc, ◌+◌, ◌<◌, ◌≤◌, List, [], ◌∷◌, length, map, Bool, true, false, not, cond, ◌&&◌, Option, None, Some, refl, sym, ap, subst, ◌∙◌, arith, codes}
 use Rattle.std.specs.Option.{option_or}
 use Rattle.std.specs.List.{list_any}
@@ -16,7 +16,7 @@ use Rattle.cg_weakcoll.proofs.ExpandedLines.{fits_of, split_bad}
 use Rattle.cg_weakcoll.proofs.FreeNames.{AreClear, IsClear}
 use Rattle.cg_weakcoll.proofs.Passages.{AreClearLines}
 
--- words of which none is kept
+-- words without a reserved one
 clear_words : (l : ℕ) (words : List (List ℕ)) → list_any is_kept words ≡ false → EachWord (IsClear (IsElse l)) words
 clear_words l [] kept = tt
 clear_words l (word ∷ words) kept = let none = neither (is_kept word) (list_any is_kept words) kept in (clear_word l word none.0, clear_words l words none.1)
@@ -37,7 +37,7 @@ second_none : (m n : Option ℕ) → option_or m n ≡ None → n ≡ None
 second_none None n e = e
 second_none (Some k) n e = absurd (cc)
 
--- a line that has a form is not passed over
+-- a line with a form is not ignored
 pub unpassed_form : (words : List (List ℕ)) (form : Form) → form_of words ≡ Some form → is_passed words ≡ false
 unpassed_form words form e = go (is_passed words) e
   where
@@ -45,7 +45,7 @@ unpassed_form words form e = go (is_passed words) e
     go true k = absurd (cc)
     go false k = refl
 
--- the words of a line that is not bad
+-- the words of a good line
 pub line_words : (l : ℕ) (inside : Bool) (k : ℕ) (line : List ℕ) → fault_of inside k line ≡ None → is_passed (words_of line) ≡ false → EachWord (IsClear (IsElse l)) (words_of line)
 line_words l inside k line fine unpassed = clear_words l (words_of line) (none_kept (words_of line) unpassed (go (form_of (words_of line)) fine))
   where

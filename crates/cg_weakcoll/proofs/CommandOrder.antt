@@ -1,4 +1,4 @@
--- The script's own commands are done in their order.
+-- The script's own commands are done in order.
 use Rattle.std.proofs.Common.{◌≡◌, refl, sym, ◌∙◌, ap, subst, ℕ, ◌-◌, Bool, true, false, inl, inr, List, [], ◌∷◌, ◌++◌, Option, Some, None}
 use Rattle.std.specs.Prelude.{◌==◌, if◌then◌else◌}
 use Rattle.std.proofs.lemmas.List.{append_assoc}
@@ -22,7 +22,7 @@ use Rattle.cg_weakcoll.specs.Exits.{ExitsAreCalledLastFirst, own_command, own_co
 use Rattle.cg_weakcoll.proofs.ActivitySteps.{IsRaised}
 use Rattle.cg_weakcoll.proofs.KnownOfRuns.{Acted, Asked, Began, Bottomed, Changed, Commanded, Done, Due, GaveUp, Lasted, Over, Stood, Stopped, Went, known_after, went}
 
--- an activity that is not the script's own
+-- an activity other than the script's own
 abbrev IsAbove : Activity → Type 0
 IsAbove (TopLevel commands) = ⊥
 IsAbove (Framed f) = Unit {0}
@@ -34,11 +34,11 @@ IsAbove (ShuttingDown started) = ⊥
 abbrev AllAbove : List Activity → Type 0
 AllAbove stack = (a : Activity) → Includes stack a → IsAbove a
 
--- no command of the script's own is left
+-- none of the script's own commands is left
 abbrev NoneLeft : List Activity → Type 0
 NoneLeft stack = (commands : List Command) → Includes stack (TopLevel commands) → commands ≡ []
 
--- the commands that were done, and those that are left
+-- the commands done, and those left
 data InOrder (all done : List Command) (stack : List Activity) : Type 0 where
   Left : (tops : List Activity) (commands : List Command) → stack ≡ tops ++ TopLevel commands ∷ [] → AllAbove tops → all ≡ done ++ commands → InOrder all done stack
   Ended : NoneLeft stack → (undone : List Command) → all ≡ done ++ undone → InOrder all done stack
@@ -78,7 +78,7 @@ append_one : (tops : List Activity) (a : Activity) (below : List Activity) → t
 append_one [] a below = refl
 append_one (t ∷ tops) a below = ap (λ st. t ∷ st) (append_one tops a below)
 
--- what a command leaves of the stack
+-- what a command leaves on the stack
 data Leaves (b : Activity) (below stack : List Activity) : Type 0 where
   GoesOn : (tops : List Activity) → stack ≡ tops ++ b ∷ below → AllAbove tops → Leaves b below stack
   Stops : stack ≡ emptied b ∷ below → Leaves b below stack
@@ -154,7 +154,7 @@ module _ (script : Script) (w : World) (events : List Event) (after : World) (st
   joined : (tops below more : List Activity) (stack : List Activity) → stack ≡ tops ++ (below ++ more) → stack ≡ (tops ++ below) ++ more
   joined tops below more stack is = is ∙ sym (append_assoc tops below more)
 
-  -- a collection that is due comes first
+  -- a due collection comes first
   due_first : (commands : List Command) (g : ℕ) → w.stack ≡ TopLevel commands ∷ [] → due w ≡ Some g → after ≡ push (new_collection g false w) w
   due_first commands g top set = (subst (λ d. TopLevelStep script w d commands [] events after) set (subst (λ st. StepOf script w st events after) top step.step)).1
 
@@ -189,7 +189,6 @@ module _ (script : Script) (w : World) (events : List Event) (after : World) (st
   by_due commands (Some g) set top at = same_done [] refl after.stack (Left (new_collection g false w ∷ []) commands (ap (λ (z : World). z.stack) (due_first commands g top set) ∙ ap (λ st. new_collection g false w ∷ st) top) (one_above (new_collection g false w) tt) at)
   by_due commands None set top at = top_first commands top set at x
 
-  -- none is left
   none_after : NoneLeft w.stack → Went script w events after → NoneLeft after.stack
   none_after h (Acted a below top acts) cs m = joined_none acts.tops below (λ c i. raised_above script w c (acts.raised c i)) (λ ds i. h ds (subst (λ st. Includes st (TopLevel ds)) (sym top) (inr i))) cs (subst (λ st. Includes st (TopLevel cs)) acts.stack m)
   none_after h (Due g set none is) cs m = either (subst (λ (z : World). Includes z.stack (TopLevel cs)) is m) (λ i. cc) (h cs)
@@ -218,7 +217,6 @@ order_run script all done w (step ∷ steps) run known h =
     let next = order_run script all (done ++ own_command (due w) w.stack) step.world steps run.1 (λ front r. known (step ∷ front) (run.0, r)) (order_step script w step.events step.world run.0 (went script w step.events step.world (known [] tt) run.0) all done h) in
     subst (λ ds. InOrder all ds (last_world step.world steps).stack) (append_assoc done (own_command (due w) w.stack) (own_commands step.world steps)) next
 
--- what is left undone
 undone_of : (all done : List Command) (stack : List Activity) → InOrder all done stack → (undone : List Command) × (all ≡ done ++ undone)
 undone_of all done stack (Left tops commands is above at) = (commands, at)
 undone_of all done stack (Ended none undone at) = (undone, at)

@@ -1,5 +1,5 @@
--- While no frame begins, commands only become fewer, and what has no commands binds no name. So names stay until the next command
--- of what was on top is taken.
+-- While no frame begins, commands only become fewer, and an activity without commands binds no name. So names stay until the
+-- activity that was on top takes its next command.
 use Rattle.std.proofs.Common.{◌≡◌, ◌≢◌, refl, ap, ℕ, suc, ◌<◌, ◌≤◌, true, false, inl, inr, ◌⊎◌, List, [], ◌∷◌, ◌++◌, length, Option, arith}
 use Rattle.std.specs.Prelude.{count_by}
 use Rattle.cg_value.specs.declared.Val.{Val}
@@ -20,7 +20,7 @@ use Rattle.cg_machine.proofs.ShapeLaws.{changes_leave}
 use Rattle.cg_machine.proofs.Invariants.{HasCommands, Takes, FromTop, FromFrame, Steps, any_step, emptied, on}
 use Rattle.cg_promises.proofs.KeptRuns.{starts_none}
 
--- what an activity may still do of itself: its commands, and that it ends
+-- the work that an activity has left: its commands, and its end
 abbrev pub weight : Activity → ℕ
 weight (TopLevel commands) = suc (length commands)
 weight (Framed f) = suc (length f.commands)
@@ -29,14 +29,13 @@ weight (Dying d) = 0
 weight (Collecting c) = 0
 weight (ShuttingDown started) = 1
 
--- A step of the activity on top: others stand there afterwards.
+-- A step of the top activity, which others replace.
 pub record Burnt (top : Activity) (tops : List Activity) (names now : List (Option Val)) : Type 0 where
   pub light : tally weight tops ≤ weight top
   pub kept : weight top ≡ 0 → now ≡ names
-  -- what has commands takes one, or waits for a collection that is due
+  -- an activity with commands takes one, or waits for a due collection
   pub next : commands_on top ≢ [] → (tally weight tops < weight top) ⊎ ((c : Activity) × (tops ≡ c ∷ top ∷ []) × (weight c ≡ 0) × (now ≡ names))
 
--- it leaves what is below
 pub record Burns (w after : World) : Type 0 where
   pub top : Activity
   pub below : List Activity
@@ -49,19 +48,16 @@ pub record Burns (w after : World) : Type 0 where
 abbrev pub BurnsSo : World → List Event → World → Type 0
 BurnsSo w events after = count_by is_enter events ≡ 0 → after.outcome ≡ Running → Burns w after
 
--- what has no commands
 idle : (a : Activity) (below tops : List Activity) (w after : World) → weight a ≡ 0 → commands_on a ≡ [] → w.stack ≡ a ∷ below → after.stack ≡ tops ++ below → tally weight tops ≡ 0 → after.names ≡ w.names → Burns w after
 idle a below tops w after light none was now idle_tops names = record { top = a; below = below; tops = tops; was = was; now = now; burnt = record { light = omega (arith, light, idle_tops); kept = λ e. names; next = λ some. absurd (some none) } }
 
--- a command
 takes_one : (a : Activity) (below tops : List Activity) (w after : World) → w.stack ≡ a ∷ below → after.stack ≡ tops ++ below → tally weight tops < weight a → Burns w after
 takes_one a below tops w after was now less = record { top = a; below = below; tops = tops; was = was; now = now; burnt = record { light = omega (arith, less); kept = λ e. absurd (omega (arith, less, e)); next = λ some. inl less } }
 
--- what ends
 closes : (a : Activity) (below tops : List Activity) (w after : World) → commands_on a ≡ [] → 0 < weight a → w.stack ≡ a ∷ below → after.stack ≡ tops ++ below → tally weight tops ≤ weight a → Burns w after
 closes a below tops w after none some was now light = record { top = a; below = below; tops = tops; was = was; now = now; burnt = record { light = light; kept = λ e. absurd (omega (arith, some, e)); next = λ k. absurd (k none) } }
 
--- what goes on in a step of another activity
+-- what goes on in another activity's step
 continues_idle : (before after : List Object) (top a : Activity) → Continues before after top a → (weight top ≡ 0) × (commands_on top ≡ []) × (weight a ≡ 0)
 continues_idle before after top a (DeathGoesOn o phase next waits none) = (refl, refl, refl)
 continues_idle before after top a (DeathClears o weak waiting weaks t first lost) = (refl, refl, refl)
@@ -91,7 +87,6 @@ module _ (script : Script) (below : List Activity) (v : World) where
   advance_burns top none lines after (Plainly tops objects numbers ls t c n shown) quiet running = stands top none objects numbers tops t
   advance_burns top none lines after (WithFrame spec a objects s c held m) quiet running = absurd (starts_none script spec (record v { objects = objects; stack = a ∷ below }) _ _ (refl, refl) quiet running)
 
--- a command
 fewer : (command : Command) (a b : Activity) → Takes command a b → weight b < weight a
 fewer command a b (FromTop commands) = omega arith
 fewer command a b (FromFrame f commands left) = let longer : length f.commands ≡ suc (length commands) = ap length left in omega (arith, longer)

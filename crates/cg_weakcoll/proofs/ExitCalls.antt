@@ -1,4 +1,4 @@
--- Where the procedure of an exit finalizer finds its object alive, the function is called.
+-- If the procedure of an exit finalizer finds its object alive, the function is called.
 use Rattle.std.proofs.Common.{◌≡◌, ◌≢◌, refl, sym, ◌∙◌, ap, subst, ℕ, zero, suc, ◌+◌, ◌-◌, ◌<◌, Bool, true, false, cond, inl, inr, ◌⊎◌, List, [], ◌∷◌, ◌++◌, length, Option, Some, None, arith}
 use Rattle.std.specs.Prelude.{◌==◌, count_by, flat_map, if◌then◌else◌, option_and_then, slice_get, slice_set}
 use Rattle.std.proofs.lemmas.Bool.{eq-eqb}
@@ -40,13 +40,12 @@ use Rattle.cg_weakcoll.proofs.OtherCommands.{AllHigh, AreHidden, IsHigh, high_st
 use Rattle.cg_weakcoll.proofs.WatchedReferenceSteps.{name_value}
 use Rattle.cg_weakcoll.proofs.KnownOfRuns.{Known, exactly, known_after, went}
 
--- a name that there is gets its value
+-- an existing name gets its value
 set_there : (names : List (Option Val)) (x : ℕ) (v : Option Val) → x < length names → slice_get (slice_set names x v) x ≡ Some v
 set_there [] x v low = absurd (omega (arith, low))
 set_there (n ∷ names) zero v low = refl
 set_there (n ∷ names) (suc x) v low = set_there names x v (omega (arith, low))
 
--- a refusal is counted
 refusal_counted : (x : Event) → is_refusal x ≡ true → count_by is_refusal (x ∷ []) ≢ 0
 refusal_counted x t none = let s = sum_by-cons (λ y. cond (is_refusal y) 1 0) x [] in let k : ◌≡◌ {A = ℕ} (cond (is_refusal x) 1 0) 1 = ap (λ b. cond b 1 0) t in omega (arith, s, k, none)
 
@@ -70,7 +69,7 @@ module _ (script : Script) (budget : ℕ) (e : Exit) (ex : IsExit script e) (bel
   one_high a h b (inr none) = absurd none
 
   module _ (w : World) (events : List Event) (after : World) (k : Known script budget w) (hidden : AreHidden e w) (step : Step script w events after) (calls : ℕ) where
-    -- others on top
+    -- other activities on top
     over : (t : Activity) (tops : List Activity) (frame : Frame) → w.stack ≡ t ∷ (tops ++ Framed frame ∷ below) → AllHigh e (t ∷ tops) → IsTail e frame.commands → (frame.commands ≢ exit_body e) → HasObject w frame.commands → Alive (calls + counts w events) after
     over t tops frame is high tail later has =
         let x = went script w events after k.fit.sound.rises step in
@@ -79,7 +78,6 @@ module _ (script : Script) (budget : ℕ) (e : Exit) (ex : IsExit script e) (bel
         Underway (s.tops ++ tops) frame (s.is ∙ sym (append_assoc s.tops tops (Framed frame ∷ below))) (λ a m. either (Includes-append_cases s.tops tops a m) (s.high a) (λ i. high a (inr i))) tail later
         (either has (λ last. inl last) (λ r. inr (r.0, names ∙ r.1)))
 
-    -- its own frame
     module _ (frame : Frame) (top : w.stack ≡ Framed frame ∷ below) (quiet : count_by is_refusal events ≡ 0) where
       refuses : (n : ℕ) → events ≡ Refused n ∷ [] → ⊥
       refuses n line = refusal_counted (Refused n) refl (sym (ap (count_by is_refusal) line) ∙ quiet)
@@ -93,7 +91,6 @@ module _ (script : Script) (budget : ℕ) (e : Exit) (ex : IsExit script e) (bel
           (λ d. Underway (new_collection d.0 false (on (Framed frame) below w) ∷ []) frame (ap (λ (z : World). z.stack) d.2) (one_high (new_collection d.0 false (on (Framed frame) below w)) tt) tail later (either has (λ last. inl last) (λ r. inr (r.0, ap (λ (z : World). slice_get z.names e.object) d.2 ∙ r.1))))
           next
 
-      -- the frame of the function
       begins : (u : World) (f p : ℕ) → Yields (start_frame script (record { sort = CallFrame; proc = p; subject = f; func = Some f }) u) events after → is_call e.function (next_command w.stack) ≡ true → 0 < calls + counts w events
       begins u f p y called = go (u.budget == 0) y
         where
@@ -154,7 +151,6 @@ module _ (script : Script) (budget : ℕ) (e : Exit) (ex : IsExit script e) (bel
   told calls w (Underway tops frame is high tail later has) = inl (record { tops = tops; frame = frame; is = is; left = tail_left frame.commands tail })
   told calls w (Begun more) = inr more
 
-  -- the first command
   module _ (texts : TextsAreKnown script) (w : World) (events : List Event) (after : World) (k : Known script budget w) (step : Step script w events after) (calls : ℕ) (frame : Frame) (finds : FindsAlive e w frame below) (quiet : count_by is_refusal events ≡ 0) where
     abbrev rest : List Command
     rest = Quit (Name e.object) ∷ Del e.watch ∷ Del e.object ∷ Call (Name e.function) ∷ []
@@ -192,7 +188,7 @@ module _ (script : Script) (budget : ℕ) (e : Exit) (ex : IsExit script e) (bel
         go d None none = absurd (finds.refers none)
         go d (Some r) some = Underway (Releasing (given_up_by u e.object) ∷ []) (record frame { commands = rest }) (ap (λ (z : World). z.stack) d.yields.1) (one_high (Releasing (given_up_by u e.object)) tt) AtQuit (λ i. cc) (inr (r, gets d r some))
 
--- the law, of every run
+-- the law, for every run
 pub begins_alive : ExitsBeginAlive
 begins_alive script budget before during texts run e ex frame below finds quiet = go during run quiet
   where

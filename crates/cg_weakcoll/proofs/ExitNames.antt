@@ -1,4 +1,4 @@
--- The names that a `finalize` line brings: other words are none of them.
+-- The names generated for a `finalize` line: no other word is one of them.
 use Rattle.std.proofs.Common.{◌≡◌, ◌≢◌, ℕ, ◌<◌, ◌≤◌, List, [], ◌∷◌, ◌++◌, length, take, drop, Bool, true, false, cond, ◌&&◌, ◌||◌, None, Some, refl, sym, ap, subst, ◌∙◌, inl, inr, arith, codes}
 use Rattle.std.specs.Prelude.{decimal, slice_index}
 use Rattle.std.specs.List.{list_all}
@@ -23,7 +23,7 @@ own_names l = proc_name l ∷ object_name l ∷ exit_name l ∷ function_name l 
 abbrev pub IsElse : ℕ → List ℕ → Type 0
 IsElse l text = Includes (own_names l) text → ⊥
 
--- Each of them begins so, and so do the words that have one behind the word of a finalizer.
+-- All have the reserved prefix, and so do `del=` and `legacy=` words with one of them.
 own_kept : (l : ℕ) (prefix text : List ℕ) → ((rest : List ℕ) → begins_with (prefix ++ codes "wv_") (prefix ++ (codes "wv_" ++ rest)) ≡ true) → Includes (own_names l) text → begins_with (prefix ++ codes "wv_") (prefix ++ text) ≡ true
 own_kept l prefix text told (inl e) = subst (λ t. begins_with (prefix ++ codes "wv_") (prefix ++ t) ≡ true) e (told (codes "p_" ++ decimal l))
 own_kept l prefix text told (inr (inl e)) = subst (λ t. begins_with (prefix ++ codes "wv_") (prefix ++ t) ≡ true) e (told (codes "o_" ++ decimal l))
@@ -35,7 +35,7 @@ own_kept l prefix text told (inr (inr (inr (inr (inr none))))) = absurd none
 differs : (prefix word : List ℕ) → begins_with prefix word ≡ true → begins_with prefix word ≡ false → ⊥
 differs prefix word t f = let no : true ≡ false = sym t ∙ f in cc
 
--- what stands behind some bytes
+-- what follows some bytes
 behind_prefix : (prefix word name : List ℕ) → after_prefix prefix word ≡ Some name → word ≡ prefix ++ name
 behind_prefix prefix word name e = go (bytes_eq (take (length prefix) word) prefix) refl e
   where
@@ -45,7 +45,7 @@ behind_prefix prefix word name e = go (bytes_eq (take (length prefix) word) pref
         let rest : drop (length prefix) word ≡ name = cc in
         sym (take-append-drop (length prefix) word) ∙ ap (λ (t : List ℕ). t ++ drop (length prefix) word) ((bytes_eq-Decides (take (length prefix) word) prefix).0 is) ∙ ap (λ (t : List ℕ). prefix ++ t) rest
 
--- a word that is not kept
+-- a word that is not reserved
 pub clear_word : (l : ℕ) (word : List ℕ) → is_kept word ≡ false → IsClear (IsElse l) word
 clear_word l word kept =
     let first = neither (begins_with (codes "wv_") word || begins_with (codes "del=wv_") word) (begins_with (codes "legacy=wv_") word) kept in
@@ -56,7 +56,7 @@ clear_word l word kept =
       legacy = λ name e own. differs (codes "legacy=wv_") word (ap (begins_with (codes "legacy=wv_")) (behind_prefix (codes "legacy=") word name e) ∙ own_kept l (codes "legacy=") name (λ rest. refl) own) first.1;
     }
 
--- a name of an expansion that is none of them
+-- a generated name that is none of them
 clear_name : (l : ℕ) (rest : List ℕ) → IsElse l (codes "wv_" ++ rest) → IsClear (IsElse l) (codes "wv_" ++ rest)
 clear_name l rest other = record {
   itself = other;
@@ -64,7 +64,6 @@ clear_name l rest other = record {
   legacy = λ name e. absurd (let no : None ≡ Some name = e in cc);
 }
 
--- names of two lines differ
 number_differs : (c : ℕ) (m l : ℕ) → m ≤ 400000 → l ≤ 400000 → m ≢ l → codes "wv_" ++ c ∷ 95 ∷ decimal l ≢ codes "wv_" ++ c ∷ 95 ∷ decimal m
 number_differs c m l low low2 apart e =
     let same : decimal l ≡ decimal m = ap (λ (t : List ℕ). drop 5 t) e in
@@ -106,7 +105,7 @@ weak_text m l low own = go own
 pub plain_clear : (l : ℕ) (word : List ℕ) → is_plain word ≡ true → IsClear (IsElse l) word
 plain_clear l word e = let p = plain_parts word e in clear_word l word p.2
 
--- of another line they are none of the names
+-- those of another line are none of these names
 pub clear_lines : (m l : ℕ) → m ≤ 400000 → l ≤ 400000 → m ≢ l → (words : List (List ℕ)) (form : Form) → ((place : ℕ) → place < word_count form → IsClear (IsElse l) (word_at words place)) → EachLine (IsClear (IsElse l)) (form_lines form m words)
 clear_lines m l low low2 apart words form at = each_written (IsClear (IsElse l)) m words (plain_clear l) (clear_name l (decimal m) (weak_text m l low)) (λ c e. clear_name l (c ∷ 95 ∷ decimal m) (other_text c m l low low2 apart)) form at
 
@@ -114,6 +113,5 @@ pub each_clear : (Free : List ℕ → Type 0) (words : List (List ℕ)) → Each
 each_clear Free [] h = tt
 each_clear Free (word ∷ words) h = (h.0, each_clear Free words h.1)
 
--- they differ from each other
 pub own_apart : (c d l : ℕ) → c ≢ d → codes "wv_" ++ c ∷ 95 ∷ decimal l ≢ codes "wv_" ++ d ∷ 95 ∷ decimal l
 own_apart c d l apart e = let same : c ≡ d = ap (λ (t : List ℕ). slice_index t 3) e in apart same

@@ -1,4 +1,4 @@
--- What a step does to the names of an exit finalizer: other commands leave them.
+-- Other commands leave the names of an exit finalizer alone.
 use Rattle.std.proofs.Common.{◌≡◌, ◌≢◌, refl, sym, ◌∙◌, ap, subst, ℕ, zero, suc, ◌-◌, Bool, true, false, inl, List, [], ◌∷◌, Option, Some}
 use Rattle.std.specs.Prelude.{◌==◌, if◌then◌else◌, slice_get, slice_set}
 use Rattle.cg_value.specs.declared.Val.{Val}
@@ -19,7 +19,6 @@ use Rattle.cg_machine.proofs.Invariants.{on}
 use Rattle.cg_machine.proofs.Shapes.{AsksWhy, Binds, Edits, Ends, Freezes, Inspects, IsWordOf, Makes, Puts, Sets, Shape, Shows, StartsCollection, StartsFrame, Stays, Tells, Unfreezes}
 use Rattle.cg_weakcoll.proofs.KnownOfRuns.{Asked, Began, Changed, Done, Stood, Stopped}
 
--- another name is bound
 pub set_away : (names : List (Option Val)) (name x : ℕ) (v : Option Val) → x ≢ name → slice_get (slice_set names name v) x ≡ slice_get names x
 set_away [] name x v apart = refl
 set_away (u ∷ names) zero zero v apart = absurd (apart refl)
@@ -27,7 +26,7 @@ set_away (u ∷ names) zero (suc x) v apart = refl
 set_away (u ∷ names) (suc name) zero v apart = refl
 set_away (u ∷ names) (suc name) (suc x) v apart = set_away names name x v (λ e. apart (ap suc e))
 
--- a name that is bound has that value, if it has one
+-- a bound name has that value
 pub set_got : (names : List (Option Val)) (x : ℕ) (v u : Option Val) → slice_get (slice_set names x v) x ≡ Some u → u ≡ v
 set_got [] x v u e = absurd (cc)
 set_got (n ∷ names) zero v u e = let same : v ≡ u = cc in sym same
@@ -64,7 +63,7 @@ call_names script f p u events after step = go (u.budget == 0) step
     go true y = ap (λ (z : World). z.names) y.1
     go false y = ap (λ (z : World). z.names) y.1
 
--- a command that does not speak of a name leaves it
+-- a command that does not use a name leaves it alone
 pub done_names : (script : Script) (n : ℕ) (command : Command) (b : Activity) (below : List Activity) (v : World) (events : List Event) (after : World) → ¬ Includes (command_names command) n → Done script command (on b below v) b below events after → slice_get after.names n ≡ slice_get v.names n
 done_names script n command b below v events after spoken (Stood answers is) = ap (λ (z : World). slice_get z.names n) is
 done_names script n command b below v events after spoken (Stopped answers is) = ap (λ (z : World). slice_get z.names n) is

@@ -1,4 +1,4 @@
--- In every run the function of an exit finalizer begins at most once.
+-- In every run, the function of an exit finalizer begins at most once.
 use Rattle.std.proofs.Common.{◌≡◌, ◌≢◌, refl, sym, ◌∙◌, ap, subst, ℕ, ◌+◌, ◌<◌, ◌≤◌, false, cond, inl, inr, ◌⊎◌, List, [], ◌∷◌, ◌++◌, Option, Some, None, arith}
 use Rattle.std.specs.Prelude.{count_by, if◌then◌else◌, option_and_then, slice_get}
 use Rattle.std.proofs.lemmas.List.{append_assoc}
@@ -50,20 +50,19 @@ use Rattle.cg_weakcoll.proofs.KnownOfRuns.{Acted, Bottomed, Commanded, Due, Gave
 pub sum_moved : (a b c : ℕ) → (a + b) + c ≡ a + (b + c)
 sum_moved a b c = omega arith
 
--- calls of two runs, one after the other
+-- calls of two consecutive runs
 calls_from-append : (name : ℕ) (w : World) (steps more : List StepTaken) → calls_from name w (steps ++ more) ≡ calls_from name w steps + calls_from name (last_world w steps) more
 calls_from-append name w [] more = omega arith
 calls_from-append name w (step ∷ steps) more =
     let rest = calls_from-append name step.world steps more in
     ap (λ n. (if is_call name (next_command w.stack) then count_by is_enter step.events else 0) + n) rest ∙ sym (sum_moved (if is_call name (next_command w.stack) then count_by is_enter step.events else 0) (calls_from name step.world steps) (calls_from name (last_world step.world steps) more))
 
--- at most one call
 stage_few : (script : Script) (e : Exit) (Q : List Command → Type 0) (calls : ℕ) (stack : List Activity) → Stage script e Q calls stack → calls ≤ 1
 stage_few script e Q calls stack (Before tops done commands is high at none) = omega (arith, none)
 stage_few script e Q calls stack (During tops f commands is high tail other q none) = omega (arith, none)
 stage_few script e Q calls stack (After tame few) = few
 
--- a callback is of what is there
+-- the subject of a callback existed before
 enters_old : (script : Script) (budget : ℕ) (w : World) (events : List Event) (after : World) (s : ℕ) → Known script budget w → Step script w events after → Includes events (Enter Callback s) → s < w.next_serial
 enters_old script budget w events after s k step m = either (step_goes script w events after step k.fit).told (λ all. absurd (all (Enter Callback s) m).0)
     (λ one. (lives_within 1 w.next_serial w.objects s k.fit.sound.rises (lives one.0 (either (subst (λ es. Includes es (Enter Callback s)) one.1 m) (λ i. i) (λ none. absurd none)) one.2)).1)
@@ -77,7 +76,7 @@ AllKnown script budget w = (front : List StepTaken) → Run script w front → K
 pub next_known : (script : Script) (budget : ℕ) (w : World) (step : StepTaken) → Step script w step.events step.world → AllKnown script budget w → AllKnown script budget step.world
 next_known script budget w step taken known front run = known (step ∷ front) (taken, run)
 
--- serials rise in a run
+-- serials rise during a run
 serials_rise : (script : Script) (budget : ℕ) (w : World) (steps : List StepTaken) → Run script w steps → AllKnown script budget w → w.next_serial ≤ (last_world w steps).next_serial
 serials_rise script budget w [] run known = omega arith
 serials_rise script budget w (step ∷ steps) run known =
@@ -121,7 +120,7 @@ module _ (script : Script) (budget : ℕ) (e : Exit) (ex : IsExit script e) wher
     stage = Before [] [] (commands_of script.items) refl (λ a m. absurd m) refl refl;
   }
 
-  -- names that others leave
+  -- names that others leave alone
   pub rests_names : (w : World) (events : List Event) (after : World) (n : ℕ) → Includes (names_of e) n → Went script w events after → Rests e w after → slice_get after.names n ≡ slice_get w.names n
   rests_names w events after n own x (inr same) = ap (λ ns. slice_get ns n) same.1
   rests_names w events after n own x (inl h) = go x
@@ -280,7 +279,6 @@ module _ (script : Script) (budget : ℕ) (e : Exit) (ex : IsExit script e) wher
         serial_is : (p q : ℕ) → Made Weak p ≡ Made Weak q → p ≡ q
         serial_is p q i = cc
 
-  -- the law
   module _ (texts : TextsAreKnown script) where
     all_known : AllKnown script budget (opening script budget)
     all_known front run = known_after script budget front texts run
@@ -322,6 +320,5 @@ module _ (script : Script) (budget : ℕ) (e : Exit) (ex : IsExit script e) wher
             subst (λ i. callbacks i (events_of steps) + calls_from e.function (opening script budget) steps ≤ 1) m.0
             (omega (arith, few, early_quiet, making_quiet, calls_all, making_calls, a, b, lines, counted, none))
 
--- the law, of every run
 pub exits_once : ExitsBeginOnce
 exits_once script budget steps texts run e ex = record { calls = few_calls script budget e ex texts steps run; together = few_together script budget e ex texts steps run }

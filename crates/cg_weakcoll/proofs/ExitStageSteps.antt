@@ -1,4 +1,4 @@
--- Each step leads from a stage to a stage, and the calls are counted.
+-- Each step leads from a stage to a stage, and counts the calls.
 use Rattle.std.proofs.Common.{◌≡◌, refl, sym, ◌∙◌, ap, subst, ℕ, ◌+◌, ◌-◌, ◌≤◌, Bool, true, false, inl, inr, ◌⊎◌, List, [], ◌∷◌, ◌++◌, Some, arith}
 use Rattle.std.specs.Prelude.{◌==◌, cond, count_by, if◌then◌else◌}
 use Rattle.std.proofs.lemmas.Bool.{eq-eqb, eqb-true, ne_eqb}
@@ -30,7 +30,7 @@ use Rattle.cg_weakcoll.proofs.ExitStages.{After, AreTame, AtCall, AtDeref, AtObj
 use Rattle.cg_weakcoll.proofs.OtherCommands.{AllHigh, AreHidden, DoneStack, GoesOn, IsEnded, IsHigh, call_stack, done_stack, high_call, high_step, other_call, other_exit, others_call, raised_high, same_top}
 use Rattle.cg_weakcoll.proofs.KnownOfRuns.{Acted, Bottomed, Commanded, Done, Due, GaveUp, Known, Lasted, Over, Went, exactly}
 
--- what a step does while another activity than the procedure's frame is on top, or where nothing is done
+-- a step while another activity than the procedure's frame is on top, or one that does nothing
 abbrev pub Rests : Exit → World → World → Type 0
 Rests e w after = ((a : Activity) × (below : List Activity) × (w.stack ≡ a ∷ below) × IsHigh e a) ⊎ ((after.objects ≡ w.objects) × (after.names ≡ w.names) × (after.next_serial ≡ w.next_serial) × (all_to_call after.stack ≡ all_to_call w.stack))
 
@@ -45,7 +45,7 @@ pub record Advances (w after : World) (cs : List Command) : Type 0 where
   pub now : after.stack ≡ tops ++ Framed (record frame { commands = cs }) ∷ TopLevel below ∷ []
 
 module _ (script : Script) (budget : ℕ) (e : Exit) (ex : IsExit script e) (P : List Command → Type 0) (begins : P (exit_body e)) where
-  -- the calls that a step counts
+  -- the calls in a step
   abbrev pub step_calls : World → List Event → ℕ
   step_calls w events = if is_call e.function (next_command w.stack) then count_by is_enter events else 0
 
@@ -79,7 +79,6 @@ module _ (script : Script) (budget : ℕ) (e : Exit) (ex : IsExit script e) (P :
   before_done calls done commands c stack none at (GoesOn tops is high) = Before tops (done ++ c ∷ []) commands is high (at ∙ sym (append_assoc done (c ∷ []) commands)) none
   before_done calls done commands c stack none at (IsEnded is) = to_stack calls (TopLevel [] ∷ []) stack is (After (none_tame (TopLevel []) (λ d m. absurd m)) (omega (arith, none)))
 
-  -- the call of the procedure's function
   called_before : (calls p f : ℕ) (done commands : List Command) (c : Command) (u : World) (events : List Event) (after : World) → calls ≡ 0 → commands_of script.items ≡ done ++ c ∷ commands → u.stack ≡ TopLevel commands ∷ [] → AllOther e commands
       → Yields (start_frame script (record { sort = CallFrame; proc = p; subject = f; func = Some f }) u) events after → IsStage calls after.stack
   called_before calls p f done commands c u events after none at stack other step = either (call_stack script budget e ex f p u events after step)
@@ -129,7 +128,7 @@ module _ (script : Script) (budget : ℕ) (e : Exit) (ex : IsExit script e) (P :
       here : commands_of script.items ≡ done ++ command ∷ cs
       here = at ∙ ap (λ xs. done ++ xs) (top_is commands (command ∷ cs) is_top)
 
-  -- lines that begin frames
+  -- lines that start frames
   one_enters : (x : Event) → count_by is_enter (x ∷ []) ≤ 1
   one_enters x = go (is_enter x) (sum_by-cons (λ y. cond (is_enter y) 1 0) x [])
     where
@@ -154,7 +153,7 @@ module _ (script : Script) (budget : ℕ) (e : Exit) (ex : IsExit script e) (P :
       go true = omega (arith, none, zero)
       go false = omega (arith, none)
 
-  -- while more of the procedure is left no call is counted
+  -- no call counts while more of the procedure is left
   early : (w : World) (events : List Event) (f : Frame) (commands : List Command) → w.stack ≡ Framed f ∷ TopLevel commands ∷ [] → (calls : ℕ) → calls ≡ 0 → (cs : List Command) (c : Command) → IsTail e f.commands → f.commands ≡ c ∷ cs → IsTail e cs → calls + step_calls w events ≡ 0
   early w events f commands top calls none cs c tail left more = counted calls (count_by is_enter events) (is_call e.function (next_command w.stack)) (ap (λ st. is_call e.function (next_command st)) top ∙ go f.commands tail left) ∙ none
     where
@@ -172,7 +171,7 @@ module _ (script : Script) (budget : ℕ) (e : Exit) (ex : IsExit script e) (P :
           no_tail xs AtObject j = cc
           no_tail xs AtCall j = cc
 
-  -- the last command begins one frame at most
+  -- the last command starts at most one frame
   few_calls : (w : World) (events : List Event) (after : World) (f : Frame) (commands : List Command) → w.stack ≡ Framed f ∷ TopLevel commands ∷ [] → IsTail e f.commands → (calls : ℕ) → calls ≡ 0 → Step script w events after → calls + step_calls w events ≤ 1
   few_calls w events after f commands top tail calls none step = go f.commands refl tail
     where
@@ -263,7 +262,7 @@ module _ (script : Script) (budget : ℕ) (e : Exit) (ex : IsExit script e) (P :
         let s = same_top script budget e ex (Framed f) a (TopLevel commands ∷ []) below w.stack top (ap (λ (z : World). z.stack) is) in
         taken_frame command a b takes hb s.0 (λ spoken. done_stack script budget e ex command a b below v events after takes (subst (Known script budget) is k) (subst (AreHidden e) is h) spoken d)
       where
-        -- what lies below is the script's own
+        -- the script's own commands are below
         own : AreTame e below
         own = let s = same_top script budget e ex (Framed f) a (TopLevel commands ∷ []) below w.stack top (ap (λ (z : World). z.stack) is) in subst (AreTame e) s.1 (none_tame (TopLevel commands) other)
 
@@ -286,7 +285,7 @@ module _ (script : Script) (budget : ℕ) (e : Exit) (ex : IsExit script e) (P :
             goes (record g { commands = cs }) (Framed (record g { commands = cs })) (sym s.1) refl hy quiet.1 (λ t. early w events f commands top calls none cs c tail left_f t)
             (λ tops t now. advances cs t (record { frame = g; below = commands; stack = subst (λ (y : Frame). w.stack ≡ Framed y ∷ TopLevel commands ∷ []) (frame_is f g is_f) top; command = c; left = left; tops = tops; now = now }) (subst (λ (y : Frame). Q y.commands) (frame_is f g is_f) q)) (dones quiet.0.0)
 
-    -- where commands of other lines alone are left
+    -- where only commands of other lines are left
     after_step : (calls : ℕ) → AreTame e w.stack → calls ≤ 1 → Went script w events after → IsStage calls after.stack
     after_step calls tame few (Acted a below is acts) = to_stack calls (acts.tops ++ below) after.stack acts.stack (After (joined_tame e acts.tops below (λ c m. raised_high script budget e ex w c k h (acts.raised c m)) (λ c m. tame c (subst (λ st. Includes st c) (sym is) (inr m)))) few)
     after_step calls tame few (Due g set no_line is) = to_stack calls (new_collection g false w ∷ w.stack) after.stack (ap (λ (z : World). z.stack) is) (After (λ a m. either m (λ i. subst (λ (y : Activity). AllOther e (commands_on y)) i (λ c n. absurd n)) (tame a)) few)
@@ -306,7 +305,6 @@ module _ (script : Script) (budget : ℕ) (e : Exit) (ex : IsExit script e) (P :
         go (GoesOn tops st high) hc = to_stack calls (tops ++ b ∷ below) after.stack st (After (joined_tame e tops (b ∷ below) high (λ x m. either m (λ i. subst (λ (y : Activity). AllOther e (commands_on y)) i hc) (under x))) few)
         go (IsEnded st) hc = to_stack calls (emptied b ∷ below) after.stack st (After (emptied_tame b below hb under) few)
 
-    -- any step
     pub stage_step : (calls : ℕ) → Stage script e Q calls w.stack → Went script w events after → IsStage (calls + step_calls w events) after.stack
     stage_step calls (Before [] done commands is high at none) x = subst (λ n. IsStage n after.stack) (sym (counted calls (count_by is_enter events) (is_call e.function (next_command w.stack)) (ap (λ st. is_call e.function (next_command st)) is ∙ top_call done commands at))) (top_step calls done commands is at none x)
     stage_step calls (Before (t ∷ tops) done commands is high at none) x =

@@ -1,5 +1,5 @@
--- How far a run is with an exit finalizer: its last call is to come, its procedure's frame stands on the script's own commands, or
--- neither.
+-- The stage of a run with an exit finalizer: its last call is still to come, its procedure's frame is on the script's own
+-- commands, or neither.
 use Rattle.std.proofs.Common.{◌≡◌, ◌≢◌, refl, sym, ◌∙◌, ap, subst, ℕ, ◌+◌, ◌≤◌, Bool, true, false, inl, inr, ◌⊎◌, List, [], ◌∷◌, ◌++◌, arith}
 use Rattle.std.specs.Prelude.{if◌then◌else◌}
 use Rattle.cg_script.specs.declared.Script.{Script}
@@ -17,7 +17,7 @@ use Rattle.cg_machine.proofs.Invariants.{FromFrame, FromTop, Takes}
 use Rattle.cg_weakcoll.specs.Exits.{AllOther, AreOthers, Exit, IsExit, IsOther, exit_commands, watch_command}
 use Rattle.cg_weakcoll.proofs.OtherCommands.{AllHigh, IsHigh, other_exit, same_top}
 
--- what is left of the procedure, before its last call is done
+-- what is left of the procedure before its last call is done
 pub data IsTail (e : Exit) : List Command → Type 0 where
   AtDeref : IsTail e (Deref e.object (Name e.watch) ∷ Quit (Name e.object) ∷ Del e.watch ∷ Del e.object ∷ Call (Name e.function) ∷ [])
   AtQuit : IsTail e (Quit (Name e.object) ∷ Del e.watch ∷ Del e.object ∷ Call (Name e.function) ∷ [])
@@ -25,7 +25,7 @@ pub data IsTail (e : Exit) : List Command → Type 0 where
   AtObject : IsTail e (Del e.object ∷ Call (Name e.function) ∷ [])
   AtCall : IsTail e (Call (Name e.function) ∷ [])
 
--- where a command of the script's own stands: that of another line, or one of the finalizer's
+-- where a command of the script is: in another line, or in one of the finalizer's
 pub data Position (script : Script) (e : Exit) (ex : IsExit script e) (command : Command) (rest : List Command) : Type 0 where
   InOther : IsOther e command → Position script e ex command rest
   InFirst : command ≡ MakeFunc e.exit e.proc [] → Position script e ex command rest
@@ -33,7 +33,7 @@ pub data Position (script : Script) (e : Exit) (ex : IsExit script e) (command :
   InThird : command ≡ watch_command e → rest ≡ ex.middle ++ Call (Name e.exit) ∷ ex.back → Position script e ex command rest
   InLast : command ≡ Call (Name e.exit) → rest ≡ ex.back → Position script e ex command rest
 
--- a list that is two lists joined, cut at a member
+-- two joined lists, cut at a member
 cut : (done rest xs ys : List Command) (c : Command) → done ++ c ∷ rest ≡ xs ++ ys → Includes xs c ⊎ ((later : List Command) × (ys ≡ later ++ c ∷ rest))
 cut done rest [] ys c is = inr (done, sym is)
 cut [] rest (x ∷ xs) ys c is = inl (let same : c ≡ x = cc in inl (sym same))
@@ -62,17 +62,17 @@ module _ (script : Script) (e : Exit) (ex : IsExit script e) where
   pub positioned : (done rest : List Command) (c : Command) → commands_of script.items ≡ done ++ c ∷ rest → Position script e ex c rest
   positioned done rest c is = either (cut done rest ex.front (exit_commands e ++ tail_lines) c (sym is ∙ ex.commands)) (λ m. InOther (ex.front_other c m)) (λ k. at_lines k.0 rest c k.1)
 
--- commands of other lines alone are left
+-- only commands of other lines are left
 abbrev pub AreTame : Exit → List Activity → Type 0
 AreTame e stack = (a : Activity) → Includes stack a → AllOther e (commands_on a)
 
--- how far a run is, with so many calls so far, and what is known while the procedure's frame stands
+-- the stage of a run after this many calls, and what is known while the procedure's frame is on the stack
 pub data Stage (script : Script) (e : Exit) (Q : List Command → Type 0) (calls : ℕ) (stack : List Activity) : Type 0 where
   Before : (tops : List Activity) (done commands : List Command) → stack ≡ tops ++ TopLevel commands ∷ [] → AllHigh e tops → commands_of script.items ≡ done ++ commands → calls ≡ 0 → Stage script e Q calls stack
   During : (tops : List Activity) (f : Frame) (commands : List Command) → stack ≡ tops ++ Framed f ∷ TopLevel commands ∷ [] → AllHigh e tops → IsTail e f.commands → AllOther e commands → Q f.commands → calls ≡ 0 → Stage script e Q calls stack
   After : AreTame e stack → calls ≤ 1 → Stage script e Q calls stack
 
--- what a command that is taken may be
+-- what a taken command may be
 pub data IsTold (e : Exit) (command : Command) : Type 0 where
   Quiet : ¬ Includes (command_names command) e.exit → ((name : ℕ) (cells : List Operand) → command ≢ MakeFunc name e.proc cells) → IsTold e command
   MakesIt : command ≡ MakeFunc e.exit e.proc [] → IsTold e command

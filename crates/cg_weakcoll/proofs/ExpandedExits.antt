@@ -1,4 +1,5 @@
--- The exit finalizers of an expansion: the lines in front of a `finalize` line's own, those, the lines behind them, and the calls.
+-- The exit finalizers of an expansion: the lines before those of a `finalize` line, those lines, the ones after them, and the
+-- calls.
 use Rattle.std.proofs.Common.{◌≡◌, ◌≢◌, ℕ, suc, ◌+◌, ◌<◌, ◌≤◌, List, [], ◌∷◌, ◌++◌, length, map, Bool, true, false, cond, Option, None, Some, refl, sym, ap, subst, ◌∙◌, inl, inr, arith, append_assoc, append-nil, length-append}
 use Rattle.std.specs.Prelude.{option_map, reverse, slice_get, slice_index_or, unwrap_or}
 use Rattle.std.proofs.lemmas.List.{append_cancel_right, length-map, map-append, reverse-append}
@@ -40,7 +41,6 @@ use Rattle.cg_weakcoll.proofs.ReadLines.{does_all}
 use Rattle.cg_weakcoll.proofs.Passages.{Any, IsFine, Passage, behind, passage}
 use Rattle.cg_weakcoll.proofs.ItemsOfLines.{ArePlain, at_place, begun, begun_names, class_said, classes_split, command_said, commands_split, elsewhere, no_classes, no_procedures, procedure_said, procedures_split, run_each, through}
 
--- numbers of `finalize` lines
 numbers-append : (front lines : List (List ℕ)) (l : ℕ) → finalize_numbers_from l (front ++ lines) ≡ finalize_numbers_from l front ++ finalize_numbers_from (l + length front) lines
 numbers-append [] lines l = let same : l ≡ l + 0 = omega arith in ap (λ n. finalize_numbers_from n lines) same
 numbers-append (line ∷ front) lines l =
@@ -62,7 +62,6 @@ is_finalize_form None e = absurd (cc)
 is_finalize_form (Some Finalize) e = refl
 is_finalize_form (Some form) e = absurd (cc)
 
--- members of a reversed list
 Includes-reversed : (xs : List ℕ) (x : ℕ) → Includes xs x → Includes (reverse xs) x
 Includes-reversed [] x m = m
 Includes-reversed (y ∷ xs) x m = subst (λ ys. Includes ys x) (sym (reverse-append (y ∷ []) xs)) (either m (λ e. Includes-append_right (reverse xs) (y ∷ []) x (inl e)) (λ k. Includes-append_left (reverse xs) (y ∷ []) x (Includes-reversed xs x k)))
@@ -110,7 +109,6 @@ module _ (bytes : List ℕ) (fine : first_bad bytes ≡ None) (all : List (List 
   low_number : (m : ℕ) → Includes numbers m → m ≤ 400000
   low_number m k = numbers_low lines false 1 fine_lines m k
 
-  -- one `finalize` line
   module _ (front : List (List ℕ)) (line : List ℕ) (back : List (List ℕ)) (parts : lines ≡ front ++ line ∷ back) (is : finalizes line ≡ true) where
     abbrev l : ℕ
     l = 1 + length front
@@ -206,7 +204,7 @@ module _ (bytes : List ℕ) (fine : first_bad bytes ≡ None) (all : List (List 
     Y_plain : ArePlain Y
     Y_plain s m = (pB.fine s m).plain
 
-    -- what is fine says nothing of the finalizer
+    -- a fine line does not refer to the finalizer
     own_text : (n : ℕ) → Includes (names_of e) n → Includes (own_names l) (text_of all n)
     own_text n (inl same) = inr (inl (sym its_lines.object_is ∙ ap (text_of all) same))
     own_text n (inr (inl same)) = inr (inr (inl (sym its_lines.exit_is ∙ ap (text_of all) same)))
@@ -234,7 +232,6 @@ module _ (bytes : List ℕ) (fine : first_bad bytes ≡ None) (all : List (List 
       makes = λ name cells same. cc;
     }
 
-    -- the parts of the script
     items_are : items_of false (X ++ F) ≡ its
     items_are = ap (items_of false) split ∙ r.items_are
 
@@ -303,7 +300,7 @@ module _ (bytes : List ℕ) (fine : first_bad bytes ≡ None) (all : List (List 
         by : IsFine all names Free (Declares (items.Class k)) → (k.del ≢ Some proc) × (k.legacy ≢ Some proc)
         by h = (λ i. h.finalizer k proc refl i own_proc, λ i. h.legacy k proc refl i own_proc)
 
-    -- the calls round its own
+    -- the calls before and after its own
     abbrev before : List ℕ
     before = finalize_numbers_from 1 front
 
@@ -398,7 +395,6 @@ module _ (bytes : List ℕ) (fine : first_bad bytes ≡ None) (all : List (List 
         behind (inr (inr (inl i))) = cc
         behind (inr (inr (inr k))) = (Y_other (commands.Call (operands.Name e.exit)) k).names e.exit (inl refl) (inr (inl refl))
 
-  -- the exits of some lines
   record Built (ls : List Command) (k : ℕ) (rest : List (List ℕ)) : Type 0 where
     exits : List Exit
     of_lines : AreExitsOf all its k rest exits
@@ -429,7 +425,6 @@ module _ (bytes : List ℕ) (fine : first_bad bytes ≡ None) (all : List (List 
               ∙ ap (λ b. calls_of all (cond b (k ∷ []) [] ++ finalize_numbers_from (k + 1) back)) (sym is);
         }
 
-  -- the commands before the calls
   whole_front : Passage all names Any nothing_known (final_lines lines) r.saids
   whole_front = behind all (written_from 1 lines) (final_lines lines) r.saids start
 

@@ -1,4 +1,4 @@
--- The lines of an expansion, and where those of one line stand in them.
+-- The lines of an expansion, and where those of one line are in them.
 use Rattle.std.proofs.Common.{◌≡◌, ℕ, suc, ◌+◌, ◌≤◌, List, [], ◌∷◌, ◌++◌, length, map, Bool, true, false, not, cond, ◌&&◌, ◌||◌, ◌==◌, Option, Some, None, refl, sym, ap, subst, ◌∙◌, arith, nat_le, nat_lt, inl, inr, append_assoc}
 use Rattle.std.specs.Prelude.{reverse}
 use Rattle.std.specs.Option.{option_or}
@@ -34,7 +34,7 @@ one_more line lines h k other m = either m (λ e. subst (λ (l : List ℕ). has_
 none_unfed : AreUnfed []
 none_unfed line m = absurd m
 
--- lines that are written with line feeds are read again
+-- lines written with line feeds are read back
 fed_piece : (line rest : List ℕ) → has_no_feed line ≡ true → pieces 10 (line ++ 10 ∷ rest) ≡ line ∷ pieces 10 rest
 fed_piece [] rest h = refl
 fed_piece (b ∷ bs) rest h = go (b == 10) h (λ k. fed_piece bs rest k)
@@ -51,7 +51,7 @@ lines_again (line ∷ lines) h =
     ∙ fed_piece line (with_feeds lines) (h line (inl refl))
     ∙ ap (λ ls. line ∷ ls) (lines_again lines (λ other m. h other (inr m)))
 
--- printable bytes have none
+-- printable bytes contain none
 printable_unfed : (bytes : List ℕ) → list_all is_printable bytes ≡ true → has_no_feed bytes ≡ true
 printable_unfed [] e = refl
 printable_unfed (b ∷ bs) e =
@@ -68,7 +68,7 @@ all_joined : (lines : List (List (List ℕ))) → EachLine IsSound lines → Are
 all_joined [] sound = none_unfed
 all_joined (words ∷ lines) sound = one_more (joined words) (map joined lines) (sound_unfed words sound.0) (all_joined lines sound.1)
 
--- lines and words have none
+-- lines and words contain none
 onto_unfed : (b : ℕ) (ps : List (List ℕ)) → (b == 10) ≡ false → AreUnfed ps → AreUnfed (onto b ps)
 onto_unfed b [] e h = one_more (b ∷ []) [] (unfed_first b [] e refl) none_unfed
 onto_unfed b (p ∷ ps) e h = one_more (b ∷ p) ps (unfed_first b p e (h p (inl refl))) (λ other m. h other (inr m))
@@ -81,7 +81,7 @@ lines_unfed (b ∷ bs) = go (b == 10) refl (lines_unfed bs)
     go true e h = one_more [] (pieces 10 bs) refl h
     go false e h = onto_unfed b (pieces 10 bs) e h
 
--- a line of a form that is not bad
+-- a good line of a form
 pub record Fits (form : Form) (l : ℕ) (line : List ℕ) (words : List (List ℕ)) : Type 0 where
   pub printable : list_all is_printable line ≡ true
   pub low : l ≤ 400000
@@ -107,7 +107,7 @@ first_none (Some k) n e = absurd (cc)
 pub fits_of : (form : Form) (inside : Bool) (l : ℕ) (line : List ℕ) → form_of (words_of line) ≡ Some form → fault_of inside l line ≡ None → Fits form l line (words_of line)
 fits_of form inside l line is e = no_fault form inside l line (words_of line) (first_none (form_fault form inside l line (words_of line)) (name_fault (words_of line)) (ap (λ m. fault_by m inside l line (words_of line)) (sym is) ∙ e))
 
--- the first of some lines of which none is bad
+-- the first of some good lines
 pub split_bad : (l : ℕ) (m : Option ℕ) (later : Option (ℕ × ℕ)) → bad_or l m later ≡ None → (m ≡ None) × (later ≡ None)
 split_bad l None later e = (refl, e)
 split_bad l (Some code) later e = absurd (cc)
@@ -133,7 +133,7 @@ all_written (line ∷ lines) inside l h e =
     let k = split_bad l (fault_of inside l line) (first_bad_from (inside_after inside (words_of line)) (l + 1) lines) e in
     both_unfed (written l line) (written_from (l + 1) lines) (written_unfed inside l line (h line (inl refl)) k.0) (all_written lines (inside_after inside (words_of line)) (l + 1) (λ other m. h other (inr m)) k.1)
 
--- the numbers of `finalize` lines are low
+-- the numbers of `finalize` lines are small
 AreLow : List ℕ → Type 0
 AreLow numbers = (n : ℕ) → Includes numbers n → n ≤ 400000
 
@@ -157,13 +157,12 @@ calls_unfed numbers low line m =
     let k : n.0 ≤ 400000 = low n.0 (reversed_back numbers n.0 n.1) in
     subst (λ (b : List ℕ). has_no_feed b ≡ true) n.2 (sound_unfed (call_line n.0) (sound_call n.0 k))
 
--- the lines of an expansion
 pub expansion_lines : (bytes : List ℕ) → first_bad bytes ≡ None → lines_of (expansion bytes) ≡ expanded_lines (lines_of bytes)
 unfolding expansion first_bad
 expansion_lines bytes e = lines_again (expanded_lines (lines_of bytes)) (both_unfed (written_from 1 (lines_of bytes)) (final_lines (lines_of bytes))
     (all_written (lines_of bytes) false 1 (lines_unfed bytes) e) (calls_unfed (finalize_numbers_from 1 (lines_of bytes)) (numbers_low (lines_of bytes) false 1 e)))
 
--- where a line stands
+-- where a line is
 pub written-append : (front lines : List (List ℕ)) (l : ℕ) → written_from l (front ++ lines) ≡ written_from l front ++ written_from (l + length front) lines
 written-append [] lines l = let same : l ≡ l + 0 = omega arith in ap (λ n. written_from n lines) same
 written-append (line ∷ front) lines l =
@@ -171,7 +170,7 @@ written-append (line ∷ front) lines l =
     ap (λ ls. written l line ++ ls) (written-append front lines (l + 1) ∙ ap (λ n. written_from (l + 1) front ++ written_from n lines) same)
     ∙ sym (append_assoc (written l line) (written_from (l + 1) front) (written_from (l + suc (length front)) lines))
 
--- lines in front of one and behind it
+-- the lines before and after one
 pub record Parted (front : List (List ℕ)) (line : List ℕ) (back : List (List ℕ)) (l : ℕ) : Type 0 where
   pub inside : Bool
   pub inside_behind : Bool

@@ -1,4 +1,4 @@
--- Where the lines of a `wget` and of a `wset` stand in an expansion, and that the name which the latter bring is one of a variable.
+-- Where the lines of a `wget` and a `wset` are in an expansion; and the generated name of a `wset` is a variable.
 use Rattle.std.proofs.Common.{◌≡◌, ℕ, ◌+◌, ◌≤◌, List, [], ◌∷◌, ◌++◌, length, true, false, not, ◌&&◌, refl, ap, arith, nat_le, codes}
 use Rattle.std.specs.Prelude.{decimal, slice_index}
 use Rattle.std.specs.List.{list_all}

@@ -1,4 +1,4 @@
--- The ten lines that a `finalize` line becomes, read one after the other, and the calls at the end.
+-- The ten lines of a `finalize` line, read in order, and the calls at the end.
 use Rattle.std.proofs.Common.{◌≡◌, ℕ, suc, ◌+◌, List, [], ◌∷◌, ◌++◌, length, map, Bool, true, false, not, cond, ◌&&◌, ◌||◌, nat_lt, Option, None, Some, refl, sym, ap, subst, ◌∙◌, inl, inr, arith, codes, length-append}
 use Rattle.std.specs.Prelude.{is_some, unwrap_or}
 use Rattle.std.specs.List.{position_or_len}
@@ -36,7 +36,7 @@ use Rattle.cg_weakcoll.proofs.ReadLines.{does_all}
 use Rattle.cg_weakcoll.proofs.LookLines.{same_text, stands_for}
 use Rattle.cg_weakcoll.proofs.ReadTables.{AreMeant, Table, are_read, known_behind, table, written_row}
 
--- a procedure that is new goes last
+-- a new procedure comes last
 last_place : (xs : List (List ℕ)) (text : List ℕ) → has_text xs text ≡ false → position_or_len (bytes_eq text) (xs ++ text ∷ []) ≡ length xs
 last_place [] text e = ap (λ b. cond (not b) 1 0) (same_text text)
 last_place (x ∷ xs) text e = go (bytes_eq text x) e (last_place xs text)
@@ -54,7 +54,7 @@ new_proc xs text e =
     below : nat_lt (length xs) (length (xs ++ text ∷ [])) ≡ true
     below = let more : length (xs ++ text ∷ []) ≡ length xs + 1 = length-append xs (text ∷ []) in grind (arith, nat_tests, more)
 
--- no value but `ref` is the word of a form that binds
+-- only `ref` among the words for values has the form of a binding
 no_binding_form : (form : Form) → (not (is_value (word_of form)) || not (is_some (named bindings (word_of form))) || bytes_eq (word_of form) (codes "ref")) ≡ true
 unfolding atoms openers bindings
 no_binding_form forms.Def = refl
@@ -76,7 +76,7 @@ bind_worded x f value = ap (λ (k : Form). formed k (x ∷ codes "=" ∷ f ∷ [
 abbrev pub exit_of : List (List ℕ) → ℕ → ℕ → Operand → Operand → Exit
 exit_of all proc l source target = record { proc = proc; object = text_number all (object_name l); exit = text_number all (exit_name l); function = text_number all (function_name l); watch = text_number all (watch_name l); source = source; target = target }
 
--- what is said in its procedure and behind it
+-- what the lines say in the procedure and after it
 abbrev pub finalizer_says : List (List ℕ) → ℕ → Exit → List Said → List Said
 finalizer_says all l e later = BeginsProc (text_number all (proc_name l)) ∷ (does_all (exit_body e) ++ Ends ∷ (does_all (exit_commands e) ++ later))
 
@@ -102,7 +102,6 @@ pub record Finalizer (all : List (List ℕ)) (Free : List ℕ → Type 0) (known
   pub proc_is : text_of all (text_number all (proc_name l)) ≡ proc_name l
   pub is : finalizer_says all l (exit_of all (length known0.procs) l source target) later ≡ saids
 
--- the lines of a `finalize` line with their forms
 abbrev rows_of : ℕ → List ℕ → List ℕ → List (Form × List (List ℕ))
 rows_of l y f =
     (forms.Def, codes "def" ∷ proc_name l ∷ [])
@@ -171,7 +170,6 @@ module _ (all : List (List ℕ)) (Free : List ℕ → Type 0) (known0 : Known) (
     is = all_said;
   }
 
--- the calls at the end
 abbrev pub calls_of : List (List ℕ) → List ℕ → List Command
 calls_of all numbers = map (λ l. commands.Call (operands.Name (text_number all (exit_name l)))) numbers
 

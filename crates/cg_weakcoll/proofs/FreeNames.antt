@@ -1,4 +1,4 @@
--- What a line says speaks of names that its words write. A word that is a string writes none.
+-- What a line says uses only names that its words write. A word that is a string writes none.
 use Rattle.std.proofs.Common.{◌≡◌, ℕ, zero, suc, ◌+◌, ◌<◌, ◌≤◌, List, [], ◌∷◌, length, Bool, true, false, cond, Option, None, Some, refl, sym, ap, subst, ◌∙◌, arith, codes}
 use Rattle.std.specs.Prelude.{slice_index}
 use Rattle.std.specs.Str.{bytes_eq}
@@ -23,7 +23,7 @@ use Rattle.cg_script.specs.Canonical.{text_of}
 use Rattle.cg_script.proofs.Walked.{AllHold, is_text, PartHolds, EachPart, said_by, said_holds}
 use Rattle.cg_script.proofs.Shown.{Begins, begins_along, begins_texts, text_found}
 
--- a word is free of some names: it is none of them, nor has it one behind the word of a finalizer
+-- a word is free of some names: it is none of them, and no `del=` or `legacy=` with one
 pub record IsClear (Free : List ℕ → Type 0) (word : List ℕ) : Type 0 where
   pub itself : Free word
   pub finalizer : (name : List ℕ) → after_prefix (codes "del=") word ≡ Some name → Free name
@@ -33,12 +33,12 @@ abbrev pub AreClear : (List ℕ → Type 0) → List (List ℕ) → Type 0
 AreClear Free [] = Unit {0}
 AreClear Free (word ∷ words) = IsClear Free word × AreClear Free words
 
--- the names that a line speaks of by what it says
+-- the names used in what a line says
 abbrev pub said_names : Said → List ℕ
 said_names (Does command) = command_names command
 said_names other = []
 
--- values with a word of their own are no names
+-- keywords for values are no names
 NoNames : List (List ℕ × Operand) → Type 0
 NoNames [] = Unit {0}
 NoNames (row ∷ rows) = (operand_names row.1 ≡ []) × NoNames rows
@@ -57,7 +57,7 @@ unfolding NoNames atoms
 atoms_without = (refl, (refl, (refl, (refl, (refl, (refl, (refl, (refl, (refl, (refl, (refl, (refl, tt))))))))))))
 
 module _ (all : List (List ℕ)) (Free : List ℕ → Type 0) where
-  -- the names of these numbers are free
+  -- the names with these numbers are free
   abbrev pub AreFree : List ℕ → Type 0
   AreFree numbers = (n : ℕ) → Includes numbers n → Free (text_of all n)
 
@@ -70,7 +70,6 @@ module _ (all : List (List ℕ)) (Free : List ℕ → Type 0) where
   abbrev EachFree : List Part → Type 0
   EachFree ps = EachPart operand_names (λ n. Free (text_of all n)) ps
 
-  -- each of them is
   free_each : (numbers : List ℕ) → AllHold (λ n. Free (text_of all n)) numbers → AreFree numbers
   free_each [] each n m = absurd m
   free_each (k ∷ ks) each n m = either m (λ e. subst (λ j. Free (text_of all j)) e each.0) (free_each ks each.1 n)
@@ -150,7 +149,7 @@ module _ (all : List (List ℕ)) (Free : List ℕ → Type 0) where
       let z : place + suc i ≡ (place + 1) + i = omega arith in
       text_at_free procs classes form words (with_text_if texts (text_in (sort_at form place) word)) (place + 1) i (omega arith) (ap (λ k. is_text (sort_at form k)) (sym z) ∙ e) clear.1 begins
 
-  -- what a line of a form says speaks of free names
+  -- a line of free words uses only free names
   said_free : (s : Said) → AllHold (λ n. Free (text_of all n)) (said_by operand_names s) → AreFree (said_names s)
   said_free (Does command) each = free_each (command_names command) each
   said_free (Declares item) each = none_free

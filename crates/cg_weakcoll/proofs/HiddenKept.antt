@@ -1,4 +1,4 @@
--- The functions of the procedure of an exit finalizer stay hidden.
+-- The functions of an exit finalizer's procedure stay hidden.
 use Rattle.std.proofs.Common.{◌≡◌, ◌≢◌, refl, sym, ◌∙◌, ap, subst, ℕ, ◌-◌, Bool, true, false, inl, inr, ◌⊎◌, List, [], ◌∷◌, Option, Some, None}
 use Rattle.std.specs.Prelude.{◌==◌, if◌then◌else◌}
 use Rattle.cg_value.specs.declared.KindCode.{KindCode}
@@ -50,7 +50,7 @@ stopped_locals o (a ∷ below) h = h
 pub refused_hidden : (n o r : ℕ) (u : World) (events : List Event) (after : World) → Yields (refused r u) events after → Hidden n o u → Hidden n o after
 refused_hidden n o r u events after step h = subst (Hidden n o) (sym step.1) (restacked n o u (with_stack (stopped_frame u.stack) u) refl refl refl (stopped_locals o u.stack h.locals) h)
 
--- where a frame starts the objects stay
+-- starting a frame leaves the objects
 pub called_objects : (script : Script) (f p : ℕ) (u : World) (events : List Event) (after : World) → Yields (start_frame script (record { sort = CallFrame; proc = p; subject = f; func = Some f }) u) events after → after.objects ≡ u.objects
 called_objects script f p u events after step = go (u.budget == 0) step
   where
@@ -79,7 +79,7 @@ module _ (script : Script) (budget : ℕ) (e : Exit) where
   uncalled : (w : World) (x : Object) → Known script budget w → Includes w.objects x → x.code ≡ Func → ¬ Includes (all_to_call w.stack) x.serial
   uncalled w x k m code waits = let weak = (lost_referent script budget w x.serial k waits x m refl).code in let no : Func ≡ Weak = sym code ∙ weak in cc
 
-  -- an object that comes from a function of the procedure
+  -- an object that was a function of the procedure
   later_kept : (w after : World) → AreHidden e w → ((x : Object) → Includes w.objects x → x.code ≡ Func → Hidden e.exit x.serial w → Hidden e.exit x.serial after)
       → (x y : Object) → Includes w.objects x → IsLater x y → y.code ≡ Func → y.class ≡ Some e.proc → Hidden e.exit y.serial after
   later_kept w after h step x y m later code class =
@@ -94,7 +94,6 @@ module _ (script : Script) (budget : ℕ) (e : Exit) where
   due_kept : (g : ℕ) (asked : Bool) (w u after : World) → u.objects ≡ w.objects → ((o : ℕ) → Hidden e.exit o w → Hidden e.exit o u) → after ≡ push (new_collection g asked w) u → AreHidden e w → AreHidden e after
   due_kept g asked w u after objects on_u is h = same_kept w after (ap (λ (z : World). z.objects) is ∙ objects) h (λ o hid. subst (Hidden e.exit o) (sym is) (pushed e.exit o (new_collection g asked w) u (λ f i. cc) (on_u o hid)))
 
-  -- a command
   module _ (command : Command) (a b : Activity) (below : List Activity) (v : World) (events : List Event) (after : World) (takes : Takes command a b) (k : Known script budget (on a below v)) (h : AreHidden e (on a below v)) where
     turned : (o : ℕ) → Hidden e.exit o (on a below v) → Hidden e.exit o (on b below v)
     turned o hid = taken_hidden e.exit o command a b below v takes hid
@@ -135,7 +134,6 @@ module _ (script : Script) (budget : ℕ) (e : Exit) where
     told_kept (MakesIt is) step done = made_kept is step
     told_kept (CallsIt is) step done = call_kept is step
 
-  -- a name is given up
   pub dropped_hidden : (n o name : ℕ) (w : World) (given : List ℕ) → Hidden n o w → Hidden n o (push (Releasing given) (bound w name None))
   dropped_hidden n o name w given h = pushed n o (Releasing given) (bound w name None) (λ f i. cc) (record {
     names = λ x apart. set_free w.names name x o None (λ m. m) (h.names x apart);

@@ -1,4 +1,4 @@
--- A hidden object stays so, whatever steps are taken but those of the commands that speak of its name.
+-- A hidden object stays hidden in every step except those of commands that use its name.
 use Rattle.std.proofs.Common.{◌≡◌, ◌≢◌, refl, sym, ◌∙◌, ap, subst, ℕ, zero, suc, ◌-◌, ◌<◌, ◌≤◌, Bool, true, false, not, ◌&&◌, ◌||◌, inl, inr, ◌⊎◌, List, [], ◌∷◌, ◌++◌, map, Option, Some, None, arith}
 use Rattle.std.specs.Prelude.{◌==◌, if◌then◌else◌, flat_map, slice_set}
 use Rattle.std.proofs.lemmas.Bool.{eqb-true}
@@ -48,7 +48,6 @@ use Rattle.cg_weakcoll.proofs.ActivitySteps.{Acts, BegunBy, IsCollected, all_to_
 use Rattle.cg_weakcoll.proofs.HiddenObjects.{Hidden, hand_not, held_by}
 use Rattle.cg_weakcoll.proofs.KnownOfRuns.{Began, Changed, Asked, Done, Known, Stood, Stopped}
 
--- a merge leaves the graph
 abbrev in_merge : ℕ → Object → Object
 in_merge g x = with_place (merged_place g x.place) x
 
@@ -56,11 +55,11 @@ same_graph : (g : ℕ) (objects : List Object) → graph_of (map (in_merge g) ob
 same_graph g [] = refl
 same_graph g (x ∷ objects) = ap (λ (gr : Graph). (x.serial, x.entries) ∷ gr) (same_graph g objects)
 
--- what holds otherwise than by entries
+-- holds other than those of entries
 abbrev pub others_hold : World → List ℕ
 others_hold w = name_holdings w.names ++ (1 ∷ []) ++ flat_map holds w.stack
 
--- what is held so survives the start of a collection
+-- what is held in this way survives the start of a collection
 pub held_survives : (w : World) (g o : ℕ) → Includes (others_hold w) o → IsMemberOf (merged g w) (Gen g) o → Survives (merged g w) (Gen g) o
 held_survives w g o k m =
     let more = present o (others_hold w) k in
@@ -87,7 +86,7 @@ member_tracked w g o rises m x i s u =
     let standing : same_place (merged_place g x.place) (Gen g) ≡ true = subst (λ (q : Object). same_place (merged_place g q.place) (Gen g) ≡ true) same (subst (λ (q : Object). is_at (Gen g) q ≡ true) (sym y.2) at.1) in
     let no : false ≡ true = sym (ap (λ p. same_place (merged_place g p) (Gen g)) u) ∙ standing in cc
 
--- an object that only names and activities hold is not collected: unheld, it is dying
+-- an object that only names and activities hold is not collected; when unheld, it is dying
 pub not_collected : (script : Script) (budget : ℕ) (w : World) (o : ℕ) → Known script budget w → ((x : Object) → Includes w.objects x → ¬ Includes (references x.entries) o) → o ≢ 1 → (x : Object) → Includes w.objects x → x.serial ≡ o → ¬ IsCollected w o
 not_collected script budget w o k entries root x i s collected = go (cases_of (includes (others_hold w) o))
   where
@@ -109,7 +108,7 @@ not_collected script budget w o k entries root x i s collected = go (cases_of (i
         fades d m e unheld (inl own) = unheld (held_by_member w.stack (Dying d) o m (subst (Includes (dying_holds d.object d.phase)) e (own_held d.object d.phase own)))
         fades d m e unheld (inr apart) = member_tracked w collected.0 o k.fit.sound.rises collected.1 x i s ((k.lawful.orderly.deaths d m).untracked apart x i (s ∙ sym e))
 
--- what has a finalizer is an instance
+-- an object with a finalizer is an instance
 pub finalizer_inst : (script : Script) (x : Object) (p : ℕ) → finalizer_of script x ≡ Some p → x.code ≡ Inst
 finalizer_inst script x p e = go x.code refl
   where
@@ -146,11 +145,11 @@ restacked n o w after names objects serial locals h = record {
   kind = λ x m. h.kind x (subst (λ os. Includes os x) objects m);
 }
 
--- one that is no frame is pushed
+-- an activity other than a frame is pushed
 pub pushed : (n o : ℕ) (a : Activity) (w : World) → ((f : Frame) → a ≢ Framed f) → Hidden n o w → Hidden n o (with_stack (a ∷ w.stack) w)
 pushed n o a w apart h = restacked n o w (with_stack (a ∷ w.stack) w) refl refl refl (λ f m. either m (λ e. absurd (apart f e)) (h.locals f)) h
 
--- a step of the machine by itself
+-- a step of an activity other than commands
 pub acted_hidden : (script : Script) (budget n o : ℕ) (w : World) (a : Activity) (below : List Activity) (events : List Event) (after : World) → Known script budget w → w.stack ≡ a ∷ below → Acts script w below events after
     → ¬ Includes (all_to_call w.stack) o → Hidden n o w → Hidden n o after
 acted_hidden script budget n o w a below events after k top acts uncalled h = record {
@@ -177,7 +176,7 @@ acted_hidden script budget n o w a below events after k top acts uncalled h = re
     framed : (f : Frame) → Includes (acts.tops ++ below) (Framed f) → (self_in f.sort f.subject ≢ Some o) × (weak_in f.sort f.subject ≢ Some o)
     framed f m = either (Includes-append_cases acts.tops below (Framed f) m) (λ i. let b = acts.raised (Framed f) i in begun f.sort f.subject b.proc b.by) (λ i. h.locals f (subst (λ st. Includes st (Framed f)) (sym top) (inr i)))
 
--- a command is taken from the top, or the rest of the commands is dropped
+-- a command is taken from the top, or the remaining commands are dropped
 pub taken_locals : (o : ℕ) (command : Command) (a b : Activity) (below : List Activity) → Takes command a b → ((f : Frame) → Includes (a ∷ below) (Framed f) → (self_in f.sort f.subject ≢ Some o) × (weak_in f.sort f.subject ≢ Some o))
     → (f : Frame) → Includes (b ∷ below) (Framed f) → (self_in f.sort f.subject ≢ Some o) × (weak_in f.sort f.subject ≢ Some o)
 taken_locals o command a b below (FromTop commands) h f (inl e) = cc
@@ -200,7 +199,6 @@ taken_hidden n o command a b below v takes h = restacked n o (on a below v) (on 
 pub emptied_hidden : (n o : ℕ) (a : Activity) (below : List Activity) (v : World) → Hidden n o (on a below v) → Hidden n o (on (emptied a) below v)
 emptied_hidden n o a below v h = restacked n o (on a below v) (on (emptied a) below v) refl refl refl (emptied_locals o a below h.locals) h
 
--- a name is bound
 pub set_free : (names : List (Option Val)) (name x o : ℕ) (v : Option Val) → ¬ Includes (references_of_value v) o → ¬ Includes (held_by names x) o → ¬ Includes (held_by (slice_set names name v) x) o
 set_free [] name x o v free h = h
 set_free (u ∷ names) zero zero o v free h = free
@@ -208,7 +206,7 @@ set_free (u ∷ names) zero (suc x) o v free h = h
 set_free (u ∷ names) (suc name) zero o v free h = h
 set_free (u ∷ names) (suc name) (suc x) o v free h = set_free names name x o v free h
 
--- or another than the one that is asked for
+-- another name than this one is bound
 pub set_other : (names : List (Option Val)) (name x : ℕ) (v : Option Val) → x ≢ name → held_by (slice_set names name v) x ≡ held_by names x
 set_other [] name x v apart = refl
 set_other (u ∷ names) zero zero v apart = absurd (apart refl)
@@ -239,7 +237,7 @@ unfrozen_found Frozen f = f
 unfrozen_found p f = f
 
 module _ (n o : ℕ) (u : World) (command : Command) (h : Hidden n o u) (spoken : ¬ Includes (command_names command) n) where
-  -- an object that was there
+  -- an object that existed before
   abbrev Unshown : Object → Type 0
   Unshown y = (¬ Includes (references y.entries) o) × (y.referent ≢ Some o) × (y.serial ≡ o → (¬ IsFound y.place) × (y.code ≢ Inst))
 
@@ -262,7 +260,6 @@ module _ (n o : ℕ) (u : World) (command : Command) (h : Hidden n o u) (spoken 
   edit_free : (x : Object) (entries : List Entry) (given : List ℕ) → Includes u.objects x → IsEdit u command x entries given → HoldNone o entries
   edit_free x entries given m edit = all_free o entries (λ e i. either (edit.come e i) (λ was k. h.entries x m (references_of_member x.entries e o was k)) (λ new. entry_free e o (hand_not n o u h command e.val spoken new.2) (nothing_not e.key new.1)))
 
-  -- one object changes
   changed : (f : Object → Object) (s : ℕ) → ((x : Object) → Includes u.objects x → x.serial ≡ s → Unshown (f x)) → (y : Object) → Includes (change f s u.objects) y → Unshown y
   changed f s k y m = let x = Includes-map_cases (λ x. if x.serial == s then f x else x) u.objects y m in subst Unshown x.2 (one (x.0.serial == s) x.0 refl x.1)
     where
@@ -328,7 +325,6 @@ module _ (n o : ℕ) (u : World) (command : Command) (h : Hidden n o u) (spoken 
   shape_hidden e (Inspects told calm there) wants lines given next is stack = let same : u ≡ next = cc in subst (Hidden n o) same h
   shape_hidden e (AsksWhy x has calm) wants lines given next is stack = absurd (cc)
 
--- a frame that a command starts
 pub called_hidden : (script : Script) (n o f p : ℕ) (u : World) (events : List Event) (after : World) → Yields (start_frame script (record { sort = CallFrame; proc = p; subject = f; func = Some f }) u) events after → Hidden n o u → Hidden n o after
 called_hidden script n o f p u events after step h = go (u.budget == 0) step
   where
@@ -346,7 +342,7 @@ called_hidden script n o f p u events after step h = go (u.budget == 0) step
     go true s = subst (Hidden n o) (sym s.1) (restacked n o u (record u { outcome = BudgetIsSpent }) refl refl refl h.locals h)
     go false s = subst (Hidden n o) (sym s.1) (restacked n o u _ refl refl refl (λ g m. locals g (either m (λ e. inl (frame_is g e)) (λ i. inr i))) h)
 
--- a command that does not speak of the name
+-- a command that does not use the name
 pub done_hidden : (script : Script) (n o : ℕ) (command : Command) (b : Activity) (below : List Activity) (v : World) (events : List Event) (after : World) → ¬ Includes (command_names command) n → Done script command (on b below v) b below events after → Hidden n o (on b below v) → Hidden n o after
 done_hidden script n o command b below v events after spoken (Stood answers is) h = subst (Hidden n o) (sym is) h
 done_hidden script n o command b below v events after spoken (Stopped answers is) h = subst (Hidden n o) (sym is) (emptied_hidden n o b below v h)

@@ -1,4 +1,4 @@
--- An object that one name alone holds, of which no command reads that name: no command has it at hand.
+-- An object that only one name holds, and whose name a command does not read: the command does not have it at hand.
 use Rattle.std.proofs.Common.{◌≡◌, ◌≢◌, refl, sym, ◌∙◌, subst, ℕ, ◌<◌, inl, List, [], ◌∷◌, Option, Some, None}
 use Rattle.std.specs.Prelude.{option_and_then, option_map, option_to_list, slice_get, unwrap_or}
 use Rattle.cg_value.specs.declared.KindCode.TheVariants.{Inst}

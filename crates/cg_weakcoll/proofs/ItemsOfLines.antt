@@ -1,4 +1,4 @@
--- The items of what some lines say and others behind them.
+-- The items of what some lines and the ones after them say.
 use Rattle.std.proofs.Common.{◌≡◌, ◌≢◌, ℕ, zero, suc, List, [], ◌∷◌, ◌++◌, length, map, Bool, true, false, Some, refl, sym, ap, subst, ◌∙◌, inl, inr, ◌⊎◌, append_assoc}
 use Rattle.std.specs.Prelude.{slice_get}
 use Rattle.cg_script.specs.declared.item.Item.TheVariants as items
@@ -14,7 +14,7 @@ use Rattle.cg_graph.specs.Member.{Includes}
 use Rattle.cg_machine.proofs.Lookups.{slice_get_member}
 use Rattle.cg_weakcoll.proofs.ReadLines.{does_all}
 
--- whether a procedure is open behind some lines
+-- whether a procedure is open after some lines
 abbrev pub through : Bool → List Said → Bool
 through inside [] = inside
 through inside (s ∷ saids) = through (inside_behind s inside) saids
@@ -41,7 +41,7 @@ classes_split (Ends ∷ xs) ys inside = classes_split xs ys false
 classes_split (Does c ∷ xs) ys true = classes_split xs ys true
 classes_split (Does c ∷ xs) ys false = classes_split xs ys false
 
--- commands alone
+-- only commands
 pub run_each : (commands : List Command) → commands_of (items_of false (does_all commands)) ≡ commands
 run_each [] = refl
 run_each (c ∷ commands) = ap (λ l. c ∷ l) (run_each commands)
@@ -62,7 +62,7 @@ body_split (Begins name ∷ xs) ys e = refl
 body_split (Ends ∷ xs) ys e = refl
 body_split (Does c ∷ xs) ys e = ap (λ l. c ∷ l) (body_split xs ys e)
 
--- the procedures of lines that leave none open, and of those behind them
+-- the procedures of lines that leave none open, and of those after them
 pub procedures_split : (xs ys : List Said) (inside : Bool) → through inside xs ≡ false → procedures (items_of inside (xs ++ ys)) ≡ procedures (items_of inside xs) ++ procedures (items_of false ys)
 procedures_split [] ys inside e = ap (λ b. procedures (items_of b ys)) e
 procedures_split (Declares (items.Def p) ∷ xs) ys inside e = ap (λ l. p ∷ l) (procedures_split xs ys inside e)
@@ -74,7 +74,7 @@ procedures_split (Ends ∷ xs) ys inside e = procedures_split xs ys false e
 procedures_split (Does c ∷ xs) ys true e = procedures_split xs ys true e
 procedures_split (Does c ∷ xs) ys false e = procedures_split xs ys false e
 
--- lines declare no command and no whole procedure
+-- lines without commands and whole procedures
 pub record IsPlain (s : Said) : Type 0 where
   pub no_run : (c : Command) → s ≢ Declares (items.Run c)
   pub no_def : (p : Proc) → s ≢ Declares (items.Def p)
@@ -85,7 +85,7 @@ ArePlain saids = (s : Said) → Includes saids s → IsPlain s
 behind : (s : Said) (xs : List Said) → ArePlain (s ∷ xs) → ArePlain xs
 behind s xs plain t m = plain t (inr m)
 
--- what stands in the items was said
+-- each item was said
 pub command_said : (xs : List Said) (inside : Bool) (c : Command) → ArePlain xs → Includes (commands_of (items_of inside xs)) c → Includes xs (Does c)
 command_said [] inside c plain m = absurd m
 command_said (Declares (items.Run d) ∷ xs) inside c plain m = absurd ((plain (Declares (items.Run d)) (inl refl)).no_run d refl)
@@ -146,7 +146,6 @@ begun_names (Ends ∷ xs) inside plain = begun_names xs false (behind _ xs plain
 begun_names (Does c ∷ xs) true plain = begun_names xs true (behind _ xs plain)
 begun_names (Does c ∷ xs) false plain = begun_names xs false (behind _ xs plain)
 
--- one of a list by its place
 pub at_place : {X : Type 0} (xs ys : List X) (y : X) → slice_get (xs ++ y ∷ ys) (length xs) ≡ Some y
 at_place [] ys y = refl
 at_place (x ∷ xs) ys y = at_place xs ys y

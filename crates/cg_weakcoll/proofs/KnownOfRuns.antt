@@ -1,4 +1,4 @@
--- What is known of each world of a run, and what each step does, told once.
+-- What is known of each world of a run, and what each step does, stated once.
 use Rattle.std.proofs.Common.{◌≡◌, refl, subst, ℕ, Bool, true, false, inl, inr, ◌⊎◌, List, [], ◌∷◌, length, Option, Some, None}
 use Rattle.cg_script.specs.declared.Script.{Script}
 use Rattle.cg_script.specs.declared.Command.{Command}
@@ -51,7 +51,6 @@ pub data Done (script : Script) (command : Command) (u : World) (b : Activity) (
   Began : (f : Object) → HasObject u command is_function f → Yields (start_frame script (record { sort = CallFrame; proc = procedure_of u f.serial; subject = f.serial; func = Some f.serial }) u) events after → Done script command u b below events after
   Asked : (g : ℕ) → events ≡ [] → after ≡ push (new_collection g true u) u → Done script command u b below events after
 
--- a step
 pub data Went (script : Script) (w : World) (events : List Event) (after : World) : Type 0 where
   Acted : (a : Activity) (below : List Activity) → w.stack ≡ a ∷ below → Acts script w below events after → Went script w events after
   Due : (g : ℕ) → due w ≡ Some g → events ≡ [] → after ≡ push (new_collection g false w) w → Went script w events after
@@ -87,7 +86,7 @@ goes_steps script = record {
 pub went : (script : Script) (w : World) (events : List Event) (after : World) → Rises 1 w.next_serial w.objects → Step script w events after → Went script w events after
 went script w events after rises step = any_step script (λ w. Rises 1 w.next_serial w.objects) (Went script) (goes_steps script) w events after step rises
 
--- the step of a command, as it is: a collection that is due starts, or the command is done
+-- the step of a command, exactly: a due collection starts, or the command is done
 abbrev pub Exactly : Script → World → Activity → List Activity → World → Command → List Event → World → Type 0
 Exactly script w b below v command events after = ((g : ℕ) × (events ≡ []) × (after ≡ push (new_collection g false w) w)) ⊎ CommandStep script (on b below v) command events after
 

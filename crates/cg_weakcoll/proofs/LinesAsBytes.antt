@@ -1,4 +1,4 @@
--- Lines behind others, as bytes.
+-- Concatenated lines, as bytes.
 use Rattle.std.proofs.Common.{◌≡◌, ℕ, List, [], ◌∷◌, ◌++◌, map, refl, sym, ap, ◌∙◌, append_assoc}
 use Rattle.std.proofs.lemmas.List.{map-append}
 use Rattle.cg_script.specs.Pieces.{lines_of}
@@ -9,7 +9,7 @@ pub with_feeds-append : (xs ys : List (List ℕ)) → with_feeds (xs ++ ys) ≡ 
 with_feeds-append [] ys = refl
 with_feeds-append (x ∷ xs) ys = ap (λ t. with_feed x ++ t) (with_feeds-append xs ys) ∙ sym (append_assoc (with_feed x) (with_feeds xs) (with_feeds ys))
 
--- some lines and others behind them
+-- some lines, then others
 pub both_written : (old mid now : List ℕ) (xs ys : List (List (List ℕ))) → mid ≡ old ++ with_feeds (map joined xs) → now ≡ mid ++ with_feeds (map joined ys) → now ≡ old ++ with_feeds (map joined (xs ++ ys))
 both_written old mid now xs ys first second =
     second
@@ -17,7 +17,7 @@ both_written old mid now xs ys first second =
     ∙ append_assoc old (with_feeds (map joined xs)) (with_feeds (map joined ys))
     ∙ ap (λ t. old ++ t) (sym (with_feeds-append (map joined xs) (map joined ys)) ∙ ap with_feeds (sym (map-append joined xs ys)))
 
--- what is written for all lines, and the lines at the end
+-- what is written for all lines, and the final calls
 pub all_written : (bytes none text now no_number numbers : List ℕ) → none ≡ [] → no_number ≡ [] → text ≡ none ++ with_feeds (written_from 1 (lines_of bytes)) → numbers ≡ no_number ++ finalize_numbers_from 1 (lines_of bytes)
     → now ≡ text ++ with_feeds (call_lines numbers) → now ≡ expansion bytes
 unfolding expansion

@@ -22,11 +22,11 @@ use Rattle.cg_script.proofs.Shown.{Begins, begins_along, begins_self, begins_tex
 use Rattle.cg_weakcoll.specs.MapLines.{Atom, Counted, Named, Quoted, WordStandsFor}
 use Rattle.cg_weakcoll.proofs.ReadLines.{First, Passes, Says, first_line}
 
--- one that is added has the place that it gets
+-- an added text gets the next place
 new_push : {X : Type 0} (p : X → Bool) (xs : List X) (y : X) → p y ≡ true → position_or_len p (xs ++ y ∷ []) ≡ position_or_len p xs
 new_push p xs y here = let push = position_or_len_push p xs y in grind (arith, nat_tests, push, here)
 
--- a text is there at a place
+-- a text is at a place
 pub record IsAt (texts : List (List ℕ)) (text : List ℕ) (n : ℕ) : Type 0 where
   pub there : has_text texts text ≡ true
   pub place : text_number texts text ≡ n
@@ -48,7 +48,7 @@ added texts text = by (has_text texts text) refl
       place = new_push (bytes_eq text) texts text (same_text text);
     }
 
--- all texts begin with those that are known
+-- the known texts are a prefix of all texts
 pub all_begin : (lines : List (List ℕ)) (known : Known) (number : ℕ) (texts : List (List ℕ)) (saids : List Said) → lines_from known number lines ≡ good texts saids → Begins known.texts texts
 all_begin [] known number texts saids e = go known.inside e
   where
@@ -89,14 +89,13 @@ no_comment b e = grind (arith, nat_tests)
 no_quote : (b : ℕ) → begins_name b ≡ true → (b == 39) ≡ false
 no_quote b e = grind (arith, nat_tests)
 
--- it stands for itself
 pub name_stands : (texts : List (List ℕ)) (x : List ℕ) → IsName x → operand_or (named atoms x) texts x ≡ operands.Name (text_number texts x)
 name_stands texts x h =
     ap (λ (f : Option Operand). operand_or f texts x) h.no_atom
     ∙ ap (λ b. cond b (operands.Str (text_number texts (string_text x))) (cond (begins_name (slice_index x 0)) (operands.Name (text_number texts x)) (operands.Int (number_of x)))) (no_quote (slice_index x 0) h.letter)
     ∙ ap (λ b. cond b (operands.Name (text_number texts x)) (operands.Int (number_of x))) h.letter
 
--- a value without a word of its own is a string, a variable or a number
+-- a value that is no keyword is a string, a variable or a number
 unnamed : (word : List ℕ) (found : Option Operand) → named atoms word ≡ found → is_some found ≡ false → is_value word ≡ true → (is_quoted word ≡ false) → cond (begins_name (slice_index word 0)) (is_variable word) (is_number word) ≡ true
 unnamed word found e none value unquoted = by (is_some (named atoms word)) (is_quoted word) _ _ value (ap is_some e ∙ none) unquoted
   where

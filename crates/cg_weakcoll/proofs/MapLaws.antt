@@ -69,7 +69,6 @@ module _ (script : Script) (w : World) (made : StepTaken) (weak object : ℕ) (f
       same : r.object ≡ object
       same = let both : Some (Ref r.object) ≡ Some (Ref object) = sym r.target_is ∙ did.values makes.target ∙ makes.target_is in cc
 
--- A weak reference keeps its referent.
 pub references_keep : WeakReferencesKeepTheirReferents
 references_keep script budget before made after run weak object makes =
     let start : World = opening script budget in
@@ -80,7 +79,7 @@ references_keep script budget before made after run weak object makes =
     keeps_refers (events_of after) weak object (last_world made.world after)
     (run_keeps script weak object [] made.world after back.1 (step_fit script w made.events made.world back.0 fit) (made_keeps script w made weak object fit back.0 makes))
 
--- what a look finds
+-- what a look-up finds
 look_found : (script : Script) (budget : ℕ) (before : List StepTaken) (look : Look) → IsRun script budget (before ++ steps_of look) → (x : ℕ) (map key : Operand) → Looks (world_after script budget before) x map key look → Found look x map key
 look_found script budget before look run x map key looks =
     let w : World = last_world (opening script budget) before in
@@ -89,7 +88,7 @@ look_found script budget before look run x map key looks =
 pub looks_find : LooksFindReferents
 looks_find script budget before look run x map key looks = (look_found script budget before look run x map key looks).finds
 
--- one weak reference stands under a key
+-- only one weak reference is under a key
 one_under : (w : World) (map key : Operand) (m n : ℕ) → IsUnder w map key m → IsUnder w map key n → m ≡ n
 one_under w map key m n a b =
     let dicts : Some (Ref a.dict) ≡ Some (Ref b.dict) = sym a.map_is ∙ b.map_is in
@@ -99,7 +98,7 @@ one_under w map key m n a b =
     let entries : Some (Ref m) ≡ Some (Ref n) = sym a.entry ∙ ap (λ o. value_at (entries_of w.objects o) a.at) dict ∙ ap (λ v. value_at (entries_of w.objects b.dict) v) at ∙ b.entry in
     cc
 
--- what is dying without a frame of its own is not held, and has no name
+-- a dying object without a frame of its own is unheld and has no name
 frameless_unheld : (script : Script) (w : World) (o : ℕ) (phase : DyingPhase) → is_frameless phase ≡ true → Stands script w o phase → Unheld w o
 frameless_unheld script w o Finalizer e h = h
 frameless_unheld script w o AfterFinalizer e h = absurd (let no : false ≡ true = e in cc)
@@ -117,7 +116,7 @@ not_named script w x n calm f named =
     subst (λ o. Includes (references_of_value (option_and_then (λ v. v) (slice_get w.names x))) o → ⊥) f.object (name_free w.names x f.death.object unheld.names)
     (subst (λ v. Includes (references_of_value v) n) (sym named) (inl refl))
 
--- What a look answers.
+-- What a look-up answers.
 pub looks_answer_so : LooksAnswer
 looks_answer_so script budget before made between look run weak object makes x map key looks under =
     let start : World = opening script budget in
@@ -145,7 +144,7 @@ looks_answer_so script budget before made between look run weak object makes x m
       cleared = λ c. f.finds.value ∙ ap (λ r. Some (referent_value r)) (keeps.cleared c f.finds.reference f.finds.member serial);
     }
 
--- What `wset` put into a map `wget` finds.
+-- A `wget` finds what a `wset` put into a map.
 pub maps_answer : WeakMapsAnswer
 maps_answer script budget before store between look run temporary stored_map stored_key v weak object stores x map key looks under =
     looks_answer_so script budget before store.first (since_making store between) look run weak object

@@ -1,4 +1,4 @@
--- What a look into a weak value map finds.
+-- What a look-up in a weak value map finds.
 use Rattle.std.proofs.Common.{◌≡◌, ◌≢◌, refl, sym, ◌∙◌, ap, subst, ℕ, zero, suc, ◌+◌, ◌<◌, false, cond, inl, inr, ◌⊎◌, List, [], ◌∷◌, ◌++◌, length, Option, Some, None, Ok, arith}
 use Rattle.std.specs.Prelude.{count_by, option_and_then, slice_get, slice_set}
 use Rattle.std.proofs.lemmas.List.{append_assoc}
@@ -26,7 +26,6 @@ use Rattle.cg_weakcoll.specs.Maps.{LookFinds, Look, Looks, before_second, before
 use Rattle.cg_weakcoll.proofs.CommandsUsedUp.{Burns, step_burns, weight}
 use Rattle.cg_weakcoll.proofs.Taking.{Derefs, Done, Gets, changes_so, deref_derefs, get_gets, taken_done}
 
--- names
 stays_none : (names : List (Option Val)) (x : ℕ) (u v : Val) → option_and_then (λ v. v) (slice_get (slice_set names x (Some u)) x) ≡ Some v → u ≡ v
 stays_none [] x u v h = absurd (let no : None ≡ Some v = h in cc)
 stays_none (p ∷ names) zero u v h = let same : u ≡ v = cc in same
@@ -37,7 +36,7 @@ bound_there [] x u v h = absurd (let no : None ≡ Some v = h in cc)
 bound_there (p ∷ names) zero u v h = refl
 bound_there (p ∷ names) (suc x) u v h = bound_there names x u v h
 
--- what has commands left
+-- an activity with commands left
 weight_of_commands : (a : Activity) → commands_on a ≢ [] → weight a ≡ suc (length (commands_on a))
 weight_of_commands (TopLevel commands) some = refl
 weight_of_commands (Framed f) some = refl
@@ -49,7 +48,7 @@ weight_of_commands (ShuttingDown started) some = absurd (some refl)
 pub count_append : (xs ys : List Event) → count_by is_enter (xs ++ ys) ≡ count_by is_enter xs + count_by is_enter ys
 count_append xs ys = sum_by-append (λ e. cond (is_enter e) 1 0) xs ys
 
--- While no frame begins, what stood on top has its names, or has taken a command.
+-- While no frame begins, the top activity keeps its names, or has taken a command.
 module _ (script : Script) (top : Activity) (below : List Activity) (some : commands_on top ≢ []) (names : List (Option Val)) where
   abbrev Still : World → Type 0
   Still w = ((tops : List Activity) × (w.stack ≡ tops ++ top ∷ below) × (tally weight tops ≡ 0) × (w.names ≡ names)) ⊎ (tally weight w.stack < tally weight (top ∷ below))
@@ -100,7 +99,7 @@ module _ (script : Script) (top : Activity) (below : List Activity) (some : comm
       let later : count_by is_enter (events_of steps) ≡ 0 = omega (arith, counts, quiet) in
       run_still step.world steps run.1 later running (step_still w step.world (step_burns script w step.events step.world run.0 here (running_first step.world steps run.1 running)) still)
 
-  -- So names stay until the next of its commands is to be taken.
+  -- So names stay until its next command is taken.
   pub names_stay : (w : World) (steps : List StepTaken) → Run script w steps → count_by is_enter (events_of steps) ≡ 0 → (last_world w steps).outcome ≡ Running → (given_up : List ℕ) → w.stack ≡ Releasing given_up ∷ top ∷ below → w.names ≡ names
       → (next : Activity) → (last_world w steps).stack ≡ next ∷ below → commands_on next ≡ commands_on top → (last_world w steps).names ≡ names
   names_stay w steps run quiet running given_up is same next later left =
@@ -110,7 +109,7 @@ module _ (script : Script) (top : Activity) (below : List Activity) (some : comm
       let all : tally weight (last_world w steps).stack ≡ weight next + tally weight below = ap (tally weight) later in
       absurd (omega (arith, less, heavy, all)))
 
--- the steps of a look
+-- the steps of a look-up
 pub record Parts (script : Script) (w : World) (look : Look) : Type 0 where
   pub world : last_world w (steps_before_third look) ≡ before_third look
   pub front : Run script w (steps_before_third look)
@@ -126,7 +125,7 @@ parts script w look run =
     let last = run_back script w (steps_before_third look) (look.third ∷ []) run in
     record { world = world; front = front; second = back.0; late = back.1; third = subst (λ (z : World). Step script z look.third.events look.third.world) world last.0 }
 
--- what a look finds, and that the variable holds the weak reference before the third command
+-- what a look-up finds; the variable holds the weak reference before the third command
 pub record Found (look : Look) (x : ℕ) (map key : Operand) : Type 0 where
   pub finds : LookFinds look x map key
   pub held : value_of (before_third look) (Name x) ≡ Some (Ref finds.weak)

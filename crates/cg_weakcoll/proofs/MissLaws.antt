@@ -1,4 +1,4 @@
--- What a look leaves that is refused.
+-- What a refused look-up leaves.
 use Rattle.std.proofs.Common.{◌≡◌, refl, sym, ◌∙◌, ap, subst, ℕ, false, zero, suc, ◌<◌, List, [], ◌∷◌, ◌++◌, length, Option, Some, Ok, arith, inl}
 use Rattle.std.specs.Prelude.{count_by, flat_map, option_and_then, slice_get, slice_set}
 use Rattle.cg_value.specs.declared.Val.{Val}

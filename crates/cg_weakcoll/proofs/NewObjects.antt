@@ -1,4 +1,4 @@
--- An object that is made is held by the name that it is bound to alone.
+-- A new object is held only by the name that it is bound to.
 use Rattle.std.proofs.Common.{◌≡◌, ◌≢◌, refl, sym, ◌∙◌, ap, subst, ℕ, zero, suc, ◌<◌, inl, List, [], ◌∷◌, ◌++◌, Option, Some, None, arith}
 use Rattle.std.specs.Prelude.{flat_map, slice_set}
 use Rattle.cg_value.specs.declared.KindCode.{KindCode}
@@ -27,7 +27,7 @@ use Rattle.cg_weakcoll.proofs.HiddenObjects.{Hidden, held_by}
 use Rattle.cg_weakcoll.proofs.HiddenObjectSteps.{changed_hidden, pushed, set_free, set_other, taken_locals}
 use Rattle.cg_weakcoll.proofs.KnownOfRuns.{Known}
 
--- nothing speaks of an object
+-- nothing refers to an object
 pub record Unborn (o : ℕ) (w : World) : Type 0 where
   pub names : (x : ℕ) → ¬ Includes (held_by w.names x) o
   pub root : o ≢ 1
@@ -36,7 +36,7 @@ pub record Unborn (o : ℕ) (w : World) : Type 0 where
   pub locals : (f : Frame) → Includes w.stack (Framed f) → (self_in f.sort f.subject ≢ Some o) × (weak_in f.sort f.subject ≢ Some o)
   pub absent : (x : Object) → Includes w.objects x → x.serial ≢ o
 
--- what a name stands for, among what names hold
+-- the value of a name, among what names hold
 pub held_named : (names : List (Option Val)) (x o : ℕ) → Includes (held_by names x) o → Includes (name_holdings names) o
 held_named [] x o m = absurd m
 held_named (v ∷ names) zero o m = Includes-append_left (references_of_value v) (name_holdings names) o m
@@ -84,7 +84,6 @@ module _ (script : Script) (budget : ℕ) (w : World) (k : Known script budget w
     absent = λ x m e. let low = member_below x m in omega (arith, low, e);
   }
 
--- a command is taken
 pub unborn_taken : (o : ℕ) (command : Command) (a b : Activity) (below : List Activity) (v : World) → Takes command a b → Unborn o (on a below v) → Unborn o (on b below v)
 unborn_taken o command a b below v takes h = record { names = h.names; root = h.root; entries = h.entries; referents = h.referents; locals = taken_locals o command a b below takes h.locals; absent = h.absent }
 
@@ -110,7 +109,7 @@ new_hidden n u kind class entries referent given apart free other h = record {
   kind = λ y m s. either (Includes-append_cases u.objects (_ ∷ []) y m) (λ k. absurd (h.absent y k s)) (λ k. either k (λ i. subst (λ (z : Object). z.code ≢ Inst) i apart) (λ none. absurd none));
 }
 
--- an older hidden object, where a new object is bound to its own name or to another
+-- an older hidden object, where a new object is bound to its own name or another
 pub old_hidden : (n o name : ℕ) (u : World) (kind : KindCode) (class : Option ℕ) (entries : List Entry) (referent : Option ℕ) (given : List ℕ) → ¬ Includes (references entries) o → referent ≢ Some o → Hidden n o u
     → Hidden n o (push (Releasing given) (bound (with_new u kind class entries referent) name (Some (Ref u.next_serial))))
 old_hidden n o name u kind class entries referent given free other h = pushed n o (Releasing given) (bound (with_new u kind class entries referent) name (Some (Ref u.next_serial))) (λ f e. cc)

@@ -36,7 +36,7 @@ use Rattle.cg_weakcoll.proofs.HiddenObjects.{Hidden, hand_not}
 use Rattle.cg_weakcoll.proofs.HiddenObjectSteps.{taken_hidden}
 use Rattle.cg_weakcoll.proofs.KnownOfRuns.{Acted, Asked, Began, Bottomed, Changed, Commanded, Done, Due, GaveUp, Known, Lasted, Over, Stood, Stopped, Went}
 
--- an activity that is not the script's own, and has commands of other lines alone
+-- an activity other than the script's own, with commands of other lines only
 abbrev pub IsHigh : Exit → Activity → Type 0
 IsHigh e (TopLevel commands) = ⊥
 IsHigh e (Framed f) = AllOther e f.commands
@@ -48,11 +48,11 @@ IsHigh e (ShuttingDown started) = ⊥
 abbrev pub AllHigh : Exit → List Activity → Type 0
 AllHigh e stack = (a : Activity) → Includes stack a → IsHigh e a
 
--- the functions of the procedure are held by its name alone
+-- only its name holds the procedure's functions
 abbrev pub AreHidden : Exit → World → Type 0
 AreHidden e w = (x : Object) → Includes w.objects x → x.code ≡ Func → x.class ≡ Some e.proc → Hidden e.exit x.serial w
 
--- what is to be called is held
+-- a weak reference to be called back is held
 to_call_held : (a : Activity) (n : ℕ) → Includes (to_call a) n → Includes (holds a) n
 to_call_held (TopLevel commands) n m = absurd m
 to_call_held (Framed f) n m = absurd m
@@ -85,7 +85,6 @@ to_call_lives script budget w n k m =
     let a = to_call_of w.stack n m in
     Includes-map_cases (λ (z : Object). z.serial) w.objects n (k.lawful.orderly.held_live n (Includes-append_right _ (flat_map holds w.stack) n (held_in w.stack a.0 n a.1 (to_call_held a.0 n a.2))))
 
--- the code of a function
 pub function_code : (x : Object) → is_function x ≡ true → x.code ≡ Func
 function_code x t = go x.code refl
   where
@@ -101,7 +100,7 @@ some_same : (m n : ℕ) → Some m ≡ Some n → m ≡ n
 some_same m n e = cc
 
 module _ (script : Script) (budget : ℕ) (e : Exit) (ex : IsExit script e) where
-  -- the procedure of a function that is not hidden is another
+  -- a function that is not hidden has another procedure
   pub other_proc : (w : World) (z : Object) → Known script budget w → AreHidden e w → Includes w.objects z → is_function z ≡ true → (Hidden e.exit z.serial w → ⊥) → procedure_of w z.serial ≢ e.proc
   other_proc w z k hidden m t shown is =
       let code = function_code z t in
@@ -139,7 +138,7 @@ module _ (script : Script) (budget : ℕ) (e : Exit) (ex : IsExit script e) wher
           let z = k.lawful.orderly.callbacks x i code f r in
           other_proc w z.0 k hidden z.1 z.3 (λ h. h.entries x i (subst (Includes (references x.entries)) (sym z.2) r)) (ap (procedure_of w) z.2 ∙ sym q ∙ same)
 
-  -- so the machine begins frames of other procedures alone
+  -- so the machine starts frames of other procedures only
   begun_other : (w : World) (sort : FrameSort) (subject p : ℕ) → Known script budget w → AreHidden e w → BegunBy script w sort subject p → p ≢ e.proc
   begun_other w DelFrame subject p k hidden by = del_other (class_number by.0.code by.0.class) p by.3
   begun_other w LegacyFrame subject p k hidden by = legacy_other (class_number by.0.code by.0.class) p by.3
@@ -154,7 +153,7 @@ module _ (script : Script) (budget : ℕ) (e : Exit) (ex : IsExit script e) wher
   raised_high w (Collecting c) k hidden r = tt
   raised_high w (ShuttingDown started) k hidden r = r
 
-  -- a command that does not speak of the name of the procedure's function leaves the stack so
+  -- a command that does not use the name of the procedure's function leaves the stack alone
   pub data DoneStack (b : Activity) (below stack : List Activity) : Type 0 where
     GoesOn : (tops : List Activity) → stack ≡ tops ++ b ∷ below → AllHigh e tops → DoneStack b below stack
     IsEnded : stack ≡ emptied b ∷ below → DoneStack b below stack
@@ -184,7 +183,7 @@ module _ (script : Script) (budget : ℕ) (e : Exit) (ex : IsExit script e) wher
       (λ s. GoesOn (Framed _ ∷ []) s (one_high (Framed _) (ex.bodies_other (procedure_of (on b below v) f.serial) (other_proc (on a below v) f k hidden has.member has.passes shown))))
   done_stack command a b below v events after takes k hidden spoken (Asked g none is) = GoesOn (new_collection g true (on b below v) ∷ []) (ap (λ (z : World). z.stack) is) (one_high (new_collection g true (on b below v)) tt)
 
-  -- another line's command calls nothing of these
+  -- another line's command calls none of these
   pub other_exit : (command : Command) → IsOther e command → ¬ Includes (command_names command) e.exit
   other_exit command h m = h.names e.exit m (inr (inl refl))
 

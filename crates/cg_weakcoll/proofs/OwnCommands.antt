@@ -1,4 +1,4 @@
--- What the commands of an exit finalizer do, each exactly.
+-- What the commands of an exit finalizer do, exactly.
 use Rattle.std.proofs.Common.{◌≡◌, refl, ℕ, ◌+◌, Bool, true, false, inl, inr, ◌⊎◌, List, [], ◌∷◌, length, Option, Some, None, Result, Ok, Err}
 use Rattle.std.specs.Prelude.{if◌then◌else◌, nat_le, nat_lt, ok_or}
 use Rattle.cg_value.specs.declared.KindCode.{KindCode}
@@ -26,11 +26,9 @@ use Rattle.cg_machine.specs.Effects.{Changes, Effect, Quits, binds, bound, callb
 use Rattle.cg_machine.specs.Commands.{CommandStep, DoesEffect, refused, without_commands}
 
 module _ (script : Script) (u : World) (events : List Event) (after : World) where
-  -- the command is refused
   abbrev pub IsRefused : Type 0
   IsRefused = (n : ℕ) × Yields (refused n u) events after
 
-  -- checks in order
   asks : {A : Type 0} (m : Option A) (n : ℕ) (f : A → Result Effect ℕ) → DoesEffect script u (ok_or m n >>= f) events after → IsRefused ⊎ ((x : A) × (m ≡ Some x) × DoesEffect script u (f x) events after)
   unfolding ◌>>=◌
   asks None n f step = inl (n, step)
@@ -104,7 +102,6 @@ module _ (script : Script) (u : World) (events : List Event) (after : World) whe
       binds_to x None s = either s (λ y. y) (λ k. absurd (let no : false ≡ true = k.0 in cc))
       binds_to x (Some o) s = either s (λ y. y) (λ k. absurd (let no : false ≡ true = k.0 in cc))
 
-  -- a new object
   makes_step : (name : ℕ) (kind : KindCode) (class : Option ℕ) (entries : List Entry) (referent : Option ℕ) → DoesEffect script u (makes u name kind class entries referent) events after
       → IsRefused ⊎ Yields (Made kind u.next_serial ∷ [], push (Releasing (given_up_by u name)) (bound (with_new u kind class entries referent) name (Some (Ref u.next_serial)))) events after
   makes_step name kind class entries referent step = either (checks (nat_lt (live u) MOST_OBJECTS) object_limit _ step) (λ r. inl r) (λ k. either (checks (nat_le (entry_count u + length entries) MOST_ENTRIES) entry_limit _ k) (λ r. inl r)

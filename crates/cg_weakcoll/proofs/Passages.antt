@@ -1,4 +1,4 @@
--- What lines say whose words are free of some names: nothing of these, nor of a procedure of such a name.
+-- Lines with words free of some names do not refer to these names, nor to a procedure with such a name.
 use Rattle.std.proofs.Common.{◌≡◌, ℕ, ◌+◌, ◌≤◌, List, [], ◌∷◌, ◌++◌, length, map, Bool, true, false, cond, Option, None, Some, refl, sym, ap, subst, ◌∙◌, inl, inr, ◌⊎◌, arith, codes, append_assoc, append-nil}
 use Rattle.std.specs.Prelude.{slice_index_or}
 use Rattle.std.proofs.lemmas.List.{map-append}
@@ -59,11 +59,11 @@ procs_begun all known forms.Def (w ∷ c ∷ ws) enough fresh begins =
 procs_begun all known form words enough fresh begins = sym (append-nil known.procs)
 
 module _ (all names : List (List ℕ)) (Free : List ℕ → Type 0) where
-  -- the name of the procedure of this number is free
+  -- the name of the procedure with this number is free
   abbrev pub NameFree : ℕ → Type 0
   NameFree k = Free (slice_index_or names k [])
 
-  -- A line says nothing of these names, nor of procedures of these.
+  -- A line does not refer to these names or to these procedures.
   pub record IsFine (s : Said) : Type 0 where
     pub plain : IsPlain s
     pub names_are : AreFree all Free (said_names s)
@@ -176,11 +176,11 @@ module _ (all names : List (List ℕ)) (Free : List ℕ → Type 0) where
     legacy = class_legacy known.procs known.classes form words known.texts procs clear;
   }
 
-  -- lines that are passed over or have such words
+  -- lines that are ignored or have such words
   abbrev pub AreClearLines : List (List ℕ) → Type 0
   AreClearLines lines = (line : List ℕ) → Includes lines line → is_passed (words_of line) ≡ false → AreClear Free (words_of line)
 
-  -- What such lines say in front of others: all of it is fine. What is known behind them, and how the others go on.
+  -- Such lines before others: all that they say is fine; what is known after them; and how the others go on.
   pub record Passage (known0 : Known) (rest : List (List ℕ)) (saids : List Said) : Type 0 where
     pub before : List Said
     pub later : List Said
@@ -245,7 +245,7 @@ module _ (all names : List (List ℕ)) (Free : List ℕ → Type 0) where
             inside = o.inside ∙ ap (λ b. through b o.before) (sym (inside_said form (parts_of known form words) known.inside));
           }
 
--- so behind any lines
+-- so after any lines
 abbrev pub Any : List ℕ → Type 0
 Any text = Unit {0}
 

@@ -1,4 +1,4 @@
--- What the first of some lines says, and where commands stand that are said one after the other.
+-- What the first of some lines says, and where consecutive commands are.
 use Rattle.std.proofs.Common.{◌≡◌, ℕ, ◌+◌, List, [], ◌∷◌, ◌++◌, length, map, Bool, true, false, not, ◌||◌, ◌==◌, cond, Option, Some, None, refl, sym, ap, subst, ◌∙◌, inl, inr}
 use Rattle.std.specs.Prelude.{if◌then◌else◌, nat_lt}
 use Rattle.std.specs.List.{list_all}
@@ -29,7 +29,7 @@ pub record Line (texts : List (List ℕ)) (known : Known) (number : ℕ) (form :
   pub goes : lines_from (known_after known form words) (number + 1) lines ≡ good texts later
   pub clean : fault_in known form words ≡ None
 
--- what it means, and that the others are good behind it
+-- what it means; the others are good after it
 pub data First (known : Known) (number : ℕ) (line : List ℕ) (lines texts : List (List ℕ)) (saids : List Said) : Type 0 where
   Passes : passed ≡ meaning number line → lines_from known (number + 1) lines ≡ good texts saids → First known number line lines texts saids
   Says : (form : Form) (words : List (List ℕ)) → says form words ≡ meaning number line → Line texts known number form words lines saids → First known number line lines texts saids
@@ -38,7 +38,7 @@ meant_is : (known : Known) (number : ℕ) (line : List ℕ) → meant known numb
 unfolding meant
 meant_is known number line = refl
 
--- each word from a place on has the form that its place asks for
+-- each word from a place on has the form that its place requires
 abbrev pub AllFit : Form → ℕ → List (List ℕ) → Type 0
 AllFit form place [] = Unit {0}
 AllFit form place (word ∷ words) = (fits (sort_at form place) word ≡ true) × AllFit form (place + 1) words
@@ -84,7 +84,7 @@ module _ (known : Known) (number : ℕ) (lines texts : List (List ℕ)) (saids :
       by_meaning (says form words) em k = Says form words em (says_line form words k)
       by_meaning (bad code) em k = absurd (cc)
 
-  -- the words of a line that is not passed over tell, and have the forms that their places ask for
+  -- the words of a line that is not ignored select its form and fit it
   pub one_line : (form : Form) (words : List (List ℕ)) (line : List ℕ) → words_of line ≡ words → is_passed words ≡ false → worded words ≡ formed form words → lines_from known number (line ∷ lines) ≡ good texts saids → Line texts known number form words lines saids × AllFit form 0 words
   unfolding meaning
   one_line form words line is unpassed meant e =
@@ -99,7 +99,7 @@ module _ (known : Known) (number : ℕ) (lines texts : List (List ℕ)) (saids :
       go false false true d k = absurd (cc)
       go false false false true k = absurd (cc)
 
--- declarations stand outside procedures, and `end` inside one
+-- declarations are outside procedures, and `end` is inside one
 abbrev pub AreNested : Bool → List Said → Type 0
 AreNested inside [] = Unit {0}
 AreNested inside (s ∷ ss) = (is_placed s inside ≡ true) × AreNested (inside_behind s inside) ss
@@ -119,12 +119,11 @@ nested (line ∷ lines) known number texts saids e = go (λ k n ss h. nested lin
       subst (λ b. AreNested b s.later) (sym (inside_said form (parts_of known form words) known.inside)) (ih (known_after known form words) (number + 1) s.later s.goes),
     )
 
--- where commands stand that are said one after the other
+-- where commands said in sequence are
 pub data Stands (inside : Bool) (saids : List Said) (commands : List Command) : Type 0 where
   InOpen : inside ≡ true → (front back : List Command) → body_of saids ≡ front ++ commands ++ back → Stands inside saids commands
   InItems : StandTogether (items_of inside saids) commands → Stands inside saids commands
 
--- one item more
 more_items : (item : Item) (items : List Item) (commands : List Command) → StandTogether items commands → StandTogether (item ∷ items) commands
 more_items (variants.Run c) items commands (Outside front back e) = Outside (c ∷ front) back (ap (λ l. c ∷ l) e)
 more_items item items commands (Outside front back e) = Outside front back e
@@ -170,6 +169,6 @@ module _ (commands : List Command) (later : List Said) where
   outside_stand saids (InOpen i front back e) = absurd (let no : false ≡ true = i in cc)
   outside_stand saids (InItems t) = t
 
-  -- commands that are said one after the other stand together
+  -- commands said in sequence are consecutive
   pub stand_together : (before : List Said) → AreNested false (before ++ (does_all commands ++ later)) → StandTogether (items_of false (before ++ (does_all commands ++ later))) commands
   stand_together before n = outside_stand (before ++ (does_all commands ++ later)) (stand_on before false n)

@@ -1,4 +1,4 @@
--- Lines that are read one after the other, by a table of their forms and words: what they say, by all texts of the script.
+-- Lines read in sequence, by a table of their forms and words: what they say, with all texts of the script.
 use Rattle.std.proofs.Common.{◌≡◌, ℕ, ◌+◌, List, [], ◌∷◌, ◌++◌, map, Bool, true, false, cond, not, ◌||◌, Option, None, Some, refl, sym, ap, subst, ◌∙◌}
 use Rattle.std.specs.Prelude.{slice_index}
 use Rattle.std.specs.Str.{bytes_eq}
@@ -31,7 +31,7 @@ use Rattle.cg_weakcoll.proofs.ReadLines.{AllFit, AreNested, does_all, nested, on
 use Rattle.cg_weakcoll.proofs.Passages.{behind}
 use Rattle.cg_weakcoll.proofs.LookLines.{added, all_begin, read_as}
 
--- a text that is there has its place in all texts
+-- a known text keeps its place among all texts
 place_first : (xs more : List (List ℕ)) (text : List ℕ) → has_text xs text ≡ true → text_number (xs ++ more) text ≡ text_number xs text
 place_first [] more text e = absurd (let no : false ≡ true = e in cc)
 place_first (x ∷ xs) more text e = go (bytes_eq text x) e (place_first xs more text)
@@ -45,7 +45,6 @@ placed all texts text begins =
     let at = added texts text in
     sym (ap (λ l. text_number l text) begins.is ∙ place_first (with_text texts text) begins.more text at.there ∙ at.place)
 
--- it is there
 has_all : (all texts : List (List ℕ)) (text : Option (List ℕ)) → Begins (with_text_if texts text) all → Begins (with_text_if all text) all
 has_all all texts None begins = begins_self all
 has_all all texts (Some text) begins =
@@ -54,7 +53,7 @@ has_all all texts (Some text) begins =
     subst (λ b. Begins (cond b all (all ++ text ∷ [])) all) (sym there) (begins_self all)
 
 module _ (procs classes all : List (List ℕ)) where
-  -- a word stands for what it stands for by all texts
+  -- what a word stands for, with all texts
   abbrev value_by : List (List ℕ) → List ℕ → Bool → Bool → Operand
   value_by texts word quoted name = cond quoted (operands.Str (text_number texts (string_text word))) (cond name (operands.Name (text_number texts word)) (operands.Int (number_of word)))
 
@@ -84,7 +83,7 @@ module _ (procs classes all : List (List ℕ)) where
       ap (λ (p : Part). p ∷ parts_from procs classes more form (place + 1) words) (part_in texts (sort_at form place) word (begins_along more (texts_from more form (place + 1) words) all (begins_texts form words more (place + 1)) begins))
       ∙ ap (λ ps. part_of procs classes all (sort_at form place) word ∷ ps) (parts_are form words more (place + 1) begins)
 
--- the texts of words are there
+-- the texts of words are known
 abbrev pub AreThere : List (List ℕ) → Form → ℕ → List (List ℕ) → Type 0
 AreThere all form place [] = Unit {0}
 AreThere all form place (word ∷ words) = Begins (with_text_if all (text_in (sort_at form place) word)) all × AreThere all form (place + 1) words
@@ -109,7 +108,7 @@ abbrev pub AreRead : List Row → Type 0
 AreRead [] = Unit {0}
 AreRead (r ∷ rows) = ((words_of r.line ≡ r.words) × IsMeant r.form r.words) × AreRead rows
 
--- what they say, what is known behind them, and that nothing is wrong
+-- what they say, what is known after them, and that nothing is wrong
 abbrev pub says_rows : List (List ℕ) → List (List ℕ) → List (List ℕ) → List Row → List Said
 says_rows all procs classes [] = []
 says_rows all procs classes (r ∷ rows) = said r.form (parts_in procs classes all r.form 0 r.words) ∷ says_rows all (procs_after procs r.form r.words) (classes_after classes r.form r.words) rows
@@ -160,7 +159,7 @@ table all (r ∷ rows) known number rest saids read e =
       fit = (fit, more.fit);
     }
 
--- rows of lines that are written of words
+-- rows of written lines
 abbrev pub written_row : Form × List (List ℕ) → Row
 written_row w = record { line = joined w.1; form = w.0; words = w.1 }
 
@@ -172,7 +171,7 @@ pub are_read : (ws : List (Form × List (List ℕ))) → EachLine IsSound (map (
 are_read [] sound meant = tt
 are_read (w ∷ ws) sound meant = ((words_of-joined w.1 (each_sound w.1 sound.0), meant.0), are_read ws sound.1 meant.1)
 
--- rows in the middle of a script: the commands that they say stand together
+-- rows in the middle of a script: their commands are consecutive
 pub record Middle (texts : List (List ℕ)) (items : List Item) (rows : List Row) : Type 0 where
   pub known : Known
   pub found : AreFound texts rows

@@ -1,5 +1,4 @@
--- What a step does to weak references: a referent is lost by a line, or as the weak reference itself begins to die, and does not
--- come back.
+-- What a step does to weak references: one loses its referent with a line, or when it begins to die, and never gets it back.
 use Rattle.std.proofs.Common.{◌≡◌, refl, sym, subst, ℕ, ◌-◌, Bool, true, false, inl, inr, ◌⊎◌, List, [], ◌∷◌, ◌++◌, map, None}
 use Rattle.std.specs.Prelude.{◌==◌, if◌then◌else◌}
 use Rattle.cg_value.specs.declared.Entry.{Entry}
@@ -23,14 +22,14 @@ is_frameless AfterFinalizer = false
 is_frameless AfterLegacy = false
 is_frameless phase = true
 
--- an object is dying so
+-- an object is dying in this way
 pub record IsFading (stack : List Activity) (n : ℕ) : Type 0 where
   pub death : Death
   pub member : Includes stack (Dying death)
   pub object : death.object ≡ n
   pub frameless : is_frameless death.phase ≡ true
 
--- the same object later: it has its referent still, or has lost it for a reason
+-- the same object later: it has its referent, or has lost it for a reason
 pub record Wanes (lost : ℕ → Type 0) (x y : Object) : Type 0 where
   pub serial : y.serial ≡ x.serial
   pub code : y.code ≡ x.code
@@ -43,7 +42,7 @@ Waned lost before after = Came (Wanes lost) before after
 abbrev pub Never : ℕ → Type 0
 Never n = ⊥
 
--- no line that a weak reference is cleared
+-- no line clears a weak reference
 abbrev pub ClearNone : List Event → Type 0
 ClearNone events = (n : ℕ) → ¬ Includes events (Cleared n)
 
@@ -55,7 +54,6 @@ IsOther event = Unit {0}
 abbrev pub IsLost : List Event → List Activity → ℕ → Type 0
 IsLost events stack n = Includes events (Cleared n) ⊎ IsFading stack n
 
--- a step
 pub record Goes (before : List Object) (next : ℕ) (events : List Event) (after : World) : Type 0 where
   pub was : (y : Object) → Includes after.objects y → ((x : Object) × Includes before x × Wanes (IsLost events after.stack) x y) ⊎ (y.serial ≡ next)
   pub cleared : (n : ℕ) → Includes events (Cleared n) → HasNoReferent n after.objects
@@ -79,7 +77,6 @@ if_waned lost f test h objects = came_if (Wanes lost) (wanes_same lost) f test o
 pub entries_waned : (es : List Entry) (s : ℕ) (objects : List Object) → Waned Never objects (change (with_entries es) s objects)
 entries_waned es s objects = if_waned Never (with_entries es) (λ x. x.serial == s) (λ x e. record { serial = refl; code = refl; referent = inl refl }) objects
 
--- lines
 pub none_cleared : ClearNone []
 none_cleared n m = m
 
@@ -89,7 +86,6 @@ other_line event h n m = either m (λ e. subst IsOther e h) (λ k. k)
 pub others_more : (event : Event) (events : List Event) → IsOther event → ClearNone events → ClearNone (event ∷ events)
 others_more event events h k n m = either m (λ e. subst IsOther e h) (k n)
 
--- steps
 module _ (objects : List Object) (next : ℕ) where
   -- no referent is lost
   pub steady : (events : List Event) (after : World) → ClearNone events → Waned Never objects after.objects → Goes objects next events after

@@ -1,4 +1,4 @@
--- A weak reference that dies is dying still after a step, or gone.
+-- After a step, a dying weak reference is still dying or freed.
 use Rattle.std.proofs.Common.{◌≡◌, refl, sym, ap, subst, ℕ, ◌-◌, Bool, true, false, inl, inr, ◌⊎◌, List, [], ◌∷◌, ◌++◌, Option, Some, None}
 use Rattle.std.specs.Prelude.{◌==◌, if◌then◌else◌, is_some, slice_get, option_and_then, unwrap_or}
 use Rattle.cg_value.specs.declared.Entry.{Entry}
@@ -23,7 +23,7 @@ use Rattle.cg_machine.proofs.LeftBelowRuns.{LeavesUnder}
 use Rattle.cg_machine.proofs.LinesNameLive.{without_gone}
 use Rattle.cg_weakcoll.proofs.ReferentsLost.{IsFading, is_frameless}
 
--- A weak reference has no finalizer: its death goes on until it is gone.
+-- A weak reference has no finalizer: its death goes on until it is freed.
 abbrev pub IsWeak : List Object → ℕ → Type 0
 IsWeak objects n = (x : Object) → Includes objects x → x.serial ≡ n → x.code ≡ Weak
 
@@ -51,7 +51,7 @@ none_legacy script objects n weak = go (object_at objects n) refl
     go None e = refl
     go (Some x) e = let f = found_at objects n x e in no_legacy script x (weak x f.0 f.1)
 
--- it is dying still, or gone
+-- it is still dying, or freed
 abbrev pub FadesOrGoes : ℕ → World → Type 0
 FadesOrGoes n after = IsFading after.stack n ⊎ (¬ Includes (serials after.objects) n)
 

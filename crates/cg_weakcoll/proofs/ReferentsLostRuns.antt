@@ -36,7 +36,6 @@ use Rattle.cg_weakcoll.specs.Maps.{RefersBy}
 use Rattle.cg_weakcoll.proofs.ReferentsLost.{ClearNone, IsFading, IsLost, IsOther, Waned, Wanes, Never, Goes, advance_wanes, wanes_for, same_waned, map_waned, if_waned, entries_waned, other_line, none_cleared, others_more, steady, starts_going}
 use Rattle.cg_weakcoll.proofs.ReferentsLostDeaths.{IsWeak, step_fades}
 
--- a command
 abbrev DoesGo : World → Effect → Type 0
 DoesGo w (Changes wants_memory lines given_up after) = Goes w.objects w.next_serial lines after
 DoesGo w (Calls f) = Unit {0}
@@ -162,7 +161,7 @@ goes_steps script = record {
 pub step_wanes : (script : Script) (w : World) (events : List Event) (after : World) → Step script w events after → Goes w.objects w.next_serial events after
 step_wanes script w events after step = any_step script (λ u. Unit {0}) StepGoes (goes_steps script) w events after step tt
 
--- What is so of a weak reference to an object, by the lines since it was made.
+-- the state of a weak reference to an object, by the lines since it was made
 pub record Keeps (since : List Event) (weak object : ℕ) (w : World) : Type 0 where
   pub made : weak < w.next_serial
   pub code : IsWeak w.objects weak

@@ -1,4 +1,4 @@
--- The words that are written for a line have graphic bytes.
+-- The words written for a line have graphic bytes.
 use Rattle.std.proofs.Common.{◌≡◌, ℕ, zero, suc, ◌+◌, ◌<◌, ◌≤◌, List, [], ◌∷◌, ◌++◌, length, map, Bool, true, false, not, ◌&&◌, refl, ap, ◌∙◌, arith, nat_le, codes}
 use Rattle.std.specs.Prelude.{decimal}
 use Rattle.std.specs.List.{list_all}
@@ -53,7 +53,7 @@ sound_at [] place h low = absurd (omega (arith, low))
 sound_at (word ∷ words) zero h low = h.0
 sound_at (word ∷ words) (suc place) h low = sound_at words place h.1 (omega (arith, low))
 
--- A fact on each word that is written for a line.
+-- A property of each word written for a line.
 abbrev pub EachWord : (List ℕ → Type 0) → List (List ℕ) → Type 0
 EachWord Q [] = Unit {0}
 EachWord Q (word ∷ words) = Q word × EachWord Q words
@@ -62,7 +62,7 @@ abbrev pub EachLine : (List ℕ → Type 0) → List (List (List ℕ)) → Type 
 EachLine Q [] = Unit {0}
 EachLine Q (words ∷ lines) = EachWord Q words × EachLine Q lines
 
--- the words that expansions write of themselves
+-- the words that expansions generate
 abbrev pub is_plain : List ℕ → Bool
 is_plain word = nat_le 1 (length word) && list_all (λ b. nat_le 33 b && nat_le b 126) word && not (is_kept word)
 
@@ -131,7 +131,6 @@ module _ (Q : List ℕ → Type 0) (m : ℕ) (words : List (List ℕ)) (plain : 
   pub call_written : EachWord Q (codes "call" ∷ exit_name m ∷ [])
   call_written = (plain (codes "call") refl, (letter 103 refl, tt))
 
--- they are sound
 abbrev pub IsSound : List ℕ → Type 0
 IsSound word = (1 ≤ length word) × Graphic word
 

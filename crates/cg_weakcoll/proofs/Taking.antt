@@ -1,4 +1,4 @@
--- What a step does that takes a command and is not refused: `ref`, `get` and `deref`.
+-- What a step does that takes a command without refusing it: `ref`, `get` and `deref`.
 use Rattle.std.proofs.Common.{◌≡◌, refl, sym, ◌∙◌, ap, subst, ℕ, Bool, true, false, inl, inr, List, [], ◌∷◌, Option, Some, None, Result, Ok, Err}
 use Rattle.std.specs.Prelude.{if◌then◌else◌, ok_or, option_map, unwrap_or}
 use Rattle.cg_value.specs.declared.Val.{Val}
@@ -45,7 +45,7 @@ pub changes_so : (script : Script) (u : World) (wants_memory : Bool) (lines : Li
 changes_so script u wants_memory lines given_up next events after none (inl step) = (step.0, step.1)
 changes_so script u wants_memory lines given_up next events after none (inr step) = absurd (not_refused no_memory u events after none step.1)
 
--- what a step does that takes a command
+-- what a step that takes a command does
 pub record Took (script : Script) (w : World) (command : Command) (left : List Command) (below : List Activity) (step : StepTaken) : Type 0 where
   pub top : Activity
   pub commands : commands_on top ≡ left
@@ -109,7 +109,7 @@ module _ (script : Script) (w : World) (command : Command) (left : List Command)
       let r = accepts script (with_stack (k.top ∷ below) w) (effect (with_stack (k.top ∷ below) w) command) step.events step.world t.accepted k.does in
       record { top = k.top; commands = k.commands; values = k.values; what = r.0; is = r.1; does = r.2 }
 
--- Checks in order, where the last one passes.
+-- Checks in order; the last one passes.
 then_ok : {A B : Type 0} (m : Result A ℕ) (f : A → Result B ℕ) (y : B) → (m >>= f) ≡ Ok y → (x : A) × (m ≡ Ok x) × (f x ≡ Ok y)
 unfolding ◌>>=◌
 then_ok (Ok x) f y h = (x, refl, h)
@@ -196,7 +196,6 @@ get_refused script u x map key events after n does m = go (effect u (Get x map k
     go (Err k) e step = ap (λ (z : World). z.names) step.1
     go (Ok e) is step = let g = get_gets u x map key e is in absurd (never g.val (subst (λ k. DoesEffect script u (Ok k) events after) g.is step))
 
--- a weak reference
 weak_code : (k : KindCode) → elim k [ Weak ↦ true | _ ↦ false ] ≡ true → k ≡ Weak
 weak_code Weak e = refl
 weak_code ListKind e = absurd (let no : false ≡ true = e in cc)

@@ -1,4 +1,4 @@
--- The weak reference of an exit finalizer: it is hidden until its callback begins or the procedure has called the function.
+-- The weak reference of an exit finalizer is hidden until its callback begins or the procedure has called the function.
 use Rattle.std.proofs.Common.{◌≡◌, refl, sym, ◌∙◌, ap, subst, ℕ, ◌+◌, ◌<◌, Bool, true, false, cond, inl, inr, ◌⊎◌, List, [], ◌∷◌, ◌++◌, Option, Some, None, arith}
 use Rattle.std.specs.Prelude.{◌==◌, count_by, flat_map, option_and_then, slice_get}
 use Rattle.std.proofs.lemmas.Bool.{eq-eqb, eqb-true}
@@ -39,7 +39,7 @@ use Rattle.cg_weakcoll.proofs.KnownOfRuns.{Known}
 abbrev pub callbacks : ℕ → List Event → ℕ
 callbacks s events = count_by (is_callback_of s) events
 
--- the procedure has its object, to which the weak reference refers if it still lives
+-- the procedure has its object, the weak reference's referent if it still lives
 pub record Held (e : Exit) (s n : ℕ) (w : World) (referent : ℕ) : Type 0 where
   pub quiet : n ≡ 0
   pub uncalled : ¬ Includes (all_to_call w.stack) s
@@ -47,7 +47,7 @@ pub record Held (e : Exit) (s n : ℕ) (w : World) (referent : ℕ) : Type 0 whe
   pub refers : (x : Object) → Includes w.objects x → x.serial ≡ s → (x.referent ≡ None) ⊎ (x.referent ≡ Some referent)
   pub apart : (z : Object) → Includes w.objects z → z.serial ≡ referent → ¬ IsFound z.place
 
--- what is known at each command of the procedure, after so many callbacks
+-- what is known at each command of the procedure, after this many callbacks
 pub data Standing (e : Exit) (s n : ℕ) (w : World) : List Command → Type 0 where
   StandsDeref : Standing e s n w (Deref e.object (Name e.watch) ∷ Quit (Name e.object) ∷ Del e.watch ∷ Del e.object ∷ Call (Name e.function) ∷ [])
   StandsQuit : ((v : Val) → slice_get w.names e.object ≡ Some (Some v) → (v ≡ Nothing) ⊎ ((r : ℕ) × (v ≡ Ref r) × Held e s n w r)) → Standing e s n w (Quit (Name e.object) ∷ Del e.watch ∷ Del e.object ∷ Call (Name e.function) ∷ [])
@@ -55,7 +55,7 @@ pub data Standing (e : Exit) (s n : ℕ) (w : World) : List Command → Type 0 w
   StandsObject : (r : ℕ) → Held e s n w r → ¬ Includes (held_by w.names e.watch) s → Standing e s n w (Del e.object ∷ Call (Name e.function) ∷ [])
   StandsCall : n ≡ 0 → Spent s w → Standing e s n w (Call (Name e.function) ∷ [])
 
--- what is known of the weak reference s, after so many callbacks and calls
+-- what is known of the weak reference s, after this many callbacks and calls
 pub record Watching (e : Exit) (s n calls : ℕ) (w : World) : Type 0 where
   pub made : s < w.next_serial
   pub live : (x : Object) → Includes w.objects x → x.serial ≡ s → (r : ℕ) → x.referent ≡ Some r → Hidden e.watch s w
@@ -64,7 +64,6 @@ pub record Watching (e : Exit) (s n calls : ℕ) (w : World) : Type 0 where
   pub own : (commands : List Command) → Includes w.stack (TopLevel commands) → (c : Command) → Includes commands c → IsOther e c ⊎ (c ≡ Call (Name e.exit))
   pub called : (calls ≡ 0) ⊎ ((n ≡ 0) × Spent s w)
 
--- callbacks are counted
 pub count_cases : (s : ℕ) (events : List Event) → (callbacks s events ≡ 0) ⊎ Includes events (Enter Callback s)
 count_cases s [] = inl refl
 count_cases s (x ∷ events) = go x (count_cases s events)
@@ -106,12 +105,12 @@ condemned_found z t = go z.place refl
     go Back e = absurd (let no : is_condemned z ≡ false = cc in let bad : true ≡ false = sym t ∙ no in cc)
     go Pend e = absurd (let no : is_condemned z ≡ false = cc in let bad : true ≡ false = sym t ∙ no in cc)
 
--- a name's value is held by it
+-- a name holds its value
 pub named_held : (names : List (Option Val)) (x r : ℕ) → slice_get names x ≡ Some (Some (Ref r)) → Includes (held_by names x) r
 named_held names x r e = subst (λ m. Includes (references_of_value (option_and_then (λ v. v) m)) r) (sym e) (inl refl)
 
 module _ (script : Script) (budget : ℕ) (e : Exit) (s n : ℕ) (w : World) (events : List Event) (after : World) (k : Known script budget w) (t : Tells s w events after) where
-  -- what the procedure holds stays so, while it is named so
+  -- what the procedure holds stays while it has that name
   held_stays : (r : ℕ) → Held e s n w r → slice_get after.names e.object ≡ slice_get w.names e.object → Held e s (n + callbacks s events) after r
   held_stays r h names = record {
     quiet = let z = none_counted s events (λ m. h.uncalled (t.begins m).0) in let q = h.quiet in omega (arith, z, q);
@@ -148,7 +147,7 @@ module _ (script : Script) (budget : ℕ) (e : Exit) (s n : ℕ) (w : World) (ev
               (λ d. absent d.0.object (holdings w) (subst (λ phase. IsHeldInItsFramesAlone d.0.object phase (holdings w)) d.4 (k.lawful.unheld d.0 d.2)) (subst (Includes (holdings w)) (sym (d.3 ∙ is)) held_at))
               (λ z. h.apart z.0 z.1 (z.2 ∙ is) (condemned_found z.0 z.3))
 
-  -- while others step
+  -- a step of another activity
   pub standing_rests : (cs : List Command) → slice_get after.names e.object ≡ slice_get w.names e.object → slice_get after.names e.watch ≡ slice_get w.names e.watch → Standing e s n w cs → Standing e s (n + callbacks s events) after cs
   standing_rests cs object watch StandsDeref = StandsDeref
   standing_rests cs object watch (StandsQuit h) = StandsQuit (λ v i. either (h v (sym object ∙ i)) (λ none. inl none) (λ r. inr (r.0, r.1, held_stays r.0 r.2 object)))

@@ -1,4 +1,4 @@
--- Each step keeps what is known of the weak reference of an exit finalizer.
+-- Each step preserves what is known of the weak reference of an exit finalizer.
 use Rattle.std.proofs.Common.{◌≡◌, refl, sym, ◌∙◌, ap, subst, ℕ, zero, suc, ◌+◌, true, false, inl, inr, ◌⊎◌, List, [], ◌∷◌, ◌++◌, Option, Some, None, arith}
 use Rattle.std.specs.Prelude.{count_by, option_and_then, slice_get, slice_set}
 use Rattle.cg_value.specs.declared.Val.{Val}
@@ -42,13 +42,13 @@ use Rattle.cg_weakcoll.proofs.WeakReferenceSteps.{went_tells}
 use Rattle.cg_weakcoll.proofs.WatchedReference.{Standing, StandsCall, StandsDeref, StandsObject, StandsQuit, StandsWatch, Watching, callbacks, count_cases, none_counted, one_counted}
 use Rattle.cg_weakcoll.proofs.KnownOfRuns.{Acted, Asked, Began, Bottomed, Changed, Commanded, Done, Due, GaveUp, Known, Lasted, Over, Stood, Stopped, Went, exactly}
 
--- what a command that is taken may be to the weak reference's name
+-- what a taken command may do to the weak reference's name
 pub data Minds (e : Exit) (command : Command) : Type 0 where
   Quiet : ¬ Includes (command_names command) e.watch → Minds e command
   DerefIt : command ≡ Deref e.object (Name e.watch) → Minds e command
   DelIt : command ≡ Del e.watch → Minds e command
 
--- a name that is given up stands for nothing new
+-- a dropped name stands for nothing new
 dropped : (names : List (Option Val)) (name x q : ℕ) → Includes (held_by (slice_set names name None) x) q → Includes (held_by names x) q
 dropped [] name x q m = m
 dropped (u ∷ names) zero zero q m = absurd m
@@ -96,7 +96,7 @@ module _ (script : Script) (budget : ℕ) (e : Exit) (ex : IsExit script e) wher
   minded Q calls stack c a b below (During (t ∷ tops) f commands is high tail other q none) own top takes = tame_minds c a b takes (subst (λ (x : Activity). AllOther e (commands_on x)) (same_top script budget e ex t a (tops ++ Framed f ∷ TopLevel commands ∷ []) below stack is top).0 (high_tame e t (high t (inl refl))))
   minded Q calls stack c a b below (After tame few) own top takes = tame_minds c a b takes (tame a (subst (λ st. Includes st a) (sym top) (inl refl)))
 
-  -- before the last command it is spent
+  -- it is spent before the last command
   at_call : (s n : ℕ) (w : World) (fs : List Command) → fs ≡ Call (Name e.function) ∷ [] → Standing e s n w fs → (n ≡ 0) × Spent s w
   at_call s n w fs is StandsDeref = absurd (cc)
   at_call s n w fs is (StandsQuit h) = absurd (cc)
@@ -104,7 +104,7 @@ module _ (script : Script) (budget : ℕ) (e : Exit) (ex : IsExit script e) wher
   at_call s n w fs is (StandsObject r h unnamed) = absurd (cc)
   at_call s n w fs is (StandsCall quiet spent) = (quiet, spent)
 
-  -- where a call is counted
+  -- where a call counts
   counts : (s n calls : ℕ) (w : World) → Stage script e (Standing e s n w) calls w.stack → (is_call e.function (next_command w.stack) ≡ false) ⊎ ((n ≡ 0) × Spent s w)
   counts s n calls w (Before [] done commands is high at none) = inl (ap (λ st. is_call e.function (next_command st)) is ∙ top_call script budget e ex (λ cs. Unit {0}) tt done commands at)
   counts s n calls w (Before (t ∷ tops) done commands is high at none) = inl (ap (λ st. is_call e.function (next_command st)) is ∙ high_call script budget e ex t (tops ++ TopLevel commands ∷ []) (high t (inl refl)))
@@ -122,7 +122,6 @@ module _ (script : Script) (budget : ℕ) (e : Exit) (ex : IsExit script e) wher
   counts s n calls w (During (t ∷ tops) f commands is high tail other q none) = inl (ap (λ st. is_call e.function (next_command st)) is ∙ high_call script budget e ex t (tops ++ Framed f ∷ TopLevel commands ∷ []) (high t (inl refl)))
   counts s n calls w (After tame few) = inl (tame_call script budget e ex (λ cs. Unit {0}) tt w.stack tame)
 
-  -- a step
   module _ (s n calls : ℕ) (w : World) (events : List Event) (after : World) (k : Known script budget w) (step : Step script w events after) (x : Went script w events after) (h : Watching e s n calls w) (stage : Stage script e (Standing e s n w) calls w.stack) where
     tells : Tells s w events after
     tells = went_tells script budget s w events after k h.made x
@@ -139,7 +138,6 @@ module _ (script : Script) (budget : ℕ) (e : Exit) (ex : IsExit script e) wher
     called_after : (calls + step_calls script budget e ex (λ cs. Unit {0}) tt w events ≡ 0) ⊎ ((n + callbacks s events ≡ 0) × Spent s after)
     called_after = either h.called (λ z. either (counts s n calls w stage) (λ f. inl (counted calls (count_by is_enter events) (is_call e.function (next_command w.stack)) f ∙ z)) (λ p. inr (spent_after p))) (λ p. inr (spent_after p))
 
-    -- the hidden object
     hidden_after : ¬ Includes (all_to_call w.stack) s → Hidden e.watch s w → Hidden e.watch s after
     hidden_after uncalled hid = go x
       where
@@ -185,7 +183,6 @@ module _ (script : Script) (budget : ℕ) (e : Exit) (ex : IsExit script e) wher
         go (Lasted below top none is) = subst (Hidden e.watch s) (sym is) (pushed e.watch s (new_collection 2 false w) (with_stack (ShuttingDown true ∷ below) w) (λ f i. cc) (bottom_hidden script budget e e.watch s w (ShuttingDown false) (ShuttingDown true) below top (λ f i. cc) hid))
         go (Commanded command a b below v is takes hb d) = commanded command a b below v is takes d (minded (Standing e s n w) calls w.stack command a b below stage h.own (ap (λ (z : World). z.stack) is) takes)
 
-    -- its name
     named_after : (q : ℕ) → Includes (held_by after.names e.watch) q → q ≡ s
     named_after q m = h.named q (go x)
       where

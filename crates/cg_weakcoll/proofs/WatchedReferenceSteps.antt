@@ -1,4 +1,4 @@
--- The commands of the procedure: what is known when the next is to be done.
+-- The commands of the procedure: what is known before each.
 use Rattle.std.proofs.Common.{◌≡◌, ◌≢◌, refl, sym, ◌∙◌, ap, subst, ℕ, zero, suc, ◌+◌, Bool, true, false, inl, inr, ◌⊎◌, List, [], ◌∷◌, ◌++◌, length, Option, Some, None, arith}
 use Rattle.std.specs.Prelude.{◌==◌, flat_map, option_and_then, slice_get, slice_set}
 use Rattle.std.specs.List.{list_any}
@@ -43,12 +43,11 @@ use Rattle.cg_weakcoll.proofs.OtherCommands.{function_code}
 use Rattle.cg_weakcoll.proofs.WatchedReference.{Held, Standing, StandsCall, StandsDeref, StandsObject, StandsQuit, StandsWatch, Watching, callbacks, none_counted}
 use Rattle.cg_weakcoll.proofs.KnownOfRuns.{Known, exactly}
 
--- names hold an object where one of them does
+-- names hold an object if one of them does
 named_by : (names : List (Option Val)) (o : ℕ) → Includes (name_holdings names) o → (x : ℕ) × Includes (held_by names x) o
 named_by [] o m = absurd m
 named_by (v ∷ names) o m = either (Includes-append_cases (references_of_value v) (name_holdings names) o m) (λ i. (zero, i)) (λ i. let x = named_by names o i in (suc x.0, x.1))
 
--- the value of a name
 pub name_value : (names : List (Option Val)) (x : ℕ) (v : Val) → option_and_then (λ u. u) (slice_get names x) ≡ Some v → slice_get names x ≡ Some (Some v)
 name_value names x v e = go (slice_get names x) refl e
   where
@@ -56,7 +55,6 @@ name_value names x v e = go (slice_get names x) refl e
     go None at k = absurd (cc)
     go (Some u) at k = at ∙ ap (λ q. Some q) k
 
--- the last two of a stack
 two_last : (tops : List Activity) (a t b u : Activity) → tops ++ a ∷ t ∷ [] ≡ b ∷ u ∷ [] → a ≡ b
 two_last [] a t b u is = cc
 two_last (x ∷ []) a t b u is = absurd (cc)
@@ -92,7 +90,7 @@ module _ (script : Script) (budget : ℕ) (e : Exit) (ex : IsExit script e) (s n
         of_collection Legacy i = tt
         of_collection p i = absurd i
 
-    -- the weak reference, which has lost its name, has lost its referent
+    -- the weak reference has lost its name, so it is cleared
     unnamed_spent : ¬ Includes (held_by w.names e.watch) s → Spent s w
     unnamed_spent unnamed = record { made = h.made; unreferred = λ x m i. go x m i x.referent refl; uncalled = nothing_to_call }
       where
@@ -149,7 +147,7 @@ module _ (script : Script) (budget : ℕ) (e : Exit) (ex : IsExit script e) (s n
       apart = λ z j. old.apart z (subst (λ os. Includes os z) objects j);
     }
 
-  -- the commands, one after the other
+  -- the commands, in order
   module _ (cs : List Command) (tail : IsTail e cs) (a : Advances w after cs) where
     abbrev f : Frame
     f = a.frame
@@ -179,14 +177,14 @@ module _ (script : Script) (budget : ℕ) (e : Exit) (ex : IsExit script e) (s n
         go xs AtObject j = cc
         go xs AtCall j = cc
 
-    -- what would have stopped the frame
+    -- otherwise the frame would have stopped
     stopped : after.stack ≡ Framed (record f { commands = [] }) ∷ under → ⊥
     stopped is = not_empty (frame_same rest (record f { commands = [] }) (two_last a.tops (Framed rest) (TopLevel a.below) (Framed (record f { commands = [] })) (TopLevel a.below) (sym a.now ∙ is)))
 
     refuses : IsRefused script u events after → ⊥
     refuses r = stopped (ap (λ (z : World). z.stack) r.1.1)
 
-    -- what would have started a collection
+    -- otherwise a collection would have started
     starts : (g : ℕ) → after ≡ push (new_collection g false (on (Framed f) under w)) (on (Framed f) under w) → ⊥
     starts g is =
         let same = frame_same rest f (three_last a.tops (Framed rest) (TopLevel a.below) (new_collection g false (on (Framed f) under w)) (Framed f) (TopLevel a.below) (sym a.now ∙ ap (λ (z : World). z.stack) is)) in

@@ -1,4 +1,4 @@
--- What any step does for a weak reference that was made: it comes from what it was, and begins its callback where it waits for it.
+-- What any step does for an existing weak reference: it comes from its past, and its callback begins if it waits for it.
 use Rattle.std.proofs.Common.{◌≡◌, ◌≢◌, refl, sym, ◌∙◌, ap, subst, ℕ, ◌-◌, ◌<◌, ◌≤◌, Bool, true, false, not, ◌&&◌, ◌||◌, inl, inr, ◌⊎◌, List, [], ◌∷◌, ◌++◌, map, Some, arith}
 use Rattle.std.specs.Prelude.{◌==◌, if◌then◌else◌}
 use Rattle.cg_value.specs.declared.Val.{Val}
@@ -29,7 +29,7 @@ use Rattle.cg_weakcoll.proofs.HiddenObjectSteps.{frozen_found, unfrozen_found}
 use Rattle.cg_weakcoll.proofs.CallbacksOnce.{Tells, acted_tells}
 use Rattle.cg_weakcoll.proofs.KnownOfRuns.{Acted, Asked, Began, Bottomed, Changed, Commanded, Done, Due, GaveUp, Known, Lasted, Over, Stood, Stopped, Went}
 
--- where the objects of a changed world come from, and which lines come
+-- where the objects and lines of a changed world come from
 pub record Follows (u : World) (lines : List Event) (next : World) : Type 0 where
   pub serial : u.next_serial ≤ next.next_serial
   pub comes : (y : Object) → Includes next.objects y → ((x : Object) × Includes u.objects x × IsLater x y × (IsFound y.place → IsFound x.place)) ⊎ (y.serial ≡ u.next_serial)
@@ -48,7 +48,7 @@ there_quiet : (w : World) (lines : List Event) → AllTellThere w lines → (n :
 there_quiet w lines there n m = there (Enter Callback n) m
 
 module _ (u : World) (command : Command) where
-  -- the objects and lines that a changed world has
+  -- the objects and lines of a changed world
   next_follows : (lines told : List Event) (given_up given : List ℕ) (wanted wants : Bool) (after next : World) → Follows u told after → Changes wanted told given_up after ≡ Changes wants lines given next → Follows u lines next
   next_follows lines told given_up given wanted wants after next h e =
       let same : after ≡ next = cc in
@@ -115,7 +115,7 @@ last_quiet w (ShuttingDown true) lines e n m = either (subst (λ (ls : List Even
 last_quiet w (ShuttingDown false) lines e n m = absurd e
 last_quiet w a lines e n m = absurd e
 
--- what has commands has nothing to call
+-- an activity with commands has nothing to call
 pub none_to_call : (a : Activity) → HasCommands a → to_call a ≡ []
 none_to_call (TopLevel commands) h = refl
 none_to_call (Framed f) h = refl
@@ -132,7 +132,7 @@ taken_to_call : (command : Command) (a b : Activity) → Takes command a b → t
 taken_to_call command a b (FromTop commands) = refl
 taken_to_call command a b (FromFrame f commands left) = refl
 
--- the same objects, and no more to call
+-- the same objects, and no new callbacks
 module _ (s : ℕ) (w : World) (events : List Event) (after : World) where
   plainly : w.next_serial ≤ after.next_serial → ((o : ℕ) (y : Object) → Includes after.objects y → y.serial ≡ o → o < w.next_serial → (x : Object) × Includes w.objects x × IsLater x y × (IsFound y.place → IsFound x.place)) → s < w.next_serial → all_to_call after.stack ≡ all_to_call w.stack → ((n : ℕ) → ¬ Includes events (Enter Callback n)) → Tells s w events after
   plainly serial comes low waits quiet = record { serial = serial; comes = λ y m e. let x = comes s y m e low in (x.0, x.1, x.2); places = λ o y m e k f. let x = comes o y m e k in inl (x.0, x.1, sym x.2.serial ∙ e, x.3 f); waits = λ m. inl (subst (λ xs. Includes xs s) waits m); begins = λ m. absurd (quiet s m) }

@@ -48,7 +48,7 @@ there = record {
   function_object = λ i. omega (arith, i);
 }
 
--- the steps from a place on
+-- the steps from a position on
 abbrev start : World
 start = opening one_script 100
 
@@ -67,7 +67,7 @@ before = some_steps 11 start
 abbrev during : List StepTaken
 during = some_steps 20 (world_at 11 start)
 
--- none of some steps has a command refused
+-- no command is refused in some steps
 abbrev none_in : List StepTaken → Bool
 none_in [] = true
 none_in (step ∷ steps) = (count_by is_refusal step.events == 0) && none_in steps
@@ -78,7 +78,7 @@ none_told below w (step ∷ steps) none =
     let both = true_and (count_by is_refusal step.events == 0) (none_in steps) none in
     (λ frame is. eqb-true (count_by is_refusal step.events) 0 both.0, none_told below step.world steps both.1)
 
--- the frame of the procedure, the function #4, over the script's own commands, which are all done
+-- the frame of the procedure, the function #4, on the script's own finished commands
 the_frame : Frame
 the_frame = record { sort = CallFrame; subject = 4; function = Some 4; commands = exit_body the_exit }
 

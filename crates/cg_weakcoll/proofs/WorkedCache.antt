@@ -19,7 +19,7 @@ use Rattle.cg_weakcoll.specs.Expansion.{expansion}
 use Rattle.cg_weakcoll.specs.Maps.{Look, MapStore, Stores}
 use Rattle.cg_weakcoll.specs.Worked.{HasLookWith, a_cache, its_script}
 
--- the steps from a place on, and one of them
+-- the steps from a position on, and one of them
 abbrev start : World
 start = opening its_script 100
 

@@ -1,4 +1,4 @@
--- The worked script with two exit finalizers and a string that is written like a name of one, by computation.
+-- The worked script with two exit finalizers and a string spelled like a name of one, by computation.
 use Rattle.std.proofs.Common.{◌≡◌, ◌≢◌, refl, sym, ◌∙◌, ap, subst, ℕ, zero, suc, ◌+◌, Bool, true, false, not, ◌&&◌, ◌||◌, List, [], ◌∷◌, Some, inl, inr, arith}
 use Rattle.std.specs.Prelude.{◌==◌, option_map, slice_get, unwrap_or}
 use Rattle.std.specs.Fmt.{digits}
@@ -25,7 +25,7 @@ spelled : reading (expansion two_finalizers) ≡ spells their_script.names their
 unfolding digits expansion atoms openers bindings meaning meant
 spelled = refl
 
--- tests that tell it
+-- tests that decide it
 abbrev pub makes_proc : ℕ → Command → Bool
 makes_proc p (MakeFunc name proc cells) = proc == p
 makes_proc p command = false

@@ -1,5 +1,5 @@
--- Exit finalizers in a script, and what becomes of them in its runs. (Ours; after CPython's `weakref.finalize`: the function is
--- called when the object dies, or at the end, newest first, and at most once.)
+-- Exit finalizers in a script, and what they do in its runs. (Ours; after CPython's `weakref.finalize`: the function is called
+-- when the object dies, or at the end, newest first, and at most once.)
 use Rattle.std.specs.Prelude.{◌≡◌, ◌≢◌, ℕ, ◌+◌, ◌<◌, ◌≤◌, ◌⊎◌, Bool, true, false, ◌==◌, List, [], ◌∷◌, ◌++◌, Option, Some, None, count_by, if◌then◌else◌, map, reverse, slice_get}
 use Rattle.cg_value.specs.declared.KindCode.TheVariants.{Weak}
 use Rattle.cg_value.specs.declared.Val.TheVariants.{Ref}
@@ -21,8 +21,9 @@ use Rattle.cg_machine.specs.Due.{due}
 use Rattle.cg_machine.specs.Run.{StepTaken, IsRun, events_of, last_world, world_after}
 use Rattle.cg_machine.specs.Laws.{is_enter}
 
--- One exit finalizer: the number of its procedure, and the numbers of its names: of the object that the procedure asks for, of the
--- procedure's function, of the function to call, and of the weak reference. What the last two are bound to.
+-- One exit finalizer: the number of its procedure, and the numbers of its names, which are those of the object that the procedure
+-- asks for, the procedure's function, the function to call, and the weak reference; and the values that the last two are bound
+-- to.
 pub record Exit : Type 0 where
   pub proc : ℕ
   pub object : ℕ
@@ -36,11 +37,11 @@ pub record Exit : Type 0 where
 abbrev pub names_of : Exit → List ℕ
 names_of e = e.object ∷ e.exit ∷ e.function ∷ e.watch ∷ []
 
--- the procedure: nothing where the object is gone, and else the weak reference goes, and the function is called
+-- the procedure: nothing if the object is gone; else it drops the weak reference and calls the function
 abbrev pub exit_body : Exit → List Command
 exit_body e = Deref e.object (Name e.watch) ∷ Quit (Name e.object) ∷ Del e.watch ∷ Del e.object ∷ Call (Name e.function) ∷ []
 
--- the last line of the finalizer, which makes the weak reference
+-- the last line of the finalizer: it makes the weak reference
 abbrev pub watch_command : Exit → Command
 watch_command e = MakeRef e.watch e.target (Name e.function)
 
@@ -48,21 +49,21 @@ watch_command e = MakeRef e.watch e.target (Name e.function)
 abbrev pub exit_commands : Exit → List Command
 exit_commands e = MakeFunc e.exit e.proc [] ∷ Bind e.function e.source ∷ watch_command e ∷ []
 
--- names of other lines: none is a name of the finalizer
+-- none of these is a name of the finalizer
 abbrev pub AreOthers : Exit → List ℕ → Type 0
 AreOthers e names = (name : ℕ) → Includes names name → ¬ Includes (names_of e) name
 
--- A command of another line: it names none of these, and makes no function of the procedure. A string or an attribute may be written
--- like one of them: it is no name.
+-- A command of another line: it uses none of these names, and makes no function of the procedure. A string or an attribute may be
+-- spelled like one of them, since it is no name.
 pub record IsOther (e : Exit) (command : Command) : Type 0 where
   pub names : AreOthers e (command_names command)
   pub makes : (name : ℕ) (cells : List Operand) → command ≢ MakeFunc name e.proc cells
 
--- all of some commands
+-- the same for all commands of a list
 abbrev pub AllOther : Exit → List Command → Type 0
 AllOther e commands = (command : Command) → Includes commands command → IsOther e command
 
--- A script has an exit finalizer: its lines, once, and the call at the end; no other line speaks of it.
+-- A script has an exit finalizer: its lines, once, and the call at the end. No other line refers to it.
 pub record IsExit (script : Script) (e : Exit) : Type 0 where
   pub body : body_of script e.proc ≡ exit_body e
   pub front : List Command
@@ -88,7 +89,7 @@ abbrev pub first_of : List Command → Option Command
 first_of [] = None
 first_of (command ∷ commands) = Some command
 
--- the command that is the next to be done, if the activity on top has one
+-- the next command, if the top activity has one
 abbrev pub next_command : List Activity → Option Command
 next_command (TopLevel commands ∷ below) = first_of commands
 next_command (Framed f ∷ below) = first_of f.commands
@@ -118,13 +119,12 @@ pub record MakesWatch (script : Script) (budget : ℕ) (steps : List StepTaken) 
   pub line : next_command (world_after script budget before).stack ≡ Some (watch_command e)
   pub made : Includes making.events (Made Weak weak)
 
--- The frames that the procedure's `call f` begins are at most one, and together with those of the callback of the weak reference
--- too.
+-- At most one frame begins by the procedure's `call f`, and at most one by that and the callback of the weak reference together.
 pub record BeginsOnce (script : Script) (budget : ℕ) (steps : List StepTaken) (e : Exit) : Type 0 where
   pub calls : calls_from e.function (opening script budget) steps ≤ 1
   pub together : (weak : ℕ) → MakesWatch script budget steps e weak → count_by (is_callback_of weak) (events_of steps) + calls_from e.function (opening script budget) steps ≤ 1
 
--- So it is in every run of a fit script.
+-- This holds in every run of a fit script.
 abbrev pub ExitsBeginOnceIn : (Script → Type 0) → Type 0
 ExitsBeginOnceIn Fit = (script : Script) (budget : ℕ) (steps : List StepTaken) → Fit script → IsRun script budget steps → (e : Exit) → IsExit script e → BeginsOnce script budget steps e
 
@@ -132,8 +132,8 @@ ExitsBeginOnceIn Fit = (script : Script) (budget : ℕ) (steps : List StepTaken)
 abbrev pub ExitsBeginOnce : Type 0
 ExitsBeginOnce = ExitsBeginOnceIn TextsAreKnown
 
--- The exit finalizers of a script, in the order of their lines. Its last commands are the calls, the last finalizer's first; no
--- other command is one of them.
+-- The exit finalizers of a script, in line order. Its last commands are their calls, last finalizer first, and no other command
+-- is one of them.
 abbrev pub final_calls : List Exit → List Command
 final_calls exits = map (λ e. Call (Name e.exit)) (reverse exits)
 
@@ -143,22 +143,22 @@ pub record AreExits (script : Script) (exits : List Exit) : Type 0 where
   pub commands : commands_of script.items ≡ lines ++ final_calls exits
   pub others : (command : Command) → Includes lines command → ¬ Includes (final_calls exits) command
 
--- the script's own command that the next step does, where no collection is due before it
+-- the script's own command that the next step does, if no collection is due before it
 abbrev pub own_command : Option ℕ → List Activity → List Command
 own_command None (TopLevel (command ∷ commands) ∷ below) = command ∷ []
 own_command d stack = []
 
--- all of those that a run from a world does, in their order
+-- all of them in a run from a world, in order
 abbrev pub own_commands : World → List StepTaken → List Command
 own_commands w [] = []
 own_commands w (step ∷ steps) = own_command (due w) w.stack ++ own_commands step.world steps
 
--- A run does the script's own commands in their order: those up to the calls, and then the calls, the last finalizer's first.
+-- A run does the script's own commands in order: those before the calls, and then the calls, last finalizer first.
 pub record CallsFall (script : Script) (budget : ℕ) (steps : List StepTaken) (lines : List Command) (exits : List Exit) : Type 0 where
   pub undone : List Command
   pub order : own_commands (opening script budget) steps ++ undone ≡ lines ++ final_calls exits
 
--- So it is in every run of a fit script.
+-- This holds in every run of a fit script.
 abbrev pub ExitsAreCalledLastFirstIn : (Script → Type 0) → Type 0
 ExitsAreCalledLastFirstIn Fit = (script : Script) (budget : ℕ) (steps : List StepTaken) → Fit script → IsRun script budget steps → (exits : List Exit) → (a : AreExits script exits) → CallsFall script budget steps a.lines exits
 
@@ -166,7 +166,7 @@ ExitsAreCalledLastFirstIn Fit = (script : Script) (budget : ℕ) (steps : List S
 abbrev pub ExitsAreCalledLastFirst : Type 0
 ExitsAreCalledLastFirst = ExitsAreCalledLastFirstIn TextsAreKnown
 
--- The procedure's frame asks for its object now, which lives: the weak reference refers to it.
+-- The procedure's frame is about to ask for its object, which lives: the weak reference refers to it.
 pub record FindsAlive (e : Exit) (w : World) (frame : Frame) (below : List Activity) : Type 0 where
   pub stack : w.stack ≡ Framed frame ∷ below
   pub commands : frame.commands ≡ exit_body e
@@ -182,7 +182,7 @@ is_refusal (Refused n) = true
 is_refusal BudgetSpent = true
 is_refusal event = false
 
--- that happens to no command of a frame on these activities
+-- no command of a frame on these activities is refused
 abbrev pub NoneRefused : List Activity → World → List StepTaken → Type 0
 NoneRefused below w [] = Unit {0}
 NoneRefused below w (step ∷ steps) = ((frame : Frame) → w.stack ≡ Framed frame ∷ below → count_by is_refusal step.events ≡ 0) × NoneRefused below step.world steps
@@ -194,8 +194,8 @@ pub record IsUnderway (below stack : List Activity) : Type 0 where
   pub is : stack ≡ tops ++ Framed frame ∷ below
   pub left : frame.commands ≢ []
 
--- Where the procedure finds its object alive and none of its commands is refused, the function's frame begins before the
--- procedure has no command left: in every run of a fit script.
+-- If the procedure finds its object alive and none of its commands is refused, the function's frame begins while the
+-- procedure still has commands: in every run of a fit script.
 abbrev pub ExitsBeginAliveIn : (Script → Type 0) → Type 0
 ExitsBeginAliveIn Fit = (script : Script) (budget : ℕ) (before during : List StepTaken) → Fit script → IsRun script budget (before ++ during) → (e : Exit) → IsExit script e
     → (frame : Frame) (below : List Activity) → FindsAlive e (world_after script budget before) frame below → NoneRefused below (world_after script budget before) during

@@ -1,4 +1,4 @@
--- What the `finalize` lines of an extended script are once its expansion is read: exit finalizers of the script that it spells. (Ours.)
+-- The `finalize` lines of an extended script become exit finalizers of the script that its expansion spells. (Ours.)
 use Rattle.std.specs.Prelude.{◌≡◌, ℕ, ◌+◌, true, false, List, [], ◌∷◌, None}
 use Rattle.cg_script.specs.declared.item.Item.{Item}
 use Rattle.cg_script.specs.Canonical.{name_of, procs_in, text_of}
@@ -8,7 +8,7 @@ use Rattle.cg_weakcoll.specs.Expansion.{exit_name, expansion, finalizes, first_b
 use Rattle.cg_weakcoll.specs.Exits.{AreExits, Exit}
 use Rattle.cg_weakcoll.specs.MapLines.{WordStandsFor}
 
--- an exit finalizer is that of the `finalize` line of this number
+-- an exit finalizer belongs to the `finalize` line with this number
 pub record IsExitOf (texts : List (List ℕ)) (items : List Item) (l : ℕ) (line : List ℕ) (e : Exit) : Type 0 where
   pub proc_is : name_of texts (procs_in items) e.proc ≡ proc_name l
   pub object_is : text_of texts e.object ≡ object_name l
@@ -18,7 +18,7 @@ pub record IsExitOf (texts : List (List ℕ)) (items : List Item) (l : ℕ) (lin
   pub target_is : WordStandsFor texts (word_at (words_of line) 1) e.target
   pub source_is : WordStandsFor texts (word_at (words_of line) 2) e.source
 
--- these are those of the `finalize` lines among some lines, in their order, where the first line has this number
+-- these belong to the `finalize` lines among some lines, in order, where the first line has this number
 pub data AreExitsOf (texts : List (List ℕ)) (items : List Item) : ℕ → List (List ℕ) → List Exit → Type 0 where
   NoLine : (l : ℕ) → AreExitsOf texts items l [] []
   Finalizes : (l : ℕ) (line : List ℕ) (lines : List (List ℕ)) (e : Exit) (exits : List Exit) → finalizes line ≡ true → IsExitOf texts items l line e → AreExitsOf texts items (l + 1) lines exits → AreExitsOf texts items l (line ∷ lines) (e ∷ exits)
@@ -30,7 +30,7 @@ pub record HasExitsOf (texts : List (List ℕ)) (items : List Item) (lines : Lis
   pub of_lines : AreExitsOf texts items 1 lines exits
   pub are : AreExits (record { names = texts; items = items }) exits
 
--- In the script that an expansion spells each `finalize` line has its exit finalizer.
+-- In the script that an expansion spells, each `finalize` line has its exit finalizer.
 abbrev pub ExpandedExitsAreThere : Type 0
 ExpandedExitsAreThere = (bytes : List ℕ) → first_bad bytes ≡ None → (texts : List (List ℕ)) (items : List Item) → reading (expansion bytes) ≡ spells texts items
     → HasExitsOf texts items (lines_of bytes)

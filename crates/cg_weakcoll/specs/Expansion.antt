@@ -1,7 +1,7 @@
--- What an extended script is expanded to: the lines with weak value maps and exit finalizers become lines of the base language,
--- all others are copied. (Ours; after CPython's `weakref.WeakValueDictionary` and `weakref.finalize`.)
+-- The expansion of an extended script: lines with weak value maps and exit finalizers become lines of the base language, all
+-- others are copied. (Ours; after CPython's `weakref.WeakValueDictionary` and `weakref.finalize`.)
 --
--- Lines and words are those of a script (cg_script `Pieces`). A line that is written is given by its words, or is a copy.
+-- Lines and words are those of a script (cg_script `Pieces`). A written line is given by its words, or is a copy.
 use Rattle.std.specs.Prelude.{◌≡◌, ℕ, ◌+◌, List, [], ◌∷◌, ◌++◌, Bool, true, false, not, ◌&&◌, ◌||◌, length, map, flat_map, reverse, codes, decimal, ◌==◌, nat_lt, if◌then◌else◌, Option, None, Some, is_some}
 use Rattle.std.specs.Option.{option_or}
 use Rattle.std.specs.List.{list_all, list_any}
@@ -17,11 +17,11 @@ use Rattle.cg_weakcoll.specs.declared.form.Form.{Form}
 use Rattle.cg_weakcoll.specs.declared.form.Form.TheVariants.{MakeMap, Set, Get, Remove, Finalize}
 use Rattle.cg_weakcoll.specs.declared.form.TheConstants.{MOST_FORM_BYTES}
 
--- The names that line l brings. Of a `wset` line: the weak reference, until it is in the map.
+-- The names generated for line l. For a `wset` line: the weak reference, until it is in the map.
 abbrev pub weak_name : ℕ → List ℕ
 weak_name l = codes "wv_" ++ decimal l
 
--- Of a `finalize` line: its procedure,
+-- For a `finalize` line: its procedure,
 abbrev pub proc_name : ℕ → List ℕ
 proc_name l = codes "wv_p_" ++ decimal l
 
@@ -29,7 +29,7 @@ proc_name l = codes "wv_p_" ++ decimal l
 abbrev pub object_name : ℕ → List ℕ
 object_name l = codes "wv_o_" ++ decimal l
 
--- the function of the procedure, which the line at the script's end calls,
+-- the procedure's function, which the line at the script's end calls,
 abbrev pub exit_name : ℕ → List ℕ
 exit_name l = codes "wv_g_" ++ decimal l
 
@@ -65,8 +65,8 @@ wget_lines x M k =
 abbrev pub wdrop_lines : List ℕ → List ℕ → List (List (List ℕ))
 wdrop_lines M k = (codes "drop" ∷ M ∷ k ∷ []) ∷ []
 
--- The procedure of a `finalize` line: nothing where the object is gone, and else the weak reference goes, so that its callback
--- is not called, and the function is called.
+-- The procedure of a `finalize` line: nothing if the object is gone; else it drops the weak reference, so that its callback is
+-- not called, and calls the function.
 abbrev pub exit_lines : ℕ → List (List (List ℕ))
 exit_lines l =
     (codes "def" ∷ proc_name l ∷ [])
@@ -78,7 +78,7 @@ exit_lines l =
     ∷ (codes "end" ∷ [])
     ∷ []
 
--- what follows it: the function of the procedure, the function to call, and the weak reference with it
+-- what follows it: the procedure's function, the function to call, and the weak reference with the callback
 abbrev pub watch_lines : ℕ → List ℕ → List ℕ → List (List (List ℕ))
 watch_lines l y f =
     (exit_name l ∷ codes "=" ∷ codes "func" ∷ proc_name l ∷ [])
@@ -90,11 +90,11 @@ watch_lines l y f =
 abbrev pub finalize_lines : ℕ → List ℕ → List ℕ → List (List (List ℕ))
 finalize_lines l y f = exit_lines l ++ watch_lines l y f
 
--- the line at the end for the `finalize` line l
+-- the final call for the `finalize` line l
 abbrev pub call_line : ℕ → List (List ℕ)
 call_line l = codes "call" ∷ exit_name l ∷ []
 
--- what is written for line l, which has this form and these words
+-- what is written for line l with this form and these words
 abbrev pub form_lines : Form → ℕ → List (List ℕ) → List (List (List ℕ))
 form_lines MakeMap l words = wmap_lines (word_at words 0)
 form_lines Set l words = wset_lines l (word_at words 1) (word_at words 2) (word_at words 3)
@@ -102,11 +102,11 @@ form_lines Get l words = wget_lines (word_at words 0) (word_at words 3) (word_at
 form_lines Remove l words = wdrop_lines (word_at words 1) (word_at words 2)
 form_lines Finalize l words = finalize_lines l (word_at words 1) (word_at words 2)
 
--- the form that the third word of a line `x = ..` picks
+-- the form that the third word of a line `x = ..` selects
 abbrev pub binding_form : List ℕ → Option Form
 binding_form word = if bytes_eq word (codes "wmap") then Some MakeMap else if bytes_eq word (codes "wget") then Some Get else None
 
--- the form that the first word of any other line picks
+-- the form that the first word of any other line selects
 abbrev pub opening_form : List ℕ → Option Form
 opening_form word =
     if bytes_eq word (codes "wset") then Some Set
@@ -114,7 +114,7 @@ opening_form word =
     else if bytes_eq word (codes "finalize") then Some Finalize
     else None
 
--- the form of a line of these words, where it has one and is not ignored
+-- the form of a line of these words, if it has one and is not ignored
 abbrev pub form_of : List (List ℕ) → Option Form
 form_of words =
     if is_passed words then None
@@ -129,7 +129,7 @@ written_by (Some form) l line words = map joined (form_lines form l words)
 abbrev pub written : ℕ → List ℕ → List (List ℕ)
 written l line = written_by (form_of (words_of line)) l line (words_of line)
 
--- for all lines from a number on
+-- for all lines, starting with this number
 abbrev pub written_from : ℕ → List (List ℕ) → List (List ℕ)
 written_from l [] = []
 written_from l (line ∷ lines) = written l line ++ written_from (l + 1) lines
@@ -142,16 +142,16 @@ is_finalize form = false
 abbrev pub finalizes : List ℕ → Bool
 finalizes line = is_finalize (form_of (words_of line))
 
--- the number of line l, where it is a `finalize` line
+-- the number of line l if it is a `finalize` line
 abbrev pub finalize_number : ℕ → List ℕ → List ℕ
 finalize_number l line = if finalizes line then l ∷ [] else []
 
--- of all lines from a number on
+-- for all lines, starting with this number
 abbrev pub finalize_numbers_from : ℕ → List (List ℕ) → List ℕ
 finalize_numbers_from l [] = []
 finalize_numbers_from l (line ∷ lines) = finalize_number l line ++ finalize_numbers_from (l + 1) lines
 
--- the lines at the end for the `finalize` lines of these numbers, for the last one first
+-- the final calls for the `finalize` lines with these numbers, last one first
 abbrev pub call_lines : List ℕ → List (List ℕ)
 call_lines numbers = map (λ l. joined (call_line l)) (reverse numbers)
 
@@ -169,7 +169,7 @@ with_feed line = line ++ 10 ∷ []
 abbrev pub with_feeds : List (List ℕ) → List ℕ
 with_feeds lines = flat_map with_feed lines
 
--- the expansion of some bytes, where they have no bad line
+-- the expansion of some bytes without a bad line
 unfoldable pub expansion : List ℕ → List ℕ
 expansion bytes = with_feeds (expanded_lines (lines_of bytes))
 
@@ -181,11 +181,11 @@ word_count Get = 5
 word_count Remove = 3
 word_count Finalize = 3
 
--- a word of a map's look-up that is not the word of the variable
+-- a word of a look-up that is not the word of its variable
 abbrev pub is_value_beside : List ℕ → List ℕ → Bool
 is_value_beside x word = is_value word && not (bytes_eq word x)
 
--- the words have the forms that their places ask for
+-- the words have the forms that their places require
 abbrev pub words_fit : Form → List (List ℕ) → Bool
 words_fit MakeMap words = is_variable (word_at words 0)
 words_fit Set words = is_value (word_at words 1) && is_value (word_at words 2) && is_value (word_at words 3)
@@ -208,7 +208,7 @@ form_fault form inside l line words =
 abbrev pub begins_with : List ℕ → List ℕ → Bool
 begins_with prefix word = is_some (after_prefix prefix word)
 
--- a word that names what expansions alone may name
+-- a name reserved for expansions
 abbrev pub is_kept : List ℕ → Bool
 is_kept word = begins_with (codes "wv_") word || begins_with (codes "del=wv_") word || begins_with (codes "legacy=wv_") word
 
@@ -219,23 +219,23 @@ abbrev pub fault_by : Option Form → Bool → ℕ → List ℕ → List (List �
 fault_by None inside l line words = name_fault words
 fault_by (Some form) inside l line words = option_or (form_fault form inside l line words) (name_fault words)
 
--- what is wrong with line l, behind lines that leave a procedure open or not; code 4 also for a name that is kept
+-- what is wrong with line l, after lines that leave a procedure open or not; code 4 also for a reserved name
 abbrev pub fault_of : Bool → ℕ → List ℕ → Option ℕ
 fault_of inside l line = fault_by (form_of (words_of line)) inside l line (words_of line)
 
--- `def` begins a procedure, and `end` alone ends it
+-- `def` opens a procedure, and only `end` closes it
 abbrev pub inside_after : Bool → List (List ℕ) → Bool
 inside_after inside words =
     if word_is words 0 (codes "def") && not (word_is words 1 (codes "=")) then true
     else if word_is words 0 (codes "end") && (length words == 1) then false
     else inside
 
--- a line with its code, or what comes later
+-- this line with its code, or what comes later
 abbrev pub bad_or : ℕ → Option ℕ → Option (ℕ × ℕ) → Option (ℕ × ℕ)
 bad_or l (Some code) later = Some (l, code)
 bad_or l None later = later
 
--- the first bad line with its code, of all lines from a number on
+-- the first bad line with its code, starting with this number
 abbrev pub first_bad_from : Bool → ℕ → List (List ℕ) → Option (ℕ × ℕ)
 first_bad_from inside l [] = None
 first_bad_from inside l (line ∷ lines) = bad_or l (fault_of inside l line) (first_bad_from (inside_after inside (words_of line)) (l + 1) lines)

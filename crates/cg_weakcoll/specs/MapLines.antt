@@ -1,4 +1,4 @@
--- What the lines that a `wget` and a `wset` become are once they are read: their commands, next to each other. (Ours.)
+-- The lines of a `wget` and a `wset`, once read: consecutive commands. (Ours.)
 use Rattle.std.specs.Prelude.{◌≡◌, ℕ, ◌+◌, true, List, [], ◌∷◌, ◌++◌, None, Some, codes, length}
 use Rattle.cg_script.specs.declared.item.Item.{Item}
 use Rattle.cg_script.specs.declared.item.Proc.{Proc}
@@ -16,19 +16,19 @@ use Rattle.cg_weakcoll.specs.declared.form.Form.TheVariants as forms
 use Rattle.cg_weakcoll.specs.Expansion.{expansion, first_bad, form_of, weak_name}
 use Rattle.cg_weakcoll.specs.Maps.{wget_commands, wset_commands}
 
--- commands stand next to each other outside procedures, or in the body of one
+-- commands are consecutive outside procedures, or in the body of one
 pub data StandTogether (items : List Item) (commands : List Command) : Type 0 where
   Outside : (front back : List Command) → commands_of items ≡ front ++ commands ++ back → StandTogether items commands
   InProcedure : (proc : Proc) (front back : List Command) → Includes (procedures items) proc → proc.body ≡ front ++ commands ++ back → StandTogether items commands
 
--- what a word stands for in a script with these texts: one of the words for values, a string, a variable or a number
+-- what a word stands for in a script with these texts: a keyword for a value, a string, a variable or a number
 pub data WordStandsFor (texts : List (List ℕ)) (word : List ℕ) : Operand → Type 0 where
   Atom : (operand : Operand) → named atoms word ≡ Some operand → WordStandsFor texts word operand
   Quoted : (n : ℕ) → is_quoted word ≡ true → text_of texts n ≡ string_text word → WordStandsFor texts word (operands.Str n)
   Named : (n : ℕ) → is_variable word ≡ true → text_of texts n ≡ word → WordStandsFor texts word (operands.Name n)
   Counted : is_number word ≡ true → WordStandsFor texts word (operands.Int (number_of word))
 
--- three lines of a script one after the other, by their words
+-- three consecutive lines of a script, by their words
 pub record HasLines (bytes : List ℕ) (first second third : List (List ℕ)) : Type 0 where
   pub front : List (List ℕ)
   pub one : List ℕ
@@ -40,7 +40,7 @@ pub record HasLines (bytes : List ℕ) (first second third : List (List ℕ)) : 
   pub second_is : words_of two ≡ second
   pub third_is : words_of three ≡ third
 
--- the commands of `x = wget M k`, where its words stand for these
+-- the commands of `x = wget M k`, with these values of its words
 pub record HasLook (texts : List (List ℕ)) (items : List Item) (x map key : List ℕ) : Type 0 where
   pub name : ℕ
   pub dict : Operand
@@ -50,7 +50,7 @@ pub record HasLook (texts : List (List ℕ)) (items : List Item) (x map key : Li
   pub at_is : WordStandsFor texts key at
   pub together : StandTogether items (wget_commands name dict at)
 
--- A script with its three lines has them.
+-- A script with the three lines has these commands.
 abbrev pub LookLinesAreCommands : Type 0
 LookLinesAreCommands = (bytes : List ℕ) (texts : List (List ℕ)) (items : List Item) → reading bytes ≡ spells texts items → (x map key : List ℕ) → is_variable x ≡ true
     → HasLines bytes (x ∷ codes "=" ∷ codes "none" ∷ []) (x ∷ codes "=" ∷ codes "get" ∷ map ∷ key ∷ []) (x ∷ codes "=" ∷ codes "deref" ∷ x ∷ []) → HasLook texts items x map key
@@ -67,18 +67,18 @@ pub record HasStore (texts : List (List ℕ)) (items : List Item) (temporary map
   pub value_is : WordStandsFor texts v value
   pub together : StandTogether items (wset_commands name dict at value)
 
--- A script with its three lines has them.
+-- A script with the three lines has these commands.
 abbrev pub StoreLinesAreCommands : Type 0
 StoreLinesAreCommands = (bytes : List ℕ) (texts : List (List ℕ)) (items : List Item) → reading bytes ≡ spells texts items → (temporary map key v : List ℕ) → is_variable temporary ≡ true → is_value map ≡ true
     → HasLines bytes (temporary ∷ codes "=" ∷ codes "ref" ∷ v ∷ []) (codes "put" ∷ map ∷ key ∷ temporary ∷ []) (codes "del" ∷ temporary ∷ []) → HasStore texts items temporary map key v
 
--- In the script that an expansion spells each `wget` line has its commands.
+-- In the script that an expansion spells, each `wget` line has its commands.
 abbrev pub ExpandedLooksAreCommands : Type 0
 ExpandedLooksAreCommands = (bytes : List ℕ) → first_bad bytes ≡ None → (texts : List (List ℕ)) (items : List Item) → reading (expansion bytes) ≡ spells texts items
     → (front : List (List ℕ)) (line : List ℕ) (back : List (List ℕ)) → lines_of bytes ≡ front ++ line ∷ back → form_of (words_of line) ≡ Some forms.Get
     → HasLook texts items (word_at (words_of line) 0) (word_at (words_of line) 3) (word_at (words_of line) 4)
 
--- Each `wset` line has its own, and the name that its number brings.
+-- Each `wset` line has its own, with the name generated from its number.
 abbrev pub ExpandedStoresAreCommands : Type 0
 ExpandedStoresAreCommands = (bytes : List ℕ) → first_bad bytes ≡ None → (texts : List (List ℕ)) (items : List Item) → reading (expansion bytes) ≡ spells texts items
     → (front : List (List ℕ)) (line : List ℕ) (back : List (List ℕ)) → lines_of bytes ≡ front ++ line ∷ back → form_of (words_of line) ≡ Some forms.Set

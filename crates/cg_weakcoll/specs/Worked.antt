@@ -1,5 +1,5 @@
--- A worked script with a weak value map: a look while the object lives, and one after it has died. It keeps the definitions of `Maps`
--- honest: there is a run to which the laws apply, with both answers. (Ours.)
+-- A worked script with a weak value map: one look-up while the object lives, and one after it has died. It shows that the laws in
+-- `Maps` are not vacuous: some run satisfies their premises, with both answers. (Ours.)
 use Rattle.std.specs.Prelude.{◌≡◌, ℕ, pos, List, [], ◌∷◌, ◌++◌, None, Some, codes}
 use Rattle.cg_value.specs.declared.Val.{Val}
 use Rattle.cg_value.specs.declared.Val.TheVariants.{None as Nothing, Ref}
@@ -17,7 +17,7 @@ use Rattle.cg_weakcoll.specs.Maps.{IsUnder, Look, Looks, MapStore, Stores, befor
 abbrev pub a_cache : List ℕ
 a_cache = codes "class C\nm = wmap\na = new C\nwset m 1 a\nx = wget m 1\nprint x\ndel x\ndel a\nx = wget m 1\nprint x\n"
 
--- what its expansion spells: the variables m, a, wv_4 and x have the numbers 1 to 4
+-- what its expansion spells; the variables m, a, wv_4 and x have the numbers 1 to 4
 abbrev pub its_script : Script
 its_script = record {
   names = codes "C" ∷ codes "m" ∷ codes "a" ∷ codes "wv_4" ∷ codes "x" ∷ [];
@@ -27,7 +27,8 @@ its_script = record {
       ∷ Line (Bind 4 NoneWord) ∷ Line (Get 4 (Name 1) (IntWord (pos 1))) ∷ Line (Deref 4 (Name 4)) ∷ Line (Print (Name 4)) ∷ [];
 }
 
--- a run of it in which the `wset` makes the weak reference #4 of #3, and a `wget` finds it under the key and answers so
+-- a run of it in which the `wset` makes the weak reference #4 of #3, and a `wget` finds it under the key and answers
+-- this
 pub record HasLookWith (answer : Val) : Type 0 where
   pub before : List StepTaken
   pub store : MapStore
@@ -39,7 +40,7 @@ pub record HasLookWith (answer : Val) : Type 0 where
   pub under : IsUnder (before_second look) (Name 1) (IntWord (pos 1)) 4
   pub answers : value_of look.third.world (Name 4) ≡ Some answer
 
--- The expansion spells the script; the first look answers the object, and the second none.
+-- The expansion spells the script. The first look-up answers the object, and the second none.
 pub record AnswersBoth : Type 0 where
   pub spelled : reading (expansion a_cache) ≡ spells its_script.names its_script.items
   pub alive : HasLookWith (Ref 3)

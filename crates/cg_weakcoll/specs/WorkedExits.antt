@@ -1,5 +1,6 @@
--- Worked scripts with exit finalizers. What the expansion of the first spells has two, as the laws of `Exits` ask, though a string of it
--- is written like a name of the first one. In a run of the second its procedure finds its object alive, and calls the function. (Ours.)
+-- Worked scripts with exit finalizers. The expansion of the first spells a script with two, as the laws in `Exits` require,
+-- although one of its strings is spelled like a name of the first finalizer. In a run of the second, the procedure finds its
+-- object alive and calls the function. (Ours.)
 use Rattle.std.specs.Prelude.{◌≡◌, ℕ, pos, List, [], ◌∷◌, ◌++◌, None, codes}
 use Rattle.cg_script.specs.declared.Script.{Script}
 use Rattle.cg_script.specs.declared.Operand.TheVariants.{Int as IntWord, Name, Str as StrWord}
@@ -23,7 +24,7 @@ the_first = record { proc = 1; object = 6; exit = 9; function = 8; watch = 7; so
 abbrev pub the_second : Exit
 the_second = record { proc = 2; object = 11; exit = 14; function = 13; watch = 12; source = Name 2; target = Name 4 }
 
--- what its expansion spells: the string has the number 6, as the name has
+-- what its expansion spells; the string has number 6, and so has the name
 abbrev pub their_script : Script
 their_script = record {
   names = codes "p" ∷ codes "C" ∷ codes "f" ∷ codes "a" ∷ codes "b" ∷ codes "wv_p_8" ∷ codes "wv_o_8" ∷ codes "wv_w_8" ∷ codes "wv_f_8" ∷ codes "wv_g_8" ∷ codes "wv_p_9" ∷ codes "wv_o_9" ∷ codes "wv_w_9" ∷ codes "wv_f_9" ∷ codes "wv_g_9" ∷ [];
@@ -38,7 +39,7 @@ pub record HasBoth : Type 0 where
   pub spelled : reading (expansion two_finalizers) ≡ spells their_script.names their_script.items
   pub exits : AreExits their_script (the_first ∷ the_second ∷ [])
 
--- the extended script with one
+-- the extended script with one exit finalizer
 abbrev pub one_finalizer : List ℕ
 one_finalizer = codes "def p\nprint 5\nend\nclass C\nf = func p\na = new C\nfinalize a f\n"
 
@@ -54,8 +55,8 @@ one_script = record {
       ∷ Line (Call (Name 8)) ∷ [];
 }
 
--- A run of it meets what `ExitsBeginAlive` asks: its procedure finds its object alive, and none of its commands is refused. There the
--- function's frame begins.
+-- A run of it satisfies the premises of `ExitsBeginAlive`: the procedure finds its object alive, and none of its commands is
+-- refused. The function's frame begins there.
 pub record FindsAliveAndCalls : Type 0 where
   pub spelled : reading (expansion one_finalizer) ≡ spells one_script.names one_script.items
   pub known : TextsAreKnown one_script

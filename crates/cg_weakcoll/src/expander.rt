@@ -10,7 +10,7 @@ use crate::write::{write_calls, write_line};
 use cg_script::ScriptFault;
 use std::alloc::{AllocError, Global};
 
-/// What is written so far, the numbers of the `finalize` lines, and whether a procedure is open.
+/// The output so far, the numbers of the `finalize` lines, and whether a procedure is open.
 #[derive(Drop)]
 struct Draft {
     text: Vec<u8>,
@@ -18,7 +18,7 @@ struct Draft {
     inside: bool,
 }
 
-/// Takes the line of this number, or says what is wrong with it. Its words go into a list that serves all lines.
+/// Takes the line with this number, or answers what is wrong with it. All lines share one list for their words.
 fn take_line<'a>(
     draft: &mut Draft,
     number: u32,
@@ -69,7 +69,7 @@ fn take_lines(draft: &mut Draft, alloc: Global, bytes: &[u8]) -> Result<(), Scri
     Ok(())
 }
 
-/// The text, with the lines at the end.
+/// The text, with the final calls appended.
 fn finish(draft: Draft) -> Result<Vec<u8>, ScriptFault>
     ensures text { IfOk result (λ text. text.items ≡ draft.text.items ++ with_feeds (call_lines draft.finalizes.items)) }
     ensures memory { OnErr result (result ≡ Err ScriptFault.OutOfMemory) }
@@ -81,15 +81,15 @@ fn finish(draft: Draft) -> Result<Vec<u8>, ScriptFault>
     }
 }
 
-/// The expansion of an extended script: its lines with weak value maps and exit finalizers become lines of the base language,
-/// all others are copied, and at the end stands a call for each exit finalizer, for the last one first. Lines end with line
-/// feeds, and are counted from 1.
+/// The expansion of an extended script. Lines with weak value maps and exit finalizers become lines of the base language, all
+/// others are copied, and at the end comes a call for each exit finalizer, last one first. Lines end with line feeds and count
+/// from 1.
 ///
-/// `Bad` has the first bad line and its code. Of a line with `wmap`, `wset`, `wget`, `wdrop` or `finalize`: 1 where it has a byte
-/// that is not printable ASCII, 5 where it is longer than 1,000 bytes or stands behind the first 400,000 lines, 3 where the number
-/// of its words is wrong, 4 where a word has not the form that its place asks, or a look-up names its own variable, 7 where a
-/// `finalize` stands inside a procedure. Of any line: 4 where a word begins with `wv_`, `del=wv_` or `legacy=wv_`. `OutOfMemory`
-/// may come for any bytes. (Ours.)
+/// `Bad` has the first bad line and its code. For a line with `wmap`, `wset`, `wget`, `wdrop` or `finalize`: 1 if it has a byte
+/// that is not printable ASCII, 5 if it is longer than 1,000 bytes or comes after the first 400,000 lines, 3 if it has the wrong
+/// number of words, 4 if a word has the wrong form for its place or a look-up names its own variable, 7 if a `finalize` is inside
+/// a procedure. For any line: 4 if a word begins with `wv_`, `del=wv_` or `legacy=wv_`. `OutOfMemory` may come for any bytes.
+/// (Ours.)
 #[tactic(auto, unfolding(crate::specs::Expansion::first_bad))]
 pub fn expand(alloc: Global, bytes: &[u8]) -> Result<Vec<u8>, ScriptFault>
     requires few { length bytes.now < 4294967295 }

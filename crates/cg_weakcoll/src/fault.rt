@@ -35,14 +35,14 @@ fn word_count(form: Form) -> usize
     }
 }
 
-/// Whether a word is a value, and not the word of the variable beside it.
+/// A value other than the variable beside it.
 fn is_value_beside(variable: &[u8], word: &[u8]) -> bool
     ensures { result ≡ is_value_beside variable.now word.now }
 {
     is_value(word) && word != variable
 }
 
-/// Whether the words have the forms that their places ask for.
+/// Whether the words have the forms that their places require.
 fn words_fit(form: Form, words: &[&[u8]]) -> bool
     ensures { result ≡ words_fit form (map (λ w. w.now) words.now) }
 {
@@ -70,7 +70,7 @@ pub(crate) fn is_finalize(form: Option<Form>) -> bool
     }
 }
 
-/// What is wrong with the line of this number by its form.
+/// What is wrong with the form of the line with this number.
 fn form_fault(form: Form, inside: bool, number: u32, line: &[u8], words: &[&[u8]]) -> Option<u8>
     ensures { result ≡ form_fault form inside number line.now (map (λ w. w.now) words.now) }
 {
@@ -98,7 +98,7 @@ fn begins_with(prefix: &[u8], word: &[u8]) -> bool
     word.strip_prefix(prefix).is_some()
 }
 
-/// Whether a word names what expansions alone may name.
+/// Whether a word is a name reserved for expansions.
 fn is_kept(word: &[u8]) -> bool
     ensures { result ≡ is_kept word.now }
 {
@@ -111,7 +111,7 @@ fn any_kept(words: &[&[u8]]) -> bool
     words.iter().any(|word| is_kept(word))
 }
 
-/// Whether one of the words does.
+/// Whether one of the words is.
 fn has_kept(words: &[&[u8]]) -> bool
     ensures { result ≡ list_any is_kept (map (λ w. w.now) words.now) }
 {
@@ -129,7 +129,7 @@ fn name_fault(words: &[&[u8]]) -> Option<u8>
     }
 }
 
-/// What is wrong with the line of this number, which has this form or none.
+/// What is wrong with the line with this number, which has this form or none.
 pub(crate) fn fault_by(
     form: Option<Form>,
     inside: bool,
@@ -145,7 +145,7 @@ pub(crate) fn fault_by(
     }
 }
 
-/// Whether a procedure is open behind a line of these words.
+/// Whether a procedure is open after a line of these words.
 pub(crate) fn inside_after(inside: bool, words: &[&[u8]]) -> bool
     ensures { result ≡ inside_after inside (map (λ w. w.now) words.now) }
 {

@@ -1,29 +1,29 @@
-//! Which lines an expansion replaces.
+//! The lines that an expansion replaces.
 ghost use Rattle.std.specs.Prelude.{◌≡◌, map};
 ghost use Rattle.std.specs.Str.{bytes_eq};
 ghost use Rattle.cg_script.specs.Pieces.{word_at, word_is};
 ghost use Rattle.cg_script.specs.Meanings.{is_passed};
 ghost use Rattle.cg_weakcoll.specs.Expansion.{binding_form, opening_form, form_of};
 
-/// A form of lines that are replaced.
+/// A form of replaced lines.
 #[derive(Clone, Copy, Debug, PartialEq, Eq)]
 pub(crate) enum Form {
     /// `x = wmap`: a weak value map.
     MakeMap,
     /// `wset M k v`: the map has the value v under the key.
     Set,
-    /// `x = wget M k`: the value under the key, or none where it is gone.
+    /// `x = wget M k`: the value under the key, or none if it has died.
     Get,
-    /// `wdrop M k`: the entry is taken out.
+    /// `wdrop M k`: removes the entry.
     Remove,
-    /// `finalize y f`: f is called when y dies, or at the script's end.
+    /// `finalize y f`: f is called when y dies, or at the end of the script.
     Finalize,
 }
 
 /// The most bytes of a line of a form.
 pub(crate) const MOST_FORM_BYTES: usize = 1000;
 
-/// The word at this place, or no bytes past the last.
+/// The word at this place, or no bytes after the last.
 pub(crate) fn word_in<'a>(words: &[&'a [u8]], place: usize) -> &'a [u8]
     ensures { result.now ≡ word_at (map (λ w. w.now) words.now) place }
 {
@@ -46,7 +46,7 @@ pub(crate) fn has_word(words: &[&[u8]], place: usize, text: &[u8]) -> bool
     is_text(word_in(words, place), text)
 }
 
-/// Whether a line of these words is ignored: it has none, or it is a comment.
+/// Whether a line of these words is ignored: it is empty or a comment.
 pub(crate) fn is_passed_over(words: &[&[u8]]) -> bool
     ensures { result ≡ is_passed (map (λ w. w.now) words.now) }
 {
@@ -56,7 +56,7 @@ pub(crate) fn is_passed_over(words: &[&[u8]]) -> bool
     }
 }
 
-/// The form that the third word of a line `x = ..` picks.
+/// The form that the third word of a line `x = ..` selects.
 fn binding_form(word: &[u8]) -> Option<Form>
     ensures { result ≡ binding_form word.now }
 {
@@ -69,7 +69,7 @@ fn binding_form(word: &[u8]) -> Option<Form>
     }
 }
 
-/// The form that the first word of any other line picks.
+/// The form that the first word of any other line selects.
 fn opening_form(word: &[u8]) -> Option<Form>
     ensures { result ≡ opening_form word.now }
 {
@@ -84,7 +84,7 @@ fn opening_form(word: &[u8]) -> Option<Form>
     }
 }
 
-/// The form of a line of these words, where it has one and is not ignored.
+/// The form of a line of these words, if it has one and is not ignored.
 pub(crate) fn form_of(words: &[&[u8]]) -> Option<Form>
     ensures { result ≡ form_of (map (λ w. w.now) words.now) }
 {

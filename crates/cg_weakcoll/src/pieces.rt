@@ -23,7 +23,7 @@ pub(crate) fn cut(bytes: &[u8], separator: u8) -> (&[u8], &[u8])
     }
 }
 
-/// Finds the words of a line in order, in place of those of another.
+/// Finds the words of a line in order, replacing those of another.
 pub(crate) fn find_words<'a>(line: &'a [u8], words: &mut Vec<&'a [u8]>) -> Result<(), AllocError>
     ensures { OnOk result (map (λ w. w.now) words.new.items ≡ words_of line.now) }
 {

@@ -8,16 +8,15 @@ use crate::form::{Form, word_in};
 use itoa::Buffer;
 use std::alloc::AllocError;
 
-/// A word of a line that is written.
+/// A word of a written line.
 #[derive(Clone, Copy)]
 pub(crate) enum Word<'a> {
     /// These bytes.
     Text(&'a [u8]),
-    /// A name that the line of this number brings, by what stands before the number.
+    /// A name generated from the line's number; this is what precedes the number.
     Own(&'a [u8], u32),
 }
 
-/// Writes a word.
 fn write_word(out: &mut Vec<u8>, word: Word<'_>) -> Result<(), AllocError>
     ensures { OnOk result (out.new.items ≡ out.old.items ++ word_bytes word.entry) }
 {
@@ -30,7 +29,6 @@ fn write_word(out: &mut Vec<u8>, word: Word<'_>) -> Result<(), AllocError>
     }
 }
 
-/// Writes words, a space before each.
 fn write_behind(out: &mut Vec<u8>, words: &[Word<'_>]) -> Result<(), AllocError>
     ensures { OnOk result (out.new.items ≡ out.old.items ++ flat_map behind_space (map word_bytes words.now)) }
 {
@@ -53,7 +51,7 @@ fn write_words(out: &mut Vec<u8>, words: &[Word<'_>]) -> Result<(), AllocError>
     Ok(())
 }
 
-/// Writes lines of these words.
+/// Writes these lines.
 fn write_lines(out: &mut Vec<u8>, lines: &[&[Word<'_>]]) -> Result<(), AllocError>
     ensures { OnOk result (out.new.items ≡ out.old.items ++ with_feeds (map line_of lines.now)) }
 {
@@ -159,7 +157,8 @@ fn write_exit(out: &mut Vec<u8>, number: u32) -> Result<(), AllocError>
     )
 }
 
-/// Writes what follows the procedure: its function, the function to call, and the weak reference with it.
+/// Writes what follows the procedure: its function, the function to call, and the weak reference with the
+/// callback.
 fn write_watch<'a>(
     out: &mut Vec<u8>,
     number: u32,
@@ -204,7 +203,7 @@ fn write_finalize(
     Ok(())
 }
 
-/// Writes what the line of this number becomes, which has this form and these words.
+/// Writes the expansion of the line with this number, this form and these words.
 fn write_form(out: &mut Vec<u8>, form: Form, number: u32, words: &[&[u8]]) -> Result<(), AllocError>
     ensures { OnOk result (out.new.items ≡ out.old.items ++ with_feeds (map joined (form_lines form number (map (λ w. w.now) words.now)))) }
 {
@@ -223,7 +222,7 @@ fn write_form(out: &mut Vec<u8>, form: Form, number: u32, words: &[&[u8]]) -> Re
     }
 }
 
-/// Writes a line as it is.
+/// Copies a line.
 fn write_copy(out: &mut Vec<u8>, line: &[u8]) -> Result<(), AllocError>
     ensures { OnOk result (out.new.items ≡ out.old.items ++ with_feed line.now) }
 {
@@ -232,7 +231,7 @@ fn write_copy(out: &mut Vec<u8>, line: &[u8]) -> Result<(), AllocError>
     Ok(())
 }
 
-/// Writes what the line of this number becomes.
+/// Writes the expansion of the line with this number.
 pub(crate) fn write_line(
     out: &mut Vec<u8>,
     form: Option<Form>,
@@ -248,14 +247,14 @@ pub(crate) fn write_line(
     }
 }
 
-/// Writes the line at the end for the `finalize` line of this number.
+/// Writes the final call for the `finalize` line with this number.
 fn write_call(out: &mut Vec<u8>, number: u32) -> Result<(), AllocError>
     ensures { OnOk result (out.new.items ≡ out.old.items ++ with_feed (joined (call_line number))) }
 {
     write_words(out, &[Word::Text(b"call"), Word::Own(b"wv_g_", number)])
 }
 
-/// Writes the lines at the end for the `finalize` lines of these numbers, for the last one first.
+/// Writes the final calls for the `finalize` lines with these numbers, last one first.
 pub(crate) fn write_calls(out: &mut Vec<u8>, mut numbers: Vec<u32>) -> Result<(), AllocError>
     ensures { OnOk result (out.new.items ≡ out.old.items ++ with_feeds (call_lines numbers.items)) }
 {

@@ -1,4 +1,4 @@
--- The job that words ask for, from what clap says of a parse.
+-- The job that the arguments ask for, from clap's contract for a parse.
 use Rattle.std.proofs.Common.{◌≡◌, ℕ, ◌==◌, Bool, true, false, if◌then◌else◌, List, [], ◌∷◌, length, codes, Option, None, Some, option_map, inl, inr, refl, sym, ap, subst, ◌∙◌, arith}
 use Rattle.std.specs.Prelude.{Box}
 use Rattle.std.specs.Box.{box_value}
@@ -20,7 +20,7 @@ use Rattle.clap.proofs.OnLiterals.{clap_on_literals}
 use Rattle.cg_words.specs.declared.words.Job.{Job}
 use Rattle.cg_words.specs.Words.{command_line, run_by, generate_by, job_of, job_in, asked}
 
--- the command line is simple, and no argument has a rule on another
+-- the command line is simple, and no argument depends on another
 pub line_is_simple : is_simple command_line ≡ true
 unfolding clap_on_literals
 line_is_simple = refl
@@ -29,7 +29,7 @@ pub line_is_free : is_simple_and_free command_line ≡ true
 unfolding clap_on_literals
 line_is_free = refl
 
--- the subcommand that was entered, by its name and its rows
+-- the chosen subcommand, by its name and its rows
 pub entered : {Z : Type 0} (o : Option (Box SubCommand Z)) (name : Text) (rows : List Row) → Some name ≡ option_map (λ b. (out-SubCommand (box_value b)).name.now) o → Some rows ≡ option_map (λ p. p.1) (subcommand_rows o)
     → subcommand_rows o ≡ Some (name, rows)
 entered None name rows n r = absurd (cc)
@@ -49,7 +49,7 @@ module _ (f : Found) (sub : Option (Text × List Row)) (name : Text) (is : sub �
   generate_is_read value job generate found by_it =
       by_it ∙ ap generate_by (found ∙ first_value-rows f (codes "blocks")) ∙ sym (ap job_in is ∙ ap (λ n. job_of n (rows_of f)) generate)
 
--- clap takes the words
+-- clap accepts the arguments
 pub taken : (words : List Text) (sub : Option (Text × List Row)) → fault_of command_line words ≡ [] → sub ≡ subcommand_of command_line words → job_in sub ≡ asked words
 unfolding asked
 taken words sub none is = ap job_in is ∙ by (fault_of command_line words) none
@@ -61,7 +61,7 @@ taken words sub none is = ap job_in is ∙ by (fault_of command_line words) none
 not_empty : {X : Type 0} (x : X) (xs : List X) → is_empty (x ∷ xs) ≡ false
 not_empty x xs = grind (arith, nat_tests)
 
--- clap refuses the words
+-- clap refuses the arguments
 pub refused : (words : List Text) (k : ErrorKind) → IsAmong k (fault_of command_line words) → None ≡ asked words
 unfolding asked
 refused words k among = by (fault_of command_line words) among
@@ -70,7 +70,7 @@ refused words k among = by (fault_of command_line words) among
     by [] a = absurd a
     by (x ∷ xs) a = rw (not_empty x xs) refl
 
--- an error that is no want of memory
+-- an error other than out of memory
 pub error_refuses : (words : List Text) (app : App) (e : Error) → app ≡ command_line → (kind_of e ≡ kind.OutOfMemory → ⊥) → HasKind (fault_of app words) e → None ≡ asked words
 error_refuses words app e is other (inl memory) = absurd (other memory)
 error_refuses words app e is other (inr among) = refused words (kind_of e) (subst (λ (a : App). IsAmong (kind_of e) (fault_of a words)) is among)

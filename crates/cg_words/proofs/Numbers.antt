@@ -19,7 +19,6 @@ digits_tell = record {
 numerals : IsNumeralModel (λ ds. list_all is_digit ds ≡ true) (decimal_after 0)
 numerals = numerals_by_fold _ digits_tell decimal_after (search rules)
 
--- one to six digits are read
 pub digits_are_read : {E : Type 0} (word : List ℕ) (r : Result ℕ E) → ParsesUnsigned 32 10 word r → are_digits 6 word ≡ true → r ≡ Ok (decimal_value word)
 digits_are_read word r reads digits =
     let two = both (nat_le 1 (length word) && nat_le (length word) 6) (list_all is_digit word) digits in
@@ -38,7 +37,6 @@ all_three : (a b c : Bool) (v n : ℕ) → a ≡ true → b ≡ true → c ≡ t
 all_three a b c v n is_a is_b is_c same = rw (is_a, is_b, is_c) (ap (λ k. Some k) (sym same))
 
 module _ (least most : ℕ) (word : List ℕ) where
-  -- a number in the range
   pub number_within : (n : ℕ) → are_digits 6 word ≡ true → decimal_value word ≡ n → least ≤ n → n ≤ most → Some n ≡ number_between least most word
   number_within n digits same low high =
       all_three (are_digits 6 word) (nat_le least (decimal_value word)) (nat_le (decimal_value word) most) (decimal_value word) n digits
@@ -48,7 +46,6 @@ module _ (least most : ℕ) (word : List ℕ) where
   pub no_number : are_digits 6 word ≡ false → None ≡ number_between least most word
   no_number fails = rw fails refl
 
-  -- a number below the range, or above it
   pub number_below : (n : ℕ) → decimal_value word ≡ n → n < least → None ≡ number_between least most word
   number_below n same low =
       by (are_digits 6 word) (nat_le least (decimal_value word)) (nat_le (decimal_value word) most) (more_than least (decimal_value word) (omega (arith, same, low)))

@@ -1,5 +1,5 @@
--- What words ask for: what `clap` makes of them by the command line below, and the form of the number in them. (The command
--- line is ours; `fault_of`, `subcommand_of` and `first_of` are clap's own words for a simple command.)
+-- What the arguments ask for: what `clap` makes of them by the command line below, and the form of the number. (The command
+-- line is ours; `fault_of`, `subcommand_of` and `first_of` are clap's own definitions for a simple command.)
 use Rattle.std.specs.Prelude.{◌≡◌, ◌≤◌, ℕ, List, [], ◌∷◌, Bool, true, ◌&&◌, nat_le, if◌then◌else◌, codes, Option, None, Some, option_map, option_and_then}
 use Rattle.std.specs.Str.{bytes_eq}
 use Rattle.clap.specs.declared.builder.action.ArgAction.TheVariants.{Set}
@@ -15,7 +15,7 @@ use Rattle.cg_words.specs.declared.words.Job.TheVariants.{Run, Generate, Expand,
 abbrev pub budget_rule : Rule
 budget_rule = record (new_rule (codes "budget")) { long = Some (codes "budget"); action = Some Set }
 
--- a text that has to be there
+-- one required text
 abbrev pub blocks_rule : Rule
 blocks_rule = record (new_rule (codes "blocks")) { action = Some Set; required = true }
 
@@ -34,7 +34,7 @@ expand_line = new_app (codes "expand")
 abbrev pub record_line : App
 record_line = new_app (codes "record")
 
--- no program's name before the words, no words of clap's own for help and version, and a subcommand
+-- no program name before the arguments, no help or version flags of clap's, and a required subcommand
 abbrev pub settings : Shape → Shape
 settings s = record s { no_binary_name = true; disable_help_flag = true; disable_help_subcommand = true; disable_version_flag = true; subcommand_required = true }
 
@@ -46,27 +46,27 @@ line_with_numbers = with_subcommand (with_subcommand (on_top settings (new_app (
 abbrev pub command_line : App
 command_line = with_subcommand (with_subcommand line_with_numbers expand_line.top) record_line.top
 
--- the number that one to six digits write, where it is in a range
+-- the number that one to six digits write, if it is in a range
 abbrev pub number_between : ℕ → ℕ → Text → Option ℕ
 number_between least most word = if are_digits 6 word && (nat_le least (decimal_value word) && nat_le (decimal_value word) most) then Some (decimal_value word) else None
 
--- the budget that a text writes, and the blocks
+-- the budget or the blocks that a text writes
 abbrev pub budget_in : Text → Option ℕ
 budget_in word = number_between 0 MOST_BUDGET word
 
 abbrev pub blocks_in : Text → Option ℕ
 blocks_in word = number_between 1 10000 word
 
--- a run, by the text of its option
+-- the job of `run`, given the text of its option
 abbrev pub run_by : Option Text → Option Job
 run_by None = Some (Run None)
 run_by (Some word) = option_map (λ n. Run (Some n)) (budget_in word)
 
--- a large script, by its text
+-- the job of `generate`, given its text
 abbrev pub generate_by : Option Text → Option Job
 generate_by text = option_map (λ n. Generate n) (option_and_then blocks_in text)
 
--- the job of a subcommand and what was found for its argument
+-- the job of a subcommand, given what was found for its argument
 abbrev pub job_of : Text → List Row → Option Job
 job_of name rows =
     if bytes_eq name (codes "run") then run_by (first_of (codes "budget") rows)
@@ -78,19 +78,19 @@ job_of name rows =
 abbrev pub job_in : Option (Text × List Row) → Option Job
 job_in sub = option_and_then (λ s. job_of s.0 s.1) sub
 
--- the job that words ask for: none where clap refuses them, or where the text has not the form of its number
+-- the job that the arguments ask for; None if clap refuses them, or if a number has another form or range
 unfoldable pub asked : List Text → Option Job
 asked words = if is_empty (fault_of command_line words) then job_in (subcommand_of command_line words) else None
 
--- the words ask for this job
+-- the arguments ask for this job
 abbrev pub AsksFor : List Text → Job → Type 0
 AsksFor words job = asked words ≡ Some job
 
--- the words ask for some job
+-- the arguments ask for some job
 abbrev pub Ask : List Text → Type 0
 Ask words = (job : Job) × AsksFor words job
 
--- what is true of each job that words ask for
+-- the range of a job's number
 abbrev pub IsInRange : Job → Type 0
 IsInRange (Run None) = Unit {0}
 IsInRange (Run (Some budget)) = budget ≤ MOST_BUDGET

@@ -1,4 +1,4 @@
-//! What the words after the program's name ask for.
+//! What the command-line arguments ask for.
 ghost use Rattle.std.specs.Prelude.{◌≡◌, ◌≤◌, false, IfOk, IfSome, map, option_map, string_bytes};
 ghost use Rattle.std.specs.List.{list_all};
 ghost use Rattle.clap.specs.Words.{app_of, subcommand_rows_of};
@@ -20,13 +20,13 @@ const MOST_BLOCKS: u32 = 10_000;
 /// What the program is to do.
 #[derive(Clone, Copy, Debug, PartialEq, Eq)]
 pub enum Job {
-    /// To run the script that the source gives, with this budget or without one of its own.
+    /// Runs the script from the source, with this budget or with no budget of its own.
     Run { budget: Option<u32> },
     /// Runs the generated script of a number of blocks and writes the summary of its text.
     Generate { blocks: u32 },
-    /// To write the expansion of the extended script that the source gives.
+    /// Writes the expansion of the extended script from the source.
     Expand,
-    /// To run the script that the source gives, and write the records of its collections.
+    /// Runs the script from the source, and writes the records of its collections.
     Record,
 }
 
@@ -42,14 +42,14 @@ fn has_digits_alone(word: &[u8]) -> bool
     word.iter().all(|byte| is_digit_byte(*byte))
 }
 
-/// Whether a word has one to six digits, and nothing else.
+/// A word of one to six digits, and nothing else.
 fn is_numeral(word: &str) -> bool
     ensures { result ≡ are_digits 6 word.now }
 {
     !word.is_empty() && word.len() <= MOST_DIGITS && has_digits_alone(word.as_bytes())
 }
 
-/// The number that a word writes, where it is in this range.
+/// The number that a word writes, if it is in this range.
 fn number_in(word: &str, least: u32, most: u32) -> Option<u32>
     ensures number { result ≡ number_between least most word.now }
     ensures within { IfSome result (λ n. (least ≤ n) × (n ≤ most)) }
@@ -74,7 +74,7 @@ fn run_command<'a>(alloc: Global) -> Result<Command<'a>, AllocError>
     Command::new(alloc, "run").arg(budget)
 }
 
-/// `generate`, with a text that has to be there.
+/// `generate`, with one required text.
 fn generate_command<'a>(alloc: Global) -> Result<Command<'a>, AllocError>
     ensures app { IfOk result (λ c. app_of c ≡ generate_line) }
     ensures local { IfOk result (λ c. (fields_of c).has_globals ≡ false) }
@@ -117,7 +117,7 @@ fn line_with_numbers<'a>(alloc: Global) -> Result<Command<'a>, AllocError>
         .subcommand(generate)
 }
 
-/// The command line, which wants one of the subcommands.
+/// The command line, which requires one of the subcommands.
 fn command_line<'a>(alloc: Global) -> Result<Command<'a>, AllocError>
     ensures { IfOk result (λ c. app_of c ≡ line_of_commands) }
 {
@@ -126,7 +126,7 @@ fn command_line<'a>(alloc: Global) -> Result<Command<'a>, AllocError>
         .subcommand(record_command(alloc))
 }
 
-/// A run, by the text of its option.
+/// The job of `run`, given the text of its option.
 fn run_job_by(budget: Option<&str>) -> Option<Job>
     ensures job { result ≡ run_by (option_map (λ t. t.now) budget.entry) }
     ensures range { IfSome result IsInRange }
@@ -142,7 +142,7 @@ fn run_job_by(budget: Option<&str>) -> Option<Job>
     }
 }
 
-/// A large script, by its text.
+/// The job of `generate`, given its text.
 fn generate_job_by(blocks: Option<&str>) -> Option<Job>
     ensures job { result ≡ generate_by (option_map (λ t. t.now) blocks.entry) }
     ensures range { IfSome result IsInRange }
@@ -151,7 +151,7 @@ fn generate_job_by(blocks: Option<&str>) -> Option<Job>
     Some(Job::Generate { blocks })
 }
 
-/// The job of a subcommand and what was found for its argument.
+/// The job of a subcommand, given what was found for its argument.
 fn job_in_matches(matches: &ArgMatches<'_>) -> Option<Job>
     ensures job { result ≡ job_in (subcommand_rows_of matches.now) }
     ensures range { IfSome result IsInRange }
@@ -166,12 +166,12 @@ fn job_in_matches(matches: &ArgMatches<'_>) -> Option<Job>
     }
 }
 
-/// What the words ask for: `run` for a run, `run --budget N` for a run with a budget of N frames, one to six digits from 0 to
-/// 100,000, `generate N` for the generated script of N blocks, one to six digits from 1 to 10,000, `expand` for the expansion of
+/// What the arguments ask for: `run` for a run, `run --budget N` for a run with a budget of N frames (one to six digits, 0 to
+/// 100,000), `generate N` for the generated script of N blocks (one to six digits, 1 to 10,000), `expand` for the expansion of
 /// an extended script, and `record` for the records of a run.
 ///
-/// The words are read by `clap`. It answers `None` where clap refuses them, or where the text taken for N has not this form
-/// and range, and `AllocError` only where memory runs out. (Ours.)
+/// `clap` parses the arguments. Answers `None` if clap refuses them or N has another form or range, and `AllocError` only if
+/// memory runs out. (Ours.)
 pub fn read_words(alloc: Global, words: &[String]) -> Result<Option<Job>, AllocError>
     ensures job { IfOk result (λ job. job ≡ asked (map string_bytes words.now)) }
     ensures range { IfOk result (λ job. IfSome job IsInRange) }

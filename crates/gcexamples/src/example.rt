@@ -1,7 +1,7 @@
-//! One example: its files, its run, and how it comes out.
+//! One example: its files, its run, and its result.
 //!
-//! Beside `NAME.script` or `NAME.records` stand `NAME.expected`, the text that it gives; where it is not run by the usual words,
-//! `NAME.args`, a word a line; and where it does not end with status 0, `NAME.status`.
+//! Next to `NAME.script` or `NAME.records` are `NAME.expected`, the expected text; `NAME.args`, one argument a line, if it is
+//! not run with the usual ones; and `NAME.status`, if its status is not 0.
 ghost use Rattle.std.specs.Prelude.{◌≡◌, ◌↔◌};
 
 use cg_any_kind::six;
@@ -12,10 +12,10 @@ use std::alloc::{AllocError, Global};
 use std::io::ErrorKind;
 use std::{fs, io};
 
-/// How an example comes out.
+/// The result of an example.
 #[derive(Clone, Copy, Debug, PartialEq, Eq)]
 pub enum Outcome {
-    /// It gives the stored text and ends with the stored status, and the index links to it.
+    /// It gives the stored text and status, and the index links to it.
     AsStored,
     /// It gives another text.
     OtherText,
@@ -44,7 +44,7 @@ struct Given {
     status: u8,
 }
 
-/// How what was found stands to what is stored.
+/// Compares what was found with what is stored.
 fn compare(found: &Given, stored: &Given) -> Outcome
     ensures same { (result ≡ Outcome.AsStored) ↔ ((found.now.text.items ≡ stored.now.text.items) × (found.now.status ≡ stored.now.status)) }
 {
@@ -57,14 +57,14 @@ fn compare(found: &Given, stored: &Given) -> Outcome
     }
 }
 
-/// What is in a sink, with how the run ended.
+/// The content of a sink, and how the run ended.
 fn gathered(alloc: Global, sink: &MemSink, status: u8) -> Result<Given, AllocError> {
     let mut text = Vec::new(alloc);
     text.extend_from_slice(sink.bytes())?;
     Ok(Given { text, status })
 }
 
-/// What the script gives with these words.
+/// What the script gives with these arguments.
 fn run_script(alloc: Global, words: &[String], script: Vec<u8>) -> Result<Given, AllocError> {
     let mut source = PlainSource::new(script);
     let mut sink = MemSink::new(alloc, Vec::new(alloc), 0);
@@ -80,7 +80,7 @@ fn judge_records(alloc: Global, words: &[String], records: Vec<u8>) -> Result<Gi
     gathered(alloc, &sink, status as u8)
 }
 
-/// The text of a file, or another text where there is no such file.
+/// The text of a file, or another text if there is no such file.
 fn text_or(rt: &HostRuntime, path: &str, other: &str) -> io::Result<String> {
     match fs::read_to_string(rt, path) {
         Err(e) if e.kind() == ErrorKind::NotFound => Ok(String::from_str(rt.alloc(), other)?),
@@ -88,7 +88,7 @@ fn text_or(rt: &HostRuntime, path: &str, other: &str) -> io::Result<String> {
     }
 }
 
-/// The words with which the example of this name is run, where `usual` has the usual ones: a word a line.
+/// The arguments for the example of this name: its own, one a line, or else `usual`.
 fn words_for(rt: &HostRuntime, name: &str, usual: &str) -> io::Result<Vec<String>> {
     let text = text_or(rt, format!(in rt.alloc(); "{name}.args")?.as_str(), usual)?;
     let mut words = Vec::new(rt.alloc());
@@ -122,7 +122,7 @@ fn compared(rt: &HostRuntime, path: &str) -> io::Result<Outcome> {
     Ok(compare(&found, &stored_for(rt, name)?))
 }
 
-/// How the example at the path comes out, where the index has this text. A file of its that cannot be read is an error.
+/// The result of the example at the path, given the text of the index. Fails if one of its files cannot be read.
 pub fn outcome_of(rt: &HostRuntime, path: &str, index: &str) -> io::Result<Outcome> {
     if index.contains(format!(in rt.alloc(); "({path})")?.as_str()) {
         compared(rt, path)

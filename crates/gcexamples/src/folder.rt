@@ -1,12 +1,12 @@
-//! Which examples there are: they are found by the endings of files, so that none is left out.
+//! The list of examples. They are found by file extension, so that none is left out.
 use std::{fs, io};
 
-/// Whether the file of this name is run: a script, or records of collections.
+/// Whether the file of this name is an example: a script, or records of collections.
 fn is_run(name: &str) -> bool {
     name.ends_with(".script") || name.ends_with(".records")
 }
 
-/// Adds the paths of the folder's files that are run.
+/// Adds the paths of the examples in the folder.
 fn push_examples(rt: &HostRuntime, folder: &str, paths: &mut Vec<String>) -> io::Result<()> {
     for entry in fs::read_dir(rt, folder)? {
         let entry = entry?;
@@ -17,7 +17,7 @@ fn push_examples(rt: &HostRuntime, folder: &str, paths: &mut Vec<String>) -> io:
     Ok(())
 }
 
-/// The paths of the files that are run, in the folders of this one, in alphabetical order.
+/// The paths of the examples in the folders of this one, in alphabetical order.
 pub fn examples_below(rt: &HostRuntime, top: &str) -> io::Result<Vec<String>> {
     let mut paths = Vec::new(rt.alloc());
     for entry in fs::read_dir(rt, top)? {

@@ -1,5 +1,5 @@
-//! `gcexamples`, run in the folder `data`, which is `examples/` of the repository: runs each example from its files, and
-//! writes a line for each, `ok` where it gives what is stored. It ends with status 1 where one does not.
+//! `gcexamples`, run in the folder `data`, which is `examples/` of the repository. Runs each example from its files, and
+//! writes a line for each, `ok` if it gives what is stored. Ends with status 1 if one does not.
 #![tactic(auto)]
 
 mod example;
@@ -10,10 +10,10 @@ use crate::folder::examples_below;
 use std::process::ExitCode;
 use std::{fs, io};
 
-/// The page that has a line for each example.
+/// The page with a line for each example.
 const INDEX: &str = "README.md";
 
-/// Runs the example, and writes its line. The answer is whether it came out as stored.
+/// Runs the example, writes its line, and answers whether the result is as stored.
 fn tell(rt: &HostRuntime, path: &str, index: &str) -> io::Result<bool> {
     let outcome = outcome_of(rt, path, index);
     let words = match &outcome {

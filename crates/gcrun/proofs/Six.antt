@@ -1,4 +1,4 @@
--- What holds of each of six things that are pushed holds of the list of them.
+-- A property of each of six pushed values holds of their list.
 use Rattle.std.proofs.Common.{◌≡◌, List, [], ◌∷◌, ◌++◌, ap, ◌∙◌}
 
 one_more : {K : Type 0} (before after seen : List K) (x y : K) → after ≡ before ++ x ∷ [] → before ≡ seen → x ≡ y → after ≡ seen ++ y ∷ []

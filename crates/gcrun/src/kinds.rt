@@ -1,4 +1,4 @@
-//! The six kinds that a run is over.
+//! The six kinds of a run.
 ghost use Rattle.std.specs.Prelude.{◌≡◌, ◌++◌, ◌∷◌, [], OnOk, IfOk, map};
 ghost use Rattle.std.specs.FinMap as fin;
 ghost use Rattle.cg_value.specs.declared.KindCode.TheVariants as code;
@@ -9,7 +9,7 @@ use cg_kind::Kind;
 use cg_kinds::{DictKind, FuncKind, InstKind, ListKind, TupleKind, WeakKind};
 use std::alloc::{AllocError, Global};
 
-/// One box more.
+/// Pushes one more box.
 fn push(kinds: &mut Vec<Box<dyn Kind>>, made: Box<dyn Kind>) -> Result<(), AllocError>
     ensures codes { OnOk result (map (λ b. kind b) kinds.new.items ≡
         map (λ b. kind b) kinds.old.items ++ kind made ∷ []) }
@@ -20,7 +20,7 @@ fn push(kinds: &mut Vec<Box<dyn Kind>>, made: Box<dyn Kind>) -> Result<(), Alloc
     Ok(())
 }
 
-/// Does what the words ask for, over these kinds.
+/// Does what the arguments ask for, with these kinds.
 fn run_over<S: Source, K: Sink>(
     alloc: Global,
     words: &[String],
@@ -64,8 +64,8 @@ fn boxed<K: Kind>(alloc: Global, kind: K) -> Result<Box<K>, AllocError>
     Ok(Box::new(alloc, kind)?)
 }
 
-/// Does what the words ask for, over six kinds without objects, in the order of their codes. It answers `AllocError` where
-/// memory for them was refused, and then has read and written nothing.
+/// Does what the arguments ask for, with six kinds without objects, in the order of their codes. Answers `AllocError` if
+/// memory for them was refused; then nothing was read or written.
 pub fn run_over_kinds<S: Source, K: Sink>(
     alloc: Global,
     words: &[String],

@@ -13,8 +13,7 @@ use cg_io::{ReadSource, WriteSink};
 use std::io::{BufWriter, Write};
 use std::process::ExitCode;
 
-/// Runs with standard input and output. What the top call wrote goes out at the end, and a failure there is one of the
-/// sink.
+/// Runs with standard input and output. Flushes the output at the end; a failure there is one of the sink.
 fn run(rt: &HostRuntime, words: &[String]) -> Status {
     let Ok(mut output) = BufWriter::new(rt.alloc(), rt.stdout()) else {
         return Status::OutOfMemory;
@@ -25,7 +24,7 @@ fn run(rt: &HostRuntime, words: &[String]) -> Status {
     let Ok(status) = run_over_kinds(rt.alloc(), words, &mut source, &mut sink) else {
         return Status::OutOfMemory;
     };
-    // (the one line of a bad script is in the buffer still)
+    // (the line of a bad script is still in the buffer)
     if status == Status::BadScript {
         remark_bad_line(rt, input.remembered(), output.buffer());
     }

@@ -1,4 +1,4 @@
-//! What is said on standard error. Standard output and the exit status do not depend on it.
+//! Messages on standard error. Standard output and the exit status do not depend on them.
 use cg_cli::Status;
 use cg_front::{number_at, remark, remark_line, remark_that_input_is_awaited};
 
@@ -8,7 +8,7 @@ const USAGE: &str = "usage: gcrun run [--budget N] < SCRIPT
        gcrun generate N
 docs/SCRIPT.md has the language and the words.";
 
-/// Says that a script is awaited, where it is read from a terminal.
+/// Says that a script is expected, if it is read from a terminal.
 pub fn remark_before(rt: &HostRuntime, words: &[String]) {
     let job = words.first().map_or("", |word| word.as_str());
     if matches!(job, "run" | "record" | "expand") {
@@ -32,7 +32,7 @@ fn meaning_of(code: u64) -> &'static str {
     }
 }
 
-/// Shows the bad line that a text `bad script L C` names, and says what its code means.
+/// Shows the bad line named in a text `bad script L C`, and explains its code.
 pub fn remark_bad_line(rt: &HostRuntime, input: &[u8], text: &[u8]) {
     if let Some(number) = number_at(text, 2) {
         remark_line(rt, input, number);
@@ -42,7 +42,7 @@ pub fn remark_bad_line(rt: &HostRuntime, input: &[u8], text: &[u8]) {
     }
 }
 
-/// Says why there is no text, or not all of it, where standard output does not.
+/// Says why there is no text, or only a part of it, if standard output does not.
 pub fn remark_status(rt: &HostRuntime, status: Status) {
     match status {
         Status::BadWords => remark(rt, USAGE),

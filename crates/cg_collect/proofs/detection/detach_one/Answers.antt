@@ -35,7 +35,7 @@ returns-then-is_unreferred-clause-takes g c = λ script facts policy.
     goes_on c.to.ensures (turn-unreferred script facts store policy c.args.next (c.is_unreferred.ensures.0 c.if-is_unreferred.true))
     c.requires.ready.0 tt (inl (omega arith)) (λ n few. few) (omega arith, refl) (keeps_all store)
 
--- All have lost the final set.
+-- All are cleared.
 pub returns-in_default-clause-takes : goal.returns-in_default-clause-takes
 returns-in_default-clause-takes g c = λ script facts policy.
     let store = c.args.heap.now in
@@ -50,7 +50,7 @@ newest_looking-requires g c =
     let ready = subst (λ n. IsReadyForCollectionAt c.args.heap.now 0 (phase_of.Detaching n)) c.in-Some.is c.requires.ready in
     (where_is c.args.heap.now c.sound.ensures.listed Cand c.in-Some.object ready.1).0
 
--- Its newest weak reference loses it.
+-- Its newest weak reference is cleared.
 pub clear_weak-requires-clause-live : goal.clear_weak-requires-clause-live
 clear_weak-requires-clause-live g c =
     let n : Newest c.args.heap.now c.in-Some.object c.in-Some-newest_looking.weak = newest_row c.args.heap.now c.in-Some.object c.in-Some-newest_looking.weak (sym c.newest_looking.ensures.newest ∙ c.in-Some-newest_looking.is) in
@@ -101,7 +101,7 @@ returns-in-None-clause-takes g c = λ script facts policy.
     )
     tt (inr (refl, omega (arith, shorter))) (λ n few. few) (omega arith, refl) (keeps_all store))
 
--- the looks that are left
+-- the remaining looks
 pub returns-then-is_unreferred-clause-looks : goal.returns-then-is_unreferred-clause-looks
 returns-then-is_unreferred-clause-looks g c = walk_over (phase_of.Detaching c.args.next) phase_of.Turns c.to.result.phase c.args.heap.now c.args.steps.now (most_looks 0 (phase_of.Detaching c.args.next) c.args.heap.now) (phase_is _ _ c.to.ensures) refl
 

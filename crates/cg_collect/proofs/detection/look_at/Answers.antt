@@ -24,7 +24,7 @@ clear_weak-requires-clause-live g c = looked_lives c.args.heap.now c.sound.ensur
 pub clear_weak-requires-clause-refers : goal.clear_weak-requires-clause-refers
 clear_weak-requires-clause-refers g c = subst IsSome (sym (c.requires.ready.1.weak_live c.args.weak refl).1) refl
 
--- A member loses its referent.
+-- A member is cleared.
 pub returns-then-is_member-clause-takes : goal.returns-then-is_member-clause-takes
 returns-then-is_member-clause-takes g c = λ script facts policy.
     let store = c.args.heap.now in
@@ -34,7 +34,7 @@ returns-then-is_member-clause-takes g c = λ script facts policy.
     in_heap c.clear_weak.ensures (tells (leads_to c.tells.ensures (ap (phase_of.Unlinking c.args.member) c.older_looking.ensures.older)) (u.steps rise script facts policy)
     (apart_rows store (without_row c.args.weak store.rows) c.requires.ready.0, u.goes_on rise) tt (λ n few. few) (omega arith, refl) (keeps-cleared c.args.weak false store))
 
--- Another is passed.
+-- Any other is passed.
 pub returns-else-is_member-clause-takes : goal.returns-else-is_member-clause-takes
 returns-else-is_member-clause-takes g c = λ script facts policy.
     let store = c.args.heap.now in

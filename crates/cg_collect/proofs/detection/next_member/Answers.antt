@@ -33,7 +33,7 @@ returns-in-None-clause-takes g c = λ script facts policy.
     (turn-all_unlinked store c.sound.ensures.rows.rise (subst (λ m. IsMemberWalk store m None) c.in-None.is c.requires.ready.1) script facts policy)
     c.requires.ready.0 tt (inl (omega arith)) (λ n few. few) (omega arith, refl) (keeps_all store))
 
--- the looks that are left
+-- the remaining looks
 pub returns-in-Some-clause-looks : goal.returns-in-Some-clause-looks
 returns-in-Some-clause-looks g c =
     let store = c.args.heap.now in

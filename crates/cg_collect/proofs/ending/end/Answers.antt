@@ -25,7 +25,7 @@ saves script flags p store =
     let kept : Store = with_saved (kept_aside script flags store) store in
     keeps_then store kept (merged Legacy p kept) (keeps-rewritten 1 (entries_of store 1 ++ map (λ o. item (Ref o)) (kept_aside script flags store)) store) (keeps-merged Legacy p kept)
 
--- With UNCOLLECTABLE the objects set aside are told.
+-- With UNCOLLECTABLE the uncollectable objects are printed.
 pub returns-then-intersects : goal.returns-then-intersects
 returns-then-intersects g c =
     let script = c.args.script.now in
@@ -41,7 +41,7 @@ returns-then-intersects g c =
     (there, there) tt (inl (omega arith)) (λ n few. (few, omega (arith, c.size-number.ensures, list_few store c.sound.ensures.listed c.sound.ensures.objects Legacy))) (omega arith, refl)
     (saves script (bits_of facts.flags) (Gen (older facts.generation)) store)))
 
--- Without it those that were saved are.
+-- Without it only the saved ones are.
 pub returns-else-intersects : goal.returns-else-intersects
 returns-else-intersects g c =
     let script = c.args.script.now in

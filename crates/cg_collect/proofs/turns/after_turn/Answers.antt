@@ -14,7 +14,7 @@ returns-then-not-has g c = λ script policy.
     goes_on c.to.ensures (turn-died store c.args.object (λ live. absurd (let there = c.has.ensures.1 live in cc)) script c.args.facts policy) c.requires.ready.0 tt
     (inr (refl, omega (arith, none_but_others store c.sound.ensures.listed c.args.object (λ live. absurd (let there = c.has.ensures.1 live in cc))))) (λ n few. few) (omega arith, refl) (keeps_all store)
 
--- One that lives gets older.
+-- One that lives moves to the older generation.
 pub move_to-requires-clause-live : goal.move_to-requires-clause-live
 move_to-requires-clause-live g c = c.has.ensures.0 c.if-not-has.false
 

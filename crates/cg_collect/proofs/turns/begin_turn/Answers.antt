@@ -48,7 +48,7 @@ returns-then-intersects g c = λ script policy.
 pub kind_of-requires : goal.kind_of-requires
 kind_of-requires g c = (condemned c.args.heap.now c.sound.ensures.listed c.args.object c.requires.first).0
 
--- A tuple gets older.
+-- A tuple moves to the older generation.
 pub move_to-requires-in-Tuple-clause-live : goal.move_to-requires-in-Tuple-clause-live
 move_to-requires-in-Tuple-clause-live g c = (condemned c.args.heap.now c.sound.ensures.listed c.args.object c.requires.first).0
 
@@ -62,7 +62,7 @@ returns-in-Tuple g c = λ script policy.
     (inr (refl, omega (arith, others_left store c.sound.ensures.listed c.args.object live c.args.facts.generation, one_and_others store c.sound.ensures.listed c.args.object live at)))
     (λ n few. few) (omega arith, refl) (keeps-moved c.args.object (Gen (older c.args.facts.generation)) store))
 
--- Another is held.
+-- Any other is held.
 pub hold-requires : goal.hold-requires
 hold-requires g c = record { live = (condemned c.args.heap.now c.sound.ensures.listed c.args.object c.requires.first).0; few = c.requires.few }
 

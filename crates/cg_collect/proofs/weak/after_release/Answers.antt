@@ -9,7 +9,7 @@ use Rattle.cg_collect.proofs.Pending.{turn-died, turn-aged, older_place, apart_a
 use Rattle.cg_collect.proofs.TakingTurns.{in_heap, goes_on}
 use Rattle.cg_collect.proofs.weak.after_release.Goals as goal
 
--- One that lives gets older.
+-- One that lives moves to the older generation.
 pub move_to-requires-clause-live : goal.move_to-requires-clause-live
 move_to-requires-clause-live g c = c.has.ensures.0 c.if-has.true
 

@@ -15,7 +15,7 @@ frame_of_callback-requires-clause-live g c = (where_is c.args.heap.now c.sound.e
 pub frame_of_callback-requires-clause-callback : goal.frame_of_callback-requires-clause-callback
 frame_of_callback-requires-clause-callback g c = (c.requires.ready.1 c.in-Some.weak (head_in (list_at c.args.heap.now Pend) c.in-Some.weak (sym c.in-Some.ensures))).1
 
--- a weak reference that waits is not the garbage list
+-- a waiting weak reference is not the garbage list
 pub returns-in-Some-clause-takes : goal.returns-in-Some-clause-takes
 returns-in-Some-clause-takes g c = λ script facts policy.
     let at = (where_is c.args.heap.now c.sound.ensures.listed Pend c.in-Some.weak (head_in (list_at c.args.heap.now Pend) c.in-Some.weak (sym c.in-Some.ensures))).1 in

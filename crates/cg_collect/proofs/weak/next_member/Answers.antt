@@ -42,7 +42,7 @@ returns-in-None-clause-takes g c = λ script in_profile facts policy.
     (turn-all_cleared c.args.profile store (subst (λ m. IsWalk c.args.profile store m None) c.in-None.is c.requires.walk) script in_profile facts policy None) c.requires.ready
     tt (inl (omega arith)) (λ n none. omega (arith, none, list_few store c.sound.ensures Pend)) (omega arith, refl) (keeps_all store))
 
--- the looks that are left
+-- the remaining looks
 pub returns-then-is_unreferred-clause-looks : goal.returns-then-is_unreferred-clause-looks
 returns-then-is_unreferred-clause-looks g c = walk_over (phase_of.WeakClearing c.args.member None) phase_of.WeakCalling c.to.result.phase c.args.heap.now c.args.steps.now (most_looks 0 (phase_of.WeakClearing c.args.member None) c.args.heap.now) (phase_is _ _ c.to.ensures) refl
 

@@ -1,4 +1,5 @@
--- What each of these commands asks of the script is in the spelling of the command, and what was done is its effect.
+-- What each of these commands requires of the script is part of the command's spelling, and what was done is its
+-- effect.
 use Rattle.std.proofs.Common.{refl, ◌∙◌, subst, ◌<◌, length}
 use Rattle.std.specs.List.{All}
 use Rattle.cg_script.specs.Texts.{command_texts}

@@ -1,4 +1,4 @@
--- What each command asks of the script is in the spelling of the command, and what was done is its effect.
+-- What each command requires of the script is part of the command's spelling, and what was done is its effect.
 use Rattle.std.proofs.Common.{refl, subst, ◌<◌, length}
 use Rattle.std.specs.List.{All}
 use Rattle.std.proofs.lemmas.List.Elements.{All-head}

@@ -1,4 +1,4 @@
--- What each command asks of the script is in the spelling of the command, and what was done is its effect.
+-- What each command requires of the script is part of the command's spelling, and what was done is its effect.
 use Rattle.std.proofs.Common.{refl, sym, ◌∙◌, ap, subst, true, false}
 use Rattle.cg_machine.specs.declared.event.Event.TheVariants as event
 use Rattle.cg_machine.specs.Effects.{frozen, unfrozen, gens_line}

@@ -1,4 +1,4 @@
--- What each command asks of the script is in the spelling of the command, and what was done is its effect.
+-- What each command requires of the script is part of the command's spelling, and what was done is its effect.
 use Rattle.std.proofs.Common.{refl, sym, subst, ◌<◌, ◌≤◌, ◌∷◌, length}
 use Rattle.std.specs.List.{All}
 use Rattle.cg_script.specs.Texts.{command_texts, operands_texts}

@@ -4,7 +4,7 @@ use Rattle.cg_interp.specs.Quietly.{CameSoFar}
 use Rattle.cg_interp.proofs.Falling.{way_left}
 use Rattle.cg_interp.proofs.collecting.collect_on.Given as goal
 
--- the collection has come so far
+-- the collection has come this far
 abbrev pub invariant-collecting : goal.invariant-collecting
 invariant-collecting g l = CameSoFar l.script l.fn.collection l.fn.heap l.fn.policy l.collection l.heap l.policy
 

@@ -4,7 +4,7 @@ use Rattle.cg_interp.specs.Recording.{RecordedSo}
 use Rattle.cg_interp.proofs.Falling.{falling}
 use Rattle.cg_interp.proofs.recorded.record_turns.Given as goal
 
--- what is recorded of the run so far was written, and the engine stands for the world that it left
+-- the records of the run so far were written, and the engine represents the world after it
 abbrev pub invariant-turns : goal.invariant-turns
 invariant-turns g l = record {
   so : RecordedSo l.script l.fn.engine.first_budget (g.K.Sink.written l.fn.sink) l.engine l.unfinished (g.K.Sink.written l.sink);

@@ -4,7 +4,7 @@ use Rattle.cg_death.specs.Answers.{MakesNone}
 use Rattle.cg_interp.proofs.GivingUp.{GaveUp}
 use Rattle.cg_interp.proofs.releases.give_up.Given as goal
 
--- so much was given up
+-- this much was given up
 abbrev pub invariant-references : goal.invariant-references
 invariant-references g l = record {
   gave : GaveUp l.fn.heap l.fn.release l.heap l.release;

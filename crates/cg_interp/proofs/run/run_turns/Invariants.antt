@@ -4,7 +4,7 @@ use Rattle.cg_interp.specs.Running.{Ran}
 use Rattle.cg_interp.proofs.Falling.{falling}
 use Rattle.cg_interp.proofs.run.run_turns.Given as goal
 
--- the text of the run so far was written, and the engine stands for the world that it left
+-- the text of the run so far was written, and the engine represents the world after it
 abbrev pub invariant-turns : goal.invariant-turns
 invariant-turns g l = record {
   ran : Ran l.script l.fn.engine.first_budget (g.K.Sink.written l.fn.sink) l.engine (g.K.Sink.written l.sink);

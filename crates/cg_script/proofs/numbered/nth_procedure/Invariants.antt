@@ -2,6 +2,6 @@ use Rattle.std.proofs.Common.{◌≡◌, drop, slice_get}
 use Rattle.cg_script.specs.Items.{procedures}
 use Rattle.cg_script.proofs.numbered.nth_procedure.Given as goal
 
--- so many of those from the next line on stand before it
+-- this many of those from the next line on come before it
 abbrev pub invariant-items : goal.invariant-items
 invariant-items l = slice_get (procedures l.items) l.number ≡ slice_get (procedures (drop l.at l.items)) l.left

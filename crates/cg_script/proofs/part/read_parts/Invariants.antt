@@ -4,7 +4,7 @@ use Rattle.cg_script.specs.Parts.{parts_from, texts_from}
 use Rattle.cg_script.proofs.Places.{texts_of}
 use Rattle.cg_script.proofs.part.read_parts.Given as goal
 
--- the parts and texts so far, and those of the words that are left
+-- the parts and texts so far, and those of the remaining words
 abbrev pub invariant-places : goal.invariant-places
 invariant-places l = record {
   fit : all_fit l.fn.form l.place (texts_of (drop l.place l.words)) ≡ all_fit l.fn.form 0 (texts_of l.words);

@@ -24,7 +24,7 @@ bytes-preserved-then-may_stand_in_word c =
       found = k.found;
     }
 
--- the space behind it
+-- the space after it
 pub bytes-preserved : goal.bytes-preserved
 bytes-preserved c =
     let bytes = c.args.bytes.now in
@@ -56,7 +56,7 @@ returns-then-byte-ne32-clause-words c =
     first_last (texts_of c.bytes.words.items) (texts_of c.push_word.new.words.items) (take c.bytes.start bytes) _ k.begun c.push_word.ensures.words k.found
     ∙ ap (λ bs. take MOST_FOUND (words_of bs)) (sym (word_behind bytes c.bytes.start c.bytes.at k.started))
 
--- all bytes are gone over
+-- all bytes were visited
 at_last : (c : goal.After-push_word-2) → take c.bytes.at c.args.bytes.now ≡ c.args.bytes.now
 at_last c = take_all c.bytes.at c.args.bytes.now (omega (arith, c.bytes-test.false))
 

@@ -6,7 +6,8 @@ use Rattle.cg_script.proofs.Places.{texts_of}
 use Rattle.cg_script.proofs.Split.{AreFirst, plain}
 use Rattle.cg_script.proofs.pieces.find_words.Given as goal
 
--- the bytes so far are printable, the words before the one that is begun are found, and its bytes so far may stand in it
+-- the bytes so far are printable, the words before the current one are found, and the bytes of the current one may be
+-- part of a word
 abbrev pub invariant-bytes : goal.invariant-bytes
 invariant-bytes l = record {
   room : vec_capacity l.words ≡ vec_capacity l.fn.words;

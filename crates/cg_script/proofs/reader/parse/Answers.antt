@@ -9,7 +9,7 @@ use Rattle.cg_script.proofs.Each.{known_texts}
 use Rattle.cg_script.proofs.SpelledScripts.{spelled_if}
 use Rattle.cg_script.proofs.reader.parse.Goals as goal
 
--- what is read behind all lines is what the bytes are read as
+-- what is read after all lines is what the bytes are read as
 whole : (c : goal.After-finish) → reading_after c.take_lines.new.draft c.in-Ok.number [] ≡ reading c.args.bytes.now
 whole c = c.in-Ok.ensures.ok ∙ reads_all c.empty-draft.result (lines_of c.args.bytes.now) c.empty-draft.ensures.known c.empty-draft.ensures.items c.empty-draft.ensures.begun
 

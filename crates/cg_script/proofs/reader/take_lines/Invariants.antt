@@ -4,7 +4,7 @@ use Rattle.cg_script.specs.Pieces.{lines_of}
 use Rattle.cg_script.specs.Views.{reading_after, IsSmall}
 use Rattle.cg_script.proofs.reader.take_lines.Given as goal
 
--- what is left is read behind the draft as the whole is
+-- reading the rest after the draft is reading the whole
 abbrev pub invariant-lines : goal.invariant-lines
 invariant-lines l = record {
   same : reading_after l.draft l.number (lines_of l.rest) ≡ reading_after l.fn.draft 1 (lines_of l.bytes);

@@ -3,7 +3,7 @@ use Rattle.cg_script.specs.Pieces.{lines_of}
 use Rattle.cg_weakcoll.specs.Expansion.{with_feeds, written_from, finalize_numbers_from, first_bad_from}
 use Rattle.cg_weakcoll.proofs.expander.take_lines.Given as goal
 
--- what is done of the lines so far, with what is to be done of those left, is what is to be done of all
+-- what is done so far, then what is to be done for the remaining lines, is what is to be done for all
 abbrev pub invariant-lines : goal.invariant-lines
 invariant-lines l = record {
   bad : first_bad_from l.draft.inside l.number (lines_of l.rest) ≡ first_bad_from l.fn.draft.inside 1 (lines_of l.bytes);

@@ -84,18 +84,16 @@ one_held store o held = let here = held o in omega (arith, here, occurrences-one
 pub empty_one-requires-clause-held : goal.empty_one-requires-clause-held
 empty_one-requires-clause-held g c = one_held c.args.heap.now c.in-Turn.object (subst (λ (p : Phase). HasHolds c.args.heap.now (own_holds_at p)) c.in-Turn.is c.requires.held)
 
--- the detections
+-- the reachability passes
 pub returns-in-Start-clause-looks : goal.returns-in-Start-clause-looks
 returns-in-Start-clause-looks g c = subst (λ (p : Phase). c.start.new.steps + looks_left p c.start.result.phase c.start.new.heap ≤ c.args.steps.now + most_looks c.args.self.now.generation p c.args.heap.now) (sym c.in-Start.is) (let looks = c.start.ensures.looks in omega (arith, looks))
 
 pub returns-in-Split-clause-looks : goal.returns-in-Split-clause-looks
 returns-in-Split-clause-looks g c = subst (λ (p : Phase). c.detect.new.steps + looks_left p c.detect.result.phase c.detect.new.heap ≤ c.args.steps.now + most_looks c.args.self.now.generation p c.args.heap.now) (sym c.in-Split.is) (let looks = c.detect.ensures.looks in omega (arith, looks))
 
--- and the turns
 pub returns-in-Turn-clause-looks : goal.returns-in-Turn-clause-looks
 returns-in-Turn-clause-looks g c = subst (λ (p : Phase). c.empty_one.new.steps + looks_left p c.empty_one.result.phase c.empty_one.new.heap ≤ c.args.steps.now + most_looks c.args.self.now.generation p c.args.heap.now) (sym c.in-Turn.is) (let looks = c.empty_one.ensures.looks in omega (arith, looks))
 
--- the walks over weak references
 pub returns-in-WeakClearing-clause-looks : goal.returns-in-WeakClearing-clause-looks
 returns-in-WeakClearing-clause-looks g c = subst (λ (p : Phase). c.clear_one.new.steps + looks_left p c.clear_one.result.phase c.clear_one.new.heap ≤ c.args.steps.now + most_looks c.args.self.now.generation p c.args.heap.now) (sym c.in-WeakClearing.is) c.clear_one.ensures.looks
 
@@ -108,6 +106,6 @@ returns-in-Detaching-clause-looks g c = subst (λ (p : Phase). c.detach_one.new.
 pub returns-in-Unlinking-clause-looks : goal.returns-in-Unlinking-clause-looks
 returns-in-Unlinking-clause-looks g c = subst (λ (p : Phase). c.unlink_one.new.steps + looks_left p c.unlink_one.result.phase c.unlink_one.new.heap ≤ c.args.steps.now + most_looks c.args.self.now.generation p c.args.heap.now) (sym c.in-Unlinking.is) c.unlink_one.ensures.looks
 
--- the start comes before no other detection
+-- the start comes before no other pass
 pub returns-in-Start-clause-apart : goal.returns-in-Start-clause-apart
 returns-in-Start-clause-apart g c = λ is. c.start.ensures.apart

@@ -7,7 +7,7 @@ use Rattle.cg_interp.specs.Quietly.{ComesFrom}
 use Rattle.cg_interp.specs.Callers.{script_caller}
 use Rattle.cg_interp.proofs.engine.Engine.go_on.Given as goal
 
--- the commands so far were done quietly, and the next one has the turn
+-- the commands so far were done quietly, and the next one is current
 abbrev pub invariant-commands : goal.invariant-commands
 invariant-commands g l = record {
   comes : ComesFrom l.script (activity_of.Script l.fn.next) l.fn.self (activity_of.Script l.next) l.self;

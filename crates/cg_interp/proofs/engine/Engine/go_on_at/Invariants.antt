@@ -6,7 +6,7 @@ use Rattle.cg_interp.specs.Turns.{StaysFit}
 use Rattle.cg_interp.specs.Quietly.{ComesFrom}
 use Rattle.cg_interp.proofs.engine.Engine.go_on_at.Given as goal
 
--- the commands so far were done quietly, and the next one has the turn
+-- the commands so far were done quietly, and the next one is current
 abbrev pub invariant-commands : goal.invariant-commands
 invariant-commands g l = record {
   comes : ComesFrom l.script (activity_of.Frame l.locals l.procedure (Some l.fn.number)) l.fn.self (activity_of.Frame l.locals l.procedure (Some l.number)) l.self;

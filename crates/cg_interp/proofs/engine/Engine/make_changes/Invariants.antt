@@ -9,7 +9,7 @@ use Rattle.cg_interp.specs.Quietly.{ComesFrom}
 use Rattle.cg_interp.specs.Callers.{frame_caller}
 use Rattle.cg_interp.proofs.engine.Engine.make_changes.Given as goal
 
--- the commands so far were done quietly, the next one has the turn, and no collection is due before it
+-- the commands so far were done quietly, the next one is current, and no collection is due before it
 abbrev pub invariant-commands : goal.invariant-commands
 invariant-commands g l = record {
   comes : (script : Script) → l.body ≡ body_of script l.procedure → ComesFrom script (activity_of.Frame l.fn.locals l.procedure (Some l.initial.at)) l.fn.self (activity_of.Frame l.fn.locals l.procedure (Some l.at)) l.self;
