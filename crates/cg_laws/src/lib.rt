@@ -1,4 +1,4 @@
-//! What holds in every run of the machine of collections, and of the numbers that make them due.
+//! What holds in every run of the machine.
 //!
 //! Each law is the contract of a function that does nothing. The layer above rests on `worlds_stay_kept`: each world of a
 //! run has what all laws say of one world, and so has each world to which the machine goes from it.
@@ -6,4 +6,9 @@
 
 mod laws;
 
-pub use laws::{collections_are_apart, numbers_are_few, worlds_stay_kept};
+pub use laws::{
+    collections_are_apart, deaths_clear_newest_first, dying_is_unheld, fronts_begin_whole_texts,
+    lines_are_printable, locals_live, no_run_is_stuck, numbers_are_few, runs_stay_lawful,
+    serials_are_few, stacks_are_bounded, steps_leave_what_is_below, worlds_are_orderly,
+    worlds_have_origins, worlds_stay_kept,
+};

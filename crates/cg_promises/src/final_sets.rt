@@ -1,6 +1,6 @@
 //! What every run does to the final set of a collection that does not save all. Each law is the contract of a function that does nothing.
 ghost use Rattle.cg_script.specs.ReadScripts.{WasRead};
-ghost use Rattle.cg_machine.specs.Laws.{FinalSetIsFreed, FinalSetIsFreedIn, OnlyFreesNameMembers, Sealing};
+ghost use Rattle.cg_laws.specs.Laws.{FinalSetIsFreed, FinalSetIsFreedIn, OnlyFreesNameMembers, Sealing};
 
 /// In every run, from the second detection of a collection that does not save all up to its stop, only members of the final
 /// set, the collection and releases hold a member that lives, nothing refers to it weakly, nor does it, no finalizer of it is
