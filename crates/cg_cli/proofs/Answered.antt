@@ -5,7 +5,7 @@ use Rattle.std.specs.Io.KnownBytes.{Appends, Keeps, IsAtEnd}
 use Rattle.cg_io.specs.Causes.{AppendsFront, Rose}
 use Rattle.cg_script.specs.Reading.{Reading, reading, spells, faulty}
 use Rattle.cg_machine.specs.World.{Ended, BudgetIsSpent}
-use Rattle.cg_machine.specs.Laws.{OneFinalizerEach}
+use Rattle.cg_laws.specs.Laws.{OneFinalizerEach}
 use Rattle.cg_promises.specs.Lines.{NoDeadLines}
 use Rattle.cg_weakcoll.specs.Expansion.{first_bad}
 use Rattle.cg_cli.specs.Jobs.{Outside, ReadsSource, ComesWithoutFaults, RunAnswers, ExpandAnswers, RecordAnswers}

@@ -4,7 +4,7 @@ use Rattle.cg_io.specs.Causes.{AppendsFront}
 use Rattle.cg_script.specs.Reading.{spells}
 use Rattle.cg_machine.specs.World.{Outcome}
 use Rattle.cg_machine.specs.Run.{events_of}
-use Rattle.cg_machine.specs.Laws.{OneFinalizerEach}
+use Rattle.cg_laws.specs.Laws.{OneFinalizerEach}
 use Rattle.cg_promises.specs.Lines.{NoDeadLines}
 use Rattle.cg_interp.specs.Written.{WroteKept}
 use Rattle.cg_cli.specs.Statuses.{RanWhole, RanKept, RowText, run_text, bad_text, large_text, WroteFront, FrontKept, budget_of}

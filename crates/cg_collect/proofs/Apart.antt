@@ -25,7 +25,7 @@ use Rattle.cg_trial.proofs.Lists.{occurs}
 use Rattle.cg_trial.proofs.Placed.{where_is}
 use Rattle.cg_collect.specs.Ready.{IsClear, IsApartUnseen, IsUnsaved, IsEmptyAt}
 use Rattle.cg_collect.specs.Starting.{StaysAt, MergesYounger, UntracksSurvivors, WasUntracked, GetOlder}
-use Rattle.cg_machine.proofs.Places.{place_differs}
+use Rattle.cg_represents.proofs.Places.{place_differs}
 use Rattle.cg_collect.proofs.Standing.{object_there, list_length, empty_at, nobody_at, lives_at, entries_on}
 use Rattle.cg_collect.proofs.Traces.{Trace, SplitsOff, at_or_not, same16, both_or, last_step, last_older, candidate_last, unmoved, unreachable_there}
 

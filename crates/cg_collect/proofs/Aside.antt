@@ -19,7 +19,7 @@ use Rattle.cg_graph.specs.Changes.{moved}
 use Rattle.cg_graph.proofs.Members.{either, Includes-append_left, Includes-append_right, Includes-append_cases}
 use Rattle.cg_graph.proofs.Objects.{object-at}
 use Rattle.cg_machine.specs.Program.{legacy_of}
-use Rattle.cg_machine.proofs.Sorting.{Reach-inside}
+use Rattle.cg_represents.proofs.Lists.{Reach-inside}
 use Rattle.cg_arena.specs.Nodes.{following}
 use Rattle.cg_heap.specs.Calls.{IsListed}
 use Rattle.cg_trial.specs.View.{targets}

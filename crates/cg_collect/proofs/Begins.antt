@@ -14,8 +14,8 @@ use Rattle.cg_machine.specs.World.{World, Activity, Collecting, Numbers, with_st
 use Rattle.cg_machine.specs.Effects.{gens_line}
 use Rattle.cg_machine.specs.Collect.{merged, merged_place, begun, survived, has_flag, stats, collectable, lines_if, Sorts, sorted, survivor_count, start_world}
 use Rattle.cg_machine.specs.Program.{profile_of}
-use Rattle.cg_machine.specs.Represents.{Represents}
-use Rattle.cg_machine.proofs.Representing.{in_one}
+use Rattle.cg_represents.specs.Represents.{Represents}
+use Rattle.cg_represents.proofs.Representing.{in_one}
 use Rattle.cg_heap.specs.Calls.{IsListed}
 use Rattle.cg_trial.specs.Split.{IsSameButPlaces}
 use Rattle.cg_policy.specs.Policy.{Policy, with_numbers, IsBounded}

@@ -27,10 +27,10 @@ use Rattle.cg_machine.specs.declared.event.Event.TheVariants.{Alive, Cleared}
 use Rattle.cg_machine.specs.World as machine
 use Rattle.cg_machine.specs.World.{World, Activity, Collecting, with_stack, with_objects}
 use Rattle.cg_machine.specs.Holdings.{holdings}
-use Rattle.cg_machine.specs.Represents.{Represents}
+use Rattle.cg_represents.specs.Represents.{Represents}
 use Rattle.cg_machine.specs.Weak.{AllLose}
 use Rattle.cg_machine.specs.Collect.{older, get_older, loses_at_split}
-use Rattle.cg_machine.proofs.Representing.{in_one, count-in_degree}
+use Rattle.cg_represents.proofs.Representing.{in_one, count-in_degree}
 use Rattle.cg_policy.specs.Policy.{Policy}
 use Rattle.cg_trial.specs.View.{view_of, Merged}
 use Rattle.cg_trial.specs.Split.{IsSameButPlaces}
@@ -47,7 +47,7 @@ use Rattle.cg_collect.specs.Phases.{collection_of, from_on, cleared_lines, membe
 use Rattle.cg_collect.specs.Ready.{IsAt, IsApartUnseen, HasNoneBehind}
 use Rattle.cg_collect.specs.Answers.{CollectSteps}
 use Rattle.cg_collect.specs.Turns.{collection_at}
-use Rattle.cg_machine.proofs.Places.{place_at_is, place_is}
+use Rattle.cg_represents.proofs.Places.{place_at_is, place_is}
 use Rattle.cg_collect.proofs.Standing.{stands_at, place_there, live_there, stood_at, same_more, entries_on, outside_on, objects_on, list_length, map_alike}
 use Rattle.cg_collect.proofs.Telling.{from_ahead, from_first, at_first, split_at}
 use Rattle.cg_collect.proofs.Stopping.{at_right, tells_line, tells_none}

@@ -16,7 +16,7 @@ use Rattle.cg_machine.specs.Program.{profile_of}
 use Rattle.cg_machine.specs.World as machine
 use Rattle.cg_machine.specs.World.{World, Activity, Releasing, Collecting, Numbers}
 use Rattle.cg_machine.specs.Weak.{callback_in}
-use Rattle.cg_machine.specs.Represents.{Represents}
+use Rattle.cg_represents.specs.Represents.{Represents}
 use Rattle.cg_policy.specs.Policy.{Policy}
 use Rattle.cg_death.specs.declared.release.Release.{Release}
 use Rattle.cg_death.specs.declared.answer.DeathStep.{DeathStep}

@@ -29,7 +29,7 @@ use Rattle.cg_machine.specs.World.{World, Activity, Releasing, Collecting, with_
 use Rattle.cg_machine.specs.Frame.{start_frame}
 use Rattle.cg_machine.specs.Dying.{finalizer_to_run}
 use Rattle.cg_machine.specs.Collect.{IsMemberOf, looks_at}
-use Rattle.cg_machine.proofs.Representing.{in_one}
+use Rattle.cg_represents.proofs.Representing.{in_one}
 use Rattle.cg_policy.specs.Policy.{Policy}
 use Rattle.cg_trial.proofs.Lists.{occurs, Includes-without}
 use Rattle.cg_trial.proofs.Placed.{once_at, where_is}

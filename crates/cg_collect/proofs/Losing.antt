@@ -30,7 +30,7 @@ use Rattle.cg_machine.specs.Weak.{loses_referent, callback_of, callback_in, MayL
 use Rattle.cg_machine.specs.Program.{profile_of}
 use Rattle.cg_machine.specs.Collect.{waits, is_condemned_in, loses_in_weak_phase}
 use Rattle.cg_machine.specs.Collect as collect
-use Rattle.cg_machine.proofs.Representing.{in_one}
+use Rattle.cg_represents.proofs.Representing.{in_one}
 use Rattle.cg_policy.specs.Policy.{Policy}
 use Rattle.cg_trial.proofs.Lists.{absent, without-absent}
 use Rattle.cg_trial.proofs.Placed.{where_is}

@@ -30,9 +30,9 @@ use Rattle.cg_machine.specs.World.{World, Activity, Releasing, Collecting, with_
 use Rattle.cg_machine.specs.Frame.{Transition, start_frame}
 use Rattle.cg_machine.specs.Weak.{callback_of, callback_in}
 use Rattle.cg_machine.specs.Collect.{older, calls_back, after_release}
-use Rattle.cg_machine.specs.Laws.{all_waits}
-use Rattle.cg_machine.proofs.PlainCollect.{occurrences-cons}
-use Rattle.cg_machine.proofs.Representing.{in_one}
+use Rattle.cg_represents.specs.Orderly.{all_waits}
+use Rattle.cg_represents.proofs.Lists.{occurrences-cons}
+use Rattle.cg_represents.proofs.Representing.{in_one}
 use Rattle.cg_policy.specs.Policy.{Policy}
 use Rattle.cg_trial.proofs.Lists.{Includes-without, absent, length-without, without-absent, without-cons_yes, without-cons_no}
 use Rattle.cg_trial.proofs.Placed.{where_is}

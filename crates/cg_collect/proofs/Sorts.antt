@@ -25,12 +25,12 @@ use Rattle.cg_machine.specs.World.{World, with_objects}
 use Rattle.cg_machine.specs.Holdings.{holds, holdings}
 use Rattle.cg_machine.specs.Operands.{is_dict}
 use Rattle.cg_machine.specs.Collect.{older, Survives, IsGarbage, IsSetAside, has_none_tracked, untracked_if, untrack, IsTuplePass, Sorts, survivor_place, sorted, survivor_count}
-use Rattle.cg_machine.proofs.Sorting.{Reach-inside}
+use Rattle.cg_represents.proofs.Lists.{Reach-inside}
 use Rattle.cg_heap.specs.Calls.{IsListed, code_may_be_tracked, node_may_be_tracked}
 use Rattle.cg_trial.specs.Split.{IsSameButPlaces}
 use Rattle.cg_trial.proofs.Worlds.{counts_alike}
 use Rattle.cg_collect.specs.Starting.{IsLedByLegacy, has_tracked}
-use Rattle.cg_machine.proofs.Places.{place_at_is, place_differs, place_is}
+use Rattle.cg_represents.proofs.Places.{place_at_is, place_differs, place_is}
 use Rattle.cg_collect.proofs.Standing.{map_alike, place_there, entries_there, code_there, lives_at, stands_at, stood_at, edge_at, edge_back, entries_on, code_on, objects_on, list_length}
 use Rattle.cg_collect.proofs.Aside.{legacy_alike}
 use Rattle.cg_collect.proofs.Untracked.{trackable, any_alike, has_tracked_alike}

@@ -18,8 +18,8 @@ use Rattle.cg_graph.proofs.Members.{Includes-map, Includes-map_cases, Includes-f
 use Rattle.cg_graph.proofs.Objects.{objects-mapped}
 use Rattle.cg_heap.specs.Calls.{IsListed}
 use Rattle.cg_machine.specs.Collect.{SameMembers}
-use Rattle.cg_machine.proofs.Places.{place_at_is, place_is}
-use Rattle.cg_machine.proofs.Saving.{no_longer}
+use Rattle.cg_represents.proofs.Places.{place_at_is, place_is}
+use Rattle.cg_represents.proofs.Lists.{no_longer}
 use Rattle.cg_trial.specs.View.{number_in}
 use Rattle.cg_trial.specs.Split.{IsSameNode, IsSameButPlaces}
 use Rattle.cg_trial.proofs.Lists.{occurs, occurs_in, occurrences-cons, none_or_some}

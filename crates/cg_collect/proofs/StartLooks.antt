@@ -11,7 +11,7 @@ use Rattle.cg_graph.specs.Holdings.{occurrences}
 use Rattle.cg_graph.specs.Store.{Store, list_at, place_of, entries_of, IsLive}
 use Rattle.cg_graph.proofs.Members.{either, Includes-append_cases}
 use Rattle.cg_graph.proofs.Objects.{occurrences-append}
-use Rattle.cg_machine.proofs.Sorting.{Reach-inside}
+use Rattle.cg_represents.proofs.Lists.{Reach-inside}
 use Rattle.cg_heap.specs.Calls.{IsListed}
 use Rattle.cg_trial.specs.Split.{entry_number_at}
 use Rattle.cg_trial.proofs.Lists.{occurs_in, none_or_some}

@@ -24,9 +24,9 @@ use Rattle.cg_machine.specs.World as machine
 use Rattle.cg_machine.specs.World.{World, Activity, Collecting, Dying, Death, with_stack, with_objects}
 use Rattle.cg_machine.specs.Holdings.{holds, collect_holds, is_collection}
 use Rattle.cg_machine.specs.Program.{legacy_of}
-use Rattle.cg_machine.specs.Represents.{Represents}
+use Rattle.cg_represents.specs.Represents.{Represents}
 use Rattle.cg_machine.specs.Collect.{older, has_flag, save_all, uncollectable, lines_if, all_saved, is_saved, SameMembers}
-use Rattle.cg_machine.proofs.Representing.{in_one, represents}
+use Rattle.cg_represents.proofs.Representing.{in_one, represents}
 use Rattle.cg_policy.specs.Policy.{Policy}
 use Rattle.cg_policy.specs.Flagset.{bits_of}
 use Rattle.cg_trial.specs.View.{view_of, Merged}
@@ -44,7 +44,7 @@ use Rattle.cg_collect.specs.Ready.{IsAt}
 use Rattle.cg_collect.specs.Saving.{with_saved, kept_aside}
 use Rattle.cg_collect.specs.Answers.{CollectionShows, CollectSteps}
 use Rattle.cg_collect.specs.Turns.{collection_at, list_around}
-use Rattle.cg_machine.proofs.Places.{place_at_is, place_is}
+use Rattle.cg_represents.proofs.Places.{place_at_is, place_is}
 use Rattle.cg_collect.proofs.Standing.{node_of_live, node_there, place_there, live_there, object_there, once_among, same_times, list_has, outside_on}
 use Rattle.cg_collect.proofs.Moving.{walk_passes, comes_next}
 use Rattle.cg_collect.proofs.Telling.{from_ahead, split_at, at_first}

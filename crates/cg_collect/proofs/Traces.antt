@@ -13,12 +13,12 @@ use Rattle.cg_graph.specs.Reachable.{IsReachable, IsUnreachable}
 use Rattle.cg_graph.specs.Store.{Store, Node, list_at, place_of, place_in, HasCode, IsLive}
 use Rattle.cg_graph.proofs.Members.{either, cases_of}
 use Rattle.cg_machine.specs.Collect.{older}
-use Rattle.cg_machine.proofs.Sorting.{Reach-inside}
+use Rattle.cg_represents.proofs.Lists.{Reach-inside}
 use Rattle.cg_heap.specs.Calls.{IsListed}
 use Rattle.cg_trial.specs.Split.{IsSameButPlaces}
 use Rattle.cg_trial.proofs.Placed.{where_is, is_there}
 use Rattle.cg_collect.specs.Starting.{StaysAt, MergesYounger, UntracksSurvivors, WasUntracked, GetOlder, SetsLegacyAside, has_tracked}
-use Rattle.cg_machine.proofs.Places.{place_at_is, place_differs, place_is}
+use Rattle.cg_represents.proofs.Places.{place_at_is, place_differs, place_is}
 use Rattle.cg_collect.proofs.Standing.{same_itself, same_more, live_on, live_back, lives_at, nobody_at, stood_at}
 use Rattle.cg_collect.proofs.Untracked.{trackable, trackable_alike, has_tracked_alike}
 

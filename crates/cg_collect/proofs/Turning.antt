@@ -28,7 +28,7 @@ use Rattle.cg_machine.specs.World as machine
 use Rattle.cg_machine.specs.World.{World, Activity, Releasing, Collecting, with_stack, with_objects, with_change}
 use Rattle.cg_machine.specs.Frame.{Transition}
 use Rattle.cg_machine.specs.Collect.{older, has_flag, save_all, saved, empties, collection_at as machine_at}
-use Rattle.cg_machine.proofs.Representing.{in_one}
+use Rattle.cg_represents.proofs.Representing.{in_one}
 use Rattle.cg_policy.specs.Policy.{Policy}
 use Rattle.cg_policy.specs.Flagset.{bits_of}
 use Rattle.cg_trial.proofs.Lists.{occurs, absent, without-absent, Includes-without}
@@ -46,7 +46,7 @@ use Rattle.cg_collect.specs.Phases.{collection_of}
 use Rattle.cg_collect.specs.Ready.{IsApartUnseen, IsUnsaved}
 use Rattle.cg_collect.specs.Answers.{CollectSteps}
 use Rattle.cg_collect.specs.Turns.{collection_at, to_clear, still_cleared, others_cleared, still_released}
-use Rattle.cg_machine.proofs.Places.{place_at_is}
+use Rattle.cg_represents.proofs.Places.{place_at_is}
 use Rattle.cg_collect.proofs.Standing.{node_of_live, object_there, entries_on}
 use Rattle.cg_collect.proofs.Moving.{moved_same, moved_from}
 use Rattle.cg_collect.proofs.Garbage.{garbage-moved}

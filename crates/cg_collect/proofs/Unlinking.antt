@@ -16,8 +16,8 @@ use Rattle.cg_heap.specs.Weak.{AreRows}
 use Rattle.cg_heap.proofs.CallerLemmas.{live_of_kind}
 use Rattle.cg_heap.proofs.RowLemmas.{refers_live}
 use Rattle.cg_machine.specs.declared.event.Event.TheVariants.{Cleared}
-use Rattle.cg_machine.specs.Represents.{Represents}
-use Rattle.cg_machine.proofs.Places.{place_is, place_at_is}
+use Rattle.cg_represents.specs.Represents.{Represents}
+use Rattle.cg_represents.proofs.Places.{place_is, place_at_is}
 use Rattle.cg_policy.specs.Policy.{Policy}
 use Rattle.cg_trial.proofs.Placed.{where_is, is_there}
 use Rattle.cg_death.proofs.RowSplits.{head_in, split_at, referent-without}

@@ -8,7 +8,7 @@ use Rattle.cg_graph.specs.Object.{Object}
 use Rattle.cg_graph.specs.Rows.{Row, referent_in}
 use Rattle.cg_graph.specs.Store.{Store, list_at, objects_of}
 use Rattle.cg_machine.specs.declared.event.Event.TheVariants.{Cleared}
-use Rattle.cg_machine.specs.Represents.{Represents}
+use Rattle.cg_represents.specs.Represents.{Represents}
 use Rattle.cg_policy.specs.Policy.{Policy}
 use Rattle.cg_collect.specs.declared.answer.CollectStep.TheVariants as answer_of
 use Rattle.cg_collect.specs.declared.collection.Facts.{Facts}

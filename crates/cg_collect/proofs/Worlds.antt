@@ -15,8 +15,8 @@ use Rattle.cg_machine.specs.declared.event.Event.{Event}
 use Rattle.cg_machine.specs.World as machine
 use Rattle.cg_machine.specs.World.{World, Activity, Releasing, Dying, Collecting, Death, with_stack, with_objects}
 use Rattle.cg_machine.specs.Holdings.{holds, collect_holds, is_collection}
-use Rattle.cg_machine.specs.Represents.{Represents, Goes, CollectionWaits}
-use Rattle.cg_machine.proofs.Representing.{Matches, represents, pushed}
+use Rattle.cg_represents.specs.Represents.{Represents, Goes, CollectionWaits}
+use Rattle.cg_represents.proofs.Representing.{Matches, represents, pushed}
 use Rattle.cg_death.specs.declared.release.Release.{Release}
 use Rattle.cg_death.proofs.Worlds.{at_stack, append_none}
 use Rattle.cg_policy.specs.Policy.{Policy}

@@ -9,8 +9,8 @@ use Rattle.cg_machine.specs.World.{World, Activity, Dying, Death, Numbers, Runni
 use Rattle.cg_machine.specs.Collect.{begun}
 use Rattle.cg_machine.specs.Frame.{begin_death, start_frame}
 use Rattle.cg_machine.specs.Holdings.{holdings, is_death_of, is_collection}
-use Rattle.cg_machine.specs.Laws.{IsHeldInItsFramesAlone, IsOrderly}
-use Rattle.cg_machine.specs.Represents.{Represents, Goes}
+use Rattle.cg_represents.specs.Orderly.{IsHeldInItsFramesAlone, IsOrderly}
+use Rattle.cg_represents.specs.Represents.{Represents, Goes}
 use Rattle.cg_policy.specs.Policy.{Policy}
 use Rattle.cg_collect.specs.declared.answer.CollectStep.{CollectStep}
 use Rattle.cg_collect.specs.declared.answer.CollectStep.TheVariants as answer_of

@@ -5,7 +5,7 @@ ghost use Rattle.cg_machine.specs.Program.{profile_of};
 ghost use Rattle.cg_machine.specs.World.{World, push};
 ghost use Rattle.cg_machine.specs.Collect.{begun};
 ghost use Rattle.cg_machine.specs.Commands.{new_collection};
-ghost use Rattle.cg_machine.specs.Represents.{Represents};
+ghost use Rattle.cg_represents.specs.Represents.{Represents};
 ghost use Rattle.cg_heap.specs.Calls.{HasFewHolds};
 ghost use Rattle.cg_death.specs.Activities.{HasHolds};
 ghost use Rattle.cg_death.specs.Answers.{MakesNone};

@@ -16,7 +16,7 @@ use Rattle.cg_machine.specs.Commands.{effect}
 use Rattle.cg_machine.specs.Effects.{Changes, binds, bound, given_up_by}
 use Rattle.cg_machine.specs.Operands.{value}
 use Rattle.cg_machine.specs.Refusals.{no_name}
-use Rattle.cg_machine.specs.Represents.{Represents}
+use Rattle.cg_represents.specs.Represents.{Represents}
 use Rattle.cg_commands.specs.declared.done.Done.TheVariants.{Gives}
 use Rattle.cg_commands.specs.declared.done.Refusal.TheVariants.{NoName}
 use Rattle.cg_commands.specs.declared.locals.Locals.{Locals}

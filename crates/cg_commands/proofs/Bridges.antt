@@ -19,10 +19,10 @@ use Rattle.cg_machine.specs.World.{World, Releasing, push, with_change}
 use Rattle.cg_machine.specs.Holdings.{holds}
 use Rattle.cg_machine.specs.declared.event.Event.{Event}
 use Rattle.cg_machine.specs.Effects.{Effect, Changes, bound}
-use Rattle.cg_machine.specs.Represents.{Represents, CollectionWaits}
+use Rattle.cg_represents.specs.Represents.{Represents, CollectionWaits}
 use Rattle.cg_commands.specs.declared.done.Done.TheVariants.{Changed}
 use Rattle.cg_commands.specs.Answers.{AnswersOnHeap}
-use Rattle.cg_machine.proofs.Representing.{matches, represents, pushed}
+use Rattle.cg_represents.proofs.Representing.{matches, represents, pushed}
 
 -- no references hold nothing
 pub held-none : (store : Store) → held [] store ≡ store

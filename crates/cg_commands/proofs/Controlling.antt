@@ -15,7 +15,7 @@ use Rattle.cg_machine.specs.World.{World, Numbers}
 use Rattle.cg_machine.specs.Refusals.{bad_generation, ◌>>=◌}
 use Rattle.cg_machine.specs.Effects.{Changes, Collects as CollectsEffect, replaced, prints}
 use Rattle.cg_machine.specs.Commands.{effect}
-use Rattle.cg_machine.specs.Represents.{Represents, CollectionWaits}
+use Rattle.cg_represents.specs.Represents.{Represents, CollectionWaits}
 use Rattle.cg_policy.specs.Policy.{Policy, with_numbers}
 use Rattle.cg_policy.specs.Laws.{policy_of}
 use Rattle.cg_commands.specs.declared.done.Done.{Done}

@@ -10,9 +10,8 @@ use Rattle.cg_graph.specs.Store.{Store}
 use Rattle.cg_machine.specs.World.{World}
 use Rattle.cg_machine.specs.Effects.{Effect, Changes, Calls, Collects, Quits, Explains, makes}
 use Rattle.cg_machine.specs.Commands.{effect}
-use Rattle.cg_machine.proofs.CommandLaws.{Each, checked}
-use Rattle.cg_machine.proofs.Shapes.{SetsNumbers, Shape, Makes, Sets, Freezes, Unfreezes, StartsFrame, StartsCollection, Ends, AsksWhy}
-use Rattle.cg_machine.proofs.ShapeLaws.{by_shape}
+use Rattle.cg_represents.proofs.CommandLaws.{Each, checked}
+use Rattle.cg_represents.proofs.Shapes.{SetsNumbers, Shape, Makes, Sets, Freezes, Unfreezes, StartsFrame, StartsCollection, Ends, AsksWhy, by_shape}
 use Rattle.cg_policy.specs.Policy.{Policy, with_numbers, with_one_made}
 use Rattle.cg_policy.specs.Laws.{policy_of}
 use Rattle.cg_commands.specs.declared.done.Done.{Done}

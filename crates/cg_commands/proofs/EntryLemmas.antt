@@ -21,7 +21,7 @@ use Rattle.cg_heap.proofs.HoldLemmas.{entry_holds}
 use Rattle.cg_machine.specs.World.{with_change}
 use Rattle.cg_machine.specs.Effects.{Changes, has_room, sets_entries}
 use Rattle.cg_machine.specs.Refusals.{◌>>=◌}
-use Rattle.cg_machine.specs.Represents.{Represents}
+use Rattle.cg_represents.specs.Represents.{Represents}
 use Rattle.cg_commands.specs.declared.done.Done.TheVariants.{Gives}
 use Rattle.cg_commands.specs.declared.locals.Locals.{Locals}
 use Rattle.cg_commands.specs.declared.operands.Wanted.{Wanted}

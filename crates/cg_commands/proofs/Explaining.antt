@@ -14,7 +14,7 @@ use Rattle.cg_machine.specs.declared.event.Event.{Event}
 use Rattle.cg_machine.specs.World.{World}
 use Rattle.cg_machine.specs.Holdings.{holds, other_holdings}
 use Rattle.cg_machine.specs.Effects.{Effect}
-use Rattle.cg_machine.specs.Represents.{Represents}
+use Rattle.cg_represents.specs.Represents.{Represents}
 use Rattle.cg_machine.specs.Commands.{Explanation, HasPath, HasNone}
 use Rattle.cg_commands.specs.Reasons.{Explained, reason_lines}
 

@@ -19,7 +19,7 @@ use Rattle.cg_machine.specs.World.{World}
 use Rattle.cg_machine.specs.Effects.{Changes, live, entry_count, has_room}
 use Rattle.cg_graph.specs.declared.limits.TheConstants.{MOST_ENTRIES}
 use Rattle.cg_machine.specs.Refusals.{◌>>=◌, unless, entry_limit}
-use Rattle.cg_machine.specs.Represents.{Represents}
+use Rattle.cg_represents.specs.Represents.{Represents}
 use Rattle.cg_commands.specs.declared.locals.Locals.{Locals}
 use Rattle.cg_commands.specs.Refusals.{refusal_by}
 use Rattle.cg_commands.specs.Answers.{PerformsOnHeap}

@@ -23,7 +23,7 @@ use Rattle.cg_machine.specs.World.{World}
 use Rattle.cg_machine.specs.Effects.{Effect, Changes, makes, with_new, bound, given_up_by, live, has_room}
 use Rattle.cg_graph.specs.declared.limits.TheConstants.{MOST_OBJECTS}
 use Rattle.cg_machine.specs.Refusals.{◌>>=◌, unless, object_limit}
-use Rattle.cg_machine.specs.Represents.{Represents}
+use Rattle.cg_represents.specs.Represents.{Represents}
 use Rattle.cg_commands.specs.declared.done.Done.TheVariants.{Changed}
 use Rattle.cg_commands.specs.declared.locals.Locals.{Locals}
 use Rattle.cg_commands.specs.Refusals.{refusal_by}

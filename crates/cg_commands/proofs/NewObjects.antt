@@ -27,7 +27,7 @@ use Rattle.cg_heap.proofs.CallerLemmas.{live_of_kind}
 use Rattle.cg_heap.proofs.HoldLemmas.{outside-unheld, outside-made}
 use Rattle.cg_machine.specs.World.{World}
 use Rattle.cg_machine.specs.Effects.{with_new}
-use Rattle.cg_machine.specs.Represents.{Represents, CollectionWaits}
+use Rattle.cg_represents.specs.Represents.{Represents, CollectionWaits}
 
 -- a search in a list with one more member at the end
 find-keeps : (p : Row → Bool) (rows : List Row) (x : Row) → p x ≡ false → find p (rows ++ x ∷ []) ≡ find p rows

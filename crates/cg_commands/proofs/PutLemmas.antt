@@ -31,7 +31,7 @@ use Rattle.cg_machine.specs.World.{World, Releasing, push, with_change}
 use Rattle.cg_machine.specs.Effects.{Effect, Changes, has_room, sets_entries, puts, tracked_by, may_track, valid_index}
 use Rattle.cg_machine.specs.Operands.{is_dict}
 use Rattle.cg_machine.specs.Refusals.{◌>>=◌}
-use Rattle.cg_machine.specs.Represents.{Represents}
+use Rattle.cg_represents.specs.Represents.{Represents}
 use Rattle.cg_commands.specs.declared.done.Done.TheVariants.{Gives}
 use Rattle.cg_commands.specs.declared.locals.Locals.{Locals}
 use Rattle.cg_commands.specs.Refusals.{refusal_by}

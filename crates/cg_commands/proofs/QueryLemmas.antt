@@ -11,7 +11,7 @@ use Rattle.cg_machine.specs.World.{World}
 use Rattle.cg_machine.specs.Holdings.{in_degree}
 use Rattle.cg_machine.specs.Operands.{object_of}
 use Rattle.cg_machine.specs.Effects.{Changes, Calls as CallsEffect, Quits as QuitsEffect, prints}
-use Rattle.cg_machine.proofs.Representing.{count-in_degree}
+use Rattle.cg_represents.proofs.Representing.{count-in_degree}
 use Rattle.cg_commands.specs.declared.done.Done.{Done}
 use Rattle.cg_commands.specs.declared.done.Done.TheVariants.{Changed, Calls, Quits}
 use Rattle.cg_commands.specs.declared.locals.Locals.{Locals}

@@ -25,7 +25,7 @@ use Rattle.cg_machine.specs.declared.event.FrameSort.{FrameSort}
 use Rattle.cg_machine.specs.World.{World, Frame}
 use Rattle.cg_machine.specs.Operands.{frame_on, value_of, self_in, weak_in, object, tested}
 use Rattle.cg_machine.specs.Refusals.{◌>>=◌}
-use Rattle.cg_machine.specs.Represents.{Represents}
+use Rattle.cg_represents.specs.Represents.{Represents}
 use Rattle.cg_commands.proofs.KeyLemmas.{value_somewhere}
 use Rattle.cg_commands.specs.declared.locals.Locals.{Locals}
 use Rattle.cg_commands.specs.Refusals.{number_of, Declines}

@@ -17,7 +17,7 @@ use Rattle.cg_graph.specs.Rows.{Row}
 use Rattle.cg_graph.specs.Store.{Store, Node, objects_of, object_from, list_at}
 use Rattle.cg_arena.specs.Nodes.{count_in_list}
 use Rattle.cg_heap.specs.Calls.{IsListed}
-use Rattle.cg_machine.proofs.Saving.{no_longer, count_cons}
+use Rattle.cg_represents.proofs.Lists.{no_longer, occurrences-cons}
 
 -- two places are equal if their numbers are
 same-number : (p q : Place) → same_place p q ≡ (place_number p == place_number q)
@@ -74,7 +74,7 @@ module _ (rows : List Row) (p : Place) (o : ℕ) where
       go : (b : Bool) → occurrences o (serials (cond b (object_from rows e.0 e.1 ∷ filter (is_at p) (map (λ e. object_from rows e.0 e.1) es)) (filter (is_at p) (map (λ e. object_from rows e.0 e.1) es)))) ≡ occurrences o (standing es)
       go true =
           let none : cond {A = ℕ} (e.0 == o) 1 0 ≡ 0 = ap (λ b. cond {A = ℕ} b 1 0) (ne_eqb e.0 o (λ k. differs (sym k))) in
-          omega (arith, none, count_cons o e.0 (standing es))
+          omega (arith, none, occurrences-cons o e.0 (standing es))
       go false = refl
 
   absent : (x : ℕ) (es : List (ℕ × Node)) → o ≡ x → T (below_all nat_cmp x es) → (occurrences o (standing es) ≡ 0) × (fin.find nat_cmp o es ≡ None)
@@ -88,7 +88,7 @@ module _ (rows : List Row) (p : Place) (o : ℕ) where
       → occurrences o (serials (cond b (object_from rows e.0 e.1 ∷ filter (is_at p) (map (λ e. object_from rows e.0 e.1) es)) (filter (is_at p) (map (λ e. object_from rows e.0 e.1) es)))) ≡ (if b then 1 else 0)
   here_or_not e es same none true =
       let one : cond {A = ℕ} (e.0 == o) 1 0 ≡ 1 = ap (λ b. cond {A = ℕ} b 1 0) (eq-eqb e.0 o (sym same)) in
-      omega (arith, one, none, count_cons o e.0 (standing es))
+      omega (arith, one, none, occurrences-cons o e.0 (standing es))
   here_or_not e es same none false = none
 
   counted : (es : List (ℕ × Node)) → T (fin.is_sorted nat_cmp es) → occurrences o (standing es) ≡ count_in_list (place_number p) (place_at es)

@@ -15,7 +15,7 @@ use Rattle.cg_machine.specs.World.{World}
 use Rattle.cg_machine.specs.Effects.{valid_index, is_hashable}
 use Rattle.cg_machine.specs.Operands.{object}
 use Rattle.cg_machine.specs.Refusals.{◌>>=◌, no_index, unhashable, unless}
-use Rattle.cg_machine.specs.Represents.{Represents}
+use Rattle.cg_represents.specs.Represents.{Represents}
 use Rattle.cg_commands.specs.declared.done.Refusal.{Refusal}
 use Rattle.cg_commands.specs.declared.done.Refusal.TheVariants.{NoIndex}
 use Rattle.cg_commands.specs.declared.locals.Locals.{Locals}

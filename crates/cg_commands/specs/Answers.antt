@@ -6,7 +6,7 @@ use Rattle.cg_graph.specs.Value.{entry_references}
 use Rattle.cg_machine.specs.declared.event.Event.{Event}
 use Rattle.cg_machine.specs.World.{World, Releasing, push}
 use Rattle.cg_machine.specs.Effects.{Effect, Changes, Calls as CallsEffect, Collects as CollectsEffect, Quits as QuitsEffect, Explains as ExplainsEffect}
-use Rattle.cg_machine.specs.Represents.{Represents}
+use Rattle.cg_represents.specs.Represents.{Represents}
 use Rattle.cg_policy.specs.Policy.{Policy}
 use Rattle.cg_policy.specs.Laws.{policy_of}
 use Rattle.cg_commands.specs.declared.done.Done.{Done}

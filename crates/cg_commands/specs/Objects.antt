@@ -8,7 +8,7 @@ use Rattle.cg_value.specs.declared.Place.TheVariants.{Untracked}
 use Rattle.cg_graph.specs.Object.{Object}
 use Rattle.cg_graph.specs.Store.{Store, Node, object_from}
 use Rattle.cg_machine.specs.World.{World}
-use Rattle.cg_machine.specs.Represents.{Represents}
+use Rattle.cg_represents.specs.Represents.{Represents}
 use Rattle.cg_machine.specs.Effects.{is_hashable}
 use Rattle.cg_machine.specs.Refusals.{◌>>=◌, unless, unhashable, wrong_kind}
 use Rattle.cg_machine.specs.Operands.{object, object_of, any_object, is_list, is_script_list, is_sequence, is_dict, is_weak}

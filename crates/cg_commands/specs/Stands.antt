@@ -5,7 +5,7 @@ use Rattle.cg_machine.specs.World.{World, Frame}
 use Rattle.cg_value.specs.declared.Val.{Val}
 use Rattle.cg_script.specs.declared.command.Operand.{Operand}
 use Rattle.cg_machine.specs.Operands.{frame_on, value_of}
-use Rattle.cg_machine.specs.Represents.{Represents}
+use Rattle.cg_represents.specs.Represents.{Represents}
 use Rattle.cg_commands.specs.declared.done.Refusal.{Refusal}
 use Rattle.cg_commands.specs.declared.locals.Locals.{Locals}
 use Rattle.cg_commands.specs.Refusals.{Declines}

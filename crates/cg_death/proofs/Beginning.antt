@@ -11,10 +11,11 @@ use Rattle.cg_graph.specs.Changes.{moved}
 use Rattle.cg_graph.proofs.Members.{either, true_and}
 use Rattle.cg_machine.specs.World.{World, Dying, Collecting, Finalizer}
 use Rattle.cg_machine.specs.Frame.{begin_death}
-use Rattle.cg_machine.specs.Represents.{Represents, death_waits}
+use Rattle.cg_represents.specs.Represents.{Represents}
+use Rattle.cg_represents.specs.Orderly.{death_waits}
 use Rattle.cg_heap.specs.Weak.{AreRows, cleared_weak}
 use Rattle.cg_heap.proofs.HoldLemmas.{outside-moved}
-use Rattle.cg_machine.proofs.Representing.{Matches, represents}
+use Rattle.cg_represents.proofs.Representing.{Matches, represents}
 use Rattle.cg_death.proofs.Turns.{death}
 use Rattle.cg_death.proofs.Places.{change-change, matches-moved}
 use Rattle.cg_death.proofs.RowSplits.{split_at, referent-without, waiting-without, left-in}

@@ -16,14 +16,14 @@ use Rattle.cg_graph.proofs.Objects.{object-at, occurrences-append}
 use Rattle.cg_machine.specs.World.{World, Activity}
 use Rattle.cg_machine.specs.Holdings.{holds, in_degree}
 use Rattle.cg_machine.specs.Weak.{weak_references}
-use Rattle.cg_machine.specs.Represents.{Represents}
+use Rattle.cg_represents.specs.Represents.{Represents}
 use Rattle.cg_heap.specs.Weak.{AreRows}
 use Rattle.cg_heap.proofs.RowLemmas.{no_referent}
 use Rattle.cg_death.specs.declared.death.Death.{Death}
 use Rattle.cg_death.specs.Activities.{IsUnheld, HasHolds, HaveCallbacks, AreNewer}
 use Rattle.cg_death.specs.Deaths.{on_stack, held_by, IsReadyForDeath}
 use Rattle.cg_death.specs.Steady.{IsSteady}
-use Rattle.cg_machine.proofs.Representing.{count-in_degree}
+use Rattle.cg_represents.proofs.Representing.{count-in_degree}
 use Rattle.cg_death.proofs.Emptying.{entries-agree}
 use Rattle.cg_death.proofs.WeakObjects.{weak_references-are}
 

@@ -31,8 +31,8 @@ use Rattle.cg_death.specs.declared.phase.Phase.TheVariants as phase_of
 use Rattle.cg_death.specs.Activities.{death_of, activities}
 use Rattle.cg_death.specs.Answers.{DeathStands, GaveFrame, DeathSteps}
 use Rattle.cg_death.proofs.Worlds.{steps_at}
-use Rattle.cg_machine.proofs.Representing.{Matches, represents}
-use Rattle.cg_machine.proofs.PlainCollect.{occurrences-cons}
+use Rattle.cg_represents.proofs.Representing.{Matches, represents}
+use Rattle.cg_represents.proofs.Lists.{occurrences-cons}
 use Rattle.cg_death.proofs.Turns.{here, steps_to, only_phase}
 use Rattle.cg_death.proofs.RowSplits.{head_in, row_of_one, split_at, referent-forgotten, waiting-other, waiting-first, left-in}
 use Rattle.cg_death.proofs.WeakObjects.{objects-alike}

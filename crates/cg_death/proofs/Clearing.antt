@@ -15,14 +15,15 @@ use Rattle.cg_machine.specs.World.{World, Activity, Dying, Death, DyingPhase, Cl
 use Rattle.cg_machine.specs.Holdings.{holds, is_death_of, dying_holds}
 use Rattle.cg_machine.specs.Weak.{loses_referent}
 use Rattle.cg_machine.specs.Dying.{death_at}
-use Rattle.cg_machine.specs.Represents.{Represents, death_waits}
+use Rattle.cg_represents.specs.Represents.{Represents}
+use Rattle.cg_represents.specs.Orderly.{death_waits}
 use Rattle.cg_heap.specs.Weak.{AreRows}
 use Rattle.cg_heap.proofs.HoldLemmas.{outside-held}
 use Rattle.cg_heap.proofs.CallerLemmas.{live_of_kind}
 use Rattle.cg_value.specs.declared.KindCode.TheVariants.{Weak}
 use Rattle.cg_death.specs.Activities.{death_of, AreNewer}
 use Rattle.cg_death.specs.Answers.{DeathStands}
-use Rattle.cg_machine.proofs.Representing.{Matches, matches, represents}
+use Rattle.cg_represents.proofs.Representing.{Matches, matches, represents}
 use Rattle.cg_death.proofs.Turns.{here, waits_are, own_object, death}
 use Rattle.cg_death.proofs.Places.{matches-held, only-one}
 use Rattle.cg_death.proofs.RowSplits.{all_in, split_at, one_of_row, referent-without, referent-waiting, waiting-without, waiting-other, waiting-more, left-in, waiting-in}

@@ -12,14 +12,14 @@ use Rattle.cg_machine.specs.declared.event.Event.TheVariants.{Cleared}
 use Rattle.cg_machine.specs.World.{World, Activity, Clearing, Calling, Detaching, Emptying}
 use Rattle.cg_machine.specs.Weak.{weak_references_if, has_weak_references, loses_referent, callback_of}
 use Rattle.cg_machine.specs.Dying.{death_at, clear_one, detach_one, has_finalizers}
-use Rattle.cg_machine.specs.Represents.{Goes}
+use Rattle.cg_represents.specs.Represents.{Goes}
 use Rattle.cg_heap.specs.Weak.{AreRows, cleared_weak}
 use Rattle.cg_death.specs.declared.answer.DeathStep.TheVariants as answer_of
 use Rattle.cg_death.specs.declared.phase.Phase.TheVariants as phase_of
 use Rattle.cg_death.specs.Activities.{death_of, activities, AreNewer}
 use Rattle.cg_death.specs.Answers.{DeathStands, WentOn, DeathSteps}
 use Rattle.cg_death.proofs.Worlds.{steps_at, append_none}
-use Rattle.cg_machine.proofs.Representing.{matches}
+use Rattle.cg_represents.proofs.Representing.{matches}
 use Rattle.cg_death.proofs.Turns.{here, waits_are, steps_to, only_phase, death}
 use Rattle.cg_death.proofs.Clearing.{none_first, some_first, represents-lost, represents-waits}
 use Rattle.cg_death.proofs.WeakObjects.{row_there}

@@ -23,7 +23,7 @@ use Rattle.cg_death.specs.declared.phase.Phase.TheVariants as phase_of
 use Rattle.cg_death.specs.Activities.{death_of, activities, references_left}
 use Rattle.cg_death.specs.Answers.{DeathStands, WentOn, DeathSteps, numbers_after}
 use Rattle.cg_death.proofs.Worlds.{steps_at}
-use Rattle.cg_machine.proofs.Representing.{Matches, matches, represents, pushed}
+use Rattle.cg_represents.proofs.Representing.{Matches, matches, represents, pushed}
 use Rattle.cg_death.proofs.Turns.{here, ended, waits_are, steps_to}
 use Rattle.cg_heap.proofs.ReferenceLemmas.{references-append}
 use Rattle.cg_heap.proofs.HoldLemmas.{entries_hold, outside-held, outside-rewritten}

@@ -17,15 +17,16 @@ use Rattle.cg_machine.specs.World.{World, Activity, DyingPhase, Finalizer, After
 use Rattle.cg_machine.specs.Holdings.{holds, in_degree, dying_holds}
 use Rattle.cg_machine.specs.Frame.{Transition, start_frame}
 use Rattle.cg_machine.specs.Dying.{dying, death_at, finalizer_to_run, run_finalizer, run_legacy, after_frame}
-use Rattle.cg_machine.specs.Represents.{Represents, death_waits}
+use Rattle.cg_represents.specs.Represents.{Represents}
+use Rattle.cg_represents.specs.Orderly.{death_waits}
 use Rattle.cg_heap.specs.Calls.{with_node, marked}
 use Rattle.cg_death.specs.declared.answer.DeathStep.TheVariants as answer_of
 use Rattle.cg_death.specs.declared.phase.Phase.TheVariants as phase_of
 use Rattle.cg_death.specs.Activities.{death_of, activities}
 use Rattle.cg_death.specs.Answers.{DeathStands, WentOn, GaveFrame, DeathSteps}
 use Rattle.cg_death.proofs.Worlds.{steps_at}
-use Rattle.cg_machine.proofs.Representing.{matches, represents, count-in_degree}
-use Rattle.cg_machine.proofs.PlainCollect.{occurrences-cons}
+use Rattle.cg_represents.proofs.Representing.{matches, represents, count-in_degree}
+use Rattle.cg_represents.proofs.Lists.{occurrences-cons}
 use Rattle.cg_heap.proofs.HoldLemmas.{outside-unheld, outside-held, outside-moved, outside-with_node}
 use Rattle.cg_heap.proofs.CallerLemmas.{lives_on, kinds-moved, kinds-with_node}
 use Rattle.cg_death.proofs.Releases.{matches-unheld}

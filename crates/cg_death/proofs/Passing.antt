@@ -13,9 +13,8 @@ use Rattle.cg_machine.specs.Holdings.{holdings, holds, dying_holds, is_death_of}
 use Rattle.cg_machine.specs.Frame.{Transition}
 use Rattle.cg_machine.specs.Weak.{weak_references, weak_references_if, has_weak_references}
 use Rattle.cg_machine.specs.Dying.{dying, death_at, finalizer_to_run, run_finalizer, run_legacy, clear_one, has_finalizers}
-use Rattle.cg_machine.specs.Laws.{IsHeldInItsFramesAlone}
-use Rattle.cg_machine.specs.Represents.{death_waits}
-use Rattle.cg_machine.proofs.Representing.{matches, represents}
+use Rattle.cg_represents.specs.Orderly.{IsHeldInItsFramesAlone, death_waits}
+use Rattle.cg_represents.proofs.Representing.{matches, represents}
 use Rattle.cg_heap.specs.Weak.{AreRows}
 use Rattle.cg_death.specs.declared.answer.DeathStep.{DeathStep}
 use Rattle.cg_death.specs.declared.answer.DeathStep.TheVariants as answer_of

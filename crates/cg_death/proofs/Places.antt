@@ -15,10 +15,10 @@ use Rattle.cg_graph.proofs.Objects.{objects-same, objects-changed}
 use Rattle.cg_graph.proofs.Members.{either}
 use Rattle.cg_machine.specs.World.{World, Collecting, Collection, CollectPhase, Start, WeakClearing, WeakCalling, AfterCallback, AfterRelease, Finalizing, AfterFinalizing, Split, Turns, Turn, AfterTurn, Ending, with_change}
 use Rattle.cg_machine.specs.Holdings.{collect_holds}
-use Rattle.cg_machine.specs.Represents.{Represents, CollectionWaits}
+use Rattle.cg_represents.specs.Represents.{Represents, CollectionWaits}
 use Rattle.cg_heap.specs.Calls.{with_node, marked}
-use Rattle.cg_machine.proofs.Representing.{held_by_one, Matches}
-use Rattle.cg_machine.proofs.PlainCollect.{occurrences-cons}
+use Rattle.cg_represents.proofs.Representing.{held_by_one, Matches}
+use Rattle.cg_represents.proofs.Lists.{occurrences-cons}
 
 -- a list without a serial that it does not contain
 without-absent : (o : ℕ) (xs : List ℕ) → occurrences o xs ≡ 0 → without_serial o xs ≡ xs

@@ -22,7 +22,7 @@ use Rattle.cg_machine.specs.Dying.{has_finalizers}
 use Rattle.cg_heap.specs.Weak.{AreRows}
 use Rattle.cg_heap.proofs.HoldLemmas.{entries_hold}
 use Rattle.cg_heap.proofs.CallerLemmas.{live_of_kind, lives_on, kinds-held, kinds-rewritten}
-use Rattle.cg_machine.proofs.Representing.{occurrences-one}
+use Rattle.cg_represents.proofs.Representing.{occurrences-one}
 use Rattle.cg_death.proofs.RowSplits.{all_in, head_in, row_of_one, split_at, referent-is, waited-is}
 use Rattle.cg_death.proofs.WeakObjects.{weak_references-are}
 

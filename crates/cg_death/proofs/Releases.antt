@@ -13,13 +13,13 @@ use Rattle.cg_heap.proofs.HoldLemmas.{outside-unheld}
 use Rattle.cg_machine.specs.World.{World, Activity, Releasing, Dying, Death, DyingPhase, Finalizer, AfterFinalizer, Clearing, Calling, AfterCall, LegacyFinalizer, AfterLegacy, Detaching, Emptying, with_stack}
 use Rattle.cg_machine.specs.Holdings.{holdings, holds, in_degree, is_dying, dying_holds}
 use Rattle.cg_machine.specs.Frame.{Transition, begin_death}
-use Rattle.cg_machine.specs.Laws.{IsHeldInItsFramesAlone}
-use Rattle.cg_machine.specs.Represents.{Represents, Goes}
+use Rattle.cg_represents.specs.Orderly.{IsHeldInItsFramesAlone}
+use Rattle.cg_represents.specs.Represents.{Represents, Goes}
 use Rattle.cg_death.specs.declared.answer.DeathStep.TheVariants as answer_of
 use Rattle.cg_death.specs.Answers.{DeathStands, WentOn, GaveDeath, ReleaseAnswer, ReleaseSteps}
 use Rattle.cg_death.proofs.Worlds.{at_stack, spelled}
-use Rattle.cg_machine.proofs.Representing.{in_one, occurrences-one, count-in_degree, held_by_one, held_by_stack, death_found, Matches, matches, represents, popped, pushed}
-use Rattle.cg_machine.proofs.PlainCollect.{occurrences-cons}
+use Rattle.cg_represents.proofs.Representing.{in_one, occurrences-one, count-in_degree, held_by_one, held_by_stack, death_found, Matches, matches, represents, popped, pushed}
+use Rattle.cg_represents.proofs.Lists.{occurrences-cons}
 
 pub matches-unheld : (refs : List ℕ) (store : Store) (w : World) → Matches store w → Matches (unheld refs store) w
 matches-unheld refs store w m = record {

@@ -23,7 +23,7 @@ use Rattle.cg_graph.proofs.Members.{either, true_and, Includes-append_cases, Inc
 use Rattle.cg_graph.proofs.Objects.{occurrences-append}
 use Rattle.cg_machine.specs.Weak.{has_weak_references, callback_in, callback_of, weak_references, weak_references_if}
 use Rattle.cg_machine.specs.Dying.{has_finalizers}
-use Rattle.cg_machine.proofs.PlainCollect.{occurrences-cons}
+use Rattle.cg_represents.proofs.Lists.{occurrences-cons}
 use Rattle.cg_heap.specs.Calls.{IsSound}
 use Rattle.cg_heap.specs.Keeps.{IsWellMade, IsWellMadeAt}
 use Rattle.cg_heap.specs.Weak.{AreRows, cleared_weak, forgotten_weak}
@@ -265,7 +265,7 @@ module _ (script : Script) (store : Store) (o weak f : ℕ) (sound : IsSound sto
   callback_live : IsLive emptied f
   callback_live =
       let here : occurrences f (references (entries_of store weak)) ≡ occurrences f (f ∷ []) = ap (λ es. occurrences f (references es)) entry in
-      lives_on store emptied (kinds-rewritten weak [] store) f (sound.live f (omega (arith, entries_hold store weak f, here, Rattle.cg_machine.proofs.Representing.occurrences-one f)))
+      lives_on store emptied (kinds-rewritten weak [] store) f (sound.live f (omega (arith, entries_hold store weak f, here, Rattle.cg_represents.proofs.Representing.occurrences-one f)))
 
   pub steady-called : IsSteadyAt script store o phase_of.Calling None → IsSteadyAt script called o (phase_of.AfterCall weak f) None
   steady-called s =

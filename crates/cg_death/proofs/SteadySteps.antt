@@ -12,7 +12,7 @@ use Rattle.cg_graph.specs.Changes.{unheld, moved}
 use Rattle.cg_machine.specs.Holdings.{holds}
 use Rattle.cg_machine.specs.Weak.{has_weak_references}
 use Rattle.cg_machine.specs.Dying.{has_finalizers}
-use Rattle.cg_machine.proofs.PlainCollect.{occurrences-cons}
+use Rattle.cg_represents.proofs.Lists.{occurrences-cons}
 use Rattle.cg_heap.specs.Weak.{AreRows, cleared_weak}
 use Rattle.cg_heap.proofs.HoldLemmas.{outside-unheld}
 use Rattle.cg_death.specs.declared.release.Release.{Release}

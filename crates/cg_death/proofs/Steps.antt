@@ -8,9 +8,9 @@ use Rattle.cg_graph.specs.Changes.{unheld}
 use Rattle.cg_graph.proofs.Members.{either}
 use Rattle.cg_machine.specs.World.{World, Activity, Releasing, Dying, Death, AfterCall, Calling, with_stack}
 use Rattle.cg_machine.specs.Holdings.{holdings, is_death_of}
-use Rattle.cg_machine.specs.Laws.{IsHeldInItsFramesAlone}
+use Rattle.cg_represents.specs.Orderly.{IsHeldInItsFramesAlone}
 use Rattle.cg_machine.specs.Run.{StepOf}
-use Rattle.cg_machine.specs.Represents.{detects}
+use Rattle.cg_represents.specs.Represents.{detects}
 use Rattle.cg_death.specs.declared.answer.DeathStep.{DeathStep}
 use Rattle.cg_death.specs.declared.answer.DeathStep.TheVariants as answer_of
 use Rattle.cg_death.specs.declared.phase.Phase.{Phase}
@@ -20,7 +20,7 @@ use Rattle.cg_death.specs.Activities.{death_of, death_activities, activities, re
 use Rattle.cg_death.specs.Deaths.{TakesNext}
 use Rattle.cg_death.specs.Answers.{DeathStands, WentOn, ReleaseAnswer, DeathAnswer, DeathSteps}
 use Rattle.cg_death.proofs.Worlds.{steps_at}
-use Rattle.cg_machine.proofs.Representing.{in_one, and_then, matches, represents, pushed, popped}
+use Rattle.cg_represents.proofs.Representing.{in_one, and_then, matches, represents, pushed, popped}
 use Rattle.cg_death.proofs.Releases.{given_up}
 use Rattle.cg_death.proofs.Turns.{here, rephased, death}
 

@@ -15,10 +15,11 @@ use Rattle.cg_machine.specs.World.{World, Activity, Dying, Death, DyingPhase, wi
 use Rattle.cg_machine.specs.Holdings.{holds, dying_holds}
 use Rattle.cg_machine.specs.Frame.{Transition}
 use Rattle.cg_machine.specs.Dying.{dying, death_at}
-use Rattle.cg_machine.specs.Represents.{Goes, death_waits}
+use Rattle.cg_represents.specs.Represents.{Goes}
+use Rattle.cg_represents.specs.Orderly.{death_waits}
 use Rattle.cg_death.specs.Activities.{death_of}
 use Rattle.cg_death.specs.Answers.{DeathStands, WentOn}
-use Rattle.cg_machine.proofs.Representing.{in_one, Matches, matches, represents}
+use Rattle.cg_represents.proofs.Representing.{in_one, Matches, matches, represents}
 
 -- no row waits with an object for which none waits
 pub not_waiting : (Y : Type 0) (store : Store) (o : ℕ) → waiting_for store o ≡ [] → (row : Row) → Includes store.rows row → row.waits ≡ true → row.referent ≡ o → Y

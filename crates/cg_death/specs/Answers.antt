@@ -11,8 +11,8 @@ use Rattle.cg_machine.specs.declared.event.FrameSort.TheVariants as sort_of
 use Rattle.cg_machine.specs.declared.event.FrameSpec.{FrameSpec}
 use Rattle.cg_machine.specs.World.{World, Activity, Releasing, Dying, Death, Numbers, Running}
 use Rattle.cg_machine.specs.Holdings.{holdings, is_death_of}
-use Rattle.cg_machine.specs.Laws.{IsHeldInItsFramesAlone}
-use Rattle.cg_machine.specs.Represents.{Represents, GoesOn, HandsOutDeath, HandsOutFrame}
+use Rattle.cg_represents.specs.Orderly.{IsHeldInItsFramesAlone}
+use Rattle.cg_represents.specs.Represents.{Represents, GoesOn, HandsOutDeath, HandsOutFrame}
 use Rattle.cg_death.specs.declared.phase.Phase.{Phase}
 use Rattle.cg_death.specs.declared.phase.Phase.TheVariants as phase_of
 use Rattle.cg_death.specs.declared.phase.Turn.{Turn}

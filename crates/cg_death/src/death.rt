@@ -6,7 +6,7 @@ ghost use Rattle.cg_graph.specs.Store.{IsLive};
 ghost use Rattle.cg_graph.specs.Changes.{moved};
 ghost use Rattle.cg_machine.specs.World as machine;
 ghost use Rattle.cg_machine.specs.Frame.{begin_death};
-ghost use Rattle.cg_machine.specs.Represents.{Represents};
+ghost use Rattle.cg_represents.specs.Represents.{Represents};
 ghost use Rattle.cg_heap.specs.Calls.{HasFewHolds};
 ghost use Rattle.cg_death.specs.declared.answer.DeathStep.TheVariants as answer_of;
 ghost use Rattle.cg_death.specs.declared.phase.Phase.TheVariants as phase_of;

@@ -14,7 +14,7 @@ use Rattle.cg_machine.specs.declared.event.FrameSort.{FrameSort}
 use Rattle.cg_machine.specs.declared.event.FrameSort.TheVariants as sort_of
 use Rattle.cg_machine.specs.Frame.{start_frame}
 use Rattle.cg_machine.specs.World.{World, Activity}
-use Rattle.cg_machine.specs.Represents.{detects}
+use Rattle.cg_represents.specs.Represents.{detects}
 use Rattle.cg_collect.proofs.RowWalks.{references-le}
 use Rattle.cg_death.specs.declared.release.Release.{Release}
 use Rattle.cg_death.specs.declared.phase.Phase.{Phase}

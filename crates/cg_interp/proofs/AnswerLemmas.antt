@@ -17,9 +17,9 @@ use Rattle.cg_machine.specs.Frame.{Yields, start_frame}
 use Rattle.cg_machine.specs.Effects.{Effect, Changes as ChangesEffect, Calls as CallsEffect, Collects as CollectsEffect, Quits as QuitsEffect, Explains as ExplainsEffect}
 use Rattle.cg_machine.specs.Refusals.{no_memory}
 use Rattle.cg_machine.specs.Commands.{effect, refused, without_commands, new_collection, Explanation, DoesEffect, CommandStep}
-use Rattle.cg_machine.proofs.CommandLaws.{Each, Leaves, LeavesStack}
-use Rattle.cg_machine.proofs.Shapes.{Shape, StartsFrame, StartsCollection, Ends}
-use Rattle.cg_machine.proofs.ShapeLaws.{by_shape, effect_leaves}
+use Rattle.cg_represents.proofs.CommandLaws.{Each, Leaves, LeavesStack}
+use Rattle.cg_represents.proofs.Shapes.{Shape, StartsFrame, StartsCollection, Ends, by_shape}
+use Rattle.cg_laws.proofs.ShapeLaws.{effect_leaves}
 use Rattle.cg_policy.specs.Policy.{Policy}
 use Rattle.cg_policy.specs.Laws.{policy_of}
 use Rattle.cg_commands.specs.declared.done.Done.TheVariants as done_of

@@ -6,7 +6,7 @@ use Rattle.cg_heap.specs.Keeps.{IsWellMadeAt}
 use Rattle.cg_heap.specs.Weak.{AreRows}
 use Rattle.cg_machine.specs.World.{World, Releasing}
 use Rattle.cg_machine.specs.Frame.{begin_death}
-use Rattle.cg_machine.specs.Lawful.{IsLawful}
+use Rattle.cg_laws.specs.Lawful.{IsLawful}
 use Rattle.cg_laws.specs.Kept.{StaysKept}
 use Rattle.cg_death.specs.declared.release.Release.{Release}
 use Rattle.cg_death.specs.declared.death.Death.{Death}

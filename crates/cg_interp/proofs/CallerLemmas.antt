@@ -11,7 +11,7 @@ use Rattle.cg_machine.specs.Program.{commands_of}
 use Rattle.cg_machine.specs.World.{World, Activity, TopLevel, Framed, with_stack}
 use Rattle.cg_machine.specs.Holdings.{holds}
 use Rattle.cg_machine.specs.Commands.{without_commands, stopped_frame}
-use Rattle.cg_machine.specs.Represents.{Represents}
+use Rattle.cg_represents.specs.Represents.{Represents}
 use Rattle.cg_interp.specs.declared.activity.Activity.{Activity as Own}
 use Rattle.cg_interp.specs.declared.activity.Activity.TheVariants as activity
 use Rattle.cg_policy.specs.Policy.{Policy}

@@ -16,8 +16,8 @@ use Rattle.cg_trial.proofs.Lists.{occurrences-cons}
 use Rattle.cg_machine.specs.World as machine
 use Rattle.cg_machine.specs.World.{World, Activity, Releasing, Collecting, TopLevel, Framed, ShuttingDown}
 use Rattle.cg_machine.specs.Holdings.{holds, is_collection}
-use Rattle.cg_machine.specs.Lawful.{IsLawful}
-use Rattle.cg_machine.specs.Represents.{Represents}
+use Rattle.cg_laws.specs.Lawful.{IsLawful}
+use Rattle.cg_represents.specs.Represents.{Represents}
 use Rattle.cg_death.specs.declared.release.Release.{Release}
 use Rattle.cg_death.specs.declared.phase.Phase.{Phase as DeathPhase}
 use Rattle.cg_death.specs.declared.phase.Phase.TheVariants as death_phase

@@ -9,7 +9,7 @@ use Rattle.cg_machine.specs.declared.event.Event.TheVariants.{Collected}
 use Rattle.cg_machine.specs.declared.event.FrameSpec.{FrameSpec}
 use Rattle.cg_machine.specs.World.{World}
 use Rattle.cg_machine.specs.Frame.{begin_death, start_frame}
-use Rattle.cg_machine.specs.Represents.{Represents}
+use Rattle.cg_represents.specs.Represents.{Represents}
 use Rattle.cg_laws.specs.Kept.{IsKept}
 use Rattle.cg_death.specs.Activities.{HasHolds}
 use Rattle.cg_collect.specs.declared.answer.CollectStep.TheVariants as answer_of

@@ -8,9 +8,9 @@ use Rattle.cg_machine.specs.declared.event.Event.TheVariants.{End, BudgetSpent, 
 use Rattle.cg_machine.specs.World as machine
 use Rattle.cg_machine.specs.World.{World, Outcome, TopLevel, Framed, Releasing, Dying, Collecting, ShuttingDown}
 use Rattle.cg_machine.specs.Run.{StepTaken, Run, events_of, last_world}
-use Rattle.cg_machine.specs.Represents.{Goes, detects, is_detection, MakesNoDetection, MakesDetectionsAlone}
-use Rattle.cg_machine.proofs.Ending.{Run-append, last_world-append}
-use Rattle.cg_machine.proofs.Fronts.{events_of-append}
+use Rattle.cg_represents.specs.Represents.{Goes, detects, is_detection, MakesNoDetection, MakesDetectionsAlone}
+use Rattle.cg_laws.proofs.Ending.{Run-append, last_world-append}
+use Rattle.cg_laws.proofs.Fronts.{events_of-append}
 use Rattle.cg_laws.specs.Kept.{IsKept, StaysKept}
 use Rattle.cg_policy.specs.Policy.{Policy}
 use Rattle.cg_death.specs.Answers.{MakesNone}

@@ -15,8 +15,9 @@ use Rattle.cg_graph.proofs.Members.{either, Includes-append_left, Includes-appen
 use Rattle.cg_heap.specs.Calls.{IsSound}
 use Rattle.cg_machine.specs.World as machine
 use Rattle.cg_machine.specs.World.{World, Activity, Collecting}
-use Rattle.cg_machine.specs.Laws.{IsOrderly, IsOfCollection, all_waits, waits_of, collection_waits}
-use Rattle.cg_machine.specs.Represents.{Represents, CollectionWaits}
+use Rattle.cg_represents.specs.Orderly.{IsOrderly, all_waits, waits_of, collection_waits}
+use Rattle.cg_laws.specs.Laws.{IsOfCollection}
+use Rattle.cg_represents.specs.Represents.{Represents, CollectionWaits}
 use Rattle.cg_machine.specs.Weak.{callback_of, callback_in}
 use Rattle.cg_laws.specs.Apart.{IsApart, IsFound, IsInWeakPhase, IsInLatePhase, StandsRightly}
 use Rattle.cg_trial.proofs.Placed.{where_is}

@@ -19,7 +19,7 @@ use Rattle.cg_machine.specs.World.{World, Numbers, Activity, Dying, Framed, Rele
 use Rattle.cg_machine.specs.Frame.{Transition, begin_death, start_frame}
 use Rattle.cg_machine.specs.Holdings.{holds}
 use Rattle.cg_machine.specs.Run.{StepTaken, events_of, last_world}
-use Rattle.cg_machine.specs.Represents.{Represents, Goes}
+use Rattle.cg_represents.specs.Represents.{Represents, Goes}
 use Rattle.cg_laws.specs.Kept.{IsKept, StaysKept}
 use Rattle.cg_death.specs.declared.release.Release.{Release}
 use Rattle.cg_collect.specs.declared.collection.Collection.{Collection}

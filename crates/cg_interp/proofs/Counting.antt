@@ -13,9 +13,9 @@ use Rattle.cg_machine.specs.Program.{commands_of}
 use Rattle.cg_machine.specs.World as machine
 use Rattle.cg_machine.specs.World.{World, Numbers, TopLevel, Framed, Releasing, Running, ShuttingDown}
 use Rattle.cg_machine.specs.Due.{is_due}
-use Rattle.cg_machine.proofs.Sums.{tally, tally-append, bit}
-use Rattle.cg_machine.proofs.Measure.{alive, commands_in, all_bodies, bound_names, is_starting, due_rank, rank_in, left_in, entries_in, referents_in, weight_in, size_of, number, summary}
-use Rattle.cg_machine.proofs.MeasureNumber.{number_of}
+use Rattle.cg_laws.proofs.Sums.{tally, tally-append, bit}
+use Rattle.cg_laws.proofs.Measure.{alive, commands_in, all_bodies, bound_names, is_starting, due_rank, rank_in, left_in, entries_in, referents_in, weight_in, size_of, number, summary}
+use Rattle.cg_laws.proofs.MeasureNumber.{number_of}
 use Rattle.cg_death.specs.Activities.{references_left, death_activities}
 use Rattle.cg_death.specs.declared.release.Release.{Release}
 use Rattle.cg_death.specs.declared.phase.Phase as dying

@@ -17,7 +17,7 @@ use Rattle.cg_machine.specs.declared.event.Event.TheVariants.{Enter, BudgetSpent
 use Rattle.cg_machine.specs.declared.event.FrameSpec.{FrameSpec}
 use Rattle.cg_machine.specs.Holdings.{is_death_of}
 use Rattle.cg_machine.specs.Frame.{Transition, begin_death, start_frame}
-use Rattle.cg_machine.specs.Represents.{Represents, Goes}
+use Rattle.cg_represents.specs.Represents.{Represents, Goes}
 use Rattle.cg_machine.specs.Run.{StepTaken, events_of, last_world}
 use Rattle.cg_death.specs.declared.release.Release.{Release}
 use Rattle.cg_death.specs.declared.phase.Phase.{Phase}

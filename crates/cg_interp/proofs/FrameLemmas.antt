@@ -12,7 +12,7 @@ use Rattle.cg_machine.specs.Program.{body_of}
 use Rattle.cg_machine.specs.World.{World, Activity, Framed, Frame, Releasing, BudgetIsSpent, with_stack}
 use Rattle.cg_machine.specs.Holdings.{holds, call_holds}
 use Rattle.cg_machine.specs.Frame.{Transition, start_frame, gives_up_function}
-use Rattle.cg_machine.specs.Represents.{Represents}
+use Rattle.cg_represents.specs.Represents.{Represents}
 use Rattle.cg_machine.specs.Run.{StepOf, FrameStep}
 use Rattle.cg_death.specs.declared.release.Release.{Release}
 use Rattle.cg_death.specs.Activities.{references_left}

@@ -7,7 +7,7 @@ use Rattle.cg_machine.specs.declared.event.Event.TheVariants.{Free}
 use Rattle.cg_machine.specs.World.{Outcome, Ended, BudgetIsSpent}
 use Rattle.cg_machine.specs.Run.{StepTaken, IsWholeRun, events_of}
 use Rattle.cg_machine.specs.Lines.{text_of}
-use Rattle.cg_machine.specs.Laws.{OneFinalizerEach}
+use Rattle.cg_laws.specs.Laws.{OneFinalizerEach}
 use Rattle.cg_promises.specs.Lines.{NoDeadLines, KeepPromises}
 use Rattle.cg_interp.specs.Written.{WroteRun, WrotePart, WroteKept}
 use Rattle.cg_interp.specs.declared.run.RunEnd.{RunEnd}

@@ -18,10 +18,10 @@ use Rattle.cg_heap.proofs.HoldLemmas.{outside-unheld}
 use Rattle.cg_heap.proofs.CallerLemmas.{total-unheld_one}
 use Rattle.cg_machine.specs.World.{World, Activity, TopLevel, Framed, Releasing, Dying, Collecting, Death, ShuttingDown}
 use Rattle.cg_machine.specs.Holdings.{holds, is_death_of}
-use Rattle.cg_machine.specs.Laws.{AreDeathsOfOthers}
-use Rattle.cg_machine.specs.Lawful.{IsLawful}
+use Rattle.cg_represents.specs.Orderly.{AreDeathsOfOthers}
+use Rattle.cg_laws.specs.Lawful.{IsLawful}
 use Rattle.cg_laws.specs.Kept.{StaysKept}
-use Rattle.cg_machine.specs.Represents.{Represents}
+use Rattle.cg_represents.specs.Represents.{Represents}
 use Rattle.cg_machine.specs.Run.{last_world}
 use Rattle.cg_death.proofs.CallerLemmas.{lives_in_heap}
 use Rattle.cg_interp.specs.declared.activity.Activity.{Activity as Own}

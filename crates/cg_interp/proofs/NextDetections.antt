@@ -21,7 +21,7 @@ use Rattle.cg_collect.specs.declared.stage.Detection.TheVariants as detected_of
 use Rattle.cg_collect.specs.Stages.{stage_of, stage_at, stage_after}
 use Rattle.cg_collect.specs.Turns.{ComesNearer}
 use Rattle.cg_interp.specs.Telling.{Advances, IsNearer}
-use Rattle.cg_machine.specs.Represents.{Represents}
+use Rattle.cg_represents.specs.Represents.{Represents}
 use Rattle.cg_collect.specs.Phases.{lines_left, store_after, machine_phase, collecting, released_over, shown_with}
 use Rattle.cg_collect.specs.Ready.{MayRun, MayGiveUp, GivesUpIn}
 use Rattle.cg_interp.specs.declared.graphs.Detection.{Detection}

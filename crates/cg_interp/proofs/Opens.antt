@@ -12,7 +12,7 @@ use Rattle.cg_graph.proofs.Maps.{get-insert_same, get-insert_other}
 use Rattle.cg_graph.proofs.Members.{either}
 use Rattle.cg_machine.specs.Program.{commands_of}
 use Rattle.cg_machine.specs.World.{opening, garbage_list, first_numbers, TopLevel}
-use Rattle.cg_machine.specs.Represents.{Represents}
+use Rattle.cg_represents.specs.Represents.{Represents}
 use Rattle.cg_interp.specs.declared.activity.Activity.TheVariants as activity
 use Rattle.cg_policy.specs.Policy.{Policy}
 use Rattle.cg_interp.specs.Engines.{State, StandsFor, ShowsAll, any_collecting}

@@ -24,13 +24,13 @@ use Rattle.cg_heap.proofs.RowLemmas.{in_no_row}
 use Rattle.cg_machine.specs.World as machine
 use Rattle.cg_machine.specs.World.{World, Activity, DyingPhase, Dying}
 use Rattle.cg_machine.specs.Holdings.{holds, holdings}
-use Rattle.cg_machine.specs.Laws.{waits_of, all_waits, IsWaiting, IsDeathIn}
-use Rattle.cg_machine.specs.Lawful.{IsLawful}
-use Rattle.cg_machine.specs.Represents.{Represents}
+use Rattle.cg_represents.specs.Orderly.{waits_of, all_waits, IsWaiting, IsDeathIn}
+use Rattle.cg_laws.specs.Lawful.{IsLawful}
+use Rattle.cg_represents.specs.Represents.{Represents}
 use Rattle.cg_machine.specs.Weak.{weak_references, is_reference_to, callback_in}
-use Rattle.cg_machine.proofs.Lookups.{found_at, Includes-reversed}
-use Rattle.cg_machine.proofs.HeldLives.{waits_held}
-use Rattle.cg_machine.proofs.Releasing.{absent}
+use Rattle.cg_represents.proofs.Lists.{found_at, absent}
+use Rattle.cg_laws.proofs.Lookups.{Includes-reversed}
+use Rattle.cg_laws.proofs.HeldLives.{waits_held}
 use Rattle.cg_death.specs.declared.release.Release.{Release}
 use Rattle.cg_death.specs.declared.phase.Phase.{Phase}
 use Rattle.cg_death.specs.declared.phase.Phase.TheVariants as phase_of

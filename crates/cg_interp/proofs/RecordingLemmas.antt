@@ -12,9 +12,9 @@ use Rattle.cg_machine.specs.declared.event.Event.{Event}
 use Rattle.cg_machine.specs.declared.event.Event.TheVariants.{End, BudgetSpent, Left}
 use Rattle.cg_machine.specs.World.{World, Outcome, Running, Ended, BudgetIsSpent, opening}
 use Rattle.cg_machine.specs.Run.{StepTaken, IsRun, IsWholeRun, world_after, last_world}
-use Rattle.cg_machine.specs.Laws.{NoRunIsStuck}
-use Rattle.cg_machine.specs.Represents.{Goes}
-use Rattle.cg_machine.proofs.Ending.{Run-append, last_world-append}
+use Rattle.cg_laws.specs.Laws.{NoRunIsStuck}
+use Rattle.cg_represents.specs.Represents.{Goes}
+use Rattle.cg_laws.proofs.Ending.{Run-append, last_world-append, sound_after}
 use Rattle.cg_records.specs.declared.graph.Graph.{Graph}
 use Rattle.cg_interp.specs.declared.graphs.Detection.{Detection}
 use Rattle.cg_interp.specs.declared.turned.Turned.{Turned}
@@ -39,8 +39,7 @@ use Rattle.cg_interp.proofs.WorldGraphs.{all_candidates}
 use Rattle.cg_interp.proofs.NextDetections.{AtDetection, at_detection, same_next}
 use Rattle.cg_interp.proofs.Sizes.{IsSmall}
 use Rattle.cg_interp.proofs.Falling.{falling, turn_falls}
-use Rattle.cg_machine.proofs.Sound.{opening_sound}
-use Rattle.cg_machine.proofs.Ending.{sound_after}
+use Rattle.cg_laws.proofs.Sound.{opening_sound}
 
 -- nothing was recorded yet
 pub recorded_start : (script : Script) (budget : ℕ) (e : State) (before : Option (List ℕ)) → StandsFor script e (opening script budget) → RecordedSo script budget before e false before

@@ -15,13 +15,13 @@ use Rattle.cg_machine.specs.Lines.{line, text_of, IsPrintable}
 use Rattle.cg_script.specs.Spelled.{IsSpelled}
 use Rattle.cg_graph.specs.Store.{Store}
 use Rattle.cg_script.specs.Texts.{TextsAreKnown}
-use Rattle.cg_machine.specs.Printing.{LinesArePrintable}
-use Rattle.cg_machine.specs.Laws.{FrontsBeginWholeTexts}
-use Rattle.cg_machine.specs.Represents.{Goes}
+use Rattle.cg_laws.specs.Printing.{LinesArePrintable}
+use Rattle.cg_laws.specs.Laws.{FrontsBeginWholeTexts}
+use Rattle.cg_represents.specs.Represents.{Goes}
 use Rattle.cg_graph.proofs.Members.{Includes-append_left, Includes-append_right}
-use Rattle.cg_machine.proofs.Sound.{opening_sound}
-use Rattle.cg_machine.proofs.Ending.{Run-append, last_world-append, sound_after}
-use Rattle.cg_machine.proofs.Fronts.{events_of-append}
+use Rattle.cg_laws.proofs.Sound.{opening_sound}
+use Rattle.cg_laws.proofs.Ending.{Run-append, last_world-append, sound_after}
+use Rattle.cg_laws.proofs.Fronts.{events_of-append}
 use Rattle.cg_laws.specs.Kept.{StaysKept, WorldsStayKept}
 use Rattle.cg_interp.specs.declared.turned.Turned.{Turned}
 use Rattle.cg_interp.specs.declared.turned.Turned.TheVariants as turned

@@ -4,7 +4,7 @@ use Rattle.cg_script.specs.declared.Script.{Script}
 use Rattle.cg_machine.specs.World.{World, Activity, TopLevel, Framed, Releasing, Dying, Collecting, ShuttingDown, CollectPhase, Start, WeakClearing, WeakCalling, AfterCallback, AfterRelease, Finalizing, AfterFinalizing, Split, Turns, Turn, AfterTurn, Ending}
 use Rattle.cg_machine.specs.Collect.{SameMembers}
 use Rattle.cg_machine.specs.Run.{StepTaken, last_world}
-use Rattle.cg_machine.specs.Represents.{detects, is_detection, MakesNoDetection, MakesDetectionsAlone}
+use Rattle.cg_represents.specs.Represents.{detects, is_detection, MakesNoDetection, MakesDetectionsAlone}
 use Rattle.cg_records.specs.declared.graph.Graph.{Graph}
 use Rattle.cg_records.specs.Reading.{graph}
 use Rattle.cg_interp.specs.declared.graphs.Detection.{Detection}

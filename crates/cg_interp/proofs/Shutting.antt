@@ -13,14 +13,14 @@ use Rattle.cg_heap.specs.Calls.{IsSound, object_number, IsBound, IsGreatestBound
 use Rattle.cg_heap.proofs.HoldLemmas.{name_holds}
 use Rattle.cg_machine.specs.declared.event.Event.TheVariants.{Left, End}
 use Rattle.cg_machine.specs.World.{World, Activity, Releasing, ShuttingDown, Ended, push, with_stack}
-use Rattle.cg_machine.specs.Bounds.{is_top_level, IsOverTopLevel}
-use Rattle.cg_machine.specs.Lawful.{IsLawful}
+use Rattle.cg_laws.specs.Bounds.{is_top_level, IsOverTopLevel}
+use Rattle.cg_laws.specs.Lawful.{IsLawful}
 use Rattle.cg_machine.specs.Frame.{Yields, Transition}
 use Rattle.cg_machine.specs.Effects.{live, bound, given_up_by}
 use Rattle.cg_machine.specs.Commands.{new_collection}
 use Rattle.cg_machine.specs.Run.{StepOf}
 use Rattle.cg_machine.specs.Shutdown.{greatest_of, greatest_from, greatest_bound, shut_down}
-use Rattle.cg_machine.specs.Represents.{Represents}
+use Rattle.cg_represents.specs.Represents.{Represents}
 use Rattle.cg_policy.specs.Policy.{Policy}
 use Rattle.cg_death.specs.declared.release.Release.{Release}
 use Rattle.cg_death.specs.Activities.{references_left}

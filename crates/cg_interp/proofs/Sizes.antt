@@ -19,8 +19,7 @@ use Rattle.cg_graph.proofs.Maps.{total-remove}
 use Rattle.cg_graph.proofs.Members.{Includes-map, Includes-map_cases}
 use Rattle.cg_heap.specs.Keeps.{size, IsSaved}
 use Rattle.cg_heap.specs.Calls.{IsSound}
-use Rattle.cg_machine.proofs.Saving.{count_cons, fewer_times}
-use Rattle.cg_machine.proofs.Condemned.{present, Includes-of_count}
+use Rattle.cg_represents.proofs.Lists.{occurrences-cons, fewer_times, present, Includes-of_count}
 use Rattle.cg_death.proofs.RowSplits.{all_in}
 use Rattle.cg_collect.proofs.Standing.{node_of_live, object_there}
 use Rattle.cg_collect.proofs.WalkTurns.{list_few}
@@ -58,7 +57,7 @@ weak_once [] rise s = omega arith
 weak_once (r ∷ rows) rise s = go (weak_once rows rise.1 s) (occurrences s (map (λ (x : Row). x.weak) rows)) refl (r.weak == s) refl
   where
     here : occurrences s (r.weak ∷ map (λ (x : Row). x.weak) rows) ≡ cond (r.weak == s) 1 0 + occurrences s (map (λ (x : Row). x.weak) rows)
-    here = count_cons s r.weak (map (λ (x : Row). x.weak) rows)
+    here = occurrences-cons s r.weak (map (λ (x : Row). x.weak) rows)
 
     go : occurrences s (map (λ (x : Row). x.weak) rows) ≤ 1 → (n : ℕ) → occurrences s (map (λ (x : Row). x.weak) rows) ≡ n → (b : Bool) → (r.weak == s) ≡ b → occurrences s (r.weak ∷ map (λ (x : Row). x.weak) rows) ≤ 1
     go rest n e false is = let none : cond {A = ℕ} (r.weak == s) 1 0 ≡ 0 = ap (λ b. cond {A = ℕ} b 1 0) is in omega (arith, here, rest, none)
@@ -98,7 +97,7 @@ held_by_garbage store s held =
 garbage_few : (store : Store) → IsSound store → length (entries_of store 1) ≤ 1000001
 garbage_few store sound =
     let saved : List ℕ = references (entries_of store 1) in
-    let few = different_few store sound saved (λ s. omega (arith, sound.garbage.once s, count_cons s 1 saved)) (λ s there. sound.live s (held_by_garbage store s there)) in
+    let few = different_few store sound saved (λ s. omega (arith, sound.garbage.once s, occurrences-cons s 1 saved)) (λ s there. sound.live s (held_by_garbage store s there)) in
     omega (arith, few, saved_length (entries_of store 1) sound.garbage.saved)
 
 -- no object has more entries than all together

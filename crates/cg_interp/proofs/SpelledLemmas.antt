@@ -15,9 +15,9 @@ use Rattle.cg_graph.specs.Store.{Store, IsLive}
 use Rattle.cg_graph.proofs.Members.{Includes-map}
 use Rattle.cg_machine.specs.Program.{commands_of, procedures, body_of}
 use Rattle.cg_machine.specs.World.{World, Framed}
-use Rattle.cg_machine.specs.Lawful.{IsLawful}
-use Rattle.cg_machine.specs.Represents.{Represents}
-use Rattle.cg_machine.proofs.Lookups.{slice_get_member}
+use Rattle.cg_laws.specs.Lawful.{IsLawful}
+use Rattle.cg_represents.specs.Represents.{Represents}
+use Rattle.cg_represents.proofs.Lists.{slice_get_member}
 use Rattle.cg_commands.specs.declared.locals.Locals.{Locals}
 use Rattle.cg_commands.specs.Stands.{LocalsLive}
 use Rattle.cg_interp.specs.declared.activity.Activity.TheVariants as activity

@@ -15,8 +15,8 @@ use Rattle.cg_machine.specs.Holdings.{holds}
 use Rattle.cg_script.specs.declared.Script.{Script}
 use Rattle.cg_machine.specs.declared.event.Event.{Event}
 use Rattle.cg_machine.specs.Run.{StepOf}
-use Rattle.cg_machine.specs.Represents.{Represents, Goes}
-use Rattle.cg_machine.proofs.Representing.{Matches, matches, represents}
+use Rattle.cg_represents.specs.Represents.{Represents, Goes}
+use Rattle.cg_represents.proofs.Representing.{Matches, matches, represents}
 
 -- no references hold nothing
 pub held-none : (store : Store) → held [] store ≡ store

@@ -14,8 +14,8 @@ use Rattle.cg_machine.specs.Frame.{Transition, Yields}
 use Rattle.cg_machine.specs.Commands.{CommandStep, new_collection}
 use Rattle.cg_machine.specs.Due.{due}
 use Rattle.cg_machine.specs.Run.{StepOf, TopLevelStep, FrameStep, CommandInFrame}
-use Rattle.cg_machine.specs.Lawful.{IsLawful}
-use Rattle.cg_machine.specs.Represents.{Represents, detects}
+use Rattle.cg_laws.specs.Lawful.{IsLawful}
+use Rattle.cg_represents.specs.Represents.{Represents, detects}
 use Rattle.cg_policy.specs.Policy.{due_of, Policy}
 use Rattle.cg_laws.specs.Kept.{IsKept, StaysKept}
 use Rattle.cg_script.specs.Spelled.{IsSpelled, IsSpelledCommand}

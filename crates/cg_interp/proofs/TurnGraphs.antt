@@ -12,7 +12,7 @@ use Rattle.cg_machine.specs.declared.event.Event.{Event}
 use Rattle.cg_machine.specs.World.{World, Activity, TopLevel, Framed, Releasing, Dying, Collecting, ShuttingDown, Collection, CollectPhase, Start, WeakClearing, WeakCalling, AfterCallback, AfterRelease, Finalizing, AfterFinalizing, Split, Turns, Turn, AfterTurn, Ending, Outcome, Running}
 use Rattle.cg_machine.specs.Collect.{SameMembers, PhaseStep}
 use Rattle.cg_machine.specs.Run.{StepTaken, Run, Step, StepOf, last_world}
-use Rattle.cg_machine.specs.Represents.{Represents, Goes}
+use Rattle.cg_represents.specs.Represents.{Represents, Goes}
 use Rattle.cg_collect.specs.declared.phase.Phase.{Phase}
 use Rattle.cg_collect.specs.declared.phase.Phase.TheVariants as phase_of
 use Rattle.cg_collect.specs.Phases.{store_after}

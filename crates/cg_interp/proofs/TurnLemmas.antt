@@ -4,7 +4,7 @@ use Rattle.cg_script.specs.declared.Script.{Script}
 use Rattle.cg_graph.proofs.Members.{either}
 use Rattle.cg_machine.specs.declared.event.Event.{Event}
 use Rattle.cg_machine.specs.World.{World}
-use Rattle.cg_machine.specs.Lawful.{IsLawful}
+use Rattle.cg_laws.specs.Lawful.{IsLawful}
 use Rattle.cg_collect.specs.Phases.{lines_left}
 use Rattle.cg_collect.specs.Answers.{CollectionShows}
 use Rattle.cg_collect.specs.Collections.{IsReadyForCollection}

@@ -16,12 +16,12 @@ use Rattle.cg_graph.proofs.Members.{either, cases_of, Includes-of, includes-of, 
 use Rattle.cg_graph.proofs.Objects.{occurrences-append}
 use Rattle.cg_death.proofs.Emptying.{entries-agree}
 use Rattle.cg_heap.specs.Calls.{IsListed}
-use Rattle.cg_machine.proofs.Places.{place_is}
+use Rattle.cg_represents.proofs.Places.{place_is}
 use Rattle.cg_machine.specs.World.{World}
 use Rattle.cg_machine.specs.Program.{legacy_of}
 use Rattle.cg_machine.specs.Collect.{SameMembers, merged_place, has_legacy}
-use Rattle.cg_machine.specs.Represents.{Represents}
-use Rattle.cg_machine.proofs.Representing.{count-in_degree}
+use Rattle.cg_represents.specs.Represents.{Represents}
+use Rattle.cg_represents.proofs.Representing.{count-in_degree}
 use Rattle.cg_trial.proofs.Lists.{occurs_in, none_or_some}
 use Rattle.cg_trial.proofs.Placed.{once_at, where_is, is_there}
 use Rattle.cg_collect.proofs.Standing.{map_alike, same_times, node_of_live, place_there, live_there, object_there, once_among, list_has}

@@ -24,7 +24,7 @@ use Rattle.cg_interp.specs.declared.turned.Turned.TheVariants as turned
 use Rattle.cg_interp.specs.Turns.{Makes}
 use Rattle.cg_laws.specs.Kept.{StaysKept}
 use Rattle.cg_interp.specs.Collecting.{StandsWith}
-use Rattle.cg_machine.specs.Represents.{Represents}
+use Rattle.cg_represents.specs.Represents.{Represents}
 use Rattle.cg_interp.specs.declared.activity.Activity.{Activity}
 use Rattle.cg_interp.specs.declared.activity.Activity.TheVariants as activity
 use Rattle.cg_interp.specs.declared.caller.Caller.{Caller}

@@ -8,7 +8,7 @@ use Rattle.cg_graph.specs.Store.{Store, list_at}
 use Rattle.cg_machine.specs.Program.{commands_of, body_of}
 use Rattle.cg_machine.specs.World as machine
 use Rattle.cg_machine.specs.World.{World, TopLevel, Framed, Releasing, Running, ShuttingDown}
-use Rattle.cg_machine.specs.Represents.{Represents, CollectionWaits}
+use Rattle.cg_represents.specs.Represents.{Represents, CollectionWaits}
 use Rattle.cg_commands.specs.declared.locals.Locals.{Locals}
 use Rattle.cg_death.specs.Activities.{references_left, death_activities}
 use Rattle.cg_death.specs.declared.release.Release.{Release}

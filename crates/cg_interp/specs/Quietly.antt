@@ -5,7 +5,7 @@ use Rattle.cg_script.specs.declared.limits.TheConstants.{MOST_BUDGET}
 use Rattle.cg_machine.specs.declared.event.Event.{Event}
 use Rattle.cg_machine.specs.World.{World}
 use Rattle.cg_machine.specs.Run.{StepTaken, Run, events_of, last_world}
-use Rattle.cg_machine.specs.Represents.{detects, MakesNoDetection}
+use Rattle.cg_represents.specs.Represents.{detects, MakesNoDetection}
 use Rattle.cg_laws.specs.Kept.{StaysKept}
 use Rattle.cg_graph.specs.Store.{Store}
 use Rattle.cg_heap.specs.Weak.{AreRows}

@@ -6,7 +6,7 @@ use Rattle.cg_graph.specs.Store.{Store}
 use Rattle.cg_machine.specs.declared.event.Event.{Event}
 use Rattle.cg_machine.specs.declared.event.Event.TheVariants.{End, BudgetSpent, Left}
 use Rattle.cg_machine.specs.World.{World, Ended, BudgetIsSpent}
-use Rattle.cg_machine.specs.Represents.{Goes}
+use Rattle.cg_represents.specs.Represents.{Goes}
 use Rattle.cg_laws.specs.Kept.{StaysKept}
 use Rattle.cg_collect.specs.declared.collection.Collection.{Collection}
 use Rattle.cg_collect.specs.Collections.{CollectFalls}

@@ -10,10 +10,10 @@ use Rattle.cg_machine.specs.World.{World, Outcome, Ended, BudgetIsSpent, Dying}
 use Rattle.cg_graph.specs.Member.{Includes}
 use Rattle.cg_graph.specs.Store.{objects_of}
 use Rattle.cg_machine.specs.Holdings.{holdings, is_death_of}
-use Rattle.cg_machine.specs.Laws.{IsHeldInItsFramesAlone}
+use Rattle.cg_represents.specs.Orderly.{IsHeldInItsFramesAlone}
 use Rattle.cg_machine.specs.Frame.{Transition, begin_death}
 use Rattle.cg_machine.specs.Run.{StepTaken, Run, last_world}
-use Rattle.cg_machine.specs.Represents.{Goes}
+use Rattle.cg_represents.specs.Represents.{Goes}
 use Rattle.cg_death.specs.declared.death.Death.{Death}
 use Rattle.cg_death.specs.Deaths.{IsGoing, IsOffStack}
 use Rattle.cg_interp.specs.declared.activity.Activity.{Activity}

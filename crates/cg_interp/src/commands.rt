@@ -11,7 +11,7 @@ ghost use Rattle.cg_death.specs.Activities.{references_left, IsUnheld};
 ghost use Rattle.cg_machine.specs.World.{World, push, with_stack};
 ghost use Rattle.cg_machine.specs.declared.event.FrameSort.TheVariants as sort_of;
 ghost use Rattle.cg_machine.specs.Frame.{start_frame, procedure_of, begin_death};
-ghost use Rattle.cg_machine.specs.Represents.{Represents};
+ghost use Rattle.cg_represents.specs.Represents.{Represents};
 ghost use Rattle.cg_machine.specs.Commands.{refused, stopped_frame, without_commands, new_collection, effect};
 ghost use Rattle.cg_laws.specs.Kept.{StaysKept};
 ghost use Rattle.cg_machine.specs.Effects.{Collects};

@@ -8,8 +8,8 @@ use Rattle.cg_graph.specs.Object.{entries_of}
 use Rattle.cg_machine.specs.declared.event.Event.{Event}
 use Rattle.cg_machine.specs.World.{World, Activity, Collecting, Collection, CollectPhase, Start, WeakClearing, WeakCalling, AfterCallback, AfterRelease, Finalizing, AfterFinalizing, Split, Turns, Turn, AfterTurn, Ending, with_stack}
 use Rattle.cg_machine.specs.Holdings.{is_collection}
-use Rattle.cg_machine.specs.Laws.{IsOrderly}
-use Rattle.cg_machine.specs.Lawful.{IsLawful}
+use Rattle.cg_represents.specs.Orderly.{IsOrderly}
+use Rattle.cg_laws.specs.Lawful.{IsLawful}
 use Rattle.cg_machine.specs.Collect.{collection_at, PhaseStep, CollectStep}
 use Rattle.cg_laws.specs.Apart.{IsApart}
 use Rattle.cg_laws.proofs.SetsApart.{NoneCollects, AreApart, alone_of, apart_of}

@@ -8,9 +8,9 @@ use Rattle.cg_machine.specs.declared.event.FrameSpec.{FrameSpec}
 use Rattle.cg_machine.specs.World.{World, Activity, Releasing, Dying, Collecting, Collection, Numbers, Start, Finalizer}
 use Rattle.cg_machine.specs.Program.{body_of}
 use Rattle.cg_machine.specs.Frame.{start_frame}
-use Rattle.cg_machine.proofs.Advances.{Advance, Plainly, WithFrame, Renumbers, SameCounts, OneLess, BegunCounts, Continues, DeathGoesOn, DeathClears, CollectionGoesOn, Tops, TopEnds, GivesFunction, GivesReference, BeginsDeath, TopGoesOn, GivesReferences}
-use Rattle.cg_machine.proofs.Starting.{starts_either}
-use Rattle.cg_machine.proofs.Making.{IsFew, left_on, starts_makes}
+use Rattle.cg_laws.proofs.Advances.{Advance, Plainly, WithFrame, Renumbers, SameCounts, OneLess, BegunCounts, Continues, DeathGoesOn, DeathClears, CollectionGoesOn, Tops, TopEnds, GivesFunction, GivesReference, BeginsDeath, TopGoesOn, GivesReferences}
+use Rattle.cg_laws.proofs.Starting.{starts_either}
+use Rattle.cg_laws.proofs.Making.{IsFew, left_on, starts_makes}
 use Rattle.cg_laws.proofs.Numbers.{Limits, Settled, StartsSettled, on_top}
 
 -- no collection is about to start, and the numbers are within the limits

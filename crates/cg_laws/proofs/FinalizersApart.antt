@@ -16,7 +16,7 @@ use Rattle.cg_machine.specs.World.{World, Activity, Releasing, Collection, Colle
 use Rattle.cg_machine.specs.Weak.{loses_referent, AllLose}
 use Rattle.cg_machine.specs.Dying.{finalizer_to_run}
 use Rattle.cg_machine.specs.Collect.{collection_at, older, looks_at, IsMemberOf, replaced_place, FinalizingStep, get_older, loses_at_split, SplitStep}
-use Rattle.cg_machine.proofs.Sorting.{Reach-inside}
+use Rattle.cg_represents.proofs.Lists.{Reach-inside}
 use Rattle.cg_laws.specs.Apart.{IsInLatePhase, IsFound, IsApart}
 use Rattle.cg_laws.proofs.SetsApart.{NoneCollects, AreApart, Keeps, goes_to, restands, starts_apart, gives_up_apart, is_tracked_at, stands_at, places_kept, moved, lost_apart}
 

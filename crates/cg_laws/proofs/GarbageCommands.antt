@@ -12,12 +12,12 @@ use Rattle.cg_machine.specs.World.{World, with_change}
 use Rattle.cg_machine.specs.Weak.{is_instance}
 use Rattle.cg_machine.specs.Effects.{Effect, Changes, Calls, Collects, Explains, Quits, tracked_by, frozen, unfrozen}
 use Rattle.cg_machine.specs.Operands.{is_dict}
-use Rattle.cg_machine.proofs.Lookups.{references_of_member}
-use Rattle.cg_machine.proofs.HeldLivesDeaths.{false_true}
-use Rattle.cg_machine.proofs.Shapes.{HasObject, IsEdit, Shape, Makes, Edits, Puts, Freezes, Unfreezes, StartsFrame, StartsCollection, Ends, AsksWhy}
-use Rattle.cg_machine.proofs.CommandRefs.{all_free}
+use Rattle.cg_laws.proofs.Lookups.{references_of_member}
+use Rattle.cg_laws.proofs.HeldLivesDeaths.{false_true}
+use Rattle.cg_represents.proofs.Shapes.{HasObject, IsEdit, Shape, Makes, Edits, Puts, Freezes, Unfreezes, StartsFrame, StartsCollection, Ends, AsksWhy}
+use Rattle.cg_laws.proofs.CommandRefs.{all_free}
 use Rattle.cg_graph.proofs.Members.{either}
-use Rattle.cg_machine.proofs.ShapeLaws.{put_later}
+use Rattle.cg_laws.proofs.ShapeLaws.{put_later}
 use Rattle.cg_laws.proofs.GarbageKept.{HasGarbageList, KeepsList, same_list, list_kept, other_kept, places_kept, new_kept}
 
 module _ (w : World) (garbage : HasGarbageList w.objects) (made : 1 < w.next_serial) where

@@ -8,7 +8,7 @@ use Rattle.cg_graph.specs.Member.{Includes}
 use Rattle.cg_graph.specs.Value.{references}
 use Rattle.cg_graph.specs.Object.{Object, change, entries_of, object_at, without, with_place}
 use Rattle.cg_graph.proofs.Members.{either, Includes-append_cases, Includes-map_cases, Includes-filter_cases}
-use Rattle.cg_machine.proofs.Lookups.{found_at}
+use Rattle.cg_represents.proofs.Lists.{found_at}
 use Rattle.cg_laws.specs.Apart.{IsGarbageList}
 
 abbrev pub HasGarbageList : List Object → Type 0

@@ -3,8 +3,8 @@ use Rattle.std.proofs.Common.{subst, ℕ, List, ◌++◌}
 use Rattle.cg_script.specs.declared.Script.{Script}
 use Rattle.cg_machine.specs.World.{opening}
 use Rattle.cg_machine.specs.Run.{StepTaken, IsRun, world_after}
-use Rattle.cg_machine.proofs.Ending.{Run-append, last_world-append}
-use Rattle.cg_machine.proofs.Lawful.{lawful_after}
+use Rattle.cg_laws.proofs.Ending.{Run-append, last_world-append}
+use Rattle.cg_laws.proofs.Lawful.{lawful_after}
 use Rattle.cg_laws.specs.Kept.{IsKept, WorldsStayKept}
 use Rattle.cg_laws.proofs.RunsApart.{runs_apart}
 use Rattle.cg_laws.proofs.NumbersOfRuns.{numbers_few}

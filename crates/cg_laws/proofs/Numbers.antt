@@ -9,9 +9,9 @@ use Rattle.cg_machine.specs.World.{World, Activity, Numbers}
 use Rattle.cg_machine.specs.Effects.{Effect, Changes, Calls, Collects, Explains, Quits}
 use Rattle.cg_machine.specs.Collect.{begun, survived}
 use Rattle.cg_machine.specs.Due.{due_generation, is_due}
-use Rattle.cg_machine.proofs.Shapes.{Shape, Makes, Sets, Freezes, StartsFrame, StartsCollection, Ends, AsksWhy}
-use Rattle.cg_machine.proofs.Making.{left_on}
-use Rattle.cg_machine.proofs.Measure.{is_starting}
+use Rattle.cg_represents.proofs.Shapes.{Shape, Makes, Sets, Freezes, StartsFrame, StartsCollection, Ends, AsksWhy}
+use Rattle.cg_laws.proofs.Making.{left_on}
+use Rattle.cg_laws.proofs.Measure.{is_starting}
 
 -- the three counts together
 abbrev pub counts : Numbers → ℕ

@@ -16,10 +16,10 @@ use Rattle.cg_machine.specs.World.{World, Activity, Releasing, Collecting, Colle
 use Rattle.cg_machine.specs.Holdings.{is_collection}
 use Rattle.cg_machine.specs.Frame.{start_frame}
 use Rattle.cg_machine.specs.Weak.{loses_referent}
-use Rattle.cg_machine.specs.Laws.{IsOfCollection}
+use Rattle.cg_laws.specs.Laws.{IsOfCollection}
 use Rattle.cg_machine.specs.Collect.{collection_at}
 use Rattle.cg_laws.specs.Apart.{StandsRightly, IsFound, IsGarbageList, handles, IsApart}
-use Rattle.cg_machine.proofs.Starting.{begun_frame, starts_either}
+use Rattle.cg_laws.proofs.Starting.{begun_frame, starts_either}
 
 -- the objects while a collection is at a phase
 pub record AreApart (objects : List Object) (phase : CollectPhase) : Type 0 where

@@ -15,13 +15,11 @@ use Rattle.cg_graph.proofs.Objects.{occurrences-append}
 use Rattle.cg_machine.specs.declared.event.Event.{Event}
 use Rattle.cg_machine.specs.World.{World, Activity, Collection, Start, WeakClearing}
 use Rattle.cg_machine.specs.Holdings.{holds}
-use Rattle.cg_machine.specs.Laws.{IsOfCollection}
+use Rattle.cg_laws.specs.Laws.{IsOfCollection}
 use Rattle.cg_machine.specs.Operands.{is_dict}
 use Rattle.cg_machine.specs.Collect.{collection_at, merged, merged_place, older, survivor_place, has_none_tracked, untrack, untracked_if, start_world, Survives, Sorts, StartStep}
-use Rattle.cg_machine.proofs.Lookups.{found_at}
-use Rattle.cg_machine.proofs.Releasing.{entry_held}
-use Rattle.cg_machine.proofs.Condemned.{present}
-use Rattle.cg_machine.proofs.Garbage.{survives, survives-Survives, garbage-IsGarbage, set_aside, set_aside-IsSetAside, IsSetAside-set_aside}
+use Rattle.cg_represents.proofs.Lists.{found_at, entry_held, present}
+use Rattle.cg_laws.proofs.Garbage.{survives, survives-Survives, garbage-IsGarbage, set_aside, set_aside-IsSetAside, IsSetAside-set_aside}
 use Rattle.cg_laws.specs.Apart.{IsInWeakPhase, IsFound, IsApart}
 use Rattle.cg_laws.proofs.SetsApart.{NoneCollects, AreApart, collects, found_apart, is_tracked_at, places_kept, moved}
 

@@ -10,9 +10,9 @@ use Rattle.cg_graph.specs.Object.{Object, object_at, entries_of}
 use Rattle.cg_graph.proofs.Members.{either}
 use Rattle.cg_machine.specs.World.{World, Activity, Collecting, CollectPhase, Start, WeakClearing, WeakCalling, AfterCallback, AfterRelease, Finalizing, AfterFinalizing, Split, Turns, Turn, AfterTurn, Ending}
 use Rattle.cg_machine.specs.Holdings.{is_collection, is_collecting}
-use Rattle.cg_machine.specs.Laws.{IsOfCollection, HadItsPlace, LeavesBelow}
-use Rattle.cg_machine.proofs.Serials.{Rises}
-use Rattle.cg_machine.proofs.Lookups.{at_member}
+use Rattle.cg_laws.specs.Laws.{IsOfCollection, HadItsPlace, LeavesBelow}
+use Rattle.cg_represents.proofs.Serials.{Rises}
+use Rattle.cg_laws.proofs.Lookups.{at_member}
 use Rattle.cg_laws.specs.Apart.{IsInWeakPhase, IsInLatePhase, StandsRightly, IsFound, handles, IsApart}
 use Rattle.cg_laws.proofs.GarbageKept.{NamesNot, entries_name_not, list_stays, names_no_more}
 use Rattle.cg_laws.proofs.StepsPlain.{IsPlain}

@@ -19,16 +19,16 @@ use Rattle.cg_machine.specs.Effects.{Changes}
 use Rattle.cg_machine.specs.Commands.{new_collection}
 use Rattle.cg_machine.specs.Due.{due, is_due, due_generation}
 use Rattle.cg_machine.specs.Run.{Step}
-use Rattle.cg_machine.proofs.ShapeLaws.{changes_leave}
-use Rattle.cg_machine.proofs.Unheld.{Calm}
-use Rattle.cg_machine.proofs.Advances.{Advance, Plainly, WithFrame, HasChanged, NothingChanges, ChangesEach, LosesEntries, GetsEntry, LosesObject, Followed, IsMoved, StaysThere, IsUntracked, IsRevived, IsPlaced, Finalizes, Soon, Late, asides, Continues, DeathGoesOn, DeathClears, CollectionGoesOn, Tops, TopEnds, GivesFunction, GivesReference, BeginsDeath, TopGoesOn, GivesReferences, fewer_references}
-use Rattle.cg_machine.proofs.Starting.{begun_frame, starts_either}
-use Rattle.cg_machine.proofs.Advancing.{frame_end_advances, released_advances, dying_advances, phase_advances}
-use Rattle.cg_machine.proofs.Invariants.{HasCommands, emptied, on, CommandSteps, Steps, any_step, del_shaped, last_has}
+use Rattle.cg_laws.proofs.ShapeLaws.{changes_leave}
+use Rattle.cg_laws.proofs.Unheld.{Calm}
+use Rattle.cg_laws.proofs.Advances.{Advance, Plainly, WithFrame, HasChanged, NothingChanges, ChangesEach, LosesEntries, GetsEntry, LosesObject, Followed, IsMoved, StaysThere, IsUntracked, IsRevived, IsPlaced, Finalizes, Soon, Late, asides, Continues, DeathGoesOn, DeathClears, CollectionGoesOn, Tops, TopEnds, GivesFunction, GivesReference, BeginsDeath, TopGoesOn, GivesReferences, fewer_references}
+use Rattle.cg_laws.proofs.Starting.{begun_frame, starts_either}
+use Rattle.cg_laws.proofs.Advancing.{frame_end_advances, released_advances, dying_advances, phase_advances}
+use Rattle.cg_laws.proofs.Invariants.{HasCommands, emptied, on, CommandSteps, Steps, any_step, del_shaped, last_has}
 use Rattle.cg_laws.proofs.GarbageKept.{HasGarbageList, KeepsList, entries_name_not, same_list, list_kept, list_trans, without_kept}
 use Rattle.cg_laws.proofs.GarbageCommands.{shape_kept}
 use Rattle.cg_script.specs.declared.Command.TheVariants.{Del}
-use Rattle.cg_machine.proofs.Sound.{HasBottom}
+use Rattle.cg_laws.proofs.Sound.{HasBottom}
 
 -- The collections of a stack are those below, or a new one where there was none.
 abbrev pub StartsAlone : List Activity → List Activity → Type 0

@@ -16,9 +16,9 @@ use Rattle.cg_machine.specs.declared.event.Event.{Event}
 use Rattle.cg_machine.specs.declared.event.Event.TheVariants.{GcSaved}
 use Rattle.cg_machine.specs.World.{World, Activity, Collection, CollectPhase, Turns, Turn, AfterTurn, Ending, with_stack, with_change, with_objects}
 use Rattle.cg_machine.specs.Frame.{Transition}
-use Rattle.cg_machine.specs.Laws.{IsOfCollection}
+use Rattle.cg_laws.specs.Laws.{IsOfCollection}
 use Rattle.cg_machine.specs.Collect.{collection_at, older, replaced_place, takes_turn, TurnsStep, saved, all_saved, has_flag, save_all, empties, after_turn, EndStep}
-use Rattle.cg_machine.proofs.Lookups.{references-append}
+use Rattle.cg_laws.proofs.Lookups.{references-append}
 use Rattle.cg_laws.specs.Apart.{StandsRightly, IsInLatePhase, IsFound, IsGarbageList, IsApart}
 use Rattle.cg_laws.proofs.SetsApart.{NoneCollects, AreApart, goes_to, restands, gives_up_apart, found_apart, is_tracked_at, changed, places_kept, moved}
 use Rattle.cg_laws.proofs.FinalizersApart.{root_not_at, late_at_gen}

@@ -16,12 +16,12 @@ use Rattle.cg_machine.specs.World.{World, Activity, Releasing, Collection, Colle
 use Rattle.cg_machine.specs.Holdings.{holds}
 use Rattle.cg_machine.specs.Frame.{Transition, procedure_of}
 use Rattle.cg_machine.specs.Weak.{loses_referent, callback_of}
-use Rattle.cg_machine.specs.Laws.{IsOrderly, all_waits}
+use Rattle.cg_represents.specs.Orderly.{IsOrderly, all_waits}
 use Rattle.cg_machine.specs.Collect.{collection_at, older, waits, ClearsOne, WeakClearingStep, calls_back, after_release}
 use Rattle.cg_laws.specs.Apart.{IsInWeakPhase, IsGarbageList, IsApart}
 use Rattle.cg_laws.proofs.SetsApart.{NoneCollects, AreApart, goes_to, restands, starts_apart, gives_up_apart, places_kept, moved, lost_apart}
 use Rattle.cg_machine.specs.Program.{profile_of}
-use Rattle.cg_machine.proofs.Clearing.{refers_early}
+use Rattle.cg_laws.proofs.Clearing.{refers_early}
 
 -- the garbage list is no weak reference
 no_weak : (x : Object) → IsGarbageList x → x.code ≢ Weak

@@ -10,7 +10,7 @@ use Rattle.cg_graph.specs.Value.{references}
 use Rattle.cg_graph.specs.Object.{Object, entries_of}
 use Rattle.cg_machine.specs.World.{World, Collecting, Collection, CollectPhase, Start, WeakClearing, WeakCalling, AfterCallback, AfterRelease, Finalizing, AfterFinalizing, Split, Turns, Turn, AfterTurn, Ending}
 use Rattle.cg_machine.specs.Holdings.{is_collecting}
-use Rattle.cg_machine.specs.Laws.{IsOfCollection}
+use Rattle.cg_laws.specs.Laws.{IsOfCollection}
 use Rattle.cg_machine.specs.Run.{StepTaken, IsRun, world_after}
 
 -- In the weak phase no finalizer was looked at, and each weak reference that waits for its callback is in a place of

@@ -3,7 +3,7 @@ use Rattle.std.specs.Prelude.{ℕ, List}
 use Rattle.cg_script.specs.declared.Script.{Script}
 use Rattle.cg_machine.specs.World.{World}
 use Rattle.cg_machine.specs.Run.{StepTaken, Run, IsRun, last_world, world_after}
-use Rattle.cg_machine.specs.Lawful.{IsLawful}
+use Rattle.cg_laws.specs.Lawful.{IsLawful}
 use Rattle.cg_laws.specs.Apart.{IsApart}
 use Rattle.cg_laws.specs.Few.{HasFewNumbers}
 

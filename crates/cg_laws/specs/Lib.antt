@@ -1,3 +1,11 @@
+pub mod Laws
+pub mod Bounds
+pub mod Origins
+pub mod Locals
+pub mod Newest
+pub mod Printing
+pub mod Made
+pub mod Lawful
 pub mod Apart
 pub mod Few
 pub mod Kept

@@ -13,12 +13,3 @@ pub mod Due
 pub mod Shutdown
 pub mod Run
 pub mod Lines
-pub mod Laws
-pub mod Bounds
-pub mod Origins
-pub mod Represents
-pub mod Locals
-pub mod Newest
-pub mod Printing
-pub mod Made
-pub mod Lawful

@@ -13,11 +13,11 @@ use Rattle.cg_machine.specs.World.{World, Activity, Releasing, Dying, Collecting
 use Rattle.cg_machine.specs.Frame.{released}
 use Rattle.cg_machine.specs.Dying.{death_at, dying}
 use Rattle.cg_machine.specs.Collect.{collection_at, PhaseStep}
-use Rattle.cg_machine.specs.Laws.{IsLengthened}
-use Rattle.cg_machine.proofs.Advances.{Advance, Plainly, WithFrame, HasChanged, Owns, OfEmptied, OfCalled, OfTurn, changed_came}
-use Rattle.cg_machine.proofs.Pointwise.{IsOrder, Came}
-use Rattle.cg_machine.proofs.Starting.{starts_either}
-use Rattle.cg_machine.proofs.Advancing.{released_advances, dying_advances, phase_advances}
+use Rattle.cg_laws.specs.Laws.{IsLengthened}
+use Rattle.cg_laws.proofs.Advances.{Advance, Plainly, WithFrame, HasChanged, Owns, OfEmptied, OfCalled, OfTurn, changed_came}
+use Rattle.cg_laws.proofs.Pointwise.{IsOrder, Came}
+use Rattle.cg_laws.proofs.Starting.{starts_either}
+use Rattle.cg_laws.proofs.Advancing.{released_advances, dying_advances, phase_advances}
 
 -- each object has its old entries and perhaps more, with some exceptions
 abbrev pub Longer : (ℕ → Type 0) → Object → Object → Type 0

@@ -25,11 +25,12 @@ use Rattle.cg_machine.specs.World.{World, Activity, Framed, Frame, Numbers, with
 use Rattle.cg_machine.specs.Operands.{frame_on, is_dict, self_in, value_of, weak_in}
 use Rattle.cg_machine.specs.Effects.{Calls, Changes, Collects, Effect, Quits, bound, frozen, may_track, replaced, tracked_by, unfrozen, with_new, Explains}
 use Rattle.cg_machine.specs.Weak.{has_weak_references, is_function, is_instance}
-use Rattle.cg_machine.specs.Laws.{is_stop, named}
-use Rattle.cg_machine.proofs.CommandRefs.{HoldNone, IsNotTo, all_free, bound_free, entry_free, entry_key, entry_val, got_free, name_free, option_free, option_held, put_free}
-use Rattle.cg_machine.proofs.Forgotten.{later_refl}
-use Rattle.cg_machine.proofs.Lookups.{found_at, references_of_member}
-use Rattle.cg_machine.proofs.Shapes.{IsAtHand, NoneThere, Word, ValueIn, KeyIn, ReferentOf, HasObject, IsEdit, Shape, Binds, Makes, Edits, Puts, Shows, Tells, Stays, Sets, Freezes, Unfreezes, StartsFrame, StartsCollection, Ends, Inspects, AsksWhy, TellsNumbers}
+use Rattle.cg_laws.specs.Laws.{is_stop, named}
+use Rattle.cg_laws.proofs.CommandRefs.{HoldNone, IsNotTo, all_free, bound_free, entry_free, entry_key, entry_val, got_free, name_free, option_free, option_held, put_free}
+use Rattle.cg_laws.proofs.Forgotten.{later_refl}
+use Rattle.cg_represents.proofs.Lists.{found_at}
+use Rattle.cg_laws.proofs.Lookups.{references_of_member}
+use Rattle.cg_represents.proofs.Shapes.{IsAtHand, NoneThere, Word, ValueIn, KeyIn, ReferentOf, HasObject, IsEdit, Shape, Binds, Makes, Edits, Puts, Shows, Tells, Stays, Sets, Freezes, Unfreezes, StartsFrame, StartsCollection, Ends, Inspects, AsksWhy, TellsNumbers}
 use Rattle.cg_promises.proofs.FinalSet.{Comes, IsClean, IsLesser, Sealed, TellsStill, none_out, one_still}
 
 -- the places of a collection stay

@@ -23,12 +23,12 @@ use Rattle.cg_machine.specs.Frame.{Transition, frame_end, gives_up_function, beg
 use Rattle.cg_machine.specs.Weak.{has_weak_references, is_reference_to, weak_references, weak_references_if, loses_referent, callback_in, callback_of}
 use Rattle.cg_machine.specs.Dying.{death_at, has_finalizers, finalizer_to_run, run_finalizer, run_legacy, after_frame, clear_one, call_one, detach_one, empty_one, dying}
 use Rattle.cg_machine.specs.Collect.{collection_at, empties, has_flag, older, save_all, saved, takes_turn, PhaseStep}
-use Rattle.cg_machine.proofs.Starting.{either_way}
-use Rattle.cg_machine.proofs.Serials.{Rises}
-use Rattle.cg_machine.proofs.Lookups.{callback_first, found_at, references_take, same_object}
+use Rattle.cg_laws.proofs.Starting.{either_way}
+use Rattle.cg_represents.proofs.Serials.{Rises}
+use Rattle.cg_laws.proofs.Lookups.{callback_first, references_take, same_object}
+use Rattle.cg_represents.proofs.Lists.{found_at}
 use Rattle.cg_promises.proofs.LastEntryMoves.{entries_of_member, last_none}
-use Rattle.cg_machine.proofs.LinesNameLive.{without_gone}
-use Rattle.cg_machine.proofs.LinesNameLive.{reversed_back}
+use Rattle.cg_laws.proofs.LinesNameLive.{without_gone, reversed_back}
 use Rattle.cg_promises.proofs.FinalSet.{Comes, Excused, Fewer, Fits, IsDone, IsLate, IsLesser, IsMeek, Passes, Sealed, Shrinks, change_shrinks, gen_apart, goes_sealed, loosen, lost_shrinks, none_out, one_still, others_come, place_sealed, placed_lesser, pop_sealed, push_sealed, same_shrinks, shrinks_sealed, shrunk, starts_sealed, still_excused, turn_sealed, untracked_apart, yields_sealed}
 
 -- a listed weak reference refers

@@ -14,11 +14,11 @@ use Rattle.cg_machine.specs.declared.event.Event.TheVariants.{Free}
 use Rattle.cg_machine.specs.World.{World, Activity, TopLevel, Framed, Releasing, Dying, Death, Collecting, Collection, Ending, opening, ShuttingDown}
 use Rattle.cg_machine.specs.Holdings.{collect_holds, holds, is_death_of}
 use Rattle.cg_machine.specs.Run.{Run, StepTaken, events_of, last_world}
-use Rattle.cg_machine.specs.Laws.{FinalSetIsFreed, final_set}
-use Rattle.cg_machine.proofs.Ending.{last_world-append}
-use Rattle.cg_machine.proofs.Forgotten.{lives_within}
-use Rattle.cg_machine.proofs.OriginsOfRuns.{opening_origin}
-use Rattle.cg_machine.proofs.Serials.{Rises}
+use Rattle.cg_laws.specs.Laws.{FinalSetIsFreed, final_set}
+use Rattle.cg_laws.proofs.Ending.{last_world-append}
+use Rattle.cg_laws.proofs.Forgotten.{lives_within}
+use Rattle.cg_laws.proofs.OriginsOfRuns.{opening_origin}
+use Rattle.cg_represents.proofs.Serials.{Rises}
 use Rattle.cg_laws.specs.Apart.{IsApart, StandsRightly}
 use Rattle.cg_laws.proofs.RunsApart.{runs_apart}
 use Rattle.cg_promises.proofs.HoldersMove.{IsMinded}
@@ -26,7 +26,7 @@ use Rattle.cg_promises.proofs.HoldersMoveRuns.{minded_after, opening_minded}
 use Rattle.cg_promises.proofs.FinalSet.{Clears, Excused, IsOutOf}
 use Rattle.cg_promises.proofs.FinalSetRuns.{IsSealedWorld, sealed_after, step_keeps_on}
 use Rattle.cg_promises.proofs.FinalSetKept.{starts_sealed_world}
-use Rattle.cg_machine.proofs.LinesNameLive.{filter_lives}
+use Rattle.cg_laws.proofs.LinesNameLive.{filter_lives}
 use Rattle.cg_promises.proofs.FinalizerOnceRuns.{Fit, opening_fit, run_back, run_front, run_fit, step_fit, step_goes}
 
 pub death_on : (n : ℕ) (stack : List Activity) → list_any (is_death_of n) stack ≡ true → (d : Death) × Includes stack (Dying d) × (d.object ≡ n)

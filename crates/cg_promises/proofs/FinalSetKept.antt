@@ -11,16 +11,16 @@ use Rattle.cg_machine.specs.World.{World, Activity, TopLevel, Framed, Releasing,
 use Rattle.cg_machine.specs.Holdings.{is_collection}
 use Rattle.cg_machine.specs.Collect.{SplitStep}
 use Rattle.cg_machine.specs.Run.{Run, Step, StepOf, StepTaken, events_of, last_world}
-use Rattle.cg_machine.specs.Laws.{OnlyFreesNameMembers, Sealing, Splits, final_set}
-use Rattle.cg_machine.proofs.Sound.{collections_in}
-use Rattle.cg_machine.proofs.Sums.{member_le, tally}
-use Rattle.cg_machine.proofs.Ending.{last_world-append}
-use Rattle.cg_machine.proofs.Forgotten.{lives_within}
-use Rattle.cg_machine.proofs.LeftBelowRuns.{LeavesUnder, leaves_below, step_leaves}
-use Rattle.cg_machine.proofs.Standing.{AreKnown}
-use Rattle.cg_machine.proofs.StandingRuns.{known}
-use Rattle.cg_machine.proofs.Unheld.{AreOver, IsStack}
-use Rattle.cg_machine.proofs.HeldLivesDeaths.{HasOrder}
+use Rattle.cg_laws.specs.Laws.{OnlyFreesNameMembers, Sealing, Splits, final_set}
+use Rattle.cg_laws.proofs.Sound.{collections_in}
+use Rattle.cg_laws.proofs.Sums.{member_le, tally}
+use Rattle.cg_laws.proofs.Ending.{last_world-append}
+use Rattle.cg_laws.proofs.Forgotten.{lives_within}
+use Rattle.cg_laws.proofs.LeftBelowRuns.{LeavesUnder, leaves_below, step_leaves}
+use Rattle.cg_laws.proofs.Standing.{AreKnown}
+use Rattle.cg_laws.proofs.StandingRuns.{known}
+use Rattle.cg_laws.proofs.Unheld.{AreOver, IsStack}
+use Rattle.cg_laws.proofs.HeldLivesDeaths.{HasOrder}
 use Rattle.cg_laws.specs.Apart.{IsApart}
 use Rattle.cg_laws.proofs.RunsApart.{runs_apart}
 use Rattle.cg_laws.proofs.SetsApart.{NoneCollects}

@@ -21,21 +21,21 @@ use Rattle.cg_machine.specs.Effects.{Calls, Changes}
 use Rattle.cg_machine.specs.Due.{due, due_generation, is_due}
 use Rattle.cg_machine.specs.Collect.{EndStep, PhaseStep, collection_at, has_flag, is_saved, lines_if, save_all, uncollectable}
 use Rattle.cg_machine.specs.Run.{Run, Step, StepTaken, events_of, last_world}
-use Rattle.cg_machine.specs.Laws.{HoldsNot, IsNoLocal, IsSealed, function_and_cells, is_stop, locals_of, named}
-use Rattle.cg_machine.proofs.CommandRefs.{option_free}
-use Rattle.cg_machine.proofs.Lookups.{found_at}
-use Rattle.cg_machine.proofs.Shapes.{StartsFrame}
-use Rattle.cg_machine.proofs.ShapeLaws.{changes_leave}
-use Rattle.cg_machine.proofs.Invariants.{AreAnswers, CommandSteps, FromFrame, FromTop, HasCommands, Steps, Takes, any_step, emptied, on, del_shaped, AreLast}
-use Rattle.cg_machine.proofs.Serials.{Rises}
-use Rattle.cg_machine.proofs.Places.{place_is}
+use Rattle.cg_laws.specs.Laws.{HoldsNot, IsNoLocal, IsSealed, function_and_cells, is_stop, locals_of, named}
+use Rattle.cg_laws.proofs.CommandRefs.{option_free}
+use Rattle.cg_represents.proofs.Lists.{found_at}
+use Rattle.cg_represents.proofs.Shapes.{StartsFrame}
+use Rattle.cg_laws.proofs.ShapeLaws.{changes_leave}
+use Rattle.cg_laws.proofs.Invariants.{AreAnswers, CommandSteps, FromFrame, FromTop, HasCommands, Steps, Takes, any_step, emptied, on, del_shaped, AreLast}
+use Rattle.cg_represents.proofs.Serials.{Rises}
+use Rattle.cg_represents.proofs.Places.{place_is}
 use Rattle.cg_promises.proofs.FinalSet.{Clears, Fits, IsLate, NotAfter, Passes, Sealed, TellsOut, comes_excused, goes_sealed, loosen, none_out, one_out, one_still, push_sealed, same_shrinks, shrunk, starts_sealed, turn_sealed, TellsStill}
 use Rattle.cg_promises.proofs.FinalSetDeaths.{dying_sealed, frame_end_sealed, late_sealed, released_sealed}
 use Rattle.cg_promises.proofs.FinalSetCommands.{Opens, shape_opens}
-use Rattle.cg_machine.proofs.LinesNameLive.{same_lives}
+use Rattle.cg_laws.proofs.LinesNameLive.{same_lives}
 use Rattle.cg_promises.proofs.FinalizerOnceRuns.{Fit, step_fit}
 use Rattle.cg_script.specs.declared.Command.TheVariants.{Del}
-use Rattle.cg_machine.proofs.Sound.{HasBottom}
+use Rattle.cg_laws.proofs.Sound.{HasBottom}
 
 -- no collection is due while one is under way
 due_none : (w : World) → is_collecting w ≡ true → due w ≡ None

@@ -19,17 +19,18 @@ use Rattle.cg_machine.specs.World.{World, Activity, TopLevel, Framed, Releasing,
 use Rattle.cg_machine.specs.Holdings.{call_holds, holdings, holds}
 use Rattle.cg_machine.specs.Weak.{AllLose, NoneLeft, loses_referent}
 use Rattle.cg_machine.specs.Collect.{SplitStep, Survives, collection_at, get_older, has_flag, loses_at_split, older, save_all, is_final_in}
-use Rattle.cg_machine.specs.Laws.{all_waits, waits_of}
-use Rattle.cg_machine.proofs.Condemned.{held_survives, present}
-use Rattle.cg_machine.proofs.HeldLivesDeaths.{HasOrder}
-use Rattle.cg_machine.proofs.Forgotten.{IsLater, later_refl, later_trans, lives_within, none_later}
-use Rattle.cg_machine.proofs.Lookups.{at_member, same_object}
-use Rattle.cg_machine.proofs.HeldLives.{waits_held}
-use Rattle.cg_machine.proofs.Serials.{Rises, Rises-map}
-use Rattle.cg_machine.proofs.Standing.{AreKnown, IsKnown, KnowsFunction}
-use Rattle.cg_machine.proofs.Unheld.{AreOver, AreResting, IsLocalHeld, IsOver, held_by_member, rests_cases}
+use Rattle.cg_represents.specs.Orderly.{all_waits, waits_of}
+use Rattle.cg_laws.proofs.Condemned.{held_survives}
+use Rattle.cg_represents.proofs.Lists.{present}
+use Rattle.cg_laws.proofs.HeldLivesDeaths.{HasOrder}
+use Rattle.cg_laws.proofs.Forgotten.{IsLater, later_refl, later_trans, lives_within, none_later}
+use Rattle.cg_laws.proofs.Lookups.{at_member, same_object}
+use Rattle.cg_laws.proofs.HeldLives.{waits_held}
+use Rattle.cg_represents.proofs.Serials.{Rises, Rises-map}
+use Rattle.cg_laws.proofs.Standing.{AreKnown, IsKnown, KnowsFunction}
+use Rattle.cg_laws.proofs.Unheld.{AreOver, AreResting, IsLocalHeld, IsOver, held_by_member, rests_cases}
 use Rattle.cg_laws.proofs.SetsApart.{NoneCollects, stands_at}
-use Rattle.cg_machine.proofs.Places.{place_is}
+use Rattle.cg_represents.proofs.Places.{place_is}
 use Rattle.cg_promises.proofs.FinalizerOnce.{Marks}
 use Rattle.cg_promises.proofs.FinalizersDone.{IsWanted, Primed, legacy_later, ran_later}
 use Rattle.cg_promises.proofs.FinalSet.{Fits, IsDone, NotAfter, Sealed}

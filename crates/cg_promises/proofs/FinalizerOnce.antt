@@ -13,9 +13,9 @@ use Rattle.cg_machine.specs.declared.event.FrameSort.TheVariants.{Del, Legacy, C
 use Rattle.cg_machine.specs.declared.event.FrameSpec.{FrameSpec}
 use Rattle.cg_machine.specs.World.{World, BudgetIsSpent}
 use Rattle.cg_machine.specs.Frame.{Transition, start_frame}
-use Rattle.cg_machine.specs.Laws.{named}
-use Rattle.cg_machine.proofs.Pointwise.{IsOrder, Came, Lasts, came, came_if, came_lives, came_map, came_without, lasts_if, lasts_lives, lasts_map}
-use Rattle.cg_machine.proofs.Starting.{starts_either}
+use Rattle.cg_laws.specs.Laws.{named}
+use Rattle.cg_laws.proofs.Pointwise.{IsOrder, Came, Lasts, came, came_if, came_lives, came_map, came_without, lasts_if, lasts_lives, lasts_map}
+use Rattle.cg_laws.proofs.Starting.{starts_either}
 
 -- the same object later: a finalizer that has run stays so
 pub record Marks (x y : Object) : Type 0 where

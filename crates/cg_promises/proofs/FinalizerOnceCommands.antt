@@ -18,16 +18,17 @@ use Rattle.cg_machine.specs.declared.event.Event.TheVariants.{Made, Value, RefCo
 use Rattle.cg_machine.specs.World.{World, Numbers, with_change}
 use Rattle.cg_machine.specs.Operands.{is_dict}
 use Rattle.cg_machine.specs.Effects.{Effect, Changes, Calls, Collects, Quits, bound, frozen, may_track, replaced, tracked_by, unfrozen, with_new, Explains}
-use Rattle.cg_machine.proofs.Serials.{Rises}
-use Rattle.cg_machine.proofs.CommandRefs.{IsKnown, option_free}
-use Rattle.cg_machine.proofs.UnheldCommands.{hand_known}
-use Rattle.cg_machine.proofs.Shapes.{Shape, Binds, Makes, Edits, Puts, Shows, Tells, Stays, Sets, Freezes, Unfreezes, StartsFrame, StartsCollection, Ends, Inspects, AsksWhy, TellsNumbers}
-use Rattle.cg_machine.proofs.Forgotten.{Forgotten}
-use Rattle.cg_machine.proofs.Unheld.{AreOver}
+use Rattle.cg_represents.proofs.Serials.{Rises}
+use Rattle.cg_laws.proofs.CommandRefs.{IsKnown, option_free}
+use Rattle.cg_laws.proofs.UnheldCommands.{hand_known}
+use Rattle.cg_represents.proofs.Shapes.{Shape, Binds, Makes, Edits, Puts, Shows, Tells, Stays, Sets, Freezes, Unfreezes, StartsFrame, StartsCollection, Ends, Inspects, AsksWhy, TellsNumbers}
+use Rattle.cg_laws.proofs.Forgotten.{Forgotten}
+use Rattle.cg_laws.proofs.Unheld.{AreOver}
 use Rattle.cg_promises.proofs.FinalizerOnce.{Marks, Old, IsTold, Goes, same_old, map_old, change_old, place_marks, one_told, tells, quiet}
-use Rattle.cg_machine.proofs.Releasing.{absent, unheld_degree}
+use Rattle.cg_represents.proofs.Lists.{absent}
+use Rattle.cg_laws.proofs.Releasing.{unheld_degree}
 use Rattle.cg_machine.specs.Holdings.{holdings}
-use Rattle.cg_machine.proofs.Inspecting.{IsThere as HeldOrThere, TellsThere}
+use Rattle.cg_represents.proofs.Inspecting.{IsThere as HeldOrThere, TellsThere}
 
 pub lives_or_not : (objects : List Object) (o : ℕ) → Includes (serials objects) o ⊎ (¬ Includes (serials objects) o)
 lives_or_not objects o = go (includes (serials objects) o) refl

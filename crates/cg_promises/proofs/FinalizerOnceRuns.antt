@@ -14,20 +14,20 @@ use Rattle.cg_machine.specs.Frame.{procedure_of}
 use Rattle.cg_machine.specs.Effects.{Changes, Calls, Effect, bound, given_up_by}
 use Rattle.cg_machine.specs.Commands.{new_collection}
 use Rattle.cg_machine.specs.Run.{Run, Step, StepTaken, last_world}
-use Rattle.cg_machine.proofs.Serials.{Rises}
-use Rattle.cg_machine.proofs.Unheld.{Calm}
-use Rattle.cg_machine.proofs.HeldLivesDeaths.{HasOrder}
-use Rattle.cg_machine.proofs.Sound.{Sound, opening_sound}
-use Rattle.cg_machine.proofs.MeasureNumber.{step_falls}
-use Rattle.cg_machine.proofs.UnheldRuns.{step_calm, opening_calm, taken_calm}
-use Rattle.cg_machine.proofs.HeldLivesRuns.{gone_forgotten, step_orderly, opening_orderly, taken_orderly}
-use Rattle.cg_machine.proofs.Shapes.{Shape, StartsFrame}
-use Rattle.cg_machine.proofs.Invariants.{AreAnswers, CommandSteps, Steps, any_step, emptied, on, AreLast}
+use Rattle.cg_represents.proofs.Serials.{Rises}
+use Rattle.cg_laws.proofs.Unheld.{Calm}
+use Rattle.cg_laws.proofs.HeldLivesDeaths.{HasOrder}
+use Rattle.cg_laws.proofs.Sound.{Sound, opening_sound}
+use Rattle.cg_laws.proofs.MeasureNumber.{step_falls}
+use Rattle.cg_laws.proofs.UnheldRuns.{step_calm, opening_calm, taken_calm}
+use Rattle.cg_laws.proofs.HeldLivesRuns.{gone_forgotten, step_orderly, opening_orderly, taken_orderly}
+use Rattle.cg_represents.proofs.Shapes.{Shape, StartsFrame}
+use Rattle.cg_laws.proofs.Invariants.{AreAnswers, CommandSteps, Steps, any_step, emptied, on, AreLast}
 use Rattle.cg_promises.proofs.FinalizerOnce.{Goes, IsTold, same_old, quiet, one_told, tells, starts_told}
 use Rattle.cg_promises.proofs.FinalizerOnceSteps.{advance_told}
 use Rattle.cg_promises.proofs.FinalizerOnceCommands.{DoesTell, shape_tells}
 use Rattle.cg_graph.specs.Object.{Object, serials}
-use Rattle.cg_machine.proofs.Advancing.{frame_end_advances, released_advances, dying_advances, phase_advances}
+use Rattle.cg_laws.proofs.Advancing.{frame_end_advances, released_advances, dying_advances, phase_advances}
 
 -- what holds of each world of a run
 pub record Fit (script : Script) (w : World) : Type 0 where

@@ -12,10 +12,10 @@ use Rattle.cg_machine.specs.Dying.{finalizer_to_run}
 use Rattle.cg_machine.specs.Holdings.{holds}
 use Rattle.cg_machine.specs.Program.{legacy_of}
 use Rattle.cg_machine.specs.World.{World, Activity}
-use Rattle.cg_machine.proofs.Advances.{Advance, Plainly, WithFrame, AreLinesOf, Shows, Frees, FrameOf, OfFinalizer, OfLegacy, OfCallback, HasChanged, IsDeathOf, IsLineOf, changed_becomes, changed_lasts}
-use Rattle.cg_machine.proofs.HeldLives.{waits_are_held}
+use Rattle.cg_laws.proofs.Advances.{Advance, Plainly, WithFrame, AreLinesOf, Shows, Frees, FrameOf, OfFinalizer, OfLegacy, OfCallback, HasChanged, IsDeathOf, IsLineOf, changed_becomes, changed_lasts}
+use Rattle.cg_laws.proofs.HeldLives.{waits_are_held}
 use Rattle.cg_promises.proofs.FinalizerOnce.{AreTold, Enters, Goes, IsPlain, Origin, starts_told}
-use Rattle.cg_machine.proofs.LinesNameLive.{found_with, to_run}
+use Rattle.cg_laws.proofs.LinesNameLive.{found_with, to_run}
 
 plain_line : (after : List Object) (top : Activity) (event : Event) → IsLineOf after top event → IsPlain event
 plain_line after top (Enter sort n) h = h

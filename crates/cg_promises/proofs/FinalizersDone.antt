@@ -23,15 +23,15 @@ use Rattle.cg_machine.specs.Weak.{AllLose, callback_of, loses_referent}
 use Rattle.cg_machine.specs.Dying.{finalizer_to_run}
 use Rattle.cg_machine.specs.Operands.{is_dict}
 use Rattle.cg_machine.specs.Collect.{IsGarbage, IsSetAside, IsMemberOf, Survives, all_saved, calls_back, after_release, collection_at, empties, get_older, has_flag, has_legacy, has_none_tracked, looks_at, loses_at_split, merged, merged_place, older, save_all, saved, sorted, survivor_place, takes_turn, untrack, untracked_if, waits, EndStep, FinalizingStep, PhaseStep, SplitStep, Sorts, StartStep, TurnsStep, WeakClearingStep}
-use Rattle.cg_machine.specs.Laws.{HadItsPlace, IsOfCollection}
-use Rattle.cg_machine.proofs.Starting.{begun_frame, starts_either}
-use Rattle.cg_machine.proofs.Serials.{Rises, Rises-map}
-use Rattle.cg_machine.proofs.Forgotten.{lives_within}
-use Rattle.cg_machine.proofs.Lookups.{at_member, same_object}
+use Rattle.cg_laws.specs.Laws.{HadItsPlace, IsOfCollection}
+use Rattle.cg_laws.proofs.Starting.{begun_frame, starts_either}
+use Rattle.cg_represents.proofs.Serials.{Rises, Rises-map}
+use Rattle.cg_laws.proofs.Forgotten.{lives_within}
+use Rattle.cg_laws.proofs.Lookups.{at_member, same_object}
 use Rattle.cg_laws.specs.Apart.{StandsRightly}
 use Rattle.cg_laws.proofs.SetsApart.{NoneCollects, stands_at}
-use Rattle.cg_machine.proofs.Places.{place_is}
-use Rattle.cg_machine.proofs.Pointwise.{IsOrder, Came, came, came_all_lose, came_all_saved, came_if}
+use Rattle.cg_represents.proofs.Places.{place_is}
+use Rattle.cg_laws.proofs.Pointwise.{IsOrder, Came, came, came_all_lose, came_all_saved, came_if}
 use Rattle.cg_promises.proofs.FinalizerOnce.{Follows, Marks, marks_order}
 
 -- the places of condemned objects

@@ -13,12 +13,12 @@ use Rattle.cg_machine.specs.declared.event.Event.{Event}
 use Rattle.cg_machine.specs.Program.{legacy_of}
 use Rattle.cg_machine.specs.World.{World, Activity, Dying, Death, Collecting, Collection, Start, WeakClearing}
 use Rattle.cg_machine.specs.Collect.{has_legacy, merged, members_at, IsMemberOf, StartStep}
-use Rattle.cg_machine.specs.Laws.{runs_own_frame}
-use Rattle.cg_machine.proofs.Lookups.{at_member}
-use Rattle.cg_machine.proofs.Serials.{Rises, Rises-map}
+use Rattle.cg_represents.specs.Orderly.{runs_own_frame}
+use Rattle.cg_laws.proofs.Lookups.{at_member}
+use Rattle.cg_represents.proofs.Serials.{Rises, Rises-map}
 use Rattle.cg_laws.proofs.SetsApart.{stands_at}
 use Rattle.cg_promises.specs.Reached.{IsReached}
-use Rattle.cg_machine.proofs.Places.{place_is}
+use Rattle.cg_represents.proofs.Places.{place_is}
 use Rattle.cg_promises.proofs.FullAside.{IsAsideBy, IsLegacy}
 use Rattle.cg_promises.proofs.FullDecided.{reached_decided}
 use Rattle.cg_promises.proofs.FullEarly.{Early}

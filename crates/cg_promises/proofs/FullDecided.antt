@@ -10,7 +10,7 @@ use Rattle.cg_graph.proofs.Members.{either, cases_of, or_left, or_right, true_or
 use Rattle.cg_graph.proofs.Search.{Reach-mono, reached, reached_all, reached_only}
 use Rattle.cg_machine.specs.World.{World}
 use Rattle.cg_machine.specs.Holdings.{holdings, is_dying}
-use Rattle.cg_machine.specs.Laws.{IsRooted}
+use Rattle.cg_laws.specs.Laws.{IsRooted}
 use Rattle.cg_promises.specs.Reached.{IsReached}
 
 module _ (w : World) where

@@ -16,11 +16,11 @@ use Rattle.cg_machine.specs.Weak.{loses_referent}
 use Rattle.cg_machine.specs.Dying.{finalizer_to_run}
 use Rattle.cg_machine.specs.Collect.{calls_back, collection_at, looks_at, waits, FinalizingStep, PhaseStep, WeakClearingStep}
 use Rattle.cg_machine.specs.Run.{Run, Step, StepOf, StepTaken, events_of, last_world}
-use Rattle.cg_machine.specs.Laws.{is_enter, is_stop}
-use Rattle.cg_machine.proofs.Lookups.{same_object}
-use Rattle.cg_machine.proofs.Serials.{Rises}
+use Rattle.cg_laws.specs.Laws.{is_enter, is_stop}
+use Rattle.cg_laws.proofs.Lookups.{same_object}
+use Rattle.cg_represents.proofs.Serials.{Rises}
 use Rattle.cg_laws.proofs.SetsApart.{stands_at}
-use Rattle.cg_machine.proofs.Places.{place_is}
+use Rattle.cg_represents.proofs.Places.{place_is}
 use Rattle.cg_promises.proofs.FullRuns.{enters_first, running_still}
 use Rattle.cg_promises.proofs.FullStands.{AreAlike, StandsSo, Pending, alike_same, alike_trans, stands_same, stands_wanted, test_alike, test_all, wanted_cand, wanted_seen}
 use Rattle.cg_promises.proofs.FullStop.{phase_quiet}

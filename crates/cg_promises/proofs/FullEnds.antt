@@ -14,8 +14,8 @@ use Rattle.cg_machine.specs.declared.event.Event.{Event}
 use Rattle.cg_machine.specs.Program.{legacy_of}
 use Rattle.cg_machine.specs.World.{World, Activity, Collection}
 use Rattle.cg_machine.specs.Collect.{all_saved, has_flag, is_saved, members_at, merged, older, save_all, saved, EndStep}
-use Rattle.cg_machine.proofs.Condemned.{Includes-of_count, present}
-use Rattle.cg_machine.proofs.Serials.{Rises}
+use Rattle.cg_represents.proofs.Lists.{Includes-of_count, present}
+use Rattle.cg_represents.proofs.Serials.{Rises}
 use Rattle.cg_promises.specs.Reached.{IsReached}
 use Rattle.cg_promises.proofs.FullAside.{AllWait, IsLegacy}
 use Rattle.cg_promises.proofs.FullBegins.{legacy_first, looked, looked_edge}

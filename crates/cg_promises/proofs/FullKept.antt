@@ -15,9 +15,10 @@ use Rattle.cg_machine.specs.World.{World, Activity, Dying, Death, Collecting, Co
 use Rattle.cg_machine.specs.Holdings.{collect_holds}
 use Rattle.cg_machine.specs.Collect.{is_condemned, merged, sorted, untrack, untracked_if, Sorts, StartStep}
 use Rattle.cg_machine.specs.Run.{Run, StepTaken, events_of, last_world}
-use Rattle.cg_machine.specs.Laws.{is_enter, is_stop, runs_own_frame}
-use Rattle.cg_machine.proofs.Condemned.{survivor_uncondemned}
-use Rattle.cg_machine.proofs.Serials.{Rises}
+use Rattle.cg_laws.specs.Laws.{is_enter, is_stop}
+use Rattle.cg_represents.specs.Orderly.{runs_own_frame}
+use Rattle.cg_laws.proofs.Condemned.{survivor_uncondemned}
+use Rattle.cg_represents.proofs.Serials.{Rises}
 use Rattle.cg_promises.specs.Reached.{IsReached}
 use Rattle.cg_promises.proofs.FullStart.{edge_from, in_merge, reached_survives}
 use Rattle.cg_promises.proofs.FullRuns.{IsFullAt, IsRoot, full_after, reached_lasts, root_down, root_of, root_up}

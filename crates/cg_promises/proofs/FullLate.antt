@@ -21,12 +21,12 @@ use Rattle.cg_machine.specs.Weak.{callback_of, has_weak_references, loses_refere
 use Rattle.cg_machine.specs.Dying.{after_frame, call_one, clear_one, death_at, detach_one, dying, empty_one, finalizer_to_run, has_finalizers, run_finalizer, run_legacy}
 use Rattle.cg_machine.specs.Collect.{collection_at, empties, has_flag, lines_if, older, save_all, saved, takes_turn, uncollectable, PhaseStep, TurnsStep}
 use Rattle.cg_machine.specs.Run.{Run, StepOf, StepTaken, events_of, last_world}
-use Rattle.cg_machine.specs.Laws.{is_enter, is_stop}
-use Rattle.cg_machine.proofs.Lookups.{at_member}
-use Rattle.cg_machine.proofs.Releasing.{none_holds}
-use Rattle.cg_machine.proofs.Serials.{Rises}
+use Rattle.cg_laws.specs.Laws.{is_enter, is_stop}
+use Rattle.cg_laws.proofs.Lookups.{at_member}
+use Rattle.cg_laws.proofs.Releasing.{none_holds}
+use Rattle.cg_represents.proofs.Serials.{Rises}
 use Rattle.cg_laws.specs.Apart.{handles}
-use Rattle.cg_machine.proofs.Places.{place_is}
+use Rattle.cg_represents.proofs.Places.{place_is}
 use Rattle.cg_promises.proofs.FullAside.{Abide, AllWait, Dies, IsAsideBy, IsCalm, IsLegacy, IsLight, abide_same, abide_trans, all_wait, dies_first, dies_under, dies_without, test_abide}
 use Rattle.cg_promises.proofs.FullRuns.{enters_first, running_still}
 use Rattle.cg_promises.proofs.FullStands.{RestsSo, rests_final, rests_loose, rests_same, test_all}

@@ -13,8 +13,9 @@ use Rattle.cg_machine.specs.World.{World, Activity, Collecting, Collection, Dyin
 use Rattle.cg_machine.specs.Effects.{gens_line}
 use Rattle.cg_machine.specs.Collect.{StartStep, PhaseStep, collectable, has_flag, lines_if, stats}
 use Rattle.cg_machine.specs.Run.{Run, Step, StepOf, StepTaken, IsRun, events_of, last_world, world_after}
-use Rattle.cg_machine.specs.Laws.{IsOfCollection, StartsFull, is_enter, is_stop, runs_own_frame}
-use Rattle.cg_machine.proofs.HeldLivesRuns.{worlds_orderly}
+use Rattle.cg_laws.specs.Laws.{IsOfCollection, StartsFull, is_enter, is_stop}
+use Rattle.cg_represents.specs.Orderly.{runs_own_frame}
+use Rattle.cg_laws.proofs.HeldLivesRuns.{worlds_orderly}
 use Rattle.cg_laws.specs.Apart.{StandsRightly}
 use Rattle.cg_laws.proofs.RunsApart.{runs_apart}
 use Rattle.cg_promises.specs.Reached.{IsReached, ReachedIsKept}

@@ -16,13 +16,14 @@ use Rattle.cg_machine.specs.World.{World, opening}
 use Rattle.cg_machine.specs.Holdings.{holdings, in_degree}
 use Rattle.cg_machine.specs.Operands.{is_dict}
 use Rattle.cg_machine.specs.Run.{IsRun, StepTaken, world_after}
-use Rattle.cg_machine.specs.Laws.{NoGarbageIsLeft}
-use Rattle.cg_machine.proofs.Forgotten.{lives_within}
-use Rattle.cg_machine.proofs.OriginsOfRuns.{opening_origin}
-use Rattle.cg_machine.proofs.Releasing.{entry_holder, no_times}
-use Rattle.cg_machine.proofs.Serials.{Rises}
+use Rattle.cg_laws.specs.Laws.{NoGarbageIsLeft}
+use Rattle.cg_laws.proofs.Forgotten.{lives_within}
+use Rattle.cg_laws.proofs.OriginsOfRuns.{opening_origin}
+use Rattle.cg_laws.proofs.Releasing.{entry_holder}
+use Rattle.cg_represents.proofs.Lists.{no_times}
+use Rattle.cg_represents.proofs.Serials.{Rises}
 use Rattle.cg_promises.specs.Reached.{IsReached}
-use Rattle.cg_machine.proofs.Places.{place_is}
+use Rattle.cg_represents.proofs.Places.{place_is}
 use Rattle.cg_promises.proofs.FullRuns.{rooted_by}
 use Rattle.cg_promises.proofs.HoldersMove.{IsMinded, degree_free}
 use Rattle.cg_promises.proofs.HoldersMoveRuns.{minded_after, opening_minded}

@@ -12,16 +12,16 @@ use Rattle.cg_graph.proofs.Members.{either, cases_of, Includes-map}
 use Rattle.cg_machine.specs.World.{World, Activity, TopLevel, Framed, Releasing, Dying, Collecting, Collection, Split, Turns, Ending, opening, with_stack, ShuttingDown}
 use Rattle.cg_machine.specs.Collect.{has_flag, is_condemned, save_all, EndStep, PhaseStep, SplitStep}
 use Rattle.cg_machine.specs.Run.{IsRun, Run, Step, StepOf, StepTaken, events_of, last_world, world_after}
-use Rattle.cg_machine.specs.Laws.{FullCollectionLeavesNone, NoGarbageIsLeft, Splits, StartsFull, final_set, is_enter, is_stop}
-use Rattle.cg_machine.proofs.Ending.{Run-append, last_world-append}
-use Rattle.cg_machine.proofs.Fronts.{events_of-append}
-use Rattle.cg_machine.proofs.Lookups.{same_object}
-use Rattle.cg_machine.proofs.OriginsOfRuns.{opening_origin}
+use Rattle.cg_laws.specs.Laws.{FullCollectionLeavesNone, NoGarbageIsLeft, Splits, StartsFull, final_set, is_enter, is_stop}
+use Rattle.cg_laws.proofs.Ending.{Run-append, last_world-append}
+use Rattle.cg_laws.proofs.Fronts.{events_of-append}
+use Rattle.cg_laws.proofs.Lookups.{same_object}
+use Rattle.cg_laws.proofs.OriginsOfRuns.{opening_origin}
 use Rattle.cg_laws.specs.Apart.{IsApart, IsInLatePhase, StandsRightly}
 use Rattle.cg_laws.proofs.RunsApart.{runs_apart}
 use Rattle.cg_laws.proofs.SetsApart.{stands_at}
 use Rattle.cg_promises.specs.Reached.{IsReached}
-use Rattle.cg_machine.proofs.Places.{place_is}
+use Rattle.cg_represents.proofs.Places.{place_is}
 use Rattle.cg_promises.proofs.FinalSetFreed.{none_lives}
 use Rattle.cg_promises.proofs.FullAside.{AllWait, IsLight}
 use Rattle.cg_promises.proofs.FullBegins.{aside_by, begins_early}

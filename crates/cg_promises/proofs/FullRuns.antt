@@ -16,9 +16,8 @@ use Rattle.cg_machine.specs.declared.event.Event.{Event}
 use Rattle.cg_machine.specs.World.{World, Activity, Collecting, Collection, Running, with_stack}
 use Rattle.cg_machine.specs.Holdings.{collect_holds, holdings, holds, is_death_of}
 use Rattle.cg_machine.specs.Run.{Run, Step, StepOf, StepTaken, events_of, last_world}
-use Rattle.cg_machine.specs.Laws.{IsRooted, is_enter, is_stop}
-use Rattle.cg_machine.proofs.Condemned.{present}
-use Rattle.cg_machine.proofs.Releasing.{no_times}
+use Rattle.cg_laws.specs.Laws.{IsRooted, is_enter, is_stop}
+use Rattle.cg_represents.proofs.Lists.{present, no_times}
 use Rattle.cg_promises.specs.Reached.{IsReached}
 use Rattle.cg_promises.proofs.FullStart.{edge_from}
 use Rattle.cg_promises.proofs.Kept.{Full, IsKeptBy, death_in, held_in}

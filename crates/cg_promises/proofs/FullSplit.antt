@@ -16,13 +16,13 @@ use Rattle.cg_machine.specs.World.{World, Activity, Collecting, Collection, Spli
 use Rattle.cg_machine.specs.Holdings.{collect_holds, holdings, holds}
 use Rattle.cg_machine.specs.Weak.{AllLose, loses_referent}
 use Rattle.cg_machine.specs.Collect.{get_older, is_condemned, loses_at_split, merged, members_at, older, IsGarbage, IsMemberOf, IsSetAside, SplitStep, Survives}
-use Rattle.cg_machine.proofs.Lookups.{same_object}
-use Rattle.cg_machine.proofs.Releasing.{no_times}
-use Rattle.cg_machine.proofs.Serials.{Rises}
+use Rattle.cg_laws.proofs.Lookups.{same_object}
+use Rattle.cg_represents.proofs.Lists.{no_times}
+use Rattle.cg_represents.proofs.Serials.{Rises}
 use Rattle.cg_laws.specs.Apart.{IsInLatePhase}
 use Rattle.cg_laws.proofs.SetsApart.{stands_at}
 use Rattle.cg_promises.specs.Reached.{IsReached}
-use Rattle.cg_machine.proofs.Places.{place_is}
+use Rattle.cg_represents.proofs.Places.{place_is}
 use Rattle.cg_promises.proofs.FullEarly.{Early}
 use Rattle.cg_promises.proofs.FullRuns.{IsRoot, parts, root_down, root_up, rooted_by}
 use Rattle.cg_promises.proofs.FullStands.{Alike, AreAlike, RestsSo, Rests, RestsReached, RestsLoose, RestsAside, IsFinal, Stands, StandsSo, Reached, Loose, Pending, Condemned, SetAside, alike_same, alike_trans, stands_same, test_alike, test_all}

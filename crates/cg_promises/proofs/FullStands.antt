@@ -9,7 +9,7 @@ use Rattle.cg_graph.specs.Object.{Object}
 use Rattle.cg_graph.proofs.Members.{Includes-map_cases}
 use Rattle.cg_machine.specs.Program.{legacy_of}
 use Rattle.cg_promises.proofs.FinalizersDone.{IsWanted}
-use Rattle.cg_machine.proofs.Pointwise.{IsOrder, Came, Lasts, came, came_if, came_map, lasts, lasts_if, lasts_map}
+use Rattle.cg_laws.proofs.Pointwise.{IsOrder, Came, Lasts, came, came_if, came_map, lasts, lasts_if, lasts_map}
 
 -- Before the second reachability pass. `kept` is what was reachable at the start, `aside` what was uncollectable
 -- then.

@@ -16,12 +16,12 @@ use Rattle.cg_graph.proofs.Members.{either, cases_of, Includes-append_cases, Inc
 use Rattle.cg_machine.specs.World.{World, Dying, Death, DyingPhase, Finalizer, AfterFinalizer, Clearing, Calling, AfterCall, LegacyFinalizer, AfterLegacy, Detaching, Emptying}
 use Rattle.cg_machine.specs.Holdings.{dying_holds, holdings, holds, is_dying}
 use Rattle.cg_machine.specs.Collect.{merged, merged_place, IsGarbage, IsMemberOf, Survives}
-use Rattle.cg_machine.specs.Laws.{runs_own_frame, IsOfCollection}
-use Rattle.cg_machine.proofs.Condemned.{present}
-use Rattle.cg_machine.proofs.Lookups.{same_object}
-use Rattle.cg_machine.proofs.Releasing.{no_times}
-use Rattle.cg_machine.proofs.Serials.{Rises}
-use Rattle.cg_machine.proofs.Unheld.{held_by_member}
+use Rattle.cg_represents.specs.Orderly.{runs_own_frame}
+use Rattle.cg_laws.specs.Laws.{IsOfCollection}
+use Rattle.cg_represents.proofs.Lists.{present, no_times}
+use Rattle.cg_laws.proofs.Lookups.{same_object}
+use Rattle.cg_represents.proofs.Serials.{Rises}
+use Rattle.cg_laws.proofs.Unheld.{held_by_member}
 use Rattle.cg_promises.specs.Reached.{IsReached}
 use Rattle.cg_promises.proofs.FinalSetFreed.{death_on}
 use Rattle.cg_promises.proofs.FinalSetStart.{edge, edge_of, less_held, more_held}

@@ -14,10 +14,10 @@ use Rattle.cg_machine.specs.World.{World, Activity, TopLevel, Framed, Releasing,
 use Rattle.cg_machine.specs.Holdings.{collect_holds}
 use Rattle.cg_machine.specs.Collect.{all_saved, older, saved, EndStep, PhaseStep}
 use Rattle.cg_machine.specs.Run.{StepOf}
-use Rattle.cg_machine.specs.Laws.{is_stop}
-use Rattle.cg_machine.proofs.Advances.{Advance, Plainly, WithFrame, IsEnding, IsLineOf, AreLinesOf, Shows, Frees}
-use Rattle.cg_machine.proofs.Starting.{starts_either}
-use Rattle.cg_machine.proofs.Advancing.{released_advances, dying_advances, phase_advances}
+use Rattle.cg_laws.specs.Laws.{is_stop}
+use Rattle.cg_laws.proofs.Advances.{Advance, Plainly, WithFrame, IsEnding, IsLineOf, AreLinesOf, Shows, Frees}
+use Rattle.cg_laws.proofs.Starting.{starts_either}
+use Rattle.cg_laws.proofs.Advancing.{released_advances, dying_advances, phase_advances}
 use Rattle.cg_promises.proofs.FullRuns.{IsRoot, reached_lasts, root_down}
 use Rattle.cg_promises.specs.Reached.{IsReached}
 use Rattle.cg_promises.proofs.Kept.{IsBare, appended}

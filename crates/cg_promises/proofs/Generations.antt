@@ -14,9 +14,9 @@ use Rattle.cg_machine.specs.declared.event.Event.{Event}
 use Rattle.cg_machine.specs.declared.event.FrameSpec.{FrameSpec}
 use Rattle.cg_machine.specs.World.{World, Activity, Releasing, Dying, Collecting, Collection, Finalizer}
 use Rattle.cg_machine.specs.Frame.{start_frame}
-use Rattle.cg_machine.proofs.Advances.{Advance, Plainly, WithFrame, HasChanged, NothingChanges, ChangesEach, LosesEntries, GetsEntry, LosesObject, Followed, IsPlaceIn, IsMoved, StaysThere, IsUntracked, IsRevived, IsPlaced, asides, Continues, DeathGoesOn, DeathClears, CollectionGoesOn, Tops, TopEnds, GivesFunction, GivesReference, BeginsDeath, TopGoesOn, GivesReferences}
-use Rattle.cg_machine.proofs.Starting.{begun_frame, starts_either}
-use Rattle.cg_machine.proofs.Invariants.{on}
+use Rattle.cg_laws.proofs.Advances.{Advance, Plainly, WithFrame, HasChanged, NothingChanges, ChangesEach, LosesEntries, GetsEntry, LosesObject, Followed, IsPlaceIn, IsMoved, StaysThere, IsUntracked, IsRevived, IsPlaced, asides, Continues, DeathGoesOn, DeathClears, CollectionGoesOn, Tops, TopEnds, GivesFunction, GivesReference, BeginsDeath, TopGoesOn, GivesReferences}
+use Rattle.cg_laws.proofs.Starting.{begun_frame, starts_either}
+use Rattle.cg_laws.proofs.Invariants.{on}
 
 abbrev pub IsYoung : Place → Type 0
 IsYoung (Gen i) = i ≤ 2

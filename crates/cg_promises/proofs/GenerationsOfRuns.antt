@@ -20,10 +20,10 @@ use Rattle.cg_machine.specs.Operands.{is_dict}
 use Rattle.cg_machine.specs.Commands.{new_collection}
 use Rattle.cg_machine.specs.Due.{due, due_generation, is_due}
 use Rattle.cg_machine.specs.Run.{Run, StepTaken, last_world}
-use Rattle.cg_machine.proofs.Invariants.{CommandSteps, FromFrame, FromTop, HasCommands, Steps, Takes, any_step, emptied, on, del_shaped}
-use Rattle.cg_machine.proofs.ShapeLaws.{changes_leave}
-use Rattle.cg_machine.proofs.Shapes.{Shape, Binds, Makes, Edits, Puts, Shows, Tells, Stays, Sets, Freezes, Unfreezes, StartsFrame, StartsCollection, Ends, Inspects, AsksWhy}
-use Rattle.cg_machine.proofs.Advancing.{frame_end_advances, released_advances, dying_advances, phase_advances}
+use Rattle.cg_laws.proofs.Invariants.{CommandSteps, FromFrame, FromTop, HasCommands, Steps, Takes, any_step, emptied, on, del_shaped}
+use Rattle.cg_laws.proofs.ShapeLaws.{changes_leave}
+use Rattle.cg_represents.proofs.Shapes.{Shape, Binds, Makes, Edits, Puts, Shows, Tells, Stays, Sets, Freezes, Unfreezes, StartsFrame, StartsCollection, Ends, Inspects, AsksWhy}
+use Rattle.cg_laws.proofs.Advancing.{frame_end_advances, released_advances, dying_advances, phase_advances}
 use Rattle.cg_promises.proofs.Generations.{AreYoung, IsYoung, IsYoungWorld, Young, entries_young, map_young, push_young, advance_young, starts_young, test_young, turn_young}
 use Rattle.cg_script.specs.declared.Command.TheVariants.{Del}
 

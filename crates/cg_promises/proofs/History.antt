@@ -14,21 +14,21 @@ use Rattle.cg_machine.specs.Frame.{frame_end, gives_up_function}
 use Rattle.cg_machine.specs.declared.event.FrameSort.{FrameSort}
 use Rattle.cg_machine.specs.declared.event.FrameSort.TheVariants.{Del, Legacy, Callback, Call}
 use Rattle.cg_machine.specs.Collect.{PhaseStep}
-use Rattle.cg_machine.specs.Represents.{death_waits}
+use Rattle.cg_represents.specs.Orderly.{death_waits, all_waits}
 use Rattle.cg_machine.specs.Run.{CommandInFrame, FrameStep, Run, Step, StepOf, StepTaken, TopLevelStep, last_world}
-use Rattle.cg_machine.specs.Laws.{EntriesLeaveOnlyBy, IsLengthened, IsOfCollection, MayLoseEntries, ReferredTo, WasFinal, all_waits}
-use Rattle.cg_machine.proofs.Ending.{Run-append, last_world-append}
-use Rattle.cg_machine.proofs.Invariants.{on}
-use Rattle.cg_machine.proofs.Forgotten.{lives_within}
-use Rattle.cg_machine.proofs.LeftBelowRuns.{LeavesUnder, leaves_below, step_leaves}
-use Rattle.cg_machine.proofs.Lookups.{same_object}
-use Rattle.cg_machine.proofs.Sound.{collections_in}
-use Rattle.cg_machine.proofs.Sums.{tally}
-use Rattle.cg_machine.proofs.Unheld.{IsStack}
+use Rattle.cg_laws.specs.Laws.{EntriesLeaveOnlyBy, IsLengthened, IsOfCollection, MayLoseEntries, ReferredTo, WasFinal}
+use Rattle.cg_laws.proofs.Ending.{Run-append, last_world-append}
+use Rattle.cg_laws.proofs.Invariants.{on}
+use Rattle.cg_laws.proofs.Forgotten.{lives_within}
+use Rattle.cg_laws.proofs.LeftBelowRuns.{LeavesUnder, leaves_below, step_leaves}
+use Rattle.cg_laws.proofs.Lookups.{same_object}
+use Rattle.cg_laws.proofs.Sound.{collections_in}
+use Rattle.cg_laws.proofs.Sums.{tally}
+use Rattle.cg_laws.proofs.Unheld.{IsStack}
 use Rattle.cg_laws.specs.Apart.{IsApart}
 use Rattle.cg_laws.proofs.RunsApart.{runs_apart}
 use Rattle.cg_laws.proofs.StepsPlain.{IsPlainUnder, step_plain}
-use Rattle.cg_machine.proofs.Advancing.{phase_advances}
+use Rattle.cg_laws.proofs.Advancing.{phase_advances}
 use Rattle.cg_promises.proofs.EntriesTaken.{CallsBack, dying_takes, phase_takes, released_lengthens}
 use Rattle.cg_promises.proofs.FinalSetKept.{alone_below}
 use Rattle.cg_promises.proofs.FinalizerOnceRuns.{Fit, opening_fit, run_back, run_front, run_fit, step_fit}

@@ -15,11 +15,12 @@ use Rattle.cg_machine.specs.declared.event.FrameSpec.{FrameSpec}
 use Rattle.cg_machine.specs.Frame.{start_frame}
 use Rattle.cg_machine.specs.World.{World, Activity, Releasing}
 use Rattle.cg_machine.specs.Holdings.{holdings, holds, in_degree, is_death_of}
-use Rattle.cg_machine.proofs.Starting.{begun_frame, starts_either}
-use Rattle.cg_machine.proofs.Releasing.{entry_holder, no_times, none_holds}
+use Rattle.cg_laws.proofs.Starting.{begun_frame, starts_either}
+use Rattle.cg_laws.proofs.Releasing.{entry_holder, none_holds}
+use Rattle.cg_represents.proofs.Lists.{no_times}
 use Rattle.cg_script.specs.declared.Script.{Script}
 use Rattle.cg_machine.specs.Weak.{loses_referent}
-use Rattle.cg_machine.proofs.Moves.{AtMostOne}
+use Rattle.cg_represents.proofs.Moves.{AtMostOne}
 use Rattle.cg_promises.proofs.FinalizerOnce.{Marks, Old, old_lives, old_trans, if_old, same_old}
 
 -- nothing holds an object

@@ -14,11 +14,11 @@ use Rattle.cg_machine.specs.declared.event.Event.{Event}
 use Rattle.cg_machine.specs.World.{World, Activity, Releasing, Collecting, Collection, CollectPhase, Turn, AfterTurn}
 use Rattle.cg_machine.specs.Holdings.{collect_holds, is_death_of}
 use Rattle.cg_machine.specs.Collect.{collection_at, empties, saved, PhaseStep}
-use Rattle.cg_machine.proofs.Serials.{Rises}
-use Rattle.cg_machine.proofs.Moves.{AtMostOne, appended_goes}
-use Rattle.cg_machine.proofs.Advances.{Advance, Plainly, WithFrame, HasChanged, NothingChanges, ChangesEach, LosesEntries, GetsEntry, LosesObject, Followed, KeepsEntries, Owns, OfEmptied, OfCalled, OfTurn, asides, asides_last, changed_origin, Continues, DeathGoesOn, DeathClears, CollectionGoesOn, HoldsNone, HoldsOn, Tops, TopEnds, GivesFunction, GivesReference, BeginsDeath, TopGoesOn, GivesReferences}
-use Rattle.cg_machine.proofs.Advancing.{phase_advances}
-use Rattle.cg_machine.proofs.Invariants.{on}
+use Rattle.cg_represents.proofs.Serials.{Rises}
+use Rattle.cg_represents.proofs.Moves.{AtMostOne, appended_goes}
+use Rattle.cg_laws.proofs.Advances.{Advance, Plainly, WithFrame, HasChanged, NothingChanges, ChangesEach, LosesEntries, GetsEntry, LosesObject, Followed, KeepsEntries, Owns, OfEmptied, OfCalled, OfTurn, asides, asides_last, changed_origin, Continues, DeathGoesOn, DeathClears, CollectionGoesOn, HoldsNone, HoldsOn, Tops, TopEnds, GivesFunction, GivesReference, BeginsDeath, TopGoesOn, GivesReferences}
+use Rattle.cg_laws.proofs.Advancing.{phase_advances}
+use Rattle.cg_laws.proofs.Invariants.{on}
 use Rattle.cg_promises.proofs.FinalizerOnce.{Marks}
 use Rattle.cg_promises.proofs.HoldersMove.{IsMinded, Keeps, Minded, end_minded, give_minded, keeps_same, keeps_trans, starts_minded, test_keeps, turn_minded}
 use Rattle.cg_promises.proofs.LastEntryMoves.{shortened_keeps}

@@ -19,10 +19,10 @@ use Rattle.cg_graph.proofs.Members.{either, Includes-append_left, Includes-appen
 use Rattle.cg_machine.specs.World.{World, Numbers, with_change}
 use Rattle.cg_machine.specs.Operands.{is_dict}
 use Rattle.cg_machine.specs.Effects.{Calls, Changes, Collects, Effect, Quits, bound, frozen, given_up_by, may_track, replaced, tracked_by, unfrozen, with_new, Explains}
-use Rattle.cg_machine.proofs.Lookups.{same_object}
-use Rattle.cg_machine.proofs.Serials.{Rises}
-use Rattle.cg_machine.proofs.Moves.{AtMostOne, Goes, put_goes}
-use Rattle.cg_machine.proofs.Shapes.{IsAtHand, IsMutable, Shape, Binds, Makes, Edits, Puts, Shows, Tells, Stays, Sets, Freezes, Unfreezes, StartsFrame, StartsCollection, Ends, Inspects, AsksWhy}
+use Rattle.cg_laws.proofs.Lookups.{same_object}
+use Rattle.cg_represents.proofs.Serials.{Rises}
+use Rattle.cg_represents.proofs.Moves.{AtMostOne, Goes, put_goes}
+use Rattle.cg_represents.proofs.Shapes.{IsAtHand, IsMutable, Shape, Binds, Makes, Edits, Puts, Shows, Tells, Stays, Sets, Freezes, Unfreezes, StartsFrame, StartsCollection, Ends, Inspects, AsksWhy}
 use Rattle.cg_promises.proofs.FinalizerOnce.{Marks, map_old, old_lives}
 use Rattle.cg_promises.proofs.HoldersMove.{AreSingle, IsSingle, Keeps, keeps_same, test_keeps}
 

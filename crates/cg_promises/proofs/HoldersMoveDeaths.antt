@@ -21,8 +21,8 @@ use Rattle.cg_machine.specs.Holdings.{dying_holds, holds, in_degree, is_death_of
 use Rattle.cg_machine.specs.Frame.{Transition, frame_end, gives_up_function, begin_death, released, procedure_of}
 use Rattle.cg_machine.specs.Weak.{has_weak_references, weak_references_if, loses_referent, callback_of}
 use Rattle.cg_machine.specs.Dying.{death_at, has_finalizers, finalizer_to_run, run_finalizer, run_legacy, after_frame, clear_one, call_one, detach_one, empty_one, dying}
-use Rattle.cg_machine.proofs.Serials.{Rises}
-use Rattle.cg_machine.proofs.LinesNameLive.{without_gone}
+use Rattle.cg_represents.proofs.Serials.{Rises}
+use Rattle.cg_laws.proofs.LinesNameLive.{without_gone}
 use Rattle.cg_promises.proofs.FinalizerOnce.{old_lives, origin_lives, without_old}
 use Rattle.cg_promises.proofs.HoldersMove.{IsFree, IsMinded, Keeps, Minded, Minds, change_keeps, end_minded, free_degree, give_minded, keeps_same, lost_keeps, placed, starts_minded, stack_minded, turn_minded}
 use Rattle.cg_promises.proofs.LastEntryMoves.{called_keeps, entries_of_member, last_none, shortened_keeps}

@@ -16,22 +16,23 @@ use Rattle.cg_machine.specs.Holdings.{holds}
 use Rattle.cg_machine.specs.Frame.{procedure_of}
 use Rattle.cg_machine.specs.Effects.{Changes, bound, given_up_by}
 use Rattle.cg_machine.specs.Commands.{new_collection}
-use Rattle.cg_machine.specs.Origins.{commands_on}
+use Rattle.cg_laws.specs.Origins.{commands_on}
 use Rattle.cg_machine.specs.Run.{Run, StepTaken, last_world}
-use Rattle.cg_machine.specs.Laws.{UnheldIsDying, all_waits}
-use Rattle.cg_machine.proofs.UnheldCommands.{hand_known}
-use Rattle.cg_machine.proofs.CommandRefs.{option_free}
-use Rattle.cg_machine.proofs.HeldLivesDeaths.{HasOrder}
-use Rattle.cg_machine.proofs.Forgotten.{lives_within}
-use Rattle.cg_machine.proofs.Invariants.{CommandSteps, FromFrame, FromTop, HasCommands, Steps, Takes, any_step, emptied, on}
-use Rattle.cg_machine.proofs.Origins.{IsAllOfScript}
-use Rattle.cg_machine.proofs.OriginsOfRuns.{opening_origin, step_origin}
-use Rattle.cg_machine.proofs.PrintableTexts.{commands_name_texts}
-use Rattle.cg_machine.proofs.UnheldRuns.{taken_calm}
-use Rattle.cg_machine.proofs.HeldLivesRuns.{gone_forgotten, taken_orderly}
-use Rattle.cg_machine.proofs.Serials.{Rises}
-use Rattle.cg_machine.proofs.ShapeLaws.{changes_leave}
-use Rattle.cg_machine.proofs.Unheld.{Calm}
+use Rattle.cg_laws.specs.Laws.{UnheldIsDying}
+use Rattle.cg_represents.specs.Orderly.{all_waits}
+use Rattle.cg_laws.proofs.UnheldCommands.{hand_known}
+use Rattle.cg_laws.proofs.CommandRefs.{option_free}
+use Rattle.cg_laws.proofs.HeldLivesDeaths.{HasOrder}
+use Rattle.cg_laws.proofs.Forgotten.{lives_within}
+use Rattle.cg_laws.proofs.Invariants.{CommandSteps, FromFrame, FromTop, HasCommands, Steps, Takes, any_step, emptied, on}
+use Rattle.cg_laws.proofs.Origins.{IsAllOfScript}
+use Rattle.cg_laws.proofs.OriginsOfRuns.{opening_origin, step_origin}
+use Rattle.cg_laws.proofs.PrintableTexts.{commands_name_texts}
+use Rattle.cg_laws.proofs.UnheldRuns.{taken_calm}
+use Rattle.cg_laws.proofs.HeldLivesRuns.{gone_forgotten, taken_orderly}
+use Rattle.cg_represents.proofs.Serials.{Rises}
+use Rattle.cg_laws.proofs.ShapeLaws.{changes_leave}
+use Rattle.cg_laws.proofs.Unheld.{Calm}
 use Rattle.cg_promises.proofs.HoldersMove.{IsMinded, IsSingle, Minded, degree_free, keeps_same, push_minded, starts_minded, turn_minded}
 use Rattle.cg_promises.proofs.HoldersMoveDeaths.{dying_minded, frame_end_minded, released_minded}
 use Rattle.cg_promises.proofs.HoldersMoveCollections.{phase_minded}

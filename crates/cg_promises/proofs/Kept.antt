@@ -17,7 +17,7 @@ use Rattle.cg_machine.specs.World.{World, Activity, TopLevel, Framed, Releasing,
 use Rattle.cg_machine.specs.Holdings.{holds, in_degree, is_death_of, is_dying}
 use Rattle.cg_machine.specs.Weak.{AllLose, loses_referent}
 use Rattle.cg_machine.specs.Collect.{all_saved, is_condemned, saved}
-use Rattle.cg_machine.proofs.Releasing.{none_holds}
+use Rattle.cg_laws.proofs.Releasing.{none_holds}
 
 -- an object later: not condemned, with its references
 pub record Fares (x y : Object) : Type 0 where

@@ -22,10 +22,10 @@ use Rattle.cg_machine.specs.Weak.{callback_of, has_weak_references, loses_refere
 use Rattle.cg_machine.specs.Dying.{after_frame, call_one, clear_one, death_at, detach_one, dying, empty_one, finalizer_to_run, has_finalizers, run_finalizer, run_legacy}
 use Rattle.cg_machine.specs.Collect.{after_release, calls_back, collection_at, empties, get_older, has_flag, is_condemned, lines_if, looks_at, loses_at_split, older, save_all, saved, takes_turn, uncollectable, waits, FinalizingStep, PhaseStep, SplitStep, TurnsStep, WeakClearingStep}
 use Rattle.cg_machine.specs.Run.{StepOf}
-use Rattle.cg_machine.specs.Laws.{is_enter, is_stop}
-use Rattle.cg_machine.proofs.Starting.{starts_either}
-use Rattle.cg_machine.proofs.Lookups.{same_object}
-use Rattle.cg_machine.proofs.Serials.{Rises}
+use Rattle.cg_laws.specs.Laws.{is_enter, is_stop}
+use Rattle.cg_laws.proofs.Starting.{starts_either}
+use Rattle.cg_laws.proofs.Lookups.{same_object}
+use Rattle.cg_represents.proofs.Serials.{Rises}
 use Rattle.cg_promises.proofs.Kept.{Fares, Full, IsBare, IsKeptBy, Leaves, all_lose_leaves, entries_leave, leaves_same, leaves_trans, lives_on, lost_leaves, never_released, placed_leaves, saved_leaves, test_leaves, turns_of, without_leaves}
 use Rattle.cg_promises.proofs.FinalSetRuns.{stops}
 use Rattle.cg_promises.proofs.UntrackedStayStart.{not_false}

@@ -10,9 +10,9 @@ use Rattle.cg_value.specs.declared.KindCode.TheVariants.{Weak}
 use Rattle.cg_graph.specs.Object.{Object, change, entries_of, object_at, with_entries}
 use Rattle.cg_machine.specs.Weak.{callback_in, callback_of}
 use Rattle.cg_graph.proofs.Members.{either, Includes-append_cases}
-use Rattle.cg_machine.proofs.Serials.{Rises}
-use Rattle.cg_machine.proofs.Lookups.{at_member, callback_at, references_take}
-use Rattle.cg_machine.proofs.Moves.{AtMostOne, Goes, past, goes_first}
+use Rattle.cg_represents.proofs.Serials.{Rises}
+use Rattle.cg_laws.proofs.Lookups.{at_member, callback_at, references_take}
+use Rattle.cg_represents.proofs.Moves.{AtMostOne, Goes, past, goes_first}
 use Rattle.cg_promises.proofs.HoldersMove.{AreSingle, Keeps, test_keeps}
 
 cut_goes : (entries : List Entry) (i : ℕ) (old : Entry) (n : ℕ) → slice_get entries i ≡ Some old → length entries ≡ suc i → Goes entries (take i entries) (entry_references old) n

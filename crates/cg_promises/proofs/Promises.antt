@@ -13,10 +13,10 @@ use Rattle.cg_machine.specs.declared.event.FrameSort.TheVariants.{Del, Legacy, C
 use Rattle.cg_machine.specs.World.{World, opening}
 use Rattle.cg_machine.specs.Holdings.{holdings}
 use Rattle.cg_machine.specs.Run.{Run, StepTaken, events_of, last_world}
-use Rattle.cg_machine.specs.Laws.{IsGone, NoDeadNames, OneFinalizerEach, is_finalizer_of, named}
-use Rattle.cg_machine.proofs.Forgotten.{lives_within}
-use Rattle.cg_machine.proofs.Releasing.{no_times}
-use Rattle.cg_machine.proofs.HeldLivesRuns.{held_live}
+use Rattle.cg_laws.specs.Laws.{IsGone, NoDeadNames, OneFinalizerEach, is_finalizer_of, named}
+use Rattle.cg_laws.proofs.Forgotten.{lives_within}
+use Rattle.cg_represents.proofs.Lists.{no_times}
+use Rattle.cg_laws.proofs.HeldLivesRuns.{held_live}
 use Rattle.cg_promises.specs.Lines.{NoDeadLines}
 use Rattle.cg_promises.proofs.FinalizerOnce.{Begins, Goes, IsPlain, Says}
 use Rattle.cg_promises.proofs.FinalizerOnceRuns.{Fit, opening_fit, run_back, run_front, run_fit, step_fit, step_goes}

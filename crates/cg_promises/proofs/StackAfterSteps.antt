@@ -15,9 +15,9 @@ use Rattle.cg_machine.specs.World.{World, Activity, Releasing, Collecting, Colle
 use Rattle.cg_machine.specs.Frame.{Transition}
 use Rattle.cg_machine.specs.Collect.{collection_at, empties, has_flag, older, save_all, saved, takes_turn, PhaseStep, TurnsStep}
 use Rattle.cg_laws.proofs.SetsApart.{NoneCollects}
-use Rattle.cg_machine.proofs.Advances.{Advance, Plainly, WithFrame, Continues, DeathGoesOn, DeathClears, CollectionGoesOn, IsEarly, Tops, TopEnds, GivesFunction, GivesReference, BeginsDeath, TopGoesOn, GivesReferences}
-use Rattle.cg_machine.proofs.Starting.{begun_frame, starts_either}
-use Rattle.cg_machine.proofs.Places.{place_is}
+use Rattle.cg_laws.proofs.Advances.{Advance, Plainly, WithFrame, Continues, DeathGoesOn, DeathClears, CollectionGoesOn, IsEarly, Tops, TopEnds, GivesFunction, GivesReference, BeginsDeath, TopGoesOn, GivesReferences}
+use Rattle.cg_laws.proofs.Starting.{begun_frame, starts_either}
+use Rattle.cg_represents.proofs.Places.{place_is}
 
 -- a collection in an early phase goes on to one
 module _ (script : Script) (v : World) (c : Collection) (below : List Activity) (alone : NoneCollects below) where

@@ -14,10 +14,10 @@ use Rattle.cg_machine.specs.Frame.{start_frame}
 use Rattle.cg_machine.specs.Operands.{is_dict}
 use Rattle.cg_machine.specs.Weak.{loses_referent}
 use Rattle.cg_machine.specs.World.{World, Activity, Dying, Death, Collecting, Collection}
-use Rattle.cg_machine.specs.Laws.{runs_own_frame}
+use Rattle.cg_represents.specs.Orderly.{runs_own_frame}
 use Rattle.cg_laws.specs.Apart.{handles}
-use Rattle.cg_machine.proofs.Pointwise.{IsOrder, Came, came, came_if, came_map}
-use Rattle.cg_machine.proofs.Starting.{begun_frame, starts_either}
+use Rattle.cg_laws.proofs.Pointwise.{IsOrder, Came, came, came_if, came_map}
+use Rattle.cg_laws.proofs.Starting.{begun_frame, starts_either}
 
 -- each object of a serial is an untracked tuple
 abbrev pub IsLoose : List Object → ℕ → Type 0

@@ -22,19 +22,19 @@ use Rattle.cg_machine.specs.Frame.{Transition, procedure_of}
 use Rattle.cg_machine.specs.Weak.{AllLose, callback_of, loses_referent}
 use Rattle.cg_machine.specs.Dying.{finalizer_to_run}
 use Rattle.cg_machine.specs.Collect.{all_saved, calls_back, after_release, collection_at, empties, get_older, has_flag, is_condemned, is_condemned_in, loses_in_weak_phase, looks_at, loses_at_split, merged, merged_place, older, save_all, saved, sorted, takes_turn, waits, EndStep, FinalizingStep, PhaseStep, SplitStep, StartStep, Survives, TurnsStep, WeakClearingStep}
-use Rattle.cg_machine.proofs.Starting.{either_way}
-use Rattle.cg_machine.proofs.Serials.{Rises, Rises-map}
-use Rattle.cg_machine.proofs.Lookups.{same_object}
-use Rattle.cg_machine.proofs.Forgotten.{lives_within}
-use Rattle.cg_machine.proofs.HeldLivesDeaths.{HasOrder}
+use Rattle.cg_laws.proofs.Starting.{either_way}
+use Rattle.cg_represents.proofs.Serials.{Rises, Rises-map}
+use Rattle.cg_laws.proofs.Lookups.{same_object}
+use Rattle.cg_laws.proofs.Forgotten.{lives_within}
+use Rattle.cg_laws.proofs.HeldLivesDeaths.{HasOrder}
 use Rattle.cg_laws.specs.Apart.{handles}
 use Rattle.cg_laws.proofs.SetsApart.{is_tracked_at}
 use Rattle.cg_promises.proofs.UntrackedStay.{AreNoTuples, Fine, Goes, IsNoTuple, IsSlackWorld, Never, Slack, Still, excused_on, goes, lost_still, moves_slack, placed_goes, push_slack, starts_slack, still_same, still_trans, test_still, turn_slack}
-use Rattle.cg_machine.proofs.Pointwise.{all_saved_by, came, came_all_lose}
+use Rattle.cg_laws.proofs.Pointwise.{all_saved_by, came, came_all_lose}
 use Rattle.cg_promises.proofs.UntrackedStayDeaths.{shortened_still}
 use Rattle.cg_promises.proofs.UntrackedStayStart.{Anew, merge_still, sort_still}
 use Rattle.cg_machine.specs.Program.{profile_of}
-use Rattle.cg_machine.proofs.Clearing.{refers_early}
+use Rattle.cg_laws.proofs.Clearing.{refers_early}
 
 false_true : true ≡ false → ⊥
 false_true e = cc

@@ -16,12 +16,12 @@ use Rattle.cg_graph.proofs.Members.{either, cases_of, Includes-append_left, Incl
 use Rattle.cg_machine.specs.World.{World}
 use Rattle.cg_machine.specs.Operands.{is_dict, object_of}
 use Rattle.cg_machine.specs.Effects.{Calls, Changes, Collects, Effect, Quits, frozen, may_track, replaced, tracked_by, unfrozen, with_new, Explains}
-use Rattle.cg_machine.proofs.CommandRefs.{option_held, put_free}
-use Rattle.cg_machine.proofs.Forgotten.{lives_within}
-use Rattle.cg_machine.proofs.Lookups.{at_member, references_of_member, same_object}
-use Rattle.cg_machine.proofs.Serials.{Rises}
-use Rattle.cg_machine.proofs.Shapes.{IsMutable, Shape, Binds, Makes, Edits, Puts, Shows, Tells, Stays, Sets, Freezes, Unfreezes, StartsFrame, StartsCollection, Ends, Inspects, AsksWhy}
-use Rattle.cg_machine.proofs.Places.{place_is}
+use Rattle.cg_laws.proofs.CommandRefs.{option_held, put_free}
+use Rattle.cg_laws.proofs.Forgotten.{lives_within}
+use Rattle.cg_laws.proofs.Lookups.{at_member, references_of_member, same_object}
+use Rattle.cg_represents.proofs.Serials.{Rises}
+use Rattle.cg_represents.proofs.Shapes.{IsMutable, Shape, Binds, Makes, Edits, Puts, Shows, Tells, Stays, Sets, Freezes, Unfreezes, StartsFrame, StartsCollection, Ends, Inspects, AsksWhy}
+use Rattle.cg_represents.proofs.Places.{place_is}
 use Rattle.cg_promises.proofs.UntrackedStay.{Excused, Fine, Goes, IsLoose, IsSlackOne, IsSlackWorld, Slack, Still, loose_later, map_still, moves_slack, test_still}
 use Rattle.cg_promises.proofs.UntrackedStayStart.{may_not, not_true}
 

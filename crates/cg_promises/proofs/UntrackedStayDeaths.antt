@@ -19,12 +19,12 @@ use Rattle.cg_machine.specs.World.{World, Activity, Framed, Releasing, Dying, De
 use Rattle.cg_machine.specs.Holdings.{in_degree, is_dying}
 use Rattle.cg_machine.specs.Frame.{frame_end, gives_up_function, begin_death, released, procedure_of}
 use Rattle.cg_machine.specs.Weak.{has_weak_references, weak_references_if, loses_referent, callback_of}
-use Rattle.cg_machine.specs.Laws.{runs_own_frame}
+use Rattle.cg_represents.specs.Orderly.{runs_own_frame}
 use Rattle.cg_machine.specs.Dying.{death_at, has_finalizers, finalizer_to_run, run_finalizer, run_legacy, after_frame, clear_one, call_one, detach_one, empty_one, dying}
-use Rattle.cg_machine.proofs.Starting.{either_way}
-use Rattle.cg_machine.proofs.Serials.{Rises}
-use Rattle.cg_machine.proofs.Lookups.{at_member, references_take}
-use Rattle.cg_machine.proofs.LinesNameLive.{changed_all, without_gone}
+use Rattle.cg_laws.proofs.Starting.{either_way}
+use Rattle.cg_represents.proofs.Serials.{Rises}
+use Rattle.cg_laws.proofs.Lookups.{at_member, references_take}
+use Rattle.cg_laws.proofs.LinesNameLive.{changed_all, without_gone}
 use Rattle.cg_promises.proofs.LastEntryMoves.{entries_of_member}
 use Rattle.cg_promises.proofs.UntrackedStay.{Excused, Fine, IsSlackWorld, Never, Slack, Still, end_slack, excused_on, goes_same, lost_still, moves_slack, push_slack, starts_slack, still_same, test_still, turn_slack}
 

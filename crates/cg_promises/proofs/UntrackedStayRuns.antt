@@ -14,11 +14,11 @@ use Rattle.cg_machine.specs.Frame.{procedure_of}
 use Rattle.cg_machine.specs.Effects.{Changes}
 use Rattle.cg_machine.specs.Commands.{new_collection}
 use Rattle.cg_machine.specs.Run.{Run, StepTaken, last_world}
-use Rattle.cg_machine.proofs.HeldLivesDeaths.{HasOrder}
-use Rattle.cg_machine.proofs.Invariants.{CommandSteps, FromFrame, FromTop, HasCommands, Steps, Takes, any_step, emptied, on, del_shaped}
-use Rattle.cg_machine.proofs.HeldLivesRuns.{taken_orderly}
-use Rattle.cg_machine.proofs.Serials.{Rises}
-use Rattle.cg_machine.proofs.ShapeLaws.{changes_leave}
+use Rattle.cg_laws.proofs.HeldLivesDeaths.{HasOrder}
+use Rattle.cg_laws.proofs.Invariants.{CommandSteps, FromFrame, FromTop, HasCommands, Steps, Takes, any_step, emptied, on, del_shaped}
+use Rattle.cg_laws.proofs.HeldLivesRuns.{taken_orderly}
+use Rattle.cg_represents.proofs.Serials.{Rises}
+use Rattle.cg_laws.proofs.ShapeLaws.{changes_leave}
 use Rattle.cg_laws.specs.Apart.{handles}
 use Rattle.cg_promises.specs.Slack.{IsLooseTuple, IsSlack, UntrackedAreSlack}
 use Rattle.cg_promises.proofs.UntrackedStay.{AreNoTuples, Excused, IsLoose, IsSlackWorld, Never, Slack, push_slack, starts_slack, still_same, turn_slack}

@@ -12,9 +12,9 @@ use Rattle.cg_graph.proofs.Members.{either, cases_of, or_left, or_right, true_an
 use Rattle.cg_machine.specs.Operands.{is_dict}
 use Rattle.cg_machine.specs.World.{World}
 use Rattle.cg_machine.specs.Collect.{has_none_tracked, merged_place, older, sorted, survivor_place, untrack, untracked_if, IsGarbage, IsSetAside, Sorts, Survives}
-use Rattle.cg_machine.proofs.Serials.{Rises, Rises-map}
-use Rattle.cg_machine.proofs.Lookups.{at_member, same_object}
-use Rattle.cg_machine.proofs.Places.{place_is}
+use Rattle.cg_represents.proofs.Serials.{Rises, Rises-map}
+use Rattle.cg_laws.proofs.Lookups.{at_member, same_object}
+use Rattle.cg_represents.proofs.Places.{place_is}
 use Rattle.cg_laws.proofs.SetsApart.{is_tracked_at}
 use Rattle.cg_promises.proofs.UntrackedStay.{IsLoose, IsSlackOne, Still, map_still, test_still}
 

@@ -14,15 +14,15 @@ use Rattle.cg_machine.specs.World.{World, Activity, TopLevel, Framed, Releasing,
 use Rattle.cg_machine.specs.Frame.{procedure_of, start_frame}
 use Rattle.cg_machine.specs.Weak.{has_weak_references, is_reference_to, weak_references, weak_references_if}
 use Rattle.cg_machine.specs.Commands.{new_collection}
-use Rattle.cg_machine.specs.Represents.{death_waits}
+use Rattle.cg_represents.specs.Orderly.{death_waits}
 use Rattle.cg_machine.specs.Run.{Step}
-use Rattle.cg_machine.proofs.Advances.{Advance, Plainly, WithFrame, Continues, DeathGoesOn, DeathClears, CollectionGoesOn, Tops, TopEnds, GivesFunction, GivesReference, BeginsDeath, TopGoesOn, GivesReferences}
-use Rattle.cg_machine.proofs.Starting.{begun_frame, starts_either}
-use Rattle.cg_machine.proofs.Advancing.{frame_end_advances, released_advances, dying_advances, phase_advances}
-use Rattle.cg_machine.proofs.UnheldRuns.{no_death}
-use Rattle.cg_machine.proofs.ShapeLaws.{changes_leave}
-use Rattle.cg_machine.proofs.Invariants.{CommandSteps, HasCommands, Steps, any_step, emptied, on}
-use Rattle.cg_machine.proofs.LinesNameLive.{reversed_back}
+use Rattle.cg_laws.proofs.Advances.{Advance, Plainly, WithFrame, Continues, DeathGoesOn, DeathClears, CollectionGoesOn, Tops, TopEnds, GivesFunction, GivesReference, BeginsDeath, TopGoesOn, GivesReferences}
+use Rattle.cg_laws.proofs.Starting.{begun_frame, starts_either}
+use Rattle.cg_laws.proofs.Advancing.{frame_end_advances, released_advances, dying_advances, phase_advances}
+use Rattle.cg_laws.proofs.UnheldRuns.{no_death}
+use Rattle.cg_laws.proofs.ShapeLaws.{changes_leave}
+use Rattle.cg_laws.proofs.Invariants.{CommandSteps, HasCommands, Steps, any_step, emptied, on}
+use Rattle.cg_laws.proofs.LinesNameLive.{reversed_back}
 
 -- an object is a weak reference to another now
 abbrev pub RefersNow : List Object → ℕ → ℕ → Type 0

@@ -6,7 +6,7 @@ use Rattle.cg_graph.specs.Member.{Includes}
 use Rattle.cg_machine.specs.declared.event.Event.{Event}
 use Rattle.cg_machine.specs.declared.event.Event.TheVariants.{Free}
 use Rattle.cg_machine.specs.Run.{StepTaken, IsRun, events_of}
-use Rattle.cg_machine.specs.Laws.{named, is_finalizer_of}
+use Rattle.cg_laws.specs.Laws.{named, is_finalizer_of}
 
 -- after the line that frees an object, no line names it
 abbrev pub NamesNoneDead : List Event → Type 0

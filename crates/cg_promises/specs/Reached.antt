@@ -7,7 +7,7 @@ use Rattle.cg_graph.specs.Holdings.{graph_of}
 use Rattle.cg_graph.specs.Reach.{Reach, edges}
 use Rattle.cg_machine.specs.World.{World}
 use Rattle.cg_machine.specs.Run.{StepTaken, IsRun, events_of, world_after}
-use Rattle.cg_machine.specs.Laws.{IsRooted, StartsFull, is_enter, is_stop}
+use Rattle.cg_laws.specs.Laws.{IsRooted, StartsFull, is_enter, is_stop}
 
 -- reachable from an object that is dying or held by a root
 abbrev pub IsReached : World → ℕ → Type 0

@@ -1,7 +1,7 @@
 //! What every run does to the final set of a collection without SAVEALL. Each law is the contract of a function that does
 //! nothing.
 ghost use Rattle.cg_script.specs.ReadScripts.{WasRead};
-ghost use Rattle.cg_machine.specs.Laws.{FinalSetIsFreed, FinalSetIsFreedIn, OnlyFreesNameMembers, Sealing};
+ghost use Rattle.cg_laws.specs.Laws.{FinalSetIsFreed, FinalSetIsFreedIn, OnlyFreesNameMembers, Sealing};
 
 /// In every run, from the second reachability pass of a collection without SAVEALL until its stop, each living member of the
 /// final set is held only by members, the collection and releases. It has no referent and no weak reference refers to it, its

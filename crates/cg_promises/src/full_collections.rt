@@ -1,6 +1,6 @@
 //! What full collections leave in every run, if no frame begins. Each law is the contract of a function that does nothing.
 ghost use Rattle.cg_script.specs.ReadScripts.{WasRead};
-ghost use Rattle.cg_machine.specs.Laws.{FullCollectionLeavesNone, FullCollectionLeavesNoneIn};
+ghost use Rattle.cg_laws.specs.Laws.{FullCollectionLeavesNone, FullCollectionLeavesNoneIn};
 ghost use Rattle.cg_promises.specs.Reached.{ReachedIsKept};
 
 /// In every run, what is reachable when a full collection starts is reachable when it stops, if no frame began.

@@ -1,6 +1,6 @@
 //! What every run keeps true of who holds what. Each law is the contract of a function that does nothing.
 ghost use Rattle.cg_script.specs.ReadScripts.{WasRead};
-ghost use Rattle.cg_machine.specs.Laws.{EntriesLeaveOnlyBy, UnheldIsDying, UnheldIsDyingIn};
+ghost use Rattle.cg_laws.specs.Laws.{EntriesLeaveOnlyBy, UnheldIsDying, UnheldIsDyingIn};
 ghost use Rattle.cg_promises.specs.Slack.{UntrackedAreSlack};
 
 /// In every run, when a command begins, each unheld object is dying.

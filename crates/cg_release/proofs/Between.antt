@@ -14,9 +14,10 @@ use Rattle.cg_machine.specs.declared.event.Event.{Event}
 use Rattle.cg_machine.specs.declared.event.Event.TheVariants.{Free}
 use Rattle.cg_machine.specs.World.{World, Activity, TopLevel, Framed, Releasing, Dying, Collecting, ShuttingDown, DyingPhase, Finalizer, AfterFinalizer, Clearing, Calling, AfterCall, LegacyFinalizer, AfterLegacy, Detaching, Emptying, with_stack}
 use Rattle.cg_machine.specs.Holdings.{holdings, holds, in_degree, is_death_of}
-use Rattle.cg_machine.specs.Laws.{IsOrderly}
-use Rattle.cg_machine.proofs.LinesNameLive.{without_gone}
-use Rattle.cg_machine.proofs.Releasing.{absent, no_times, none_holds, HeldByNone}
+use Rattle.cg_represents.specs.Orderly.{IsOrderly}
+use Rattle.cg_laws.proofs.LinesNameLive.{without_gone}
+use Rattle.cg_represents.proofs.Lists.{absent, no_times}
+use Rattle.cg_laws.proofs.Releasing.{none_holds, HeldByNone}
 use Rattle.cg_release.specs.Release.{DiesByCount, references_from}
 use Rattle.cg_release.proofs.Counts.{IsApart, Lets, dead, degree_parts, from_holder, holdings_split, lets_die, lets_free}
 

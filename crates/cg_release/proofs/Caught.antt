@@ -15,8 +15,8 @@ use Rattle.cg_machine.specs.Frame.{Transition, Yields, procedure_of, start_frame
 use Rattle.cg_machine.specs.Weak.{callback_of, has_weak_references, weak_references_if}
 use Rattle.cg_machine.specs.Dying.{clear_one, death_at, dying}
 use Rattle.cg_machine.specs.Run.{Run, StepOf, StepTaken, events_of, last_world}
-use Rattle.cg_machine.specs.Laws.{is_enter}
-use Rattle.cg_machine.proofs.Starting.{starts_either}
+use Rattle.cg_laws.specs.Laws.{is_enter}
+use Rattle.cg_laws.proofs.Starting.{starts_either}
 use Rattle.cg_promises.proofs.FullRuns.{enters_first}
 
 -- weak references wait for their callbacks

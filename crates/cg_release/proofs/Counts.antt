@@ -14,10 +14,11 @@ use Rattle.cg_graph.proofs.Objects.{occurrences-append}
 use Rattle.cg_machine.specs.World.{World, Activity}
 use Rattle.cg_machine.specs.Holdings.{holds, in_degree}
 use Rattle.cg_machine.specs.Weak.{loses_referent}
-use Rattle.cg_machine.proofs.Forgotten.{Alters, IsLater, change_alters, entries_alter, lives_after, lost_alters}
-use Rattle.cg_machine.proofs.LinesNameLive.{came_back, filter_lives, without_lasts}
-use Rattle.cg_machine.proofs.Lookups.{found_at, references_of_member, references_take, slice_get_member}
-use Rattle.cg_machine.proofs.Releasing.{entry_held, entry_holder}
+use Rattle.cg_laws.proofs.Forgotten.{Alters, IsLater, change_alters, entries_alter, lives_after, lost_alters}
+use Rattle.cg_laws.proofs.LinesNameLive.{came_back, filter_lives, without_lasts}
+use Rattle.cg_represents.proofs.Lists.{found_at, slice_get_member, entry_held}
+use Rattle.cg_laws.proofs.Lookups.{references_of_member, references_take}
+use Rattle.cg_laws.proofs.Releasing.{entry_holder}
 use Rattle.cg_release.specs.Release.{references_from}
 
 -- those of one object

@@ -21,7 +21,8 @@ use Rattle.cg_machine.specs.Frame.{Transition, Yields, begin_death, released}
 use Rattle.cg_machine.specs.Weak.{callback_of, has_weak_references, loses_referent, weak_references_if}
 use Rattle.cg_machine.specs.Dying.{clear_one, death_at, detach_one, dying, empty_one, finalizer_to_run, has_finalizers, run_finalizer, run_legacy}
 use Rattle.cg_machine.specs.Run.{Run, StepOf, StepTaken, events_of, last_world}
-use Rattle.cg_machine.specs.Laws.{IsOrderly, is_enter}
+use Rattle.cg_represents.specs.Orderly.{IsOrderly}
+use Rattle.cg_laws.specs.Laws.{is_enter}
 use Rattle.cg_promises.proofs.FullRuns.{enters_first}
 use Rattle.cg_release.proofs.Counts.{Lets, last_held, lets_lose, lets_same, lets_shorten}
 use Rattle.cg_release.proofs.Between.{Between, IsBare, IsBarePhase, begins, frees, goes}

@@ -12,14 +12,14 @@ use Rattle.cg_machine.specs.declared.event.Event.{Event}
 use Rattle.cg_machine.specs.World.{World, Activity, Releasing, Dying, Death, DyingPhase, Finalizer, AfterFinalizer, Clearing, Calling, AfterCall, LegacyFinalizer, AfterLegacy, Detaching, Emptying, opening}
 use Rattle.cg_machine.specs.Holdings.{dying_holds, holdings, holds, in_degree, is_death_of}
 use Rattle.cg_machine.specs.Run.{events_of, last_world}
-use Rattle.cg_machine.specs.Laws.{IsHeldInItsFramesAlone}
-use Rattle.cg_machine.proofs.Ending.{last_world-append}
-use Rattle.cg_machine.proofs.HeldLivesRuns.{worlds_orderly}
-use Rattle.cg_machine.proofs.OriginsOfRuns.{opening_origin}
-use Rattle.cg_machine.proofs.Releasing.{absent, no_times}
-use Rattle.cg_machine.proofs.Representing.{death_found}
-use Rattle.cg_machine.proofs.Unheld.{held_by_member}
-use Rattle.cg_machine.proofs.UnheldRuns.{dying_unheld}
+use Rattle.cg_represents.specs.Orderly.{IsHeldInItsFramesAlone}
+use Rattle.cg_laws.proofs.Ending.{last_world-append}
+use Rattle.cg_laws.proofs.HeldLivesRuns.{worlds_orderly}
+use Rattle.cg_laws.proofs.OriginsOfRuns.{opening_origin}
+use Rattle.cg_represents.proofs.Lists.{absent, no_times}
+use Rattle.cg_represents.proofs.Representing.{death_found}
+use Rattle.cg_laws.proofs.Unheld.{held_by_member}
+use Rattle.cg_laws.proofs.UnheldRuns.{dying_unheld}
 use Rattle.cg_promises.proofs.FinalizerOnceRuns.{opening_fit, run_back, run_front}
 use Rattle.cg_promises.proofs.HoldersMove.{IsMinded, degree_free}
 use Rattle.cg_promises.proofs.HoldersMoveRuns.{minded_after, opening_minded}

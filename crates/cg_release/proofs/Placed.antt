@@ -18,9 +18,9 @@ use Rattle.cg_ask.specs.Dying.{Dies, IsClosed as IsClosedByPlaces}
 use Rattle.cg_machine.specs.World.{World, opening}
 use Rattle.cg_machine.specs.Run.{last_world}
 use Rattle.cg_machine.specs.Holdings.{in_degree}
-use Rattle.cg_machine.proofs.Lookups.{serial_from, slice_get_member}
-use Rattle.cg_machine.proofs.Saving.{count_cons}
-use Rattle.cg_machine.proofs.Serials.{Rises}
+use Rattle.cg_laws.proofs.Lookups.{serial_from}
+use Rattle.cg_represents.proofs.Lists.{slice_get_member, occurrences-cons}
+use Rattle.cg_represents.proofs.Serials.{Rises}
 use Rattle.cg_promises.proofs.FinalizerOnceRuns.{opening_fit, run_fit, run_front}
 use Rattle.cg_release.specs.Release.{DiesByCount, IsClosed, references_from}
 use Rattle.cg_release.specs.Places.{ReleasesFreeWhatDropTells, IsTheRelease, member_with, members_of, place_of}
@@ -62,10 +62,10 @@ place_same (x ∷ objects) a b m e = go (x.serial == a) (x.serial == b) refl ref
 pub occurrences-placed : (objects : List Object) (a : ℕ) → Includes (serials objects) a → (xs : List ℕ) → occurrences (place_of objects a) (map (place_of objects) xs) ≡ occurrences a xs
 occurrences-placed objects a lives [] = refl
 occurrences-placed objects a lives (x ∷ xs) =
-    count_cons (place_of objects a) (place_of objects x) (map (place_of objects) xs)
+    occurrences-cons (place_of objects a) (place_of objects x) (map (place_of objects) xs)
     ∙ ap (λ (n : ℕ). cond (place_of objects x == place_of objects a) 1 0 + n) (occurrences-placed objects a lives xs)
     ∙ ap (λ (b : Bool). cond b 1 0 + occurrences a xs) (same (x == a) refl)
-    ∙ sym (count_cons a x xs)
+    ∙ sym (occurrences-cons a x xs)
   where
     same : (b : Bool) → (x == a) ≡ b → (place_of objects x == place_of objects a) ≡ (x == a)
     same true e = eq-eqb (place_of objects x) (place_of objects a) (ap (place_of objects) (eqb-true x a e)) ∙ sym e

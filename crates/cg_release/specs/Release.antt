@@ -12,7 +12,7 @@ use Rattle.cg_machine.specs.declared.event.Event.TheVariants.{Free}
 use Rattle.cg_machine.specs.World.{World, Activity, Releasing}
 use Rattle.cg_machine.specs.Holdings.{in_degree}
 use Rattle.cg_machine.specs.Run.{StepTaken, IsRun, last_world, events_of, world_after}
-use Rattle.cg_machine.specs.Laws.{is_enter}
+use Rattle.cg_laws.specs.Laws.{is_enter}
 
 -- the references of the objects in a set, each as often as it is stored
 abbrev pub references_from : (ℕ → Bool) → List Object → List ℕ

@@ -21,13 +21,14 @@ use Rattle.cg_machine.specs.Weak.{AllLose, callback_of, loses_referent}
 use Rattle.cg_machine.specs.Dying.{finalizer_to_run}
 use Rattle.cg_machine.specs.Effects.{gens_line}
 use Rattle.cg_machine.specs.Collect.{EndStep, FinalizingStep, PhaseStep, SplitStep, StartStep, TurnsStep, WeakClearingStep, after_release, all_saved, calls_back, clears_one, collectable, collection_at, empties, get_older, has_flag, is_condemned, is_condemned_in, is_saved, lines_if, looks_at, merged, merged_place, older, replaced_place, save_all, saved, sorted, stats, takes_turn, uncollectable, waits}
-use Rattle.cg_machine.proofs.Lookups.{at_member, found_at, references-append, same_object}
-use Rattle.cg_machine.proofs.Serials.{Rises}
-use Rattle.cg_machine.proofs.LinesNameLive.{same_lives}
+use Rattle.cg_laws.proofs.Lookups.{at_member, references-append, same_object}
+use Rattle.cg_represents.proofs.Lists.{found_at}
+use Rattle.cg_represents.proofs.Serials.{Rises}
+use Rattle.cg_laws.proofs.LinesNameLive.{same_lives}
 use Rattle.cg_laws.specs.Apart.{IsFound}
 use Rattle.cg_weakcoll.proofs.ActivitySteps.{Acts, Ages, ages, Grows, IsAside, Loses, Waited, acts, all_to_call, either_acts, grows_if, grows_lost, grows_place, grows_same, grows_trans, one_raised, starts_acts, to_call_in, two_raised, yields_acts}
 use Rattle.cg_weakcoll.proofs.ActivityStepsDeaths.{shortened_grows, to_run_is}
-use Rattle.cg_machine.proofs.Pointwise.{all_saved_by, came, came_all_lose}
+use Rattle.cg_laws.proofs.Pointwise.{all_saved_by, came, came_all_lose}
 
 -- distinct places
 found_at_place : (p q : Place) → IsFound q → same_place p q ≡ true → IsFound p

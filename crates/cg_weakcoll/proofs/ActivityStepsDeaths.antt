@@ -19,11 +19,11 @@ use Rattle.cg_machine.specs.Holdings.{in_degree, is_dying}
 use Rattle.cg_machine.specs.Frame.{Transition, begin_death, frame_end, gives_up_function, procedure_of, released}
 use Rattle.cg_machine.specs.Weak.{callback_of, has_weak_references, loses_referent, is_reference_to, weak_references, weak_references_if}
 use Rattle.cg_machine.specs.Dying.{death_at, has_finalizers, finalizer_to_run, run_finalizer, run_legacy, after_frame, clear_one, call_one, detach_one, empty_one, dying}
-use Rattle.cg_machine.specs.Represents.{death_waits}
-use Rattle.cg_machine.proofs.Lookups.{references_take}
-use Rattle.cg_machine.proofs.Serials.{Rises}
+use Rattle.cg_represents.specs.Orderly.{death_waits}
+use Rattle.cg_laws.proofs.Lookups.{references_take}
+use Rattle.cg_represents.proofs.Serials.{Rises}
 use Rattle.cg_promises.proofs.LastEntryMoves.{entries_of_member}
-use Rattle.cg_machine.proofs.LinesNameLive.{found_with, reversed_back, to_run}
+use Rattle.cg_laws.proofs.LinesNameLive.{found_with, reversed_back, to_run}
 use Rattle.cg_promises.proofs.WaitingReferents.{RefersNow}
 use Rattle.cg_weakcoll.proofs.ActivitySteps.{Acts, Grows, Loses, Waited, acts, all_to_call, either_acts, grows_if, grows_lost, grows_place, grows_same, one_raised, starts_acts, two_raised}
 

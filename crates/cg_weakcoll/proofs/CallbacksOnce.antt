@@ -12,11 +12,9 @@ use Rattle.cg_machine.specs.declared.event.Event.{Event}
 use Rattle.cg_machine.specs.declared.event.Event.TheVariants.{Enter}
 use Rattle.cg_machine.specs.declared.event.FrameSort.TheVariants.{Callback}
 use Rattle.cg_machine.specs.World.{World, Activity, TopLevel, Framed, Releasing, Dying, Collecting, ShuttingDown, CollectPhase, WeakClearing, WeakCalling, AfterCallback, AfterRelease}
-use Rattle.cg_machine.specs.Laws.{IsWaiting, all_waits, collection_waits, waits_of}
-use Rattle.cg_machine.proofs.Condemned.{present}
-use Rattle.cg_machine.proofs.Forgotten.{IsLater, none_later}
-use Rattle.cg_machine.proofs.Releasing.{no_times}
-use Rattle.cg_machine.proofs.Saving.{count_cons}
+use Rattle.cg_represents.specs.Orderly.{IsWaiting, all_waits, collection_waits, waits_of}
+use Rattle.cg_represents.proofs.Lists.{present, no_times, occurrences-cons}
+use Rattle.cg_laws.proofs.Forgotten.{IsLater, none_later}
 use Rattle.cg_weakcoll.proofs.ActivitySteps.{Acts, Called, IsAside, IsCollected, IsRaised, Waited, all_to_call, to_call, to_call_in}
 use Rattle.cg_laws.specs.Apart.{IsFound}
 use Rattle.cg_weakcoll.proofs.KnownOfRuns.{Known}
@@ -42,7 +40,7 @@ one_waits n (Collecting c) = by_phase c.phase
     by_phase : (phase : CollectPhase) → occurrences n (to_call_in phase) ≤ occurrences n (collection_waits phase)
     by_phase (WeakClearing waiting) = omega arith
     by_phase (WeakCalling waiting) = omega arith
-    by_phase (AfterCallback weak waiting) = let c = count_cons n weak waiting in omega (arith, c)
+    by_phase (AfterCallback weak waiting) = let c = occurrences-cons n weak waiting in omega (arith, c)
     by_phase (AfterRelease weak waiting) = omega arith
     by_phase phase = omega arith
 one_waits n (ShuttingDown started) = omega arith
@@ -108,7 +106,7 @@ acted_tells script budget s w a below events after k top acts = record {
         let once = k.lawful.orderly.once s in
         let all = all_wait s w.stack in
         let is : occurrences s (all_to_call w.stack) ≡ occurrences s (s ∷ (c.rest ++ all_to_call below)) = ap (occurrences s) c.first in
-        let cons = count_cons s s (c.rest ++ all_to_call below) in
+        let cons = occurrences-cons s s (c.rest ++ all_to_call below) in
         let here : ◌≡◌ {A = ℕ} (cond (s == s) 1 0) 1 = ap (λ t. cond t 1 0) (eq-eqb s s refl) in
         let more = present s (c.rest ++ all_to_call below) twice in
         absurd (omega (arith, once, all, is, cons, here, more))

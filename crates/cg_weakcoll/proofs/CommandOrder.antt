@@ -15,9 +15,9 @@ use Rattle.cg_machine.specs.Frame.{Yields, procedure_of, start_frame}
 use Rattle.cg_machine.specs.Commands.{new_collection}
 use Rattle.cg_machine.specs.Due.{due}
 use Rattle.cg_machine.specs.Run.{Run, Step, StepOf, StepTaken, TopLevelStep, last_world, world_after}
-use Rattle.cg_machine.proofs.Invariants.{AreLast, FromFrame, FromTop, Takes, emptied, on}
-use Rattle.cg_machine.proofs.Serials.{Rises}
-use Rattle.cg_machine.proofs.ShapeLaws.{changes_leave}
+use Rattle.cg_laws.proofs.Invariants.{AreLast, FromFrame, FromTop, Takes, emptied, on}
+use Rattle.cg_represents.proofs.Serials.{Rises}
+use Rattle.cg_laws.proofs.ShapeLaws.{changes_leave}
 use Rattle.cg_weakcoll.specs.Exits.{ExitsAreCalledLastFirst, own_command, own_commands}
 use Rattle.cg_weakcoll.proofs.ActivitySteps.{IsRaised}
 use Rattle.cg_weakcoll.proofs.KnownOfRuns.{Acted, Asked, Began, Bottomed, Changed, Commanded, Done, Due, GaveUp, Lasted, Over, Stood, Stopped, Went, known_after, went}

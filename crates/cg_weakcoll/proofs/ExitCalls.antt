@@ -22,14 +22,15 @@ use Rattle.cg_machine.specs.World.{World, Activity, Framed, Releasing, Frame, Bu
 use Rattle.cg_machine.specs.Frame.{Yields, procedure_of, start_frame}
 use Rattle.cg_machine.specs.Effects.{given_up_by}
 use Rattle.cg_machine.specs.Commands.{CommandStep, new_collection}
-use Rattle.cg_machine.specs.Laws.{is_enter}
+use Rattle.cg_laws.specs.Laws.{is_enter}
 use Rattle.cg_machine.specs.Operands.{object_of}
-use Rattle.cg_machine.specs.Origins.{commands_on}
+use Rattle.cg_laws.specs.Origins.{commands_on}
 use Rattle.cg_machine.specs.Run.{CommandInFrame, FrameStep, IsRun, Run, Step, StepOf, StepTaken, last_world, world_after}
-use Rattle.cg_machine.proofs.Ending.{Run-append, last_world-append}
-use Rattle.cg_machine.proofs.Invariants.{FromFrame, on}
-use Rattle.cg_machine.proofs.Lookups.{found_at, same_object}
-use Rattle.cg_machine.proofs.PrintableTexts.{commands_name_texts}
+use Rattle.cg_laws.proofs.Ending.{Run-append, last_world-append}
+use Rattle.cg_laws.proofs.Invariants.{FromFrame, on}
+use Rattle.cg_represents.proofs.Lists.{found_at}
+use Rattle.cg_laws.proofs.Lookups.{same_object}
+use Rattle.cg_laws.proofs.PrintableTexts.{commands_name_texts}
 use Rattle.cg_promises.proofs.FinalizerOnceRuns.{run_back, run_front}
 use Rattle.cg_weakcoll.specs.Exits.{Exit, ExitsBeginAlive, FindsAlive, IsExit, IsUnderway, NoneRefused, calls_from, exit_body, first_of, is_call, is_refusal, next_command}
 use Rattle.cg_weakcoll.proofs.ExitRuns.{AllKnown, Early, early_opening, early_run, early_step, next_known, rests_names, sum_moved}

@@ -15,8 +15,8 @@ use Rattle.cg_machine.specs.Program.{body_of}
 use Rattle.cg_machine.specs.World.{World, Activity, Framed, BudgetIsSpent}
 use Rattle.cg_machine.specs.Frame.{Yields, procedure_of, start_frame}
 use Rattle.cg_machine.specs.Effects.{Changes, Effect}
-use Rattle.cg_machine.proofs.Invariants.{on}
-use Rattle.cg_machine.proofs.Shapes.{AsksWhy, Binds, Edits, Ends, Freezes, Inspects, IsWordOf, Makes, Puts, Sets, Shape, Shows, StartsCollection, StartsFrame, Stays, Tells, Unfreezes}
+use Rattle.cg_laws.proofs.Invariants.{on}
+use Rattle.cg_represents.proofs.Shapes.{AsksWhy, Binds, Edits, Ends, Freezes, Inspects, IsWordOf, Makes, Puts, Sets, Shape, Shows, StartsCollection, StartsFrame, Stays, Tells, Unfreezes}
 use Rattle.cg_weakcoll.proofs.KnownOfRuns.{Asked, Began, Changed, Done, Stood, Stopped}
 
 pub set_away : (names : List (Option Val)) (name x : ℕ) (v : Option Val) → x ≢ name → slice_get (slice_set names name v) x ≡ slice_get names x

@@ -21,14 +21,14 @@ use Rattle.cg_machine.specs.declared.event.FrameSort.TheVariants.{Callback}
 use Rattle.cg_machine.specs.Program.{commands_of}
 use Rattle.cg_machine.specs.World.{World, Activity, TopLevel, Framed, Releasing, Dying, Collecting, ShuttingDown, opening, with_stack}
 use Rattle.cg_machine.specs.Effects.{given_up_by}
-use Rattle.cg_machine.specs.Laws.{is_enter}
+use Rattle.cg_laws.specs.Laws.{is_enter}
 use Rattle.cg_machine.specs.Operands.{value_of}
-use Rattle.cg_machine.specs.Origins.{commands_on}
+use Rattle.cg_laws.specs.Origins.{commands_on}
 use Rattle.cg_machine.specs.Run.{IsRun, Run, Step, StepTaken, events_of, last_world, world_after}
-use Rattle.cg_machine.proofs.Ending.{Run-append, last_world-append}
-use Rattle.cg_machine.proofs.Forgotten.{lives_within}
-use Rattle.cg_machine.proofs.Fronts.{events_of-append}
-use Rattle.cg_machine.proofs.Invariants.{FromTop, on}
+use Rattle.cg_laws.proofs.Ending.{Run-append, last_world-append}
+use Rattle.cg_laws.proofs.Forgotten.{lives_within}
+use Rattle.cg_laws.proofs.Fronts.{events_of-append}
+use Rattle.cg_laws.proofs.Invariants.{FromTop, on}
 use Rattle.cg_promises.proofs.FinalizerOnce.{Says}
 use Rattle.cg_promises.proofs.FinalizerOnceRuns.{run_back, run_front, step_goes}
 use Rattle.cg_weakcoll.specs.Exits.{AllOther, Exit, ExitsBeginOnce, IsExit, IsOther, MakesWatch, calls_from, first_of, is_call, is_callback_of, names_of, next_command, watch_command}

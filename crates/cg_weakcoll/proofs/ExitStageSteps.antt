@@ -19,10 +19,10 @@ use Rattle.cg_machine.specs.World.{World, Activity, TopLevel, Framed, Releasing,
 use Rattle.cg_machine.specs.Frame.{Yields, procedure_of, start_frame}
 use Rattle.cg_machine.specs.Commands.{CommandStep, new_collection, refused, stopped_frame}
 use Rattle.cg_machine.specs.Effects.{live}
-use Rattle.cg_machine.specs.Laws.{is_enter}
-use Rattle.cg_machine.specs.Origins.{commands_on}
+use Rattle.cg_laws.specs.Laws.{is_enter}
+use Rattle.cg_laws.specs.Origins.{commands_on}
 use Rattle.cg_machine.specs.Run.{Step}
-use Rattle.cg_machine.proofs.Invariants.{AreLast, FromFrame, FromTop, HasCommands, Takes, emptied, on}
+use Rattle.cg_laws.proofs.Invariants.{AreLast, FromFrame, FromTop, HasCommands, Takes, emptied, on}
 use Rattle.cg_weakcoll.specs.Exits.{AllOther, Exit, IsExit, IsOther, exit_body, first_of, is_call, next_command, watch_command}
 use Rattle.cg_weakcoll.proofs.ActivitySteps.{all_to_call}
 use Rattle.cg_weakcoll.proofs.OwnCommands.{call_step, func_step}

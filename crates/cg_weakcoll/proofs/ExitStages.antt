@@ -12,8 +12,8 @@ use Rattle.cg_graph.specs.Member.{Includes}
 use Rattle.cg_graph.proofs.Members.{either, Includes-append_cases, Includes-append_right}
 use Rattle.cg_machine.specs.Program.{commands_of}
 use Rattle.cg_machine.specs.World.{Activity, TopLevel, Framed, Releasing, Dying, Collecting, ShuttingDown, Frame}
-use Rattle.cg_machine.specs.Origins.{commands_on}
-use Rattle.cg_machine.proofs.Invariants.{FromFrame, FromTop, Takes}
+use Rattle.cg_laws.specs.Origins.{commands_on}
+use Rattle.cg_laws.proofs.Invariants.{FromFrame, FromTop, Takes}
 use Rattle.cg_weakcoll.specs.Exits.{AllOther, AreOthers, Exit, IsExit, IsOther, exit_commands, watch_command}
 use Rattle.cg_weakcoll.proofs.OtherCommands.{AllHigh, IsHigh, other_exit, same_top}
 

@@ -5,7 +5,7 @@ use Rattle.std.specs.Prelude.{option_map, reverse, slice_get, slice_index_or, un
 use Rattle.std.proofs.lemmas.List.{append_cancel_right, length-map, map-append, reverse-append}
 use Rattle.cg_graph.specs.Member.{Includes}
 use Rattle.cg_graph.proofs.Members.{either, Includes-append_cases, Includes-append_left, Includes-append_right, Includes-map_cases}
-use Rattle.cg_machine.proofs.LinesNameLive.{reversed_back}
+use Rattle.cg_laws.proofs.LinesNameLive.{reversed_back}
 use Rattle.cg_script.specs.declared.Script.{Script}
 use Rattle.cg_script.specs.declared.item.ClassDef.{ClassDef}
 use Rattle.cg_script.specs.declared.item.Item.{Item}

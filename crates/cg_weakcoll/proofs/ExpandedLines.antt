@@ -12,7 +12,7 @@ use Rattle.cg_script.proofs.Ascii.{both}
 use Rattle.cg_script.proofs.Joined.{all_printable, sound_words}
 use Rattle.cg_graph.specs.Member.{Includes}
 use Rattle.cg_graph.proofs.Members.{either, Includes-append_cases, Includes-map_cases}
-use Rattle.cg_machine.proofs.LinesNameLive.{reversed_back}
+use Rattle.cg_laws.proofs.LinesNameLive.{reversed_back}
 use Rattle.cg_weakcoll.specs.declared.form.Form.{Form}
 use Rattle.cg_weakcoll.specs.declared.form.Form.TheVariants.{Finalize}
 use Rattle.cg_weakcoll.specs.Expansion.{bad_or, call_line, call_lines, expanded_lines, expansion, fault_by, fault_of, final_lines, finalize_number, finalize_numbers_from, first_bad, first_bad_from, form_fault, form_lines, form_of, inside_after, is_finalize, name_fault, with_feeds, word_count, words_fit, written, written_by, written_from}

@@ -29,17 +29,17 @@ use Rattle.cg_machine.specs.Holdings.{dying_holds, holdings, holds}
 use Rattle.cg_machine.specs.Frame.{Yields, procedure_of, start_frame}
 use Rattle.cg_machine.specs.Collect.{IsMemberOf, Survives, merged, merged_place}
 use Rattle.cg_machine.specs.Effects.{Changes, Effect, bound, frozen, may_track, replaced, tracked_by, unfrozen, with_new}
-use Rattle.cg_machine.specs.Laws.{runs_own_frame}
+use Rattle.cg_represents.specs.Orderly.{runs_own_frame}
 use Rattle.cg_machine.specs.Operands.{is_dict, self_in, weak_in}
-use Rattle.cg_machine.proofs.CommandRefs.{HoldNone, all_free, entry_free, option_free, put_free}
-use Rattle.cg_machine.proofs.Condemned.{present}
-use Rattle.cg_machine.proofs.Forgotten.{some_later}
-use Rattle.cg_machine.proofs.Lookups.{references_of_member, same_object}
-use Rattle.cg_machine.proofs.Invariants.{FromFrame, FromTop, Takes, emptied, on}
-use Rattle.cg_machine.proofs.Serials.{Rises}
-use Rattle.cg_machine.proofs.ShapeLaws.{changes_leave}
-use Rattle.cg_machine.proofs.Shapes.{AsksWhy, Binds, Edits, Ends, Freezes, HasParts, Inspects, IsAtHand, IsEdit, Makes, Puts, Sets, Shape, Shows, StartsCollection, StartsFrame, Stays, Tells, Unfreezes}
-use Rattle.cg_machine.proofs.Unheld.{held_by_member}
+use Rattle.cg_laws.proofs.CommandRefs.{HoldNone, all_free, entry_free, option_free, put_free}
+use Rattle.cg_represents.proofs.Lists.{present}
+use Rattle.cg_laws.proofs.Forgotten.{some_later}
+use Rattle.cg_laws.proofs.Lookups.{references_of_member, same_object}
+use Rattle.cg_laws.proofs.Invariants.{FromFrame, FromTop, Takes, emptied, on}
+use Rattle.cg_represents.proofs.Serials.{Rises}
+use Rattle.cg_laws.proofs.ShapeLaws.{changes_leave}
+use Rattle.cg_represents.proofs.Shapes.{AsksWhy, Binds, Edits, Ends, Freezes, HasParts, Inspects, IsAtHand, IsEdit, Makes, Puts, Sets, Shape, Shows, StartsCollection, StartsFrame, Stays, Tells, Unfreezes}
+use Rattle.cg_laws.proofs.Unheld.{held_by_member}
 use Rattle.cg_laws.specs.Apart.{IsFound}
 use Rattle.cg_promises.proofs.FinalSetFreed.{death_on}
 use Rattle.cg_promises.proofs.HoldersMove.{IsFree}

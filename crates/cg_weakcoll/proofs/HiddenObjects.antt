@@ -16,9 +16,10 @@ use Rattle.cg_graph.proofs.Members.{Includes-append_left, Includes-append_right}
 use Rattle.cg_machine.specs.declared.event.FrameSort.{FrameSort}
 use Rattle.cg_machine.specs.World.{World, Activity, Framed, Frame}
 use Rattle.cg_machine.specs.Operands.{frame_on, self_in, weak_in, value_of}
-use Rattle.cg_machine.proofs.CommandRefs.{HoldNone, got_free, option_held}
-use Rattle.cg_machine.proofs.Lookups.{found_at, references_of_member}
-use Rattle.cg_machine.proofs.Shapes.{IsAtHand, KeyIn, NoneThere, ReferentOf, ValueIn, Word}
+use Rattle.cg_laws.proofs.CommandRefs.{HoldNone, got_free, option_held}
+use Rattle.cg_represents.proofs.Lists.{found_at}
+use Rattle.cg_laws.proofs.Lookups.{references_of_member}
+use Rattle.cg_represents.proofs.Shapes.{IsAtHand, KeyIn, NoneThere, ReferentOf, ValueIn, Word}
 use Rattle.cg_laws.specs.Apart.{IsFound}
 
 -- what a name stands for

@@ -11,7 +11,7 @@ use Rattle.cg_script.specs.Items.{commands_of, procedures, classes}
 use Rattle.cg_script.specs.Reading.{body_of, items_of}
 use Rattle.cg_script.specs.Views.{inside_behind}
 use Rattle.cg_graph.specs.Member.{Includes}
-use Rattle.cg_machine.proofs.Lookups.{slice_get_member}
+use Rattle.cg_represents.proofs.Lists.{slice_get_member}
 use Rattle.cg_weakcoll.proofs.ReadLines.{does_all}
 
 -- whether a procedure is open after some lines

@@ -12,13 +12,13 @@ use Rattle.cg_machine.specs.Weak.{is_function}
 use Rattle.cg_machine.specs.Due.{due}
 use Rattle.cg_machine.specs.Effects.{Changes, bound, given_up_by}
 use Rattle.cg_machine.specs.Commands.{CommandStep, new_collection}
-use Rattle.cg_machine.specs.Lawful.{IsLawful}
+use Rattle.cg_laws.specs.Lawful.{IsLawful}
 use Rattle.cg_machine.specs.Run.{CommandInFrame, FrameStep, IsRun, Step, StepTaken, TopLevelStep, world_after}
-use Rattle.cg_machine.proofs.Invariants.{AreAnswers, AreLast, CommandSteps, FromFrame, FromTop, HasCommands, Steps, Takes, any_step, emptied, on}
-use Rattle.cg_machine.proofs.Lawful.{lawful_after}
-use Rattle.cg_machine.proofs.OriginsOfRuns.{opening_origin}
-use Rattle.cg_machine.proofs.Serials.{Rises}
-use Rattle.cg_machine.proofs.Shapes.{HasObject, Shape}
+use Rattle.cg_laws.proofs.Invariants.{AreAnswers, AreLast, CommandSteps, FromFrame, FromTop, HasCommands, Steps, Takes, any_step, emptied, on}
+use Rattle.cg_laws.proofs.Lawful.{lawful_after}
+use Rattle.cg_laws.proofs.OriginsOfRuns.{opening_origin}
+use Rattle.cg_represents.proofs.Serials.{Rises}
+use Rattle.cg_represents.proofs.Shapes.{HasObject, Shape}
 use Rattle.cg_laws.specs.Apart.{IsApart}
 use Rattle.cg_laws.proofs.RunsApart.{runs_apart}
 use Rattle.cg_promises.proofs.HoldersMove.{IsMinded}

@@ -18,12 +18,12 @@ use Rattle.cg_machine.specs.Operands.{value_of}
 use Rattle.cg_machine.specs.Effects.{bound, given_up_by, with_new}
 use Rattle.cg_machine.specs.Commands.{DoesEffect}
 use Rattle.cg_machine.specs.Run.{StepTaken, Step, Run, IsRun, events_of, last_world, world_after}
-use Rattle.cg_machine.proofs.Ending.{Run-append, last_world-append}
-use Rattle.cg_machine.proofs.CommandRefs.{name_free}
-use Rattle.cg_machine.proofs.Forgotten.{Unheld, lives_within}
-use Rattle.cg_machine.proofs.Serials.{Rises}
-use Rattle.cg_machine.proofs.Unheld.{Calm, Stands}
-use Rattle.cg_machine.proofs.UnheldRuns.{death_stands}
+use Rattle.cg_laws.proofs.Ending.{Run-append, last_world-append}
+use Rattle.cg_laws.proofs.CommandRefs.{name_free}
+use Rattle.cg_laws.proofs.Forgotten.{Unheld, lives_within}
+use Rattle.cg_represents.proofs.Serials.{Rises}
+use Rattle.cg_laws.proofs.Unheld.{Calm, Stands}
+use Rattle.cg_laws.proofs.UnheldRuns.{death_stands}
 use Rattle.cg_promises.proofs.FinalizerOnceRuns.{Fit, opening_fit, run_back, run_fit, run_front, step_fit}
 use Rattle.cg_weakcoll.specs.Maps.{IsUnder, Look, Looks, LooksAnswer, LooksFindReferents, MakesWeak, WeakMapsAnswer, WeakReferencesKeepTheirReferents, before_second, before_third, referent_value, since_making, steps_before_third, steps_of}
 use Rattle.cg_weakcoll.proofs.ReferentsLost.{IsFading, is_frameless}

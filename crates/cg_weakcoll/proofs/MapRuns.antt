@@ -14,13 +14,13 @@ use Rattle.cg_graph.proofs.Members.{either}
 use Rattle.cg_machine.specs.declared.event.Event.{Event}
 use Rattle.cg_machine.specs.World.{World, Activity, TopLevel, Framed, Releasing, Dying, Collecting, ShuttingDown, Running, push, with_stack}
 use Rattle.cg_machine.specs.Operands.{value_of}
-use Rattle.cg_machine.specs.Origins.{commands_on}
+use Rattle.cg_laws.specs.Origins.{commands_on}
 use Rattle.cg_machine.specs.Effects.{bound, given_up_by}
 use Rattle.cg_machine.specs.Commands.{DoesEffect}
-use Rattle.cg_machine.specs.Laws.{is_enter}
+use Rattle.cg_laws.specs.Laws.{is_enter}
 use Rattle.cg_machine.specs.Run.{StepTaken, Step, Run, events_of, last_world}
-use Rattle.cg_machine.proofs.Sums.{tally, tally-append}
-use Rattle.cg_machine.proofs.Ending.{last_world-append}
+use Rattle.cg_laws.proofs.Sums.{tally, tally-append}
+use Rattle.cg_laws.proofs.Ending.{last_world-append}
 use Rattle.cg_promises.proofs.FinalizerOnceRuns.{run_back, run_front}
 use Rattle.cg_weakcoll.specs.Maps.{LookFinds, Look, Looks, before_second, before_third, referent_value, steps_before_third, steps_of}
 use Rattle.cg_weakcoll.proofs.CommandsUsedUp.{Burns, step_burns, weight}

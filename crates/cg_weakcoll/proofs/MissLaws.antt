@@ -8,14 +8,14 @@ use Rattle.cg_script.specs.declared.Command.{Command}
 use Rattle.cg_script.specs.declared.Command.TheVariants.{Bind, Get, Deref}
 use Rattle.cg_graph.specs.Member.{Includes}
 use Rattle.cg_machine.specs.World.{World, opening, with_stack}
-use Rattle.cg_machine.specs.Origins.{commands_on}
+use Rattle.cg_laws.specs.Origins.{commands_on}
 use Rattle.cg_machine.specs.Effects.{bound, given_up_by}
 use Rattle.cg_machine.specs.Commands.{DoesEffect}
-use Rattle.cg_machine.specs.Laws.{is_enter}
+use Rattle.cg_laws.specs.Laws.{is_enter}
 use Rattle.cg_machine.specs.Run.{Step, events_of, last_world}
-use Rattle.cg_machine.proofs.Ending.{last_world-append}
-use Rattle.cg_machine.proofs.OriginsOfRuns.{opening_origin, worlds_have_origins}
-use Rattle.cg_machine.proofs.PrintableTexts.{commands_name_texts}
+use Rattle.cg_laws.proofs.Ending.{last_world-append}
+use Rattle.cg_laws.proofs.OriginsOfRuns.{opening_origin, worlds_have_origins}
+use Rattle.cg_laws.proofs.PrintableTexts.{commands_name_texts}
 use Rattle.cg_promises.proofs.HoldersMoveRuns.{minded_after, opening_minded}
 use Rattle.cg_promises.proofs.FinalizerOnceRuns.{opening_fit, run_back, run_front}
 use Rattle.cg_weakcoll.specs.Maps.{MissesLeaveNone}

@@ -25,10 +25,11 @@ use Rattle.cg_machine.specs.Holdings.{collect_holds, dying_holds, holds}
 use Rattle.cg_machine.specs.Frame.{Yields, procedure_of, start_frame}
 use Rattle.cg_machine.specs.Weak.{callback_in, callback_of, is_function}
 use Rattle.cg_machine.specs.Commands.{new_collection}
-use Rattle.cg_machine.specs.Represents.{death_waits}
-use Rattle.cg_machine.proofs.Invariants.{FromFrame, FromTop, Takes, emptied, on}
-use Rattle.cg_machine.proofs.Lookups.{at_member, callback_at, callback_first, slice_get_member}
-use Rattle.cg_machine.proofs.ShapeLaws.{changes_leave}
+use Rattle.cg_represents.specs.Orderly.{death_waits}
+use Rattle.cg_laws.proofs.Invariants.{FromFrame, FromTop, Takes, emptied, on}
+use Rattle.cg_laws.proofs.Lookups.{at_member, callback_at, callback_first}
+use Rattle.cg_represents.proofs.Lists.{slice_get_member}
+use Rattle.cg_laws.proofs.ShapeLaws.{changes_leave}
 use Rattle.cg_weakcoll.specs.Exits.{AllOther, Exit, IsExit, IsOther, first_of, is_call, next_command}
 use Rattle.cg_weakcoll.proofs.ActivitySteps.{BegunBy, IsRaised, all_to_call, to_call, to_call_in}
 use Rattle.cg_weakcoll.proofs.CallbacksOnce.{lost_referent, to_call_of}

@@ -11,10 +11,10 @@ use Rattle.cg_machine.specs.declared.event.Event.TheVariants.{Enter, Cleared, Fr
 use Rattle.cg_machine.specs.declared.event.FrameSpec.{FrameSpec}
 use Rattle.cg_machine.specs.World.{World, Activity, Dying, Death, DyingPhase, Finalizer, AfterFinalizer, AfterLegacy, BudgetIsSpent}
 use Rattle.cg_machine.specs.Frame.{Transition, start_frame}
-use Rattle.cg_machine.proofs.Advances.{Advance, Plainly, WithFrame, AreLinesOf, Shows, Frees, HasChanged, LosesBy, changed_becomes}
-use Rattle.cg_machine.proofs.Pointwise.{Came, came_if, came_map}
-use Rattle.cg_machine.proofs.LinesNameLive.{HasNoReferent}
-use Rattle.cg_machine.proofs.Starting.{begun_frame, starts_either}
+use Rattle.cg_laws.proofs.Advances.{Advance, Plainly, WithFrame, AreLinesOf, Shows, Frees, HasChanged, LosesBy, changed_becomes}
+use Rattle.cg_laws.proofs.Pointwise.{Came, came_if, came_map}
+use Rattle.cg_laws.proofs.LinesNameLive.{HasNoReferent}
+use Rattle.cg_laws.proofs.Starting.{begun_frame, starts_either}
 
 -- no frame of the dying object itself runs
 abbrev pub is_frameless : DyingPhase → Bool

@@ -18,9 +18,9 @@ use Rattle.cg_machine.specs.Frame.{Transition, procedure_of}
 use Rattle.cg_machine.specs.Weak.{has_weak_references, weak_references_if, callback_of}
 use Rattle.cg_machine.specs.Dying.{death_at, has_finalizers, finalizer_to_run, run_finalizer, run_legacy, clear_one, call_one, detach_one, empty_one, dying}
 use Rattle.cg_machine.specs.Run.{Step, StepOf}
-use Rattle.cg_machine.proofs.Lookups.{found_at}
-use Rattle.cg_machine.proofs.LeftBelowRuns.{LeavesUnder}
-use Rattle.cg_machine.proofs.LinesNameLive.{without_gone}
+use Rattle.cg_represents.proofs.Lists.{found_at}
+use Rattle.cg_laws.proofs.LeftBelowRuns.{LeavesUnder}
+use Rattle.cg_laws.proofs.LinesNameLive.{without_gone}
 use Rattle.cg_weakcoll.proofs.ReferentsLost.{IsFading, is_frameless}
 
 -- A weak reference has no finalizer: its death goes on until it is freed.

@@ -23,13 +23,13 @@ use Rattle.cg_machine.specs.Frame.{procedure_of}
 use Rattle.cg_machine.specs.Effects.{Effect, Changes, Calls, Collects, Quits, Explains, bound, frozen, given_up_by, live, may_track, replaced, tracked_by, unfrozen, with_new}
 use Rattle.cg_machine.specs.Commands.{new_collection}
 use Rattle.cg_machine.specs.Run.{StepTaken, Step, Run, events_of, last_world}
-use Rattle.cg_machine.proofs.Inspecting.{TellsThere}
-use Rattle.cg_machine.proofs.Shapes.{Shape, Binds, Makes, Edits, Puts, Shows, Tells, Stays, Sets, Freezes, Unfreezes, StartsFrame, StartsCollection, Ends, Inspects, AsksWhy, TellsNumbers}
-use Rattle.cg_machine.proofs.Invariants.{AreAnswers, AreLast, CommandSteps, Steps, any_step, emptied, on}
-use Rattle.cg_machine.proofs.LinesNameLive.{HasNoReferent}
-use Rattle.cg_machine.proofs.Advancing.{frame_end_advances, released_advances, dying_advances, phase_advances}
-use Rattle.cg_machine.proofs.LeftBelowRuns.{step_leaves}
-use Rattle.cg_machine.proofs.Unheld.{not_dying}
+use Rattle.cg_represents.proofs.Inspecting.{TellsThere}
+use Rattle.cg_represents.proofs.Shapes.{Shape, Binds, Makes, Edits, Puts, Shows, Tells, Stays, Sets, Freezes, Unfreezes, StartsFrame, StartsCollection, Ends, Inspects, AsksWhy, TellsNumbers}
+use Rattle.cg_laws.proofs.Invariants.{AreAnswers, AreLast, CommandSteps, Steps, any_step, emptied, on}
+use Rattle.cg_laws.proofs.LinesNameLive.{HasNoReferent}
+use Rattle.cg_laws.proofs.Advancing.{frame_end_advances, released_advances, dying_advances, phase_advances}
+use Rattle.cg_laws.proofs.LeftBelowRuns.{step_leaves}
+use Rattle.cg_laws.proofs.Unheld.{not_dying}
 use Rattle.cg_promises.proofs.FinalizerOnce.{Goes as TellsSo}
 use Rattle.cg_promises.proofs.FinalizerOnceRuns.{Fit, step_fit, step_goes}
 use Rattle.cg_weakcoll.specs.Maps.{RefersBy}

@@ -18,14 +18,14 @@ use Rattle.cg_machine.specs.declared.event.Event.{Event}
 use Rattle.cg_machine.specs.declared.event.Event.TheVariants.{Made, Refused}
 use Rattle.cg_machine.specs.World.{World, Activity, TopLevel, Framed, Releasing, Dying, Collecting, ShuttingDown, Frame, push, with_stack}
 use Rattle.cg_machine.specs.Operands.{is_weak, object, object_of, tested, value_of}
-use Rattle.cg_machine.specs.Origins.{commands_on}
+use Rattle.cg_laws.specs.Origins.{commands_on}
 use Rattle.cg_machine.specs.Refusals.{◌>>=◌, no_memory, no_name}
 use Rattle.cg_machine.specs.Effects.{Effect, Changes, bound, given_up_by, with_new}
 use Rattle.cg_machine.specs.Commands.{effect, refused, DoesEffect}
 use Rattle.cg_machine.specs.Frame.{Yields}
 use Rattle.cg_machine.specs.Due.{due}
 use Rattle.cg_machine.specs.Run.{StepTaken, Step, StepOf, TopLevelStep, FrameStep, CommandInFrame}
-use Rattle.cg_machine.proofs.Lookups.{found_at}
+use Rattle.cg_represents.proofs.Lists.{found_at}
 use Rattle.cg_weakcoll.specs.Maps.{TakesCommand, referent_value}
 
 -- no refusal is printed

@@ -19,14 +19,14 @@ use Rattle.cg_machine.specs.World.{World, Activity, TopLevel, Framed, Releasing,
 use Rattle.cg_machine.specs.Frame.{procedure_of}
 use Rattle.cg_machine.specs.Effects.{bound, given_up_by}
 use Rattle.cg_machine.specs.Commands.{CommandStep, new_collection}
-use Rattle.cg_machine.specs.Laws.{is_enter}
+use Rattle.cg_laws.specs.Laws.{is_enter}
 use Rattle.cg_machine.specs.Operands.{object_of}
-use Rattle.cg_machine.specs.Origins.{commands_on}
+use Rattle.cg_laws.specs.Origins.{commands_on}
 use Rattle.cg_machine.specs.Run.{Step}
-use Rattle.cg_machine.proofs.Forgotten.{some_later}
-use Rattle.cg_machine.proofs.Invariants.{FromFrame, FromTop, HasCommands, Takes, emptied, on}
-use Rattle.cg_machine.proofs.Lookups.{found_at}
-use Rattle.cg_machine.proofs.ShapeLaws.{changes_leave}
+use Rattle.cg_laws.proofs.Forgotten.{some_later}
+use Rattle.cg_laws.proofs.Invariants.{FromFrame, FromTop, HasCommands, Takes, emptied, on}
+use Rattle.cg_represents.proofs.Lists.{found_at}
+use Rattle.cg_laws.proofs.ShapeLaws.{changes_leave}
 use Rattle.cg_weakcoll.specs.Exits.{AllOther, Exit, IsExit, IsOther, first_of, is_call, next_command}
 use Rattle.cg_weakcoll.proofs.ActivitySteps.{IsRaised, all_to_call}
 use Rattle.cg_weakcoll.proofs.HiddenKept.{bottom_hidden, dropped_hidden, refused_hidden}

@@ -24,11 +24,12 @@ use Rattle.cg_machine.specs.World.{World, Activity, TopLevel, Framed, Releasing,
 use Rattle.cg_machine.specs.Holdings.{call_holds, holds, is_collection, is_death_of}
 use Rattle.cg_machine.specs.Effects.{bound, given_up_by}
 use Rattle.cg_machine.specs.Commands.{CommandStep, new_collection}
-use Rattle.cg_machine.specs.Laws.{IsOfCollection}
+use Rattle.cg_laws.specs.Laws.{IsOfCollection}
 use Rattle.cg_machine.specs.Operands.{object_of, value_of}
 use Rattle.cg_machine.specs.Run.{Step}
-use Rattle.cg_machine.proofs.Invariants.{FromFrame, on}
-use Rattle.cg_machine.proofs.Lookups.{found_at, same_object}
+use Rattle.cg_laws.proofs.Invariants.{FromFrame, on}
+use Rattle.cg_represents.proofs.Lists.{found_at}
+use Rattle.cg_laws.proofs.Lookups.{same_object}
 use Rattle.cg_laws.specs.Apart.{IsFound}
 use Rattle.cg_promises.proofs.HoldersMove.{IsFree}
 use Rattle.cg_weakcoll.specs.Exits.{Exit, IsExit}

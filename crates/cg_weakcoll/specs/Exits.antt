@@ -19,7 +19,7 @@ use Rattle.cg_machine.specs.Program.{body_of, classes, commands_of}
 use Rattle.cg_machine.specs.World.{World, Activity, TopLevel, Framed, Frame, opening}
 use Rattle.cg_machine.specs.Due.{due}
 use Rattle.cg_machine.specs.Run.{StepTaken, IsRun, events_of, last_world, world_after}
-use Rattle.cg_machine.specs.Laws.{is_enter}
+use Rattle.cg_laws.specs.Laws.{is_enter}
 
 -- One exit finalizer: the number of its procedure, and the numbers of its names, which are those of the object that the procedure
 -- asks for, the procedure's function, the function to call, and the weak reference; and the values that the last two are bound

@@ -19,10 +19,10 @@ use Rattle.cg_machine.specs.declared.event.Event.TheVariants.{Made, Cleared, Ref
 use Rattle.cg_machine.specs.World.{World, Activity}
 use Rattle.cg_machine.specs.Holdings.{is_dying}
 use Rattle.cg_machine.specs.Operands.{value_of}
-use Rattle.cg_machine.specs.Origins.{commands_on}
+use Rattle.cg_laws.specs.Origins.{commands_on}
 use Rattle.cg_machine.specs.Due.{due}
 use Rattle.cg_machine.specs.Run.{StepTaken, IsRun, last_world, events_of, world_after}
-use Rattle.cg_machine.specs.Laws.{is_enter}
+use Rattle.cg_laws.specs.Laws.{is_enter}
 
 -- the commands of `wset M k v`: the weak reference has a name until it is in the map
 abbrev pub wset_commands : ℕ → Operand → Operand → Operand → List Command

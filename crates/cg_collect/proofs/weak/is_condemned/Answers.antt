@@ -2,7 +2,7 @@ use Rattle.std.proofs.Common.{◌∙◌, sym, ap}
 use Rattle.std.specs.Prelude.{◌||◌}
 use Rattle.cg_value.specs.declared.Place.TheVariants.{Cand, Seen}
 use Rattle.cg_graph.specs.Object.{same_place}
-use Rattle.cg_machine.proofs.Places.{place_differs}
+use Rattle.cg_represents.proofs.Places.{place_differs}
 use Rattle.cg_collect.proofs.Walking.{condemned-at}
 use Rattle.cg_collect.proofs.weak.is_condemned.Goals as goal
 

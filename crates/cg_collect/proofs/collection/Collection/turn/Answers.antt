@@ -1,6 +1,6 @@
 use Rattle.std.proofs.Common.{◌+◌, ◌<◌, ◌≤◌, ℕ, [], ◌∷◌, subst, sym, arith}
 use Rattle.cg_machine.specs.Program.{profile_of}
-use Rattle.cg_machine.proofs.Representing.{occurrences-one}
+use Rattle.cg_represents.proofs.Representing.{occurrences-one}
 use Rattle.cg_graph.specs.Store.{Store, outside_of}
 use Rattle.cg_death.specs.Activities.{HasHolds}
 use Rattle.cg_collect.specs.declared.phase.Phase.{Phase}

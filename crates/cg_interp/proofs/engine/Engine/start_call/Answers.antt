@@ -1,7 +1,7 @@
 use Rattle.std.proofs.Common.{sym, subst, ap, ◌∙◌, ◌∷◌, Some, refl}
 use Rattle.cg_machine.specs.declared.event.FrameSort.TheVariants as sort_of
 use Rattle.cg_machine.specs.Frame.{start_frame}
-use Rattle.cg_machine.specs.Represents.{Represents}
+use Rattle.cg_represents.specs.Represents.{Represents}
 use Rattle.cg_interp.specs.Engines.{StandsFor, under}
 use Rattle.cg_interp.specs.Callers.{caller_activity}
 use Rattle.cg_interp.specs.Turns.{Makes, entered}

@@ -1,0 +1,5 @@
+use Rattle.cg_laws.proofs.Lawful.{stay_lawful}
+use Rattle.cg_laws.proofs.laws.runs_stay_lawful.Goals as goal
+
+pub returns : goal.returns
+returns c = stay_lawful

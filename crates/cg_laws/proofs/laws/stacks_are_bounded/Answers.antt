@@ -1,0 +1,5 @@
+use Rattle.cg_laws.proofs.Heights.{stacks_bounded}
+use Rattle.cg_laws.proofs.laws.stacks_are_bounded.Goals as goal
+
+pub returns : goal.returns
+returns c = stacks_bounded

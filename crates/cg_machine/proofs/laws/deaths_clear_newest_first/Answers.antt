@@ -1,5 +1,0 @@
-use Rattle.cg_machine.proofs.StandingRuns.{newest_first}
-use Rattle.cg_machine.proofs.laws.deaths_clear_newest_first.Goals as goal
-
-pub returns : goal.returns
-returns c = newest_first

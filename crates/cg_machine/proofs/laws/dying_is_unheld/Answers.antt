@@ -1,5 +1,0 @@
-use Rattle.cg_machine.proofs.UnheldRuns.{dying_unheld}
-use Rattle.cg_machine.proofs.laws.dying_is_unheld.Goals as goal
-
-pub returns : goal.returns
-returns c = dying_unheld

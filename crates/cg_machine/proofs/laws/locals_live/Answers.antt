@@ -1,5 +1,0 @@
-use Rattle.cg_machine.proofs.StandingRuns.{locals_live}
-use Rattle.cg_machine.proofs.laws.locals_live.Goals as goal
-
-pub returns : goal.returns
-returns c = locals_live

@@ -1,5 +1,0 @@
-use Rattle.cg_machine.proofs.Heights.{stacks_bounded}
-use Rattle.cg_machine.proofs.laws.stacks_are_bounded.Goals as goal
-
-pub returns : goal.returns
-returns c = stacks_bounded

@@ -1,5 +1,0 @@
-use Rattle.cg_machine.proofs.LeftBelowRuns.{steps_leave}
-use Rattle.cg_machine.proofs.laws.steps_leave_what_is_below.Goals as goal
-
-pub returns : goal.returns
-returns c = steps_leave

@@ -1,5 +1,0 @@
-use Rattle.cg_machine.proofs.OriginsOfRuns.{worlds_have_origins}
-use Rattle.cg_machine.proofs.laws.worlds_have_origins.Goals as goal
-
-pub returns : goal.returns
-returns c = worlds_have_origins
