@@ -11,69 +11,71 @@ ghost use Rattle.cg_laws.specs.Apart.{CollectionsAreApart};
 ghost use Rattle.cg_laws.specs.Few.{NumbersAreFew};
 ghost use Rattle.cg_laws.specs.Kept.{WorldsStayKept};
 
-/// No run is stuck: each is the beginning of a whole run, whatever choices it took.
+/// No run is stuck: each one is the beginning of a whole run, whatever it chose.
 pub fn no_run_is_stuck()
     ensures { NoRunIsStuck }
 {}
 
-/// What a run has printed is how the text of a whole run begins, also where a step has printed its first lines alone.
+/// What a run has printed is a prefix of the text of a whole run, even in the middle of a step.
 pub fn fronts_begin_whole_texts()
     ensures { FrontsBeginWholeTexts }
 {}
 
-/// In every world of a run a dying object is held while a frame of its own is underway, and by nothing at any other time.
+/// In every world of a run, a dying object is held while its own finalizer or legacy finalizer runs, and is otherwise
+/// unheld.
 pub fn dying_is_unheld()
     ensures { DyingIsUnheld }
 {}
 
-/// In every world of a run what is held lives, a referent is an instance or a function, and a weak reference that waits
-/// for its callback has one.
+/// In every world of a run, whatever is held lives, every referent is an instance or a function, and every weak
+/// reference that waits for its callback has one.
 pub fn worlds_are_orderly()
     ensures { WorldsAreOrderly }
 {}
 
-/// A step of a run leaves the activities below the one that takes it, and the entries of what is dying or waits there.
+/// A step changes no activity below the one that takes it, and no entries of an object that is dying or waiting there.
 pub fn steps_leave_what_is_below()
     ensures { StepsLeaveWhatIsBelow }
 {}
 
-/// In every world of a run the frames and the budget that is left are within the budget of the run; the deaths, and the
-/// weak references that wait, are no more than the objects; a release has at most two references, and only a death stands
-/// on one. So the height of the stack and what it holds are bounded by the budget and the number of objects.
+/// In every world of a run, the frames and the remaining budget stay within the run's budget. There are at most as many
+/// deaths, and as many waiting weak references, as objects; a release has at most two references, and only a death lies
+/// directly on one. So the budget and the number of objects bound the height of the stack and what it holds.
 pub fn stacks_are_bounded()
     ensures { StacksAreBounded }
 {}
 
-/// In every world of a run the commands that are left are of the script, and a command of it names the class of each
-/// instance and the procedure of each function.
+/// In every world of a run, each remaining command comes from the script, and a command of the script names the
+/// class of each instance and the procedure of each function.
 pub fn worlds_have_origins()
     ensures { WorldsHaveOrigins }
 {}
 
-/// In every world of a run the serials that were given are few: one for each command outside procedures, and for each unit
-/// of the budget as many as the longest procedure has commands.
+/// In every world of a run, the number of serials given is bounded: one for each command outside procedures, and for each
+/// unit of the budget as many as the longest procedure has commands.
 pub fn serials_are_few()
     ensures { SerialsAreFew }
 {}
 
-/// In every world of a run, while weak references lose a dying object, those that have lost it and wait for their callback
-/// are newer than those that still refer to it.
+/// In every world of a run, while a dying object's weak references are cleared, those already cleared and waiting for
+/// their callback are newer than those that still refer to it.
 pub fn deaths_clear_newest_first()
     ensures { DeathsClearNewestFirst }
 {}
 
-/// In every world of a run the subject of each frame lives, and so does its function if it has one, which is a function.
+/// In every world of a run, the subject of each frame lives. The frame's function, if it has one, lives too and is a
+/// function.
 pub fn locals_live()
     ensures { LocalsLive }
 {}
 
-/// Every world of a run has what these laws say of one world, and each world to which the machine goes from it has it too.
+/// Every world of a run satisfies these laws, and so does every world that a step leads to.
 pub fn runs_stay_lawful()
     ensures { RunsStayLawful }
 {}
 
-/// Where a script names its own texts alone, and none has more than 1,024 bytes, each line of each run of it can be printed. Each
-/// script that was read is so.
+/// If a script uses only its own texts, each of at most 1,024 bytes, every line of every run can be printed. Each script that the
+/// reader accepts is of this kind.
 pub fn lines_are_printable()
     ensures known { LinesArePrintable }
     ensures read { ReadLinesArePrintable }
