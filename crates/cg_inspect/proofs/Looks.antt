@@ -10,7 +10,7 @@ use Rattle.cg_graph.specs.Object.{Object, serials}
 use Rattle.cg_graph.specs.Store.{Store, objects_of, entries_of, inner, IsLive}
 use Rattle.cg_trial.proofs.Lists.{sum_by-some}
 use Rattle.cg_inspect.specs.Inspection.{HeldElse, arrows_of, entry_number_in_all}
-use Rattle.cg_inspect.specs.Search.{Findings, objects_in, Finds, HasSpread}
+use Rattle.cg_search.specs.Walks.{Findings, objects_in, Finds, HasSpread}
 use Rattle.cg_inspect.proofs.Objects.{entries_are, live_serial}
 use Rattle.cg_inspect.proofs.Holdings.{found_lives}
 

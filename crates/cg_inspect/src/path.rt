@@ -1,7 +1,8 @@
 //! The search for a path of holders.
 ghost use Rattle.std.specs.Prelude.{◌+◌, ◌*◌, ◌≤◌, ◌<◌, ℕ, List, IfOk, length};
 ghost use Rattle.cg_inspect.specs.Inspection.{IsIdle, IsReason, entry_number_in_all};
-ghost use Rattle.cg_inspect.specs.Search.{HaveTrails, IsPathBack};
+ghost use Rattle.cg_inspect.specs.Order.{IsFirst};
+ghost use Rattle.cg_search.specs.Walks.{HaveTrails, IsPathBack};
 
 use crate::live::live_objects;
 use crate::reason::Why;
@@ -33,8 +34,9 @@ fn path_back(alloc: Global, found: &Found, last: usize) -> Result<Vec<u64>, Allo
 /// Why the object is alive, but for one name that holds it: a shortest path, from an object that is held
 /// by a name, by the garbage root or from outside the heap. `Unreachable` comes exactly where there is none. (Ours.)
 ///
-/// Where something else than an entry and one name holds the object, the path is the object alone. Which of several
-/// shortest paths is answered is free.
+/// Where something else than an entry and one name holds the object, the path is the object alone. Of several shortest
+/// paths the first is told: the one from the object with the lowest serial, and then, wherever they part, the one by the
+/// earliest reference.
 ///
 /// No collection is on. Each entry is looked at twice at most: to find out what is held otherwise, and in the search. It answers
 /// `AllocError` only where memory runs out.
@@ -46,6 +48,7 @@ pub fn why<B: Kind, L: Ledger>(
 ) -> Result<Why, AllocError>
     requires { IsIdle heap.now }
     ensures reason { IfOk result (IsReason heap.now object) }
+    ensures first { IfOk result (IsFirst heap.now object) }
     ensures looks { steps.new ≤ steps.old + 2 * entry_number_in_all heap.now }
 {
     let objects = live_objects(alloc, heap)?;
