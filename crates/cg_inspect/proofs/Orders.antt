@@ -11,7 +11,9 @@ use Rattle.cg_graph.specs.Path.{IsPath, LeadsTo, IsShortestPath}
 use Rattle.cg_graph.proofs.Members.{either, Includes-map_cases}
 use Rattle.cg_search.specs.Walks.{Findings, objects_in, IsStart, TrailBy, IsTrailOf, IsOver, IsPathBack}
 use Rattle.cg_search.proofs.Trails.{get_left, get_cases, get_in, in_get, get_below, one_place, lengthen_get, trail_at, found_of, shortest_path}
-use Rattle.cg_inspect.specs.Order.{position_among, PartsBefore, ComesBefore}
+use Rattle.cg_graph.specs.Store.{Store}
+use Rattle.cg_inspect.specs.Inspection.{HeldElse, arrows_of}
+use Rattle.cg_inspect.specs.Order.{references_by, position_among, PartsBefore, ComesBefore, ComesFirst}
 use Rattle.cg_inspect.specs.Findings.{RiseBy, FindsInOrder, IsFollowedFirst, StandsFirst, IsNoLater, AreInOrder}
 
 same_some : {X : Type 0} (x y : X) → Some x ≡ Some y → x ≡ y
@@ -153,6 +155,16 @@ module _ (refs : ℕ → List ℕ) where
   before_trans (x ∷ xs) (y ∷ ys) (z ∷ zs) (inl g) (inr h) = inl (subst (λ w. x < w) h.0 g)
   before_trans (x ∷ xs) (y ∷ ys) (z ∷ zs) (inr g) (inl h) = inl (subst (λ w. w < z) (sym g.0) h)
   before_trans (x ∷ xs) (y ∷ ys) (z ∷ zs) (inr g) (inr h) = inr (g.0 ∙ h.0, parts_trans x xs ys zs g.1 (subst (λ w. PartsBefore refs w ys zs) (sym g.0) h.1))
+
+  parts_strict : (from : ℕ) (xs : List ℕ) → ¬ PartsBefore refs from xs xs
+  parts_strict from [] h = absurd h
+  parts_strict from (x ∷ xs) (inl less) = absurd (omega (arith, less))
+  parts_strict from (x ∷ xs) (inr h) = parts_strict x xs h.1
+
+  before_strict : (xs : List ℕ) → ¬ ComesBefore refs xs xs
+  before_strict [] h = absurd h
+  before_strict (x ∷ xs) (inl less) = absurd (omega (arith, less))
+  before_strict (x ∷ xs) (inr h) = parts_strict x xs h.1
 
   no_longer : (t w : List ℕ) → IsUpTo refs t w → length t ≤ length w
   no_longer t w (Shorter less) = omega (arith, less)
@@ -297,3 +309,10 @@ module _ (refs : ℕ → List ℕ) where
             let r = along object rest start j.0 (start ∷ []) (start ∷ []) j.1 refl (Same refl) leads.1 in
             let same : place ≡ r.0 = one_place (objects_in found) place r.0 object (h.once object) at (found_of found h.trails h.have r.0 object r.1 r.2 r.3) in
             by_rank r.1 (back h.trails h.have r.1 (ap (slice_get h.trails) same ∙ r.2)) (subst (IsUpTo refs r.1) e r.4)
+
+-- One shortest path comes first.
+pub one_first : (store : Store) (object : ℕ) (path other : List ℕ) → IsShortestPath (HeldElse store object) (arrows_of store) path object → ComesFirst store object path
+    → IsShortestPath (HeldElse store object) (arrows_of store) other object → ComesFirst store object other → path ≡ other
+one_first store object path other short first long last =
+    either (first other long) (λ e. sym e)
+    (λ b. either (last path short) (λ e. e) (λ c. absurd (before_strict (references_by store) path (before_trans (references_by store) path other path b c))))

@@ -28,8 +28,12 @@ ComesBefore refs [] other = ⊥
 ComesBefore refs (o ∷ path) [] = ⊥
 ComesBefore refs (o ∷ path) (p ∷ other) = (o < p) ⊎ ((o ≡ p) × PartsBefore refs o path other)
 
--- The path that is told is the first: each other shortest path comes after it.
+-- A path comes first: each other shortest path comes after it.
+abbrev pub ComesFirst : Store → ℕ → List ℕ → Type 0
+ComesFirst store object path =
+    (other : List ℕ) → IsShortestPath (HeldElse store object) (arrows_of store) other object → (other ≡ path) ⊎ ComesBefore (references_by store) path other
+
+-- the path that is told comes first
 abbrev pub IsFirst : Store → ℕ → Why → Type 0
-IsFirst store object (reason.Path path) =
-    (other : List ℕ) → IsShortestPath (HeldElse store object) (arrows_of store) other object → (other ≡ path.items) ⊎ ComesBefore (references_by store) path.items other
+IsFirst store object (reason.Path path) = ComesFirst store object path.items
 IsFirst store object reason.Unreachable = Unit {0}

@@ -7,12 +7,13 @@
 //! - `forwards`, `backwards`: what an object refers to, and what refers to it.
 //! - `holders`: which objects are held by a root.
 //! - `search`: what they lead to, the nearest first.
-//! - `path`: the path that was found; `reason`: the answer.
+//! - `path`: the path that was found; `reason`: the answer; `laws`: that there is one.
 #![tactic(auto)]
 
 mod backwards;
 mod forwards;
 mod holders;
+mod laws;
 mod live;
 mod path;
 mod reason;
@@ -20,5 +21,6 @@ mod search;
 
 pub use backwards::referrers;
 pub use forwards::referents;
+pub use laws::one_path_comes_first;
 pub use path::why;
 pub use reason::Why;
