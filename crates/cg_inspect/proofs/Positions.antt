@@ -2,7 +2,7 @@
 use Rattle.std.proofs.Common.{◌≡◌, ◌≢◌, refl, sym, ◌∙◌, ap, subst, ℕ, zero, suc, ◌+◌, ◌<◌, ◌≤◌, inl, inr, cond, take, get_or, List, [], ◌∷◌, ◌++◌, length, Option, Some, None, arith, append_assoc}
 use Rattle.std.specs.Prelude.{slice_get}
 use Rattle.std.proofs.lemmas.Bool.{eq-eqb, ne_eqb, cases_eq}
-use Rattle.std.proofs.lemmas.List.{append_cancel_left}
+use Rattle.std.proofs.lemmas.List.{append-nil, append_cancel_left}
 use Rattle.std.proofs.lemmas.Option.{slice_get_within}
 use Rattle.cg_graph.specs.Member.{Includes}
 use Rattle.cg_graph.proofs.Members.{either, Includes-append_left, Includes-append_right, Includes-append_cases}
@@ -56,10 +56,10 @@ module _ (old : Findings) (holder : Option ℕ) where
       same = append_cancel_left old more finds.more (sym is ∙ finds.is)
 
   pub none_in_order : FindsInOrder old [] holder old
-  none_in_order = in_order [] old [] (finds_none old holder) (finds_none old holder).is (λ e m. absurd m) (λ i k e f less a b. absurd (cc))
+  none_in_order = in_order [] old [] (finds_none old holder) (sym (append-nil old)) (λ e m. absurd m) (λ i k e f less a b. absurd (cc))
 
   pub present_in_order : (object : ℕ) → Includes (objects_in old) object → FindsInOrder old (object ∷ []) holder old
-  present_in_order object there = in_order (object ∷ []) old [] (finds_present old old object holder refl there) (finds_none old holder).is (λ e m. absurd m) (λ i k e f less a b. absurd (cc))
+  present_in_order object there = in_order (object ∷ []) old [] (finds_present old old object holder refl there) (sym (append-nil old)) (λ e m. absurd m) (λ i k e f less a b. absurd (cc))
 
   pub new_in_order : (new : Findings) (object : ℕ) → new ≡ old ++ (object, holder) ∷ [] → ¬ Includes (objects_in old) object → FindsInOrder old (object ∷ []) holder new
   new_in_order new object is absent =
