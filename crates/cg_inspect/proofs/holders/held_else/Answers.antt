@@ -1,6 +1,4 @@
 use Rattle.std.proofs.Common.{sym, ap, subst, get_or, [], ◌∷◌, None}
-use Rattle.cg_graph.specs.Object.{serials}
-use Rattle.cg_graph.specs.Store.{objects_of}
 use Rattle.cg_inspect.specs.Findings.{RiseBy, FindsInOrder}
 use Rattle.cg_inspect.specs.Inspection.{HeldElse}
 use Rattle.cg_inspect.proofs.Holdings.{start_held, start_unheld, start_all}
