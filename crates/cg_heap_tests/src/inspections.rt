@@ -184,7 +184,10 @@ fn an_object_is_alive_by_a_shortest_path(rt: HostRuntime) -> Result<(), Fail> {
         // The shorter of two paths from one holder, and from two holders.
         table_row(&[(5, 4), (4, 3), (3, 2), (5, 2)], &[5], [2, 6], &[5, 2]),
         table_row(&[(5, 4), (4, 2), (3, 2)], &[3, 5], [2, 6], &[3, 2]),
-        // A long path next to cycles.
+        // Of two as short, the one by the earlier reference, and the one from the lower serial.
+        table_row(&[(5, 4), (5, 3), (3, 2), (4, 2)], &[5], [2, 6], &[5, 4, 2]),
+        table_row(&[(4, 2), (3, 2)], &[3, 4], [2, 6], &[3, 2]),
+        // A long path, with cycles beside it.
         table_row(
             &[(6, 6), (6, 5), (5, 6), (5, 4), (4, 3), (4, 5), (3, 2)],
             &[],

@@ -21,9 +21,10 @@ use Rattle.cg_trial.proofs.Lists.{occurs}
 use Rattle.cg_trial.proofs.Objects.{edges_of_objects}
 use Rattle.cg_inspect.specs.Inspection.{holdings_but_entries, HeldElse, arrows_of}
 use Rattle.cg_inspect.specs.Numbers.{AreNumbers, AreLowered, number_of}
-use Rattle.cg_inspect.specs.Search.{Findings, objects_in, Finds, IsStart, IsTrail, IsTrailOf, HasSpread, IsOver}
+use Rattle.cg_search.specs.Walks.{Findings, objects_in, Finds, IsStart, IsTrail, IsTrailOf, HasSpread, IsOver}
 use Rattle.cg_inspect.proofs.Objects.{entries_are, holdings-serials, live_serial, in_range}
-use Rattle.cg_inspect.proofs.Trails.{next_taken, get_below, get_in, start_more, start_same, trail_of, few_found, spread_more}
+use Rattle.cg_search.proofs.Trails.{next_taken, get_below, get_in, start_more, start_same, trail_of, spread_more}
+use Rattle.cg_inspect.proofs.Found.{few_found}
 
 pub references_next : (es : List Entry) (i : ℕ) (e : Entry) → slice_get es i ≡ Some e → references (take (i + 1) es) ≡ (references (take i es) ++ references_of_value (Some e.val)) ++ references_of_value (Some e.key)
 references_next es i e at = references_in_turn es i e at
@@ -102,6 +103,22 @@ module _ (store : Store) where
   numbers_at_last objects done numbers all whole are o m =
       are o m ∙ ap Some (ap (λ (l : List ℕ). count_of store o - occurrences o (flat_map (λ p. references (entries_of store p)) l)) (whole ∙ all) ∙ holdings-less o)
 
+  -- the arrows of an object are its references
+  pub arrows_out : (o p : ℕ) → Includes (arrows_of store) (record { from = o; to = p }) → Includes (references (entries_of store o)) p
+  arrows_out o p m = go (objects_of store) (λ x k. k) m
+    where
+      go : (xs : List Object) → ((x : Object) → Includes xs x → Includes (objects_of store) x) → Includes (edges (graph_of xs)) (record { from = o; to = p }) → Includes (references (entries_of store o)) p
+      go [] into m = absurd m
+      go (x ∷ xs) into m =
+          either (Includes-append_cases (map (λ r. record { from = x.serial; to = r }) (references x.entries)) (edges (graph_of xs)) (record { from = o; to = p }) m)
+          (λ k.
+          let r = Includes-map_cases (λ r. record { from = x.serial; to = r }) (references x.entries) (record { from = o; to = p }) k in
+          let from : x.serial ≡ o = ap (λ (e : Edge). e.from) r.2 in
+          let to : r.0 ≡ p = ap (λ (e : Edge). e.to) r.2 in
+          subst (λ q. Includes (references (entries_of store q)) p) from
+          (subst (λ es. Includes (references es) p) (sym (entries_are store x (into x (inl refl)))) (subst (Includes (references x.entries)) to r.1)))
+          (λ k. go xs (λ y l. into y (inr l)) k)
+
   module _ (live : (s : ℕ) → 0 < inner store s → IsLive store s) where
     -- what roots hold lives
     pub held_lives : (object o : ℕ) → HeldElse store object o → IsLive store o
@@ -125,22 +142,6 @@ module _ (store : Store) where
     -- so does what an entry refers to
     pub referent_lives : (p o : ℕ) → Includes (references (entries_of store p)) o → IsLive store o
     referent_lives p o m = live o (omega (arith, occurs (references (entries_of store p)) o m, entries_hold store p o))
-
-    -- the edges of an object are its references
-    pub arrows_out : (o p : ℕ) → Includes (arrows_of store) (record { from = o; to = p }) → Includes (references (entries_of store o)) p
-    arrows_out o p m = go (objects_of store) (λ x k. k) m
-      where
-        go : (xs : List Object) → ((x : Object) → Includes xs x → Includes (objects_of store) x) → Includes (edges (graph_of xs)) (record { from = o; to = p }) → Includes (references (entries_of store o)) p
-        go [] into m = absurd m
-        go (x ∷ xs) into m =
-            either (Includes-append_cases (map (λ r. record { from = x.serial; to = r }) (references x.entries)) (edges (graph_of xs)) (record { from = o; to = p }) m)
-            (λ k.
-            let r = Includes-map_cases (λ r. record { from = x.serial; to = r }) (references x.entries) (record { from = o; to = p }) k in
-            let from : x.serial ≡ o = ap (λ (e : Edge). e.from) r.2 in
-            let to : r.0 ≡ p = ap (λ (e : Edge). e.to) r.2 in
-            subst (λ q. Includes (references (entries_of store q)) p) from
-            (subst (λ es. Includes (references es) p) (sym (entries_are store x (into x (inl refl)))) (subst (Includes (references x.entries)) to r.1)))
-            (λ k. go xs (λ y l. into y (inr l)) k)
 
     pub arrows_in : (o p : ℕ) → IsLive store o → Includes (references (entries_of store o)) p → Includes (arrows_of store) (record { from = o; to = p })
     arrows_in o p lives m =
@@ -209,7 +210,7 @@ module _ (store : Store) (live : (s : ℕ) → 0 < inner store s → IsLive stor
   way_lives : (t : List ℕ) (o : ℕ) → IsTrail (HeldElse store object) (arrows_of store) t → IsTrailOf o t → IsLive store o
   way_lives [] o way e = absurd e
   way_lives (p ∷ []) o way e = subst (IsLive store) e (held_lives store live object p way)
-  way_lives (p ∷ q ∷ t) o way e = subst (IsLive store) e (referent_lives store live q p (arrows_out store live q p way.0))
+  way_lives (p ∷ q ∷ t) o way e = subst (IsLive store) e (referent_lives store live q p (arrows_out store q p way.0))
 
   module _ (found : Findings) (place : ℕ) (h : HasSpread (HeldElse store object) (arrows_of store) found place) where
     pub found_lives : (o : ℕ) → Includes (objects_in found) o → IsLive store o
@@ -229,11 +230,14 @@ module _ (store : Store) (live : (s : ℕ) → 0 < inner store s → IsLive stor
     turn_spread o holder refs new at is finds =
         spread_more (HeldElse store object) (arrows_of store) found new place o holder refs h at
         (λ r m. arrows_in store live o r (turn_live o holder at) (subst (λ (l : List ℕ). Includes l r) is m))
-        (λ r m. subst (λ (l : List ℕ). Includes l r) (sym is) (arrows_out store live o r m)) finds
+        (λ r m. subst (λ (l : List ℕ). Includes l r) (sym is) (arrows_out store o r m)) finds
 
-  pub turns_over : (found : Findings) (place : ℕ) → HasSpread (HeldElse store object) (arrows_of store) found place → slice_get found place ≡ None → IsOver (HeldElse store object) (arrows_of store) found
-  turns_over found place h none = subst (HasSpread (HeldElse store object) (arrows_of store) found) (at_end (cases_lt place (length found))) h
+  pub turns_end : (found : Findings) (place : ℕ) → HasSpread (HeldElse store object) (arrows_of store) found place → slice_get found place ≡ None → place ≡ length found
+  turns_end found place h none = at_end (cases_lt place (length found))
     where
       at_end : (place < length found) ⊎ (length found ≤ place) → place ≡ length found
       at_end (inl low) = let r = get_below found place low in absurd (let e : Some r.0 ≡ None = sym r.1 ∙ none in cc)
       at_end (inr high) = let w = h.within in omega (arith, high, w)
+
+  pub turns_over : (found : Findings) (place : ℕ) → HasSpread (HeldElse store object) (arrows_of store) found place → slice_get found place ≡ None → IsOver (HeldElse store object) (arrows_of store) found
+  turns_over found place h none = subst (HasSpread (HeldElse store object) (arrows_of store) found) (turns_end found place h none) h

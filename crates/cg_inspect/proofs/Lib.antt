@@ -1,4 +1,6 @@
-mod Trails
+mod Found
 mod Objects
+mod Positions
+mod Orders
 mod Holdings
 mod Looks

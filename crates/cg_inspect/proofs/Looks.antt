@@ -1,5 +1,5 @@
--- How many entries are looked at: those of some objects, of all objects, and of those found by a search.
-use Rattle.std.proofs.Common.{◌≡◌, refl, ◌∙◌, ap, ℕ, ◌+◌, ◌<◌, ◌≤◌, inl, inr, List, [], ◌∷◌, length, map, take, get_or, Option, Some, sum_by, arith}
+-- How many entries are looked at: those of some objects, of all objects, and of those that a search finds.
+use Rattle.std.proofs.Common.{◌≡◌, refl, ◌∙◌, ap, ℕ, ◌+◌, ◌<◌, ◌≤◌, inl, inr, List, [], ◌∷◌, length, take, get_or, Option, Some, sum_by, arith}
 use Rattle.std.specs.Prelude.{slice_get}
 use Rattle.std.proofs.lemmas.List.{take_more, take-append-le, map-append, length-map}
 use Rattle.std.proofs.lemmas.List.Sums.{sum_by-cons, sum_by_push, sum_by-take-le}
@@ -10,7 +10,7 @@ use Rattle.cg_graph.specs.Object.{Object, serials}
 use Rattle.cg_graph.specs.Store.{Store, objects_of, entries_of, inner, IsLive}
 use Rattle.cg_trial.proofs.Lists.{sum_by-some}
 use Rattle.cg_inspect.specs.Inspection.{HeldElse, arrows_of, entry_number_in_all}
-use Rattle.cg_inspect.specs.Search.{Findings, objects_in, Finds, HasSpread}
+use Rattle.cg_search.specs.Walks.{Findings, objects_in, Finds, HasSpread}
 use Rattle.cg_inspect.proofs.Objects.{entries_are, live_serial}
 use Rattle.cg_inspect.proofs.Holdings.{found_lives}
 

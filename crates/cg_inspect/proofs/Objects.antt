@@ -33,7 +33,7 @@ use Rattle.cg_trial.proofs.Along.{along_more, along_end}
 use Rattle.cg_trial.proofs.Placed.{stands, where_is, is_there}
 use Rattle.cg_trial.proofs.Objects.{once_key, found, finds}
 use Rattle.cg_inspect.specs.Inspection.{IsIdle, idle_lists}
-use Rattle.cg_inspect.proofs.Trails.{in_get, get_in, get_below}
+use Rattle.cg_search.proofs.Trails.{in_get, get_in, get_below}
 
 abbrev pub Ascends : List ℕ → Type 0
 Ascends [] = Unit {0}
@@ -110,6 +110,9 @@ module _ (store : Store) where
             subst (λ q. e.0 < q) (ap (λ (z : Object). z.serial) f.2 ∙ x.2) (below_each e.0 es parts.0 f.0 f.1),
         ascends_entries es parts.1,
       )
+
+  pub ascends_serials : Ascends (serials (objects_of store))
+  ascends_serials = ascends_entries (fin.entries store.nodes) (fin.entries_sorted store.nodes)
 
   -- an object of the store has its entries there, and lives
   pub entry_of : (x : Object) → Includes (objects_of store) x → (n : Node) × (fin.get store.nodes x.serial ≡ Some n) × (n.entries ≡ x.entries)
@@ -241,7 +244,7 @@ module _ (store : Store) where
     -- sorted, they are the objects of the store
     pub sorted_lists : (xs : List ℕ) → IsPermutation (idle_lists store) xs → IsNonDecreasing xs → xs ≡ serials (objects_of store)
     sorted_lists xs moved order =
-        same_ascending xs (serials (objects_of store)) (rises xs order (λ o. omega (arith, same o, idle_once o))) (ascends_entries (fin.entries store.nodes) (fin.entries_sorted store.nodes))
+        same_ascending xs (serials (objects_of store)) (rises xs order (λ o. omega (arith, same o, idle_once o))) ascends_serials
         (λ o m. live_serial o (idle_lives o (occurs_in (idle_lists store) o (let k = occurs xs o m in omega (arith, k, same o)))))
         (λ o m. occurs_in xs o (let k = occurs (idle_lists store) o (lives_idle o (serial_lives o m)) in omega (arith, k, same o)))
       where

@@ -1,3 +1,4 @@
+pub mod Findings
 pub mod Inspection
 pub mod Numbers
-pub mod Search
+pub mod Order

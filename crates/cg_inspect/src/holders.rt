@@ -6,7 +6,8 @@ ghost use Rattle.cg_graph.specs.Object.{serials};
 ghost use Rattle.cg_graph.specs.Store.{IsLive, count_of, objects_of};
 ghost use Rattle.cg_inspect.specs.Inspection.{HeldElse, holdings_but_entries, entry_number_in_all};
 ghost use Rattle.cg_inspect.specs.Numbers.{AreNumbers, AreLowered, number_of};
-ghost use Rattle.cg_inspect.specs.Search.{IsStart};
+ghost use Rattle.cg_inspect.specs.Findings.{RiseBy};
+ghost use Rattle.cg_search.specs.Walks.{IsStart};
 
 use crate::forwards::referents;
 use crate::search::{Found, find};
@@ -95,8 +96,8 @@ fn is_held_else(numbers: &Numbers, holder: u64, object: u64) -> bool
     }
 }
 
-/// Which objects are held by a root other than the given name, which holds its object. `objects` are all the
-/// live ones.
+/// Which objects are held by a root, and than by the name that is asked about, which holds the object, by rising serial.
+/// The objects are all live ones.
 pub fn held_else<B: Kind, L: Ledger>(
     alloc: Global,
     heap: &Heap<B>,
@@ -107,6 +108,7 @@ pub fn held_else<B: Kind, L: Ledger>(
     requires { objects.now ≡ serials (objects_of heap.now) }
     ensures looks { steps.new ≤ steps.old + entry_number_in_all heap.now }
     ensures found { IfOk result (λ found. IsStart (HeldElse heap.now object) found.entries) }
+    ensures order { IfOk result (λ found. RiseBy (λ o. o) found.entries) }
 {
     heap.sound();
     let numbers = other_holdings(alloc, heap, objects, steps)?;

@@ -6,13 +6,14 @@
 //! - `live`: all live objects, by rising serial.
 //! - `forwards`, `backwards`: what an object refers to, and what refers to it.
 //! - `holders`: which objects are held by a root.
-//! - `search`: what is reachable from them, nearest first.
-//! - `path`: a shortest path; `reason`: the answer.
+//! - `search`: what they lead to, the nearest first.
+//! - `path`: the path that was found; `reason`: the answer; `laws`: that there is one.
 #![tactic(auto)]
 
 mod backwards;
 mod forwards;
 mod holders;
+mod laws;
 mod live;
 mod path;
 mod reason;
@@ -20,5 +21,6 @@ mod search;
 
 pub use backwards::referrers;
 pub use forwards::referents;
+pub use laws::one_path_comes_first;
 pub use path::why;
 pub use reason::Why;

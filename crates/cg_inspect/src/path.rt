@@ -1,7 +1,8 @@
 //! The search for a path of holders.
 ghost use Rattle.std.specs.Prelude.{◌+◌, ◌*◌, ◌≤◌, ◌<◌, ℕ, List, IfOk, length};
 ghost use Rattle.cg_inspect.specs.Inspection.{IsIdle, IsReason, entry_number_in_all};
-ghost use Rattle.cg_inspect.specs.Search.{HaveTrails, IsPathBack};
+ghost use Rattle.cg_inspect.specs.Order.{IsFirst};
+ghost use Rattle.cg_search.specs.Walks.{HaveTrails, IsPathBack};
 
 use crate::live::live_objects;
 use crate::reason::Why;
@@ -33,7 +34,9 @@ fn path_back(alloc: Global, found: &Found, last: usize) -> Result<Vec<u64>, Allo
 /// Why the object is alive, apart from one name that holds it: a shortest path of holders from an object held by a root, which
 /// is a name, the garbage root or a hold from outside the heap. `Unreachable` exactly if there is none. (Ours.)
 ///
-/// If a root other than the name holds the object, the path is the object alone. Any of several shortest paths may be answered.
+/// Where something else than an entry and one name holds the object, the path is the object alone. Of several shortest
+/// paths the first is told: the one from the object with the lowest serial, and then, wherever they part, the one by the
+/// earliest reference.
 ///
 /// No collection may be under way. Looks at each entry at most twice: to find what roots hold, and in the search. Answers
 /// `AllocError` only if memory runs out.
@@ -45,6 +48,7 @@ pub fn why<B: Kind, L: Ledger>(
 ) -> Result<Why, AllocError>
     requires { IsIdle heap.now }
     ensures reason { IfOk result (IsReason heap.now object) }
+    ensures first { IfOk result (IsFirst heap.now object) }
     ensures looks { steps.new ≤ steps.old + 2 * entry_number_in_all heap.now }
 {
     let objects = live_objects(alloc, heap)?;

@@ -1,4 +1,4 @@
-use Rattle.cg_inspect.proofs.Trails.{HasGoneBack, ahead_of}
+use Rattle.cg_search.proofs.Trails.{HasGoneBack, ahead_of}
 use Rattle.cg_inspect.proofs.path.path_back.Given as goal
 
 abbrev pub invariant-holders : goal.invariant-holders

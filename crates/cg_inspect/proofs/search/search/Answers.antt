@@ -1,13 +1,20 @@
-use Rattle.std.proofs.Common.{◌∙◌, ◌+◌, sym, arith}
+use Rattle.std.proofs.Common.{◌∙◌, ◌+◌, ℕ, List, Some, subst, sym, arith}
 use Rattle.cg_inspect.specs.Inspection.{HeldElse, arrows_of, entry_number_in_all}
-use Rattle.cg_inspect.proofs.Trails.{spread_first}
+use Rattle.cg_inspect.specs.Findings.{FindsInOrder, AreInOrder}
+use Rattle.cg_inspect.specs.Order.{references_by}
+use Rattle.cg_search.proofs.Trails.{spread_first}
+use Rattle.cg_inspect.proofs.Orders.{order_first, order_more}
 use Rattle.cg_inspect.proofs.Looks.{searched_all, searched_more, searched_next}
 use Rattle.cg_inspect.proofs.Objects.{few_objects}
-use Rattle.cg_inspect.proofs.Holdings.{turn_live, turn_within, turn_spread, turns_over}
+use Rattle.cg_inspect.proofs.Holdings.{turn_live, turn_within, turn_spread, turns_end, turns_over}
 use Rattle.cg_inspect.proofs.search.search.Goals as goal
 
 pub turns-init : goal.turns-init
-turns-init g c = (spread_first (HeldElse c.args.heap.now c.args.object) (arrows_of c.args.heap.now) c.in_ok-found.found.entries c.in_ok-found.ensures.found, omega (arith, c.in_ok-found.ensures.looks))
+turns-init g c = (
+  spread_first (HeldElse c.args.heap.now c.args.object) (arrows_of c.args.heap.now) c.in_ok-found.found.entries c.in_ok-found.ensures.found,
+  omega (arith, c.in_ok-found.ensures.looks),
+  order_first (references_by c.args.heap.now) (HeldElse c.args.heap.now c.args.object) c.in_ok-found.found.entries c.in_ok-found.ensures.found c.in_ok-found.ensures.order,
+)
 
 pub referents-requires : goal.referents-requires
 referents-requires g c = turn_live c.args.heap.now c.sound.ensures.live c.args.object c.turns.found.entries c.turns.at c.turns.invariant.0 c.in-Some.holder c.in-Some.field-0-1 (sym c.found_at.ensures ∙ c.in-Some.is)
@@ -26,13 +33,19 @@ turns-smaller g c =
 pub turns-preserved : goal.turns-preserved
 turns-preserved g c = (
   turn_spread c.args.heap.now c.sound.ensures.live c.args.object c.turns.found.entries c.turns.at c.turns.invariant.0 c.in-Some.holder c.in-Some.field-0-1 c.deref.result.now c.find_all.new.found.entries (sym c.found_at.ensures ∙ c.in-Some.is)
-      (c.deref.ensures.value ∙ c.in_ok-references.ensures.listed) c.in_ok-find_all.ensures,
+      (c.deref.ensures.value ∙ c.in_ok-references.ensures.listed) c.in_ok-find_all.ensures.finds,
   searched_next c.args.heap.now c.sound.ensures.live c.args.object c.turns.found.entries c.turns.at c.turns.invariant.0 c.in-Some.holder c.in-Some.field-0-1 (sym c.found_at.ensures ∙ c.in-Some.is)
-      (c.args.steps.now + entry_number_in_all c.args.heap.now) c.turns.steps c.referents.new.steps c.turns.invariant.1 c.in_ok-references.ensures.looks c.deref.result.now c.find_all.new.found.entries c.in_ok-find_all.ensures,
+      (c.args.steps.now + entry_number_in_all c.args.heap.now) c.turns.steps c.referents.new.steps c.turns.invariant.1 c.in_ok-references.ensures.looks c.deref.result.now c.find_all.new.found.entries c.in_ok-find_all.ensures.finds,
+  order_more (references_by c.args.heap.now) c.turns.found.entries c.find_all.new.found.entries c.turns.at c.in-Some.holder c.in-Some.field-0-1 c.turns.invariant.2 (sym c.found_at.ensures ∙ c.in-Some.is)
+      (subst (λ (l : List ℕ). FindsInOrder c.turns.found.entries l (Some c.turns.at) c.find_all.new.found.entries) (c.deref.ensures.value ∙ c.in_ok-references.ensures.listed) c.in_ok-find_all.ensures),
 )
 
 pub returns-clause-found : goal.returns-clause-found
 returns-clause-found g c = turns_over c.args.heap.now c.sound.ensures.live c.args.object c.turns.found.entries c.turns.at c.turns.invariant.0 (sym c.found_at.ensures ∙ c.in_default.is)
+
+pub returns-clause-order : goal.returns-clause-order
+returns-clause-order g c =
+    subst (AreInOrder (references_by c.args.heap.now) c.turns.found.entries) (turns_end c.args.heap.now c.sound.ensures.live c.args.object c.turns.found.entries c.turns.at c.turns.invariant.0 (sym c.found_at.ensures ∙ c.in_default.is)) c.turns.invariant.2
 
 pub returns-in_err-references-clause-looks : goal.returns-in_err-references-clause-looks
 returns-in_err-references-clause-looks g c =
