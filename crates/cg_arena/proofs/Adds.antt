@@ -15,10 +15,10 @@ use Rattle.cg_arena.specs.Slots.{before_in, after_in, serial_in, place_in_slot, 
 use Rattle.cg_arena.specs.Links.{tied, ends_joined, one_end}
 use Rattle.cg_arena.specs.Table.{nodes_of, rows_of, serials_of, room_of, IsSpelled, IsNamed, ends_at, row_of, IsSound}
 use Rattle.cg_arena.specs.Index.{LeadsTo, HasRowsBelow, IsKept}
-use Rattle.cg_arena.proofs.Standing.{last_of-stands}
+use Rattle.cg_arena.proofs.Occurrences.{last_of-stands}
 use Rattle.cg_arena.proofs.Chains.{IsTied}
-use Rattle.cg_arena.proofs.Ties.{get-tied}
-use Rattle.cg_arena.proofs.Spelled.{stands_placed, vacant_loose, loose_spelled, appended_at, joins_spelled}
+use Rattle.cg_arena.proofs.TiedSlots.{get-tied}
+use Rattle.cg_arena.proofs.ChangedChains.{stands_placed, vacant_loose, loose_spelled, appended_at, joins_spelled}
 use Rattle.cg_arena.proofs.Shapes.{SameShape, shape-tied, nodes-tied, places-tied}
 use Rattle.cg_arena.proofs.Indexes.{added_index, rows_with, index_with}
 use Rattle.cg_arena.proofs.Rows.{get-nodes_of, nodes-insert}
@@ -42,13 +42,20 @@ pub some_numbered : (p : ℕ) (o : Option Slot) → count_in_list p (place_in_sl
 some_numbered p None stands = absurd (omega (arith, stands))
 some_numbered p (Some c) stands = refl
 
-pub last_there : (cell : ℕ → Option Slot) (ends : ℕ → Ends) (chain : ℕ → List ℕ) (loose : Option ℕ) → IsSpelled cell ends chain loose → (q : ℕ) → q < 10 → (j : ℕ) → (ends q).last ≡ Some j → is_some (cell j) ≡ true
+pub last_there : (cell : ℕ → Option Slot) (ends : ℕ → Ends) (chain : ℕ → List ℕ) (loose : Option ℕ) → IsSpelled cell ends chain loose → (q : ℕ) → q < 10
+    → (j : ℕ) → (ends q).last ≡ Some j → is_some (cell j) ≡ true
 last_there cell ends chain loose spelled q below j is =
     some_numbered q (cell j)
     (stands_placed cell ends chain loose spelled q j below
     (last_of-stands (chain q) j (sym (ap (λ (e : Ends). e.last) (spelled.ended q below)) ∙ is)))
 
-module _ (s mid new : Slab Slot) (ends : List Ends) (x y : SlotIndex) (kept : IsKept s x ends) (spare : ℕ) (v : Nodes) (view_is : value_of s ends (rows_of s) spare ≡ v) (t k : ℕ) (c : Slot) (n : ArenaNode) (node_is : node_of c ≡ n) (serial_is : c.serial ≡ t) (after_is : (after_of c) ≡ None) (fresh : fin.get v.nodes t ≡ None) (k_is : k ≡ s.vacant_key) (vacant : get s k ≡ None) (updated : Updates s mid s.vacant_key (Some c)) (len : slab_len mid ≡ slab_len s + 1) (few : slab_len mid < 2 ^ 64) (noted_below : HasRowsBelow y) (noted : LeadsTo y t k) (noted_others : (j u : ℕ) → serial_in (get s j) ≡ Some u → u ≢ t → LeadsTo x u j → LeadsTo y u j) (noted_rows : (u j : ℕ) → row_of y.rows.entries u ≡ Some j → (row_of x.rows.entries u ≡ Some j) ⊎ ((serial_in (get s j) ≡ Some u) ⊎ ((u ≡ t) × (j ≡ k)))) (q : ℕ) (q_is : q ≡ place_number n.place) (below : q < 10) (tied_is : new ≡ tied (ends_at ends q).last (Some k) mid) (e : Ends) (ends_are : e ≡ ends_joined (ends_at ends q) (one_end k)) where
+module _ (s mid new : Slab Slot) (ends : List Ends) (x y : SlotIndex) (kept : IsKept s x ends) (spare : ℕ) (v : Nodes) (view_is : value_of s ends (rows_of s)
+    spare ≡ v) (t k : ℕ) (c : Slot) (n : ArenaNode) (node_is : node_of c ≡ n) (serial_is : c.serial ≡ t) (after_is : (after_of c)
+    ≡ None) (fresh : fin.get v.nodes t ≡ None) (k_is : k ≡ s.vacant_key) (vacant : get s k ≡ None) (updated : Updates s mid s.vacant_key (Some c)) (len :
+    slab_len mid ≡ slab_len s + 1) (few : slab_len mid < 2 ^ 64) (noted_below : HasRowsBelow y) (noted : LeadsTo y t k) (noted_others : (j u : ℕ)
+    → serial_in (get s j) ≡ Some u → u ≢ t → LeadsTo x u j → LeadsTo y u j) (noted_rows : (u j : ℕ) → row_of y.rows.entries u ≡ Some j
+    → (row_of x.rows.entries u ≡ Some j) ⊎ ((serial_in (get s j) ≡ Some u) ⊎ ((u ≡ t) × (j ≡ k)))) (q : ℕ) (q_is : q ≡ place_number n.place) (below : q < 10)
+    (tied_is : new ≡ tied (ends_at ends q).last (Some k) mid) (e : Ends) (ends_are : e ≡ ends_joined (ends_at ends q) (one_end k)) where
   abbrev rows : List (ℕ × ℕ)
   rows = rows_of s
 
@@ -158,7 +165,11 @@ module _ (s mid new : Slab Slot) (ends : List Ends) (x y : SlotIndex) (kept : Is
       }
 
   added_kept : IsKept new y (slice_set ends q e)
-  added_kept = record { sound = added_sound; indexed = index_with s new kept.sound.names t k serial_there no_row vacant serial_here y (added_index s x y (index_kept s ends x kept) t k no_row vacant noted_below noted noted_others noted_rows) }
+  added_kept = record {
+    sound = added_sound;
+    indexed = index_with s new kept.sound.names t k serial_there no_row vacant serial_here y
+        (added_index s x y (index_kept s ends x kept) t k no_row vacant noted_below noted noted_others noted_rows);
+  }
 
   nodes_are : nodes_of (rows_of new) new ≡ fin.insert v.nodes t n
   nodes_are =
@@ -184,7 +195,8 @@ module _ (s mid new : Slab Slot) (ends : List Ends) (x y : SlotIndex) (kept : Is
       ∙ sym (lists-joined new v.lists sound.chain old_ten old_are t k q (ap (λ o. unwrap_or o 0) serial_here) below r r_below)
       ∙ ap (λ p. list_of (joins_list v.lists t p) r) q_is)
 
-  pub added : (left : ℕ) → mid.capacity ≡ s.capacity → spare ≤ left + 1 → StandsFor new (slice_set ends q e) y left (with_node t n (record v { room = room_of left new })) × (v.room ≤ room_of left new + 1)
+  pub added : (left : ℕ) → mid.capacity ≡ s.capacity → spare ≤ left + 1 → StandsFor new (slice_set ends q e) y left
+      (with_node t n (record v { room = room_of left new })) × (v.room ≤ room_of left new + 1)
   added left capacity used =
       let was : v.room ≡ min spare (s.capacity - slab_len s) = ap (λ (w : Nodes). w.room) (sym view_is) in
       let room : v.room ≤ room_of left new + 1 = omega (arith, was, capacity, used, len, shape.len, shape.capacity) in

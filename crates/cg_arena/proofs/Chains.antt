@@ -5,7 +5,7 @@ use Rattle.cg_graph.specs.Holdings.{occurrences}
 use Rattle.cg_arena.specs.declared.slot.Slot.{Slot}
 use Rattle.cg_arena.specs.Slots.{before_in, after_in}
 use Rattle.cg_arena.specs.Links.{IsLinked, first_or, last_or, chain_from}
-use Rattle.cg_arena.proofs.Standing.{one, one-same, occurrences-cons, last-stands, last_of-stands, first-stands, first_or-append}
+use Rattle.cg_arena.proofs.Occurrences.{one, one-same, occurrences-cons, last-stands, last_of-stands, first-stands, first_or-append}
 
 -- the slot has the same links
 abbrev pub HasLinks : (ℕ → Option Slot) → (ℕ → Option Slot) → ℕ → Type 0
@@ -75,7 +75,8 @@ pub record IsTied (cell new : ℕ → Option Slot) (before after : Option ℕ) :
   pub last : (j : ℕ) → after ≡ Some j → before_in (new j) ≡ before
 
 -- tying the end of one chain to the beginning of another joins them
-module _ (cell new : ℕ → Option Slot) (ks ls : List ℕ) (old : Option ℕ) (gone : Option ℕ) (is_tied : IsTied cell new (last_or None ks) (first_or ls None)) (once : (j : ℕ) → occurrences j ks + occurrences j ls ≤ 1) where
+module _ (cell new : ℕ → Option Slot) (ks ls : List ℕ) (old : Option ℕ) (gone : Option ℕ) (is_tied : IsTied cell new (last_or None ks) (first_or ls None))
+    (once : (j : ℕ) → occurrences j ks + occurrences j ls ≤ 1) where
   front : IsLinked cell None ks old → IsLinked new None ks (first_or ls None)
   front linked =
       relast cell new None ks old (first_or ls None)

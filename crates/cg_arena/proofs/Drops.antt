@@ -15,10 +15,10 @@ use Rattle.cg_arena.specs.Slots.{before_in, after_in, serial_in, place_in_slot, 
 use Rattle.cg_arena.specs.Links.{tied, ends_without}
 use Rattle.cg_arena.specs.Table.{nodes_of, rows_of, serials_of, room_of, IsSpelled, IsNamed, ends_at, row_of, IsSound}
 use Rattle.cg_arena.specs.Index.{IsIndex, IsKept}
-use Rattle.cg_arena.proofs.Standing.{occurrences-without_same}
+use Rattle.cg_arena.proofs.Occurrences.{occurrences-without_same}
 use Rattle.cg_arena.proofs.Chains.{IsTied}
-use Rattle.cg_arena.proofs.Ties.{get-tied}
-use Rattle.cg_arena.proofs.Spelled.{count_in_list-same, count_in_list-other, stands_placed, before_stands, after_stands, leaves_spelled, loose_spelled, loose_vacant}
+use Rattle.cg_arena.proofs.TiedSlots.{get-tied}
+use Rattle.cg_arena.proofs.ChangedChains.{count_in_list-same, count_in_list-other, stands_placed, before_stands, after_stands, leaves_spelled, loose_spelled, loose_vacant}
 use Rattle.cg_arena.proofs.Shapes.{SameShape, shape-tied, nodes-tied, places-tied, there-tied}
 use Rattle.cg_arena.proofs.Indexes.{rows_without, index_without}
 use Rattle.cg_arena.proofs.Rows.{nodes-remove}
@@ -29,7 +29,8 @@ use Rattle.cg_arena.proofs.Lookups.{list_is, lists_ten, with_serial}
 use Rattle.cg_arena.proofs.Adds.{some_numbered}
 
 -- a node leaves its list: its neighbours are tied, and the ends updated
-module _ (s new : Slab Slot) (ends : List Ends) (rows : List (ℕ × ℕ)) (sound : IsSound s ends rows) (t k : ℕ) (c : Slot) (row_is : row_of rows t ≡ Some k) (slot_is : get s k ≡ Some c) (p : ℕ) (p_is : p ≡ place_number c.place) (below : p < 10) (tied_is : new ≡ tied c.word.before (after_of c) s) where
+module _ (s new : Slab Slot) (ends : List Ends) (rows : List (ℕ × ℕ)) (sound : IsSound s ends rows) (t k : ℕ) (c : Slot) (row_is : row_of rows t ≡ Some k)
+    (slot_is : get s k ≡ Some c) (p : ℕ) (p_is : p ≡ place_number c.place) (below : p < 10) (tied_is : new ≡ tied c.word.before (after_of c) s) where
   stood : occurrences k (sound.chain p) ≡ 1
   stood = sound.spelled.standing p k below ∙ ap (λ o. count_in_list p (place_in_slot o)) slot_is ∙ count_in_list-same p c.place (sym p_is)
 
@@ -82,7 +83,10 @@ module _ (s new : Slab Slot) (ends : List Ends) (rows : List (ℕ × ℕ)) (soun
         let size : e.size ≡ (ends_at ends p).size - 1 = ap (λ (d : Ends). d.size) ends_are in
         omega (arith, sizes-set ends sound.ten p below e, size, size_there)
 
-module _ (s mid new : Slab Slot) (ends : List Ends) (x y : SlotIndex) (kept : IsKept s x ends) (spare : ℕ) (v : Nodes) (view_is : value_of s ends (rows_of s) spare ≡ v) (t k : ℕ) (c : Slot) (row_is : row_of (rows_of s) t ≡ Some k) (slot_is : get s k ≡ Some c) (p : ℕ) (p_is : p ≡ place_number c.place) (below : p < 10) (tied_is : mid ≡ tied c.word.before (after_of c) s) (e : Ends) (ends_are : e ≡ ends_without c.word.before (after_of c) (ends_at ends p)) (updates : Updates mid new k None) (len : slab_len new + 1 ≡ slab_len mid) (removed : IsIndex (λ j. if j == k then None else serial_in (get s j)) y) where
+module _ (s mid new : Slab Slot) (ends : List Ends) (x y : SlotIndex) (kept : IsKept s x ends) (spare : ℕ) (v : Nodes) (view_is : value_of s ends (rows_of s)
+    spare ≡ v) (t k : ℕ) (c : Slot) (row_is : row_of (rows_of s) t ≡ Some k) (slot_is : get s k ≡ Some c) (p : ℕ) (p_is : p ≡ place_number c.place) (below : p <
+    10) (tied_is : mid ≡ tied c.word.before (after_of c) s) (e : Ends) (ends_are : e ≡ ends_without c.word.before (after_of c) (ends_at ends p)) (updates :
+    Updates mid new k None) (len : slab_len new + 1 ≡ slab_len mid) (removed : IsIndex (λ j. if j == k then None else serial_in (get s j)) y) where
   abbrev rows : List (ℕ × ℕ)
   rows = rows_of s
 
@@ -182,13 +186,15 @@ module _ (s mid new : Slab Slot) (ends : List Ends) (x y : SlotIndex) (kept : Is
       (length-set v.lists p (without_serial t (list_of v.lists p)) ∙ old_ten)
       (λ r r_below.
       list-at new (slice_set ends p e) (λ q. without_serial k (sound.chain q)) None (length-set ends p e ∙ sound.ten) dropped_spelled r r_below
-      ∙ serials-same s new (without_serial k (sound.chain r)) (λ j stands. serial_there j (λ same. absurd (omega (arith, stands, gone r, ap (λ i. occurrences i (without_serial k (sound.chain r))) same))))
+      ∙ serials-same s new (without_serial k (sound.chain r))
+      (λ j stands. serial_there j (λ same. absurd (omega (arith, stands, gone r, ap (λ i. occurrences i (without_serial k (sound.chain r))) same))))
       ∙ sym (lists-left s v.lists sound.chain old_ten (list_is s ends rows spare v view_is sound) (row_of rows) sound.names t k p row_is below
       (with_serial s ends rows spare v view_is sound)
       (absent s mid ends rows sound t k c row_is slot_is p p_is below tied_is)
       r r_below))
 
-  pub dropped : (left : ℕ) → new.capacity ≡ mid.capacity → spare ≤ left → StandsFor new (slice_set ends p e) y left (without_node t (record v { room = room_of left new })) × (v.room ≤ room_of left new)
+  pub dropped : (left : ℕ) → new.capacity ≡ mid.capacity → spare ≤ left → StandsFor new (slice_set ends p e) y left
+      (without_node t (record v { room = room_of left new })) × (v.room ≤ room_of left new)
   dropped left capacity more =
       let was : v.room ≡ min spare (s.capacity - slab_len s) = ap (λ (w : Nodes). w.room) (sym view_is) in
       let room : v.room ≤ room_of left new = omega (arith, was, capacity, more, len, shape.len, shape.capacity) in

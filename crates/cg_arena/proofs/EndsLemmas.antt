@@ -1,7 +1,7 @@
 -- The ends of a list after a slot leaves, and of two lists joined.
 use Rattle.std.proofs.Common.{◌≡◌, ℕ, ◌-◌, List, [], ◌∷◌, ◌++◌, length, Option, Some, None, refl, sym, ap, ◌∙◌, arith, length-append, append-nil}
 use Rattle.cg_arena.specs.Links.{first_or, last_or, or_else, at_end, ends_of, ends_without, ends_joined}
-use Rattle.cg_arena.proofs.Standing.{last_or-append}
+use Rattle.cg_arena.proofs.Occurrences.{last_or-append}
 
 at_end-last : (k : ℕ) (ks : List ℕ) (u v : Option ℕ) → at_end (last_or (Some k) ks) u v ≡ v
 at_end-last k [] u v = refl

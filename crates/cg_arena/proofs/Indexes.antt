@@ -138,7 +138,9 @@ displaced_found s x y named t other stands guesses rows k q is leads = elim (cas
 ]
 
 -- a new serial is put into a vacant slot
-module _ (s : Slab Slot) (x y : SlotIndex) (index : IsIndexOf s x) (t at : ℕ) (fresh : row_of (rows_of s) t ≡ None) (vacant : get s at ≡ None) (below : HasRowsBelow y) (noted : LeadsTo y t at) (others : (k q : ℕ) → serial_in (get s k) ≡ Some q → q ≢ t → LeadsTo x q k → LeadsTo y q k) (rows : (q k : ℕ) → row_of y.rows.entries q ≡ Some k → (row_of x.rows.entries q ≡ Some k) ⊎ ((serial_in (get s k) ≡ Some q) ⊎ ((q ≡ t) × (k ≡ at)))) where
+module _ (s : Slab Slot) (x y : SlotIndex) (index : IsIndexOf s x) (t at : ℕ) (fresh : row_of (rows_of s) t ≡ None) (vacant : get s at ≡ None)
+    (below : HasRowsBelow y) (noted : LeadsTo y t at) (others : (k q : ℕ) → serial_in (get s k) ≡ Some q → q ≢ t → LeadsTo x q k → LeadsTo y q k)
+    (rows : (q k : ℕ) → row_of y.rows.entries q ≡ Some k → (row_of x.rows.entries q ≡ Some k) ⊎ ((serial_in (get s k) ≡ Some q) ⊎ ((q ≡ t) × (k ≡ at)))) where
   abbrev with_it : ℕ → Option ℕ
   with_it k = if k == at then Some t else serial_in (get s k)
 

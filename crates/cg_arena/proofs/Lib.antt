@@ -1,11 +1,11 @@
 pub mod Writes
 pub mod Guesses
 pub mod Indexes
-pub mod Standing
+pub mod Occurrences
 pub mod Chains
-pub mod Ties
+pub mod TiedSlots
 pub mod EndsLemmas
-pub mod Spelled
+pub mod ChangedChains
 pub mod Merged
 pub mod Rows
 pub mod Lists

@@ -12,9 +12,9 @@ use Rattle.cg_arena.specs.Nodes.{following, count_in_list}
 use Rattle.cg_arena.specs.Slots.{serial_in, place_in_slot}
 use Rattle.cg_arena.specs.Links.{chain_from, no_ends}
 use Rattle.cg_arena.specs.Table.{serials_of, IsSpelled, IsNamed, ends_at}
-use Rattle.cg_arena.proofs.Standing.{one-same, one-apart, occurrences-cons, without-absent}
+use Rattle.cg_arena.proofs.Occurrences.{one-same, one-apart, occurrences-cons, without-absent}
 use Rattle.cg_arena.proofs.Chains.{chain-read}
-use Rattle.cg_arena.proofs.Spelled.{appended_at, appended-here, appended-there}
+use Rattle.cg_arena.proofs.ChangedChains.{appended_at, appended-here, appended-there}
 use Rattle.cg_arena.proofs.Merged.{merged_chain, merged-to, merged-from, merged-other, Which, To, From, Other, which}
 
 -- the serial of a slot, and those of a list of slots
@@ -30,7 +30,8 @@ has_serial p None stands = absurd (omega (arith, stands))
 has_serial p (Some c) stands = (c.serial, refl)
 
 -- the list of a place is the serials of its chain
-pub list-at : (s : Slab Slot) (ends : List Ends) (chain : ℕ → List ℕ) (loose : Option ℕ) → length ends ≡ 10 → IsSpelled (get s) (ends_at ends) chain loose → (r : ℕ) → r < 10 → list_of (map (serials_of s) ends) r ≡ serials s (chain r)
+pub list-at : (s : Slab Slot) (ends : List Ends) (chain : ℕ → List ℕ) (loose : Option ℕ) → length ends ≡ 10 → IsSpelled (get s) (ends_at ends) chain loose
+    → (r : ℕ) → r < 10 → list_of (map (serials_of s) ends) r ≡ serials s (chain r)
 unfolding serials_of
 list-at s ends chain loose ten spelled r below =
     get_or-map (serials_of s) ends r no_ends [] (omega (arith, ten, below))
@@ -63,29 +64,48 @@ module _ (s : Slab Slot) (row : ℕ → Option ℕ) (names : IsNamed (λ k. seri
   -- the list without the serial
   pub without-serials : (ks : List ℕ) → ((j : ℕ) → 0 < occurrences j ks → (u : ℕ) × (serial_in (get s j) ≡ Some u)) → without_serial t (serials s ks) ≡ serials s (without_serial k ks)
   without-serials [] there = refl
-  without-serials (x ∷ ks) there = go (cases_eq k x) (there x (omega (arith, occurrences-cons x x ks, one-same x x refl))) (without-serials ks (λ j stands. there j (omega (arith, stands, occurrences-cons j x ks))))
+  without-serials (x ∷ ks) there = go (cases_eq k x) (there x (omega (arith, occurrences-cons x x ks, one-same x x refl)))
+      (without-serials ks (λ j stands. there j (omega (arith, stands, occurrences-cons j x ks))))
     where
-      go : (k ≡ x) ⊎ (k ≢ x) → (u : ℕ) × (serial_in (get s x) ≡ Some u) → without_serial t (serials s ks) ≡ serials s (without_serial k ks) → without_serial t (serials s (x ∷ ks)) ≡ serials s (without_serial k (x ∷ ks))
+      go : (k ≡ x) ⊎ (k ≢ x) → (u : ℕ) × (serial_in (get s x) ≡ Some u) → without_serial t (serials s ks) ≡ serials s (without_serial k ks)
+          → without_serial t (serials s (x ∷ ks)) ≡ serials s (without_serial k (x ∷ ks))
       go (inl same) found rest =
           ap (λ b. cond (not b) (serial_at s x ∷ without_serial t (serials s ks)) (without_serial t (serials s ks))) (eq-eqb t (serial_at s x) (sym serial-here ∙ ap (serial_at s) same))
           ∙ rest
           ∙ sym (ap (λ b. serials s (cond (not b) (x ∷ without_serial k ks) (without_serial k ks))) (eq-eqb k x same))
       go (inr differs) found rest =
-          ap (λ b. cond (not b) (serial_at s x ∷ without_serial t (serials s ks)) (without_serial t (serials s ks))) (ne_eqb t (serial_at s x) (λ e. serial-there x found.0 found.1 (λ f. differs (sym f)) (sym e)))
+          ap (λ b. cond (not b) (serial_at s x ∷ without_serial t (serials s ks)) (without_serial t (serials s ks)))
+          (ne_eqb t (serial_at s x) (λ e. serial-there x found.0 found.1 (λ f. differs (sym f)) (sym e)))
           ∙ ap (λ ys. serial_at s x ∷ ys) rest
           ∙ sym (ap (λ b. serials s (cond (not b) (x ∷ without_serial k ks) (without_serial k ks))) (ne_eqb k x differs))
 
   -- how often it occurs in the list
   pub occurrences-serials : (ks : List ℕ) → ((j : ℕ) → 0 < occurrences j ks → (u : ℕ) × (serial_in (get s j) ≡ Some u)) → occurrences t (serials s ks) ≡ occurrences k ks
   occurrences-serials [] there = refl
-  occurrences-serials (x ∷ ks) there = go (cases_eq x k) (there x (omega (arith, occurrences-cons x x ks, one-same x x refl))) (occurrences-serials ks (λ j stands. there j (omega (arith, stands, occurrences-cons j x ks))))
+  occurrences-serials (x ∷ ks) there = go (cases_eq x k) (there x (omega (arith, occurrences-cons x x ks, one-same x x refl)))
+      (occurrences-serials ks (λ j stands. there j (omega (arith, stands, occurrences-cons j x ks))))
     where
       go : (x ≡ k) ⊎ (x ≢ k) → (u : ℕ) × (serial_in (get s x) ≡ Some u) → occurrences t (serials s ks) ≡ occurrences k ks → occurrences t (serials s (x ∷ ks)) ≡ occurrences k (x ∷ ks)
-      go (inl same) found rest = omega (arith, rest, occurrences-cons t (serial_at s x) (serials s ks), occurrences-cons k x ks, one-same k x same, one-same t (serial_at s x) (ap (serial_at s) same ∙ serial-here))
-      go (inr differs) found rest = omega (arith, rest, occurrences-cons t (serial_at s x) (serials s ks), occurrences-cons k x ks, one-apart k x differs, one-apart t (serial_at s x) (serial-there x found.0 found.1 differs))
+      go (inl same) found rest = omega (
+        arith,
+        rest,
+        occurrences-cons t (serial_at s x) (serials s ks),
+        occurrences-cons k x ks,
+        one-same k x same,
+        one-same t (serial_at s x) (ap (serial_at s) same ∙ serial-here),
+      )
+      go (inr differs) found rest = omega (
+        arith,
+        rest,
+        occurrences-cons t (serial_at s x) (serials s ks),
+        occurrences-cons k x ks,
+        one-apart k x differs,
+        one-apart t (serial_at s x) (serial-there x found.0 found.1 differs),
+      )
 
   -- what comes after it
-  pub following-serials : (front back : List ℕ) → occurrences k front ≡ 0 → ((j : ℕ) → 0 < occurrences j front → (u : ℕ) × (serial_in (get s j) ≡ Some u)) → following t (serials s (front ++ k ∷ back)) ≡ slice_get (serials s back) 0
+  pub following-serials : (front back : List ℕ) → occurrences k front ≡ 0 → ((j : ℕ) → 0 < occurrences j front → (u : ℕ) × (serial_in (get s j) ≡ Some u))
+      → following t (serials s (front ++ k ∷ back)) ≡ slice_get (serials s back) 0
   following-serials [] back absent there = ap (λ b. if b then slice_get (serials s back) 0 else following t (serials s back)) (eq-eqb (serial_at s k) t serial-here)
   following-serials (x ∷ front) back absent there =
       let differs : x ≢ k = λ same. absurd (omega (arith, absent, occurrences-cons k x front, one-same k x same)) in
@@ -94,7 +114,8 @@ module _ (s : Slab Slot) (row : ℕ → Option ℕ) (names : IsNamed (λ k. seri
       ∙ following-serials front back (omega (arith, absent, occurrences-cons k x front)) (λ j stands. there j (omega (arith, stands, occurrences-cons j x front)))
 
 -- a serial without a row is in no list
-pub serials-absent : (s : Slab Slot) (row : ℕ → Option ℕ) → IsNamed (λ k. serial_in (get s k)) row → (t : ℕ) → row t ≡ None → (ks : List ℕ) → ((j : ℕ) → 0 < occurrences j ks → (u : ℕ) × (serial_in (get s j) ≡ Some u)) → occurrences t (serials s ks) ≡ 0
+pub serials-absent : (s : Slab Slot) (row : ℕ → Option ℕ) → IsNamed (λ k. serial_in (get s k)) row → (t : ℕ) → row t ≡ None → (ks : List ℕ)
+    → ((j : ℕ) → 0 < occurrences j ks → (u : ℕ) × (serial_in (get s j) ≡ Some u)) → occurrences t (serials s ks) ≡ 0
 serials-absent s row names t none [] there = refl
 serials-absent s row names t none (x ∷ ks) there =
     let found = there x (omega (arith, occurrences-cons x x ks, one-same x x refl)) in
@@ -108,7 +129,8 @@ serials-absent s row names t none (x ∷ ks) there =
 
 -- the ten lists after a serial leaves or joins one, or one list is appended to another
 module _ (s : Slab Slot) (lists : List (List ℕ)) (chain : ℕ → List ℕ) (ten : length lists ≡ 10) (are : (r : ℕ) → r < 10 → list_of lists r ≡ serials s (chain r)) where
-  pub lists-left : (row : ℕ → Option ℕ) → IsNamed (λ k. serial_in (get s k)) row → (t k p : ℕ) → row t ≡ Some k → p < 10 → ((j r : ℕ) → r < 10 → 0 < occurrences j (chain r) → (u : ℕ) × (serial_in (get s j) ≡ Some u))
+  pub lists-left : (row : ℕ → Option ℕ) → IsNamed (λ k. serial_in (get s k)) row → (t k p : ℕ) → row t ≡ Some k → p < 10
+      → ((j r : ℕ) → r < 10 → 0 < occurrences j (chain r) → (u : ℕ) × (serial_in (get s j) ≡ Some u))
       → ((r : ℕ) → r < 10 → r ≢ p → occurrences k (chain r) ≡ 0) → (r : ℕ) → r < 10 → list_of (leaves_list lists t p) r ≡ serials s (without_serial k (chain r))
   lists-left row names t k p row_is p_below there absent r below = elim (cases_eq r p) [
     | inl same ↦

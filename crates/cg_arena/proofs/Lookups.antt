@@ -16,9 +16,9 @@ use Rattle.cg_arena.specs.Slots.{after_in, serial_in, place_in_slot, node_in, no
 use Rattle.cg_arena.specs.Links.{first_or, no_ends, IsLinked}
 use Rattle.cg_arena.specs.Table.{nodes_of, rows_of, serials_of, room_of, IsSpelled, ends_at, row_of, IsSound}
 use Rattle.cg_arena.specs.Index.{IsKept}
-use Rattle.cg_arena.proofs.Standing.{one-same, occurrences-cons, occurrences-append, IsBetween, stands_between}
+use Rattle.cg_arena.proofs.Occurrences.{one-same, occurrences-cons, occurrences-append, IsBetween, stands_between}
 use Rattle.cg_arena.proofs.Chains.{linked_back}
-use Rattle.cg_arena.proofs.Spelled.{stands_placed, count_in_list-same}
+use Rattle.cg_arena.proofs.ChangedChains.{stands_placed, count_in_list-same}
 use Rattle.cg_arena.proofs.Rows.{get-nodes_of}
 use Rattle.cg_arena.proofs.Lists.{serial_at, serials, has_serial, list-at, ten_lists, occurrences-serials, following-serials, serials-absent}
 use Rattle.cg_arena.proofs.Sound.{value_of, node_here, some_value, slot_there}
@@ -69,12 +69,24 @@ module _ (s : Slab Slot) (ends : List Ends) (rows : List (ℕ × ℕ)) (spare : 
       let p = place_number c.place in
       let once : occurrences k (sound.chain p) ≡ 1 = sound.spelled.standing p k below ∙ ap (λ o. count_in_list p (place_in_slot o)) slot_is ∙ count_in_list-same p c.place refl in
       let between : IsBetween k (sound.chain p) = stands_between k (sound.chain p) (omega (arith, once)) in
-      let counted : occurrences k (sound.chain p) ≡ occurrences k between.front + occurrences k (k ∷ between.back) = ap (occurrences k) between.is ∙ occurrences-append k between.front (k ∷ between.back) in
+      let counted : occurrences k (sound.chain p) ≡ occurrences k between.front + occurrences k (k ∷ between.back) = ap (occurrences k) between.is
+      ∙ occurrences-append k between.front (k ∷ between.back) in
       let linked : IsLinked (get s) None (between.front ++ k ∷ between.back) None = subst (λ ks. IsLinked (get s) None ks None) between.is (sound.spelled.linked p below) in
       let behind = linked_back (get s) None between.front (k ∷ between.back) None linked in
       let absent : occurrences k between.front ≡ 0 = omega (arith, once, counted, occurrences-cons k k between.back, one-same k k refl) in
-      let among = λ (j : ℕ) (h : 0 < occurrences j between.front). let e : 0 < occurrences j (sound.chain p) = omega (arith, h, ap (occurrences j) between.is, occurrences-append j between.front (k ∷ between.back)) in e in
-      let later = λ (j : ℕ) (h : 0 < occurrences j between.back). let e : 0 < occurrences j (sound.chain p) = omega (arith, h, ap (occurrences j) between.is, occurrences-append j between.front (k ∷ between.back), occurrences-cons j k between.back) in e in
+      let among = λ (j : ℕ) (h : 0 < occurrences j between.front). let e : 0 < occurrences j (sound.chain p) = omega (
+        arith,
+        h,
+        ap (occurrences j) between.is,
+        occurrences-append j between.front (k ∷ between.back),
+      ) in e in
+      let later = λ (j : ℕ) (h : 0 < occurrences j between.back). let e : 0 < occurrences j (sound.chain p) = omega (
+        arith,
+        h,
+        ap (occurrences j) between.is,
+        occurrences-append j between.front (k ∷ between.back),
+        occurrences-cons j k between.back,
+      ) in e in
       ap (serial_of_slot s) (sym (ap after_in slot_is) ∙ behind.1)
       ∙ first-serials s between.back (λ j h. with_serial j p below (later j h))
       ∙ sym (following-serials s (row_of rows) sound.names t k row_is between.front between.back absent (λ j h. with_serial j p below (among j h)))
@@ -168,7 +180,8 @@ module _ (s : Slab Slot) (e : Ends) (x : SlotIndex) (vacant : s.slots ≡ []) (e
 
   pub new_value : (spare : ℕ) → value_of s ten_ends (rows_of s) spare ≡ no_nodes (room_of spare s)
   new_value spare =
-      let nodes_are : nodes_of rows s ≡ fin.empty = same_map (nodes_of rows s) fin.empty (λ q. get-nodes_of rows s q ∙ ap (option_map (λ k. node_in (get s k))) (no_row q) ∙ sym (fin.get-empty nat_cmp q)) in
+      let nodes_are : nodes_of rows s ≡ fin.empty = same_map (nodes_of rows s) fin.empty (λ q. get-nodes_of rows s q ∙ ap (option_map (λ k. node_in (get s k)))
+      (no_row q) ∙ sym (fin.get-empty nat_cmp q)) in
       let lists_are : map (serials_of s) ten_ends ≡ replicate 10 [] =
       ten_lists (map (serials_of s) ten_ends) (replicate 10 []) refl refl
       (λ r below. list-at s ten_ends (λ p. []) None refl empty_spelled r below ∙ sym (get_or-replicate 10 r [] [] below)) in

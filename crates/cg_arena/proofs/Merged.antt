@@ -11,10 +11,10 @@ use Rattle.cg_arena.specs.Nodes.{count_in_list}
 use Rattle.cg_arena.specs.Slots.{place_in_slot}
 use Rattle.cg_arena.specs.Links.{IsLinked, first_or, last_or, ends_of, ends_joined, no_ends}
 use Rattle.cg_arena.specs.Table.{IsSpelled}
-use Rattle.cg_arena.proofs.Standing.{occurrences-append}
+use Rattle.cg_arena.proofs.Occurrences.{occurrences-append}
 use Rattle.cg_arena.proofs.Chains.{HasLinks, linked_still, IsTied, tied_chain, tied_elsewhere}
 use Rattle.cg_arena.proofs.EndsLemmas.{ends-joined}
-use Rattle.cg_arena.proofs.Spelled.{count_in_list-same, count_in_list-other, stands_once, stands_either}
+use Rattle.cg_arena.proofs.ChangedChains.{count_in_list-same, count_in_list-other, stands_once, stands_either}
 
 -- the chains after that of p is appended to that of q
 abbrev pub merged_chain : ℕ → ℕ → (ℕ → List ℕ) → ℕ → List ℕ
@@ -46,7 +46,12 @@ which p q r = elim (cases_eq r q) [
   | inr not_to ↦ elim (cases_eq r p) [ inl from ↦ From from | inr not_from ↦ Other not_to not_from ]
 ]
 
-module _ (cell placed new : ℕ → Option Slot) (ends later : ℕ → Ends) (chain : ℕ → List ℕ) (spelled : IsSpelled cell ends chain None) (p q : ℕ) (place : Place) (below_p : p < 10) (below_q : q < 10) (differ : p ≢ q) (number_is : place_number place ≡ q) (links : (j : ℕ) → HasLinks cell placed j) (among : (j : ℕ) → 0 < occurrences j (chain p) → place_in_slot (placed j) ≡ Some place) (aside : (j : ℕ) → occurrences j (chain p) ≡ 0 → place_in_slot (placed j) ≡ place_in_slot (cell j)) (last first : Option ℕ) (last_is : last ≡ (ends q).last) (first_is : first ≡ (ends p).first) (tie : IsTied placed new last first) (places : (j : ℕ) → place_in_slot (new j) ≡ place_in_slot (placed j)) (to : later q ≡ ends_joined (ends q) (ends p)) (from : later p ≡ no_ends) (elsewhere : (r : ℕ) → r ≢ q → r ≢ p → later r ≡ ends r) where
+module _ (cell placed new : ℕ → Option Slot) (ends later : ℕ → Ends) (chain : ℕ → List ℕ) (spelled : IsSpelled cell ends chain None) (p q : ℕ) (place : Place)
+    (below_p : p < 10) (below_q : q < 10) (differ : p ≢ q) (number_is : place_number place ≡ q) (links : (j : ℕ) → HasLinks cell placed j) (among : (j : ℕ)
+    → 0 < occurrences j (chain p) → place_in_slot (placed j) ≡ Some place) (aside : (j : ℕ) → occurrences j (chain p) ≡ 0 → place_in_slot (placed j)
+    ≡ place_in_slot (cell j)) (last first : Option ℕ) (last_is : last ≡ (ends q).last) (first_is : first ≡ (ends p).first) (tie : IsTied placed new last first)
+    (places : (j : ℕ) → place_in_slot (new j) ≡ place_in_slot (placed j)) (to : later q ≡ ends_joined (ends q) (ends p)) (from : later p ≡ no_ends)
+    (elsewhere : (r : ℕ) → r ≢ q → r ≢ p → later r ≡ ends r) where
   linked_placed : (r : ℕ) → r < 10 → IsLinked placed None (chain r) None
   linked_placed r below = linked_still cell placed None (chain r) None (λ j stands. links j) (spelled.linked r below)
 

@@ -16,10 +16,10 @@ use Rattle.cg_arena.specs.Slots.{before_in, after_in, serial_in, place_in_slot, 
 use Rattle.cg_arena.specs.Links.{tied, all_placed, chain_from, ends_joined, no_ends}
 use Rattle.cg_arena.specs.Table.{nodes_of, rows_of, serials_of, IsSpelled, ends_at, row_of, IsSound}
 use Rattle.cg_arena.specs.Index.{IsKept}
-use Rattle.cg_arena.proofs.Standing.{first-stands}
+use Rattle.cg_arena.proofs.Occurrences.{first-stands}
 use Rattle.cg_arena.proofs.Chains.{HasLinks, IsTied, chain-read}
-use Rattle.cg_arena.proofs.Ties.{get-tied}
-use Rattle.cg_arena.proofs.Spelled.{count_in_list-same, count_in_list-other, stands_placed}
+use Rattle.cg_arena.proofs.TiedSlots.{get-tied}
+use Rattle.cg_arena.proofs.ChangedChains.{count_in_list-same, count_in_list-other, stands_placed}
 use Rattle.cg_arena.proofs.Merged.{merged_chain, merged_spelled}
 use Rattle.cg_arena.proofs.Shapes.{SameShape, shape-trans, shape-tied, shape-all_placed, nodes-tied, places-tied, part-all_placed, get-all_placed_aside, get-all_placed_among}
 use Rattle.cg_arena.proofs.Rows.{nodes-mapped}
@@ -41,7 +41,11 @@ place_written place (Some c) there = refl
 pub sizes_fit : (s : Slab Slot) (ends : List Ends) (rows : List (ℕ × ℕ)) → IsSound s ends rows → (p q : ℕ) → p < 10 → q < 10 → p ≢ q → (ends_at ends q).size + (ends_at ends p).size < 2 ^ 64
 sizes_fit s ends rows sound p q below_p below_q differ = omega (arith, two_sizes ends p q sound.ten below_p below_q differ, sound.counted, sound.few)
 
-module _ (s placed new : Slab Slot) (ends : List Ends) (x : SlotIndex) (kept : IsKept s x ends) (spare : ℕ) (v : Nodes) (view_is : value_of s ends (rows_of s) spare ≡ v) (from to : Place) (p q : ℕ) (p_is : p ≡ place_number from) (q_is : q ≡ place_number to) (below_p : p < 10) (below_q : q < 10) (numbers_differ : place_number from ≢ place_number to) (placed_is : placed ≡ all_placed (chain_from s (ends_at ends p).size (ends_at ends p).first) to s) (tied_is : new ≡ tied (ends_at ends q).last (ends_at ends p).first placed) (e : Ends) (ends_are : e ≡ ends_joined (ends_at ends q) (ends_at ends p)) (none : Ends) (none_is : none ≡ no_ends) where
+module _ (s placed new : Slab Slot) (ends : List Ends) (x : SlotIndex) (kept : IsKept s x ends) (spare : ℕ) (v : Nodes) (view_is : value_of s ends (rows_of s)
+    spare ≡ v) (from to : Place) (p q : ℕ) (p_is : p ≡ place_number from) (q_is : q ≡ place_number to) (below_p : p < 10) (below_q : q < 10) (numbers_differ :
+    place_number from ≢ place_number to) (placed_is : placed ≡ all_placed (chain_from s (ends_at ends p).size (ends_at ends p).first) to s) (tied_is : new
+    ≡ tied (ends_at ends q).last (ends_at ends p).first placed) (e : Ends) (ends_are : e ≡ ends_joined (ends_at ends q) (ends_at ends p)) (none : Ends)
+    (none_is : none ≡ no_ends) where
   abbrev rows : List (ℕ × ℕ)
   rows = rows_of s
 

@@ -17,8 +17,8 @@ use Rattle.cg_arena.specs.Table.{nodes_of, rows_of, serials_of, IsSpelled, ends_
 use Rattle.cg_arena.specs.Index.{IsKept}
 use Rattle.cg_arena.proofs.Chains.{IsTied}
 use Rattle.cg_arena.proofs.Writes.{get-rewritten_same, get-rewritten_other, part-rewritten}
-use Rattle.cg_arena.proofs.Ties.{get-tied}
-use Rattle.cg_arena.proofs.Spelled.{loose_spelled, appended_at, joins_spelled}
+use Rattle.cg_arena.proofs.TiedSlots.{get-tied}
+use Rattle.cg_arena.proofs.ChangedChains.{loose_spelled, appended_at, joins_spelled}
 use Rattle.cg_arena.proofs.Shapes.{SameShape, shape-trans, shape-rewritten, shape-tied, nodes-tied, places-tied}
 use Rattle.cg_arena.proofs.Rows.{nodes-changed}
 use Rattle.cg_arena.proofs.Lists.{serials, serials-same, list-at, ten_lists, lists-left, lists-joined}
@@ -42,7 +42,11 @@ ended_there (Some c) there = refl
 
 -- In s the node leaves its list, giving `left`; then it gets its place, then no successor, and is tied to the last of
 -- the other list.
-module _ (s left placed ended new : Slab Slot) (ends : List Ends) (x : SlotIndex) (kept : IsKept s x ends) (spare : ℕ) (v : Nodes) (view_is : value_of s ends (rows_of s) spare ≡ v) (t k : ℕ) (c : Slot) (row_is : row_of (rows_of s) t ≡ Some k) (slot_is : get s k ≡ Some c) (p : ℕ) (p_is : p ≡ place_number c.place) (below_p : p < 10) (left_is : left ≡ tied c.word.before (after_of c) s) (d : Ends) (d_is : d ≡ ends_without c.word.before (after_of c) (ends_at ends p)) (place : Place) (placed_is : placed ≡ rewritten (with_place place) k left) (ended_is : ended ≡ rewritten (with_after None) k placed) (q : ℕ) (q_is : q ≡ place_number place) (below_q : q < 10) where
+module _ (s left placed ended new : Slab Slot) (ends : List Ends) (x : SlotIndex) (kept : IsKept s x ends) (spare : ℕ) (v : Nodes)
+    (view_is : value_of s ends (rows_of s) spare ≡ v) (t k : ℕ) (c : Slot) (row_is : row_of (rows_of s) t ≡ Some k) (slot_is : get s k ≡ Some c) (p : ℕ)
+    (p_is : p ≡ place_number c.place) (below_p : p < 10) (left_is : left ≡ tied c.word.before (after_of c) s) (d : Ends) (d_is : d ≡ ends_without c.word.before
+    (after_of c) (ends_at ends p)) (place : Place) (placed_is : placed ≡ rewritten (with_place place) k left) (ended_is : ended ≡ rewritten (with_after None) k
+    placed) (q : ℕ) (q_is : q ≡ place_number place) (below_q : q < 10) where
   abbrev rows : List (ℕ × ℕ)
   rows = rows_of s
 

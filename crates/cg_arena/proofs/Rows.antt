@@ -84,7 +84,8 @@ nodes-changed rows s new names g t k row_is here there =
     ])
 
 -- each slot gets another node
-pub nodes-mapped : (rows : List (ℕ × ℕ)) (s new : Slab Slot) (g : ArenaNode → ArenaNode) → ((q k : ℕ) → row_of rows q ≡ Some k → node_in (get new k) ≡ g (node_in (get s k))) → nodes_of rows new ≡ mapped (λ q n. g n) (nodes_of rows s)
+pub nodes-mapped : (rows : List (ℕ × ℕ)) (s new : Slab Slot) (g : ArenaNode → ArenaNode) → ((q k : ℕ) → row_of rows q ≡ Some k → node_in (get new k)
+    ≡ g (node_in (get s k))) → nodes_of rows new ≡ mapped (λ q n. g n) (nodes_of rows s)
 nodes-mapped rows s new g each =
     same_map (nodes_of rows new) (mapped (λ q n. g n) (nodes_of rows s))
     (λ q.

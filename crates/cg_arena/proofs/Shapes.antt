@@ -11,9 +11,9 @@ use Rattle.cg_arena.specs.declared.slot.Slot.{Slot}
 use Rattle.cg_arena.specs.Slots.{serial_in, place_in_slot, node_in, with_before, with_after, with_place}
 use Rattle.cg_arena.specs.Table.{rows_of}
 use Rattle.cg_arena.specs.Links.{rewritten, after_set, before_set, tied, all_placed}
-use Rattle.cg_arena.proofs.Standing.{one-same, one-apart, occurrences-cons}
+use Rattle.cg_arena.proofs.Occurrences.{one-same, one-apart, occurrences-cons}
 use Rattle.cg_arena.proofs.Writes.{part-rewritten, get-rewritten_same, get-rewritten_other}
-use Rattle.cg_arena.proofs.Ties.{part-tied}
+use Rattle.cg_arena.proofs.TiedSlots.{part-tied}
 use Rattle.cg_arena.proofs.Indexes.{rows-rewritten}
 
 pub record SameShape (s new : Slab Slot) : Type 0 where
@@ -118,7 +118,9 @@ placed_twice place (Some x) = refl
 pub get-all_placed_among : (ks : List ℕ) (place : Place) (s : Slab Slot) (j : ℕ) → 0 < occurrences j ks → get (all_placed ks place s) j ≡ option_map (with_place place) (get s j)
 get-all_placed_among [] place s j some = absurd (omega (arith, some))
 get-all_placed_among (k ∷ ks) place s j some =
-    let here = λ (same : j ≡ k). let e : get (rewritten (with_place place) k s) j ≡ option_map (with_place place) (get s j) = ap (get (rewritten (with_place place) k s)) same ∙ get-rewritten_same (with_place place) k s ∙ ap (λ i. option_map (with_place place) (get s i)) (sym same) in e in
+    let here = λ (same : j ≡ k). let e : get (rewritten (with_place place) k s) j ≡ option_map (with_place place) (get s j) =
+    ap (get (rewritten (with_place place) k s)) same ∙ get-rewritten_same (with_place place) k s ∙ ap (λ i. option_map (with_place place) (get s i))
+    (sym same) in e in
     elim (cases_eq (occurrences j ks) 0) [
       | inl none ↦
           let same : j ≡ k = elim (cases_eq j k) [ inl e ↦ e | inr d ↦ absurd (omega (arith, some, none, occurrences-cons j k ks, one-apart j k (λ e. d (sym e)))) ] in

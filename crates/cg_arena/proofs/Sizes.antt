@@ -33,7 +33,8 @@ two_sizes ends p q ten below_p below_q differ =
     omega (arith, left, same, size_within (slice_set ends q no_ends) left_ten p below_p)
 
 -- a place that has a slot has size above 0
-pub size_above : (cell : ℕ → Option Slot) (ends : ℕ → Ends) (chain : ℕ → List ℕ) (loose : Option ℕ) → IsSpelled cell ends chain loose → (p k : ℕ) → p < 10 → 0 < occurrences k (chain p) → 0 < (ends p).size
+pub size_above : (cell : ℕ → Option Slot) (ends : ℕ → Ends) (chain : ℕ → List ℕ) (loose : Option ℕ) → IsSpelled cell ends chain loose → (p k : ℕ) → p < 10
+    → 0 < occurrences k (chain p) → 0 < (ends p).size
 size_above cell ends chain loose spelled p k below stands =
     let size : (ends p).size ≡ length (chain p) = ap (λ (e : Ends). e.size) (spelled.ended p below) in
     omega (arith, size, stands, count_by-le-length {X = ℕ} (λ r. r == k) (chain p))

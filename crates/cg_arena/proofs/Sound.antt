@@ -17,7 +17,7 @@ use Rattle.cg_arena.specs.Slots.{before_in, after_in, serial_in, place_in_slot, 
 use Rattle.cg_arena.specs.Links.{rewritten}
 use Rattle.cg_arena.specs.Table.{nodes_of, rows_of, serials_of, room_of, IsSpelled, IsNamed, ends_at, row_of, IsSound}
 use Rattle.cg_arena.specs.Index.{guess_at, IsIndexOf, Finds, HasRow, IsKept}
-use Rattle.cg_arena.proofs.Standing.{one-same, one-apart, occurrences-single}
+use Rattle.cg_arena.proofs.Occurrences.{one-same, one-apart, occurrences-single}
 use Rattle.cg_arena.proofs.Chains.{HasLinks, linked_still}
 use Rattle.cg_arena.proofs.Writes.{part-rewritten, get-rewritten_same, get-rewritten_other}
 use Rattle.cg_arena.proofs.Shapes.{SameShape, shape-rewritten}
@@ -81,7 +81,8 @@ slot_there s ends rows sound t k row_is = some_serial (get s k) t (sound.names.r
 pub slot_placed : (s : Slab Slot) (ends : List Ends) (rows : List (ℕ × ℕ)) → IsSound s ends rows → (k : ℕ) (c : Slot) → get s k ≡ Some c → IsPlace c.place
 slot_placed s ends rows sound k c is = sound.placed k c.place (ap place_in_slot is)
 
-spelled_still : (cell new : ℕ → Option Slot) (ends : ℕ → Ends) (chain : ℕ → List ℕ) → ((j : ℕ) → HasLinks cell new j) → ((j : ℕ) → place_in_slot (new j) ≡ place_in_slot (cell j)) → IsSpelled cell ends chain None → IsSpelled new ends chain None
+spelled_still : (cell new : ℕ → Option Slot) (ends : ℕ → Ends) (chain : ℕ → List ℕ) → ((j : ℕ) → HasLinks cell new j) → ((j : ℕ) → place_in_slot (new j)
+    ≡ place_in_slot (cell j)) → IsSpelled cell ends chain None → IsSpelled new ends chain None
 spelled_still cell new ends chain links places spelled =
     record {
       linked = λ p below. linked_still cell new None (chain p) None (λ j stands. links j) (spelled.linked p below);
@@ -97,7 +98,9 @@ named_still serial new row same names =
     }
 
 -- links, places and serials are unchanged
-module _ (s new : Slab Slot) (ends : List Ends) (rows : List (ℕ × ℕ)) (sound : IsSound s ends rows) (links : (j : ℕ) → HasLinks (get s) (get new) j) (places : (j : ℕ) → place_in_slot (get new j) ≡ place_in_slot (get s j)) (names : (j : ℕ) → serial_in (get new j) ≡ serial_in (get s j)) (len : slab_len new ≡ slab_len s) where
+module _ (s new : Slab Slot) (ends : List Ends) (rows : List (ℕ × ℕ)) (sound : IsSound s ends rows) (links : (j : ℕ) → HasLinks (get s) (get new) j)
+    (places : (j : ℕ) → place_in_slot (get new j) ≡ place_in_slot (get s j)) (names : (j : ℕ) → serial_in (get new j) ≡ serial_in (get s j)) (len : slab_len new
+    ≡ slab_len s) where
   pub sound_still : IsSound new ends rows
   sound_still =
       record {
@@ -134,7 +137,9 @@ module _ (s new : Slab Slot) (shape : SameShape s new) where
   seen_by ends spare v is = ap (λ rows. value_of new ends rows spare) shape.rows ∙ is
 
 -- one field of one node is written
-module _ (f : Slot → Slot) (befores : (x : Slot) → (f x).word.before ≡ x.word.before) (afters : (x : Slot) → after_of (f x) ≡ after_of x) (serial_same : (x : Slot) → (f x).serial ≡ x.serial) (place_same : (x : Slot) → (f x).place ≡ x.place) (s : Slab Slot) (ends : List Ends) (x : SlotIndex) (kept : IsKept s x ends) (k : ℕ) where
+module _ (f : Slot → Slot) (befores : (x : Slot) → (f x).word.before ≡ x.word.before) (afters : (x : Slot) → after_of (f x) ≡ after_of x)
+    (serial_same : (x : Slot) → (f x).serial ≡ x.serial) (place_same : (x : Slot) → (f x).place ≡ x.place) (s : Slab Slot) (ends : List Ends) (x : SlotIndex)
+    (kept : IsKept s x ends) (k : ℕ) where
   abbrev rows : List (ℕ × ℕ)
   rows = rows_of s
 
@@ -151,10 +156,12 @@ module _ (f : Slot → Slot) (befores : (x : Slot) → (f x).word.before ≡ x.w
   field_places j = part-rewritten place_in_slot f (λ x. ap Some (place_same x)) k s j
 
   pub field_kept : (new : Slab Slot) → new ≡ rewritten f k s → IsKept new x ends
-  field_kept new is = subst (λ z. IsKept z x ends) (sym is) (kept_by s (rewritten f k s) shape x ends ends kept (sound_still s (rewritten f k s) ends (rows_of s) kept.sound field_links field_places shape.serials shape.len))
+  field_kept new is = subst (λ z. IsKept z x ends) (sym is) (kept_by s (rewritten f k s) shape x ends ends kept (sound_still s (rewritten f k s) ends
+      (rows_of s) kept.sound field_links field_places shape.serials shape.len))
 
   -- the value with the node changed
-  pub field_view : (new : Slab Slot) → new ≡ rewritten f k s → (spare : ℕ) (v : Nodes) → value_of s ends (rows_of s) spare ≡ v → (g : ArenaNode → ArenaNode) (t : ℕ) (c : Slot) → row_of (rows_of s) t ≡ Some k → get s k ≡ Some c → node_of (f c) ≡ g (node_of c)
+  pub field_view : (new : Slab Slot) → new ≡ rewritten f k s → (spare : ℕ) (v : Nodes) → value_of s ends (rows_of s) spare ≡ v → (g : ArenaNode → ArenaNode)
+      (t : ℕ) (c : Slot) → row_of (rows_of s) t ≡ Some k → get s k ≡ Some c → node_of (f c) ≡ g (node_of c)
       → value_of new ends (rows_of new) spare ≡ with_node_changed g t v
   field_view new is spare v view_is g t c row_is slot_is node_is =
       let node_here : node_in (get (rewritten f k s) k) ≡ g (node_in (get s k)) =
@@ -171,7 +178,8 @@ module _ (f : Slot → Slot) (befores : (x : Slot) → (f x).word.before ≡ x.w
       ∙ ap (with_node_changed g t) view_is
 
 -- one count rises or falls
-once_changed : (step : ℕ → ArenaNode → ArenaNode) → ((n : ArenaNode) → step 0 n ≡ n) → (t : ℕ) (m : fin.FinMap nat_cmp ArenaNode) → mapped (λ q n. step (occurrences q (t ∷ [])) n) m ≡ changed (step 1) t m
+once_changed : (step : ℕ → ArenaNode → ArenaNode) → ((n : ArenaNode) → step 0 n ≡ n) → (t : ℕ) (m : fin.FinMap nat_cmp ArenaNode)
+    → mapped (λ q n. step (occurrences q (t ∷ [])) n) m ≡ changed (step 1) t m
 once_changed step nothing t m = ap (λ (g : ℕ → ArenaNode → ArenaNode). mapped g m) (λ i q n. each q n i)
   where
     each : (q : ℕ) (n : ArenaNode) → step (occurrences q (t ∷ [])) n ≡ (if q == t then step 1 n else n)

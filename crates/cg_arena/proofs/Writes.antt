@@ -78,7 +78,9 @@ nowhere s zero = refl
 nowhere s (suc n) = refl
 
 -- placing one node, then those after it
-placed_more : (place : Place) (s : Slab Slot) (n : ℕ) (at : Option ℕ) → all_placed (chain_from (place_set at place s) n (option_and_then (λ k. after_in (get s k)) at)) place (place_set at place s) ≡ all_placed (chain_from s (suc n) at) place s
+placed_more : (place : Place) (s : Slab Slot) (n : ℕ) (at : Option ℕ)
+    → all_placed (chain_from (place_set at place s) n (option_and_then (λ k. after_in (get s k)) at)) place (place_set at place s)
+    ≡ all_placed (chain_from s (suc n) at) place s
 placed_more place s n None = ap (λ xs. all_placed xs place s) (nowhere s n)
 placed_more place s n (Some k) = ap (λ xs. all_placed xs place (rewritten (with_place place) k s)) (chain-placed place k s n (after_in (get s k)))
 

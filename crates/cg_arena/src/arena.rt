@@ -23,11 +23,12 @@ use std::marker::Model;
 
 /// The nodes of all objects, by serial, and the list of each place.
 ///
-/// A node is what CPython keeps in the head of an object: its count, and its links in a list of the collector.
-/// (Developer guide, "Garbage collector design": each generation is a doubly linked list.) Serials are ours.
+/// A node is what CPython keeps in the head of an object: its count, and its links in a list of the
+/// collector. (Developer guide, "Garbage collector design": each generation is a doubly linked
+/// list.) Serials are ours.
 ///
-/// A call that takes a serial takes constant time, and so do `first`, `next` and `size`; `merge` is linear in the size
-/// of `from`. Only `reserve` and `add` allocate.
+/// A call that takes a serial takes constant time, and so do `first`, `next` and `size`; `merge` is
+/// linear in the size of `from`. Only `reserve` and `add` allocate.
 #[derive(Drop)]
 pub struct Arena {
     slots: Slab<Slot>,
@@ -79,8 +80,8 @@ fn generation_of(place: Place) -> usize
 
 /// The index of a place's list; for a generation, that of generation 0.
 ///
-/// Each arm is a constant, so this compiles to a table look-up. A `match` that also added the generation would compile
-/// to an indirect jump.
+/// Each arm is a constant, so this compiles to a table look-up. A `match` that also added the
+/// generation would compile to an indirect jump.
 #[inline(always)]
 fn first_of(place: Place) -> usize
     ensures { result + generation_in place ≡ place_number place }
@@ -140,7 +141,8 @@ fn dec_by_row(index: &SlotIndex, slots: &mut Slab<Slot>, serial: u64) -> bool
 #[inline(never)]
 fn lower_by_row(index: &SlotIndex, slots: &mut Slab<Slot>, serial: u64)
     requires { HasRow slots.old index.now serial }
-    ensures { (r : HasRow slots.old index.now serial) → slots.new ≡ rewritten with_lowered r.at slots.old }
+    ensures { (r : HasRow slots.old index.now serial) → slots.new ≡ rewritten with_lowered r.at
+        slots.old }
 {
     lower_candidate(slots, index.slot_by_row(serial));
 }
@@ -173,7 +175,8 @@ impl Arena {
         self.slots.reserve(1)
     }
 
-    /// Adds a node for a new serial, last in the list of its place: count 0, not finalized, collector's number 0.
+    /// Adds a node for a new serial, last in the list of its place: count 0, not finalized,
+    /// collector's number 0.
     ///
     /// Returns `AllocError` only if memory runs out; then nodes and lists are unchanged.
     pub fn add(
@@ -248,7 +251,8 @@ impl Arena {
         seat
     }
 
-    /// Raises the count by 1. It is below 2^32 - 1 before. (Developer guide: the count is the number of references.)
+    /// Raises the count by 1. It is below 2^32 - 1 before. (Developer guide: the count is the
+    /// number of references.)
     #[inline(always)]
     pub fn inc(&mut self, serial: u64)
         requires has { HasNode self.old serial }
@@ -303,8 +307,8 @@ impl Arena {
         self.inc(serial);
     }
 
-    /// Lowers the count, which is above 0, by 1. Returns whether it is now 0. (Developer guide: an object whose count
-    /// reaches 0 is deallocated.)
+    /// Lowers the count, which is above 0, by 1. Returns whether it is now 0. (Developer guide: an
+    /// object whose count reaches 0 is deallocated.)
     #[inline(always)]
     pub fn dec(&mut self, serial: u64) -> bool
         requires { 0 < count_at self.old serial }
@@ -393,7 +397,8 @@ impl Arena {
         slot.code
     }
 
-    /// The kind, and the place of the object's entries among the bodies of its kind, in one look-up.
+    /// The kind, and the place of the object's entries among the bodies of its kind, in one
+    /// look-up.
     #[inline(always)]
     pub fn seat_of(&self, serial: u64) -> (KindCode, usize)
         requires { HasNode self.now serial }
@@ -415,8 +420,8 @@ impl Arena {
         (slot.code, slot.body)
     }
 
-    /// The kind, the place, the collector's number and the place of the object's entries among the bodies of its kind,
-    /// in one look-up.
+    /// The kind, the place, the collector's number and the place of the object's entries among the
+    /// bodies of its kind, in one look-up.
     #[inline(always)]
     pub fn head_of(&self, serial: u64) -> Head
         requires { HasNode self.now serial }
@@ -458,7 +463,8 @@ impl Arena {
         self.node(serial).is_finalized()
     }
 
-    /// The collector's number, 0 at first. (Developer guide, "Identifying reference cycles": `gc_refs`.)
+    /// The collector's number, 0 at first. (Developer guide, "Identifying reference cycles":
+    /// `gc_refs`.)
     #[inline(always)]
     pub fn gc_of(&self, serial: u64) -> u32
         requires { HasNode self.now serial }
@@ -487,19 +493,22 @@ impl Arena {
         set_number(&mut self.slots, at, number);
     }
 
-    /// Sets the collector's number of a node in a generation or among the candidates to its count; takes a hint of its
-    /// slot. (Developer guide, "Identifying reference cycles": `gc_refs` is set to the reference count.)
+    /// Sets the collector's number of a node in a generation or among the candidates to its count;
+    /// takes a hint of its slot. (Developer guide, "Identifying reference cycles": `gc_refs` is set
+    /// to the reference count.)
     #[inline(always)]
     pub fn set_gc_to_count(&mut self, serial: u64, near: Near)
         requires has { HasNode self.old serial }
         requires place { TakesNumber (place_at self.old serial) }
-        ensures { self.new ≡ with_node_changed (node_numbered (count_at self.old serial)) serial self.old }
+        ensures { self.new ≡ with_node_changed (node_numbered (count_at self.old serial)) serial
+            self.old }
     {
         let (at, slot) = self.index.slot_near(&self.slots, serial, near);
         set_number(&mut self.slots, at, slot.count);
     }
 
-    /// Lowers the collector's number of a candidate by 1, if it is above 0; any other node is unchanged.
+    /// Lowers the collector's number of a candidate by 1, if it is above 0; any other node is
+    /// unchanged.
     #[inline(always)]
     pub fn lower(&mut self, serial: u64)
         requires { HasNode self.old serial }
@@ -512,7 +521,8 @@ impl Arena {
         }
     }
 
-    /// Moves the node to the end of the list of a place, which may be its own. (Ours; CPython's `gc_list_move`.)
+    /// Moves the node to the end of the list of a place, which may be its own. (Ours; CPython's
+    /// `gc_list_move`.)
     pub fn move_to(&mut self, serial: u64, place: Place)
         requires has { HasNode self.old serial }
         requires place { IsPlace place }
@@ -535,8 +545,8 @@ impl Arena {
         join(&mut self.slots, &mut self.ends[to], Ends::one(at));
     }
 
-    /// Moves all nodes of one place to the end of the list of another, in order. (Developer guide, "Optimization:
-    /// generations": the survivors are merged into the next generation.)
+    /// Moves all nodes of one place to the end of the list of another, in order. (Developer guide,
+    /// "Optimization: generations": the survivors are merged into the next generation.)
     pub fn merge(&mut self, from: Place, to: Place)
         requires from { IsPlace from }
         requires to { IsPlace to }
@@ -570,7 +580,8 @@ impl Arena {
         serial_at(&self.slots, first)
     }
 
-    /// `next`, with a hint of the node's slot, and the slot of the result. So a walk over a list needs no look-ups.
+    /// `next`, with a hint of the node's slot, and the slot of the result. So a walk over a list
+    /// needs no look-ups.
     #[inline(always)]
     pub fn next_near(&self, serial: u64, near: &mut Near) -> Option<u64>
         requires { HasNode self.now serial }
@@ -591,7 +602,8 @@ impl Arena {
         serial_at(&self.slots, slot.after())
     }
 
-    /// The number of nodes in a place. It also proves that each node is once in the list of its place and in no other.
+    /// The number of nodes in a place. It also proves that each node is once in the list of its
+    /// place and in no other.
     pub fn size(&self, place: Place) -> u64
         requires { IsPlace place }
         ensures size { result ≡ length (list_at self.now place) }

@@ -4,10 +4,11 @@ ghost use Rattle.cg_arena.specs.Index.{guess_at, guess_index};
 
 use std::alloc::{AllocError, Global};
 
-/// The likely slot of each serial that was noted. The caller checks whether the serial is really there.
+/// The likely slot of each serial that was noted. The caller checks whether the serial is really
+/// there.
 ///
-/// Consecutive serials have consecutive guesses, so neighbours share a cache line. The higher bits are mixed into the
-/// index, so that evenly spaced serials do not collide.
+/// Consecutive serials have consecutive guesses, so neighbours share a cache line. The higher bits
+/// are mixed into the index, so that evenly spaced serials do not collide.
 #[derive(Drop)]
 pub struct Hints {
     // Its length is a power of two, or 0.
@@ -70,11 +71,12 @@ impl Hints {
         self.index_of(other) == self.index_of(serial)
     }
 
-    /// Notes the slot of a serial, overwriting what another serial with the same guess had noted. Returns whether
-    /// there is a guess for the serial and the slot's number fits.
+    /// Notes the slot of a serial, overwriting what another serial with the same guess had noted.
+    /// Returns whether there is a guess for the serial and the slot's number fits.
     #[inline(always)]
     pub fn tell(&mut self, serial: u64, slot: usize) -> bool
-        ensures can { IsTrue result ↔ (slot < 2 ^ 32) × (guess_index self.old serial < length self.old.guesses.items) }
+        ensures can { IsTrue result ↔ (slot < 2 ^ 32)
+            × (guess_index self.old serial < length self.old.guesses.items) }
         ensures told { IsTrue result → guess_at self.new serial ≡ slot }
         ensures others { (q : ℕ) → guess_index self.old q ≢ guess_index self.old serial →
             guess_at self.new q ≡ guess_at self.old q }
@@ -96,7 +98,8 @@ impl Hints {
     /// Clears the guess of a serial if it names this slot.
     #[inline(always)]
     pub fn forget(&mut self, serial: u64, slot: usize)
-        ensures others { (q : ℕ) → (guess_at self.new q ≡ guess_at self.old q) ⊎ (guess_at self.old q ≡ slot) }
+        ensures others { (q : ℕ) → (guess_at self.new q ≡ guess_at self.old q)
+            ⊎ (guess_at self.old q ≡ slot) }
         ensures forgotten { guess_at self.new serial ≡ slot → slot ≡ 0 }
     {
         let index = self.index_of(serial);

@@ -22,7 +22,8 @@ use std::alloc::{AllocError, Global};
 pub struct SlotIndex {
     hints: Hints,
     rows: IndexMap<u64, usize, SerialHashing>,
-    // No serial above this one has a row. So most nodes that die young need no search among the rows.
+    // No serial above this one has a row. So most nodes that die young need no search among the
+    // rows.
     most: u64,
 }
 
@@ -42,8 +43,10 @@ pub fn node_if(slots: &Slab<Slot>, at: usize, serial: u64) -> Option<Slot>
 /// The serial found by the guess that another serial is about to take over.
 #[inline(always)]
 fn displaced_by(hints: &Hints, slots: &Slab<Slot>, serial: u64) -> Option<u64>
-    ensures some { IfSome result (λ q. serial_in (get slots.now (guess_at hints.now serial)) ≡ Some q) }
-    ensures none { IsNone result → (q : ℕ) → serial_in (get slots.now (guess_at hints.now serial)) ≡ Some q →
+    ensures some { IfSome result (λ q. serial_in (get slots.now (guess_at hints.now serial))
+        ≡ Some q) }
+    ensures none { IsNone result → (q : ℕ) → serial_in (get slots.now (guess_at hints.now serial))
+        ≡ Some q →
         guess_index hints.now q ≢ guess_index hints.now serial }
 {
     match slots.get(hints.guess(serial)) {
@@ -125,7 +128,8 @@ impl SlotIndex {
         }
     }
 
-    /// Makes room for one more serial and its guess. If memory for more guesses runs out, they stay as they are.
+    /// Makes room for one more serial and its guess. If memory for more guesses runs out, they stay
+    /// as they are.
     #[inline(always)]
     pub fn reserve(&mut self, slots: &Slab<Slot>) -> Result<(), AllocError>
         requires { IsIndexOf slots.now self.old }
@@ -154,8 +158,8 @@ impl SlotIndex {
         Ok(())
     }
 
-    /// Notes the slot of a serial: by its guess, if it has one, else in a row. The node that the guess found before
-    /// gets a row, since the newest objects are looked up most.
+    /// Notes the slot of a serial: by its guess, if it has one, else in a row. The node that the
+    /// guess found before gets a row, since the newest objects are looked up most.
     #[inline(always)]
     pub fn note(&mut self, slots: &Slab<Slot>, serial: u64, at: usize)
         requires named { IsNamed (λ k. serial_in (get slots.now k)) (row_of (rows_of slots.now)) }
@@ -163,10 +167,12 @@ impl SlotIndex {
         requires room { 0 < spare self.old.rows }
         ensures below { HasRowsBelow self.new }
         ensures noted { LeadsTo self.new serial at }
-        ensures others { (k q : ℕ) → serial_in (get slots.now k) ≡ Some q → q ≢ serial → LeadsTo self.old q k →
+        ensures others { (k q : ℕ) → serial_in (get slots.now k) ≡ Some q → q ≢ serial
+            → LeadsTo self.old q k →
             LeadsTo self.new q k }
         ensures rows { (q k : ℕ) → row_of self.new.rows.entries q ≡ Some k →
-            (row_of self.old.rows.entries q ≡ Some k) ⊎ ((serial_in (get slots.now k) ≡ Some q) ⊎ ((q ≡ serial) × (k ≡ at))) }
+            (row_of self.old.rows.entries q ≡ Some k) ⊎ ((serial_in (get slots.now k) ≡ Some q)
+            ⊎ ((q ≡ serial) × (k ≡ at))) }
         ensures room { spare self.old.rows ≤ spare self.new.rows + 1 }
     {
         let guess = self.guess(serial);
@@ -203,7 +209,8 @@ impl SlotIndex {
     pub fn remove(&mut self, slots: &Slab<Slot>, serial: u64, at: usize)
         requires index { IsIndexOf slots.now self.old }
         requires there { row_of (rows_of slots.now) serial ≡ Some at }
-        ensures index { IsIndex (λ k. if k == at then None else serial_in (get slots.now k)) self.new }
+        ensures index { IsIndex (λ k. if k == at then None else serial_in (get slots.now k))
+            self.new }
         ensures room { spare self.old.rows ≤ spare self.new.rows }
     {
         self.hints.forget(serial, at);

@@ -1,7 +1,8 @@
-//! The nodes of objects: what is kept of each object beside its entries, and the list of the nodes of each place.
+//! The nodes of objects: what is kept of each object beside its entries, and the list of the nodes
+//! of each place.
 //!
-//! The layers above rest on one value: the nodes by serial, and the list of the serials of each place in order. They
-//! never see that each list is a doubly linked chain of slots.
+//! The layers above rest on one value: the nodes by serial, and the list of the serials of each
+//! place in order. They never see that each list is a doubly linked chain of slots.
 #![tactic(auto)]
 
 mod arena;

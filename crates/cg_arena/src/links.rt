@@ -74,7 +74,8 @@ pub fn lower_candidate(slots: &mut Slab<Slot>, at: usize)
 /// Sets the place of a node, and clears its successor.
 #[inline(always)]
 pub fn place_last(slots: &mut Slab<Slot>, at: usize, place: Place)
-    ensures { slots.new ≡ rewritten (with_after None) at (rewritten (with_place place) at slots.old) }
+    ensures { slots.new ≡ rewritten (with_after None) at (rewritten (with_place place) at
+        slots.old) }
 {
     if let Some(slot) = slots.get_mut(at) {
         slot.place = place;

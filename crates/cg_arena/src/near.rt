@@ -1,6 +1,7 @@
 //! A hint of a node's slot.
 
-/// A hint of a node's slot. A wrong hint is harmless: the call then looks the node up. It only saves time.
+/// A hint of a node's slot. A wrong hint is harmless: the call then looks the node up. It only
+/// saves time.
 #[derive(Clone, Copy, Debug, Default)]
 pub struct Near {
     pub slot: usize,

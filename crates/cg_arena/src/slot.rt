@@ -1,6 +1,7 @@
 //! A node in its slot, between its neighbours in the list of its place.
 //!
-//! The finalized mark, the collector's number and the previous slot are accessed only through calls.
+//! The finalized mark, the collector's number and the previous slot are accessed only through
+//! calls.
 ghost use Rattle.std.specs.Prelude.{◌≡◌, false, None};
 ghost use Rattle.cg_arena.specs.Nodes.{new_node};
 
@@ -9,8 +10,8 @@ use cg_value::{KindCode, Place};
 
 /// A node, its serial, and its neighbours in the list of its place.
 ///
-/// It takes 56 bytes, and 64 in its slot. The flag for a next slot is among the small fields; an `Option` of the slot
-/// would take eight more bytes.
+/// It takes 56 bytes, and 64 in its slot. The flag for a next slot is among the small fields; an
+/// `Option` of the slot would take eight more bytes.
 #[derive(Clone, Copy)]
 pub struct Slot {
     pub serial: u64,

@@ -3,11 +3,12 @@ ghost use Rattle.std.specs.Prelude.{◌≡◌, ◌-◌};
 
 use std::marker::Model;
 
-/// The finalized mark, the collector's number and the previous slot in one 128-bit word, stored as two halves.
+/// The finalized mark, the collector's number and the previous slot in one 128-bit word, stored as
+/// two halves.
 ///
-/// Bit 0 is the mark, bit 1 says whether there is a previous slot, and bits 2 to 33 are the number. Bits 64 to 127,
-/// the second half, are the previous slot, or 0 if there is none. (Ours. CPython keeps its flags and numbers in the
-/// low bits of the links.)
+/// Bit 0 is the mark, bit 1 says whether there is a previous slot, and bits 2 to 33 are the number.
+/// Bits 64 to 127, the second half, are the previous slot, or 0 if there is none. (Ours. CPython
+/// keeps its flags and numbers in the low bits of the links.)
 #[derive(Clone, Copy)]
 pub struct Word {
     low: u64,
@@ -27,7 +28,10 @@ impl Model for Word {
 
     ghost inverse = { λ w. record { low = (halves_of w).0; high = (halves_of w).1 } };
 
-    ghost inverse_ok = { λ a h. λ i. record { low = (halves-shared_in a.low a.high h i).0; high = (halves-shared_in a.low a.high h i).1 } };
+    ghost inverse_ok = { λ a h. λ i. record {
+      low = (halves-shared_in a.low a.high h i).0;
+      high = (halves-shared_in a.low a.high h i).1;
+    } };
 }
 
 impl Word {

@@ -46,10 +46,12 @@ written_first ms qs before faults = record { answers = wrote_none ms before; not
 pub rose_later : (a b c : ℕ) → a ≤ b → Rose b c → Rose a c
 rose_later a b c le rose = grind (arith, le, rose)
 
-pub wrote_next : (ms : List Member) (qs : List Question) (k : ℕ) (q : Question) (before mid now : Option (List ℕ)) (text : List ℕ) → k < length qs → q ≡ get_or qs k q → WroteAnswers ms (take k qs) before mid → Answers ms q text → Appends mid now text → WroteAnswers ms (take (k + 1) qs) before now
+pub wrote_next : (ms : List Member) (qs : List Question) (k : ℕ) (q : Question) (before mid now : Option (List ℕ)) (text : List ℕ) → k < length qs → q
+    ≡ get_or qs k q → WroteAnswers ms (take k qs) before mid → Answers ms q text → Appends mid now text → WroteAnswers ms (take (k + 1) qs) before now
 wrote_next ms qs k q before mid now text within is so a more = record {
   text = so.text ++ text;
-  answers_are = subst (λ (rs : List Question). AnswersAll ms rs (so.text ++ text)) (sym (take_more qs k q within ∙ ap (λ (r : Question). take k qs ++ r ∷ []) (sym is))) (answers_push ms (take k qs) q so.text text so.answers_are a);
+  answers_are = subst (λ (rs : List Question). AnswersAll ms rs (so.text ++ text)) (sym (take_more qs k q within ∙ ap (λ (r : Question). take k qs ++ r ∷ [])
+      (sym is))) (answers_push ms (take k qs) q so.text text so.answers_are a);
   wrote = Appends-trans before mid now so.text text so.wrote more;
 }
 
@@ -86,7 +88,9 @@ module _ (ms : List Member) (qs : List Question) (before : Option (List ℕ)) (f
   }
 
   -- the sink failed
-  pub so_write : (k : ℕ) (q : Question) (mid now : Option (List ℕ)) (later : ℕ) (text : List ℕ) → k < length qs → q ≡ get_or qs k q → WroteAnswers ms (take k qs) before mid → Answers ms q text → AppendsFront mid now text → Rose faults later → AnswersSo ms qs status.WriteFault before now faults later
+  pub so_write : (k : ℕ) (q : Question) (mid now : Option (List ℕ)) (later : ℕ) (text : List ℕ) → k < length qs → q ≡ get_or qs k q
+      → WroteAnswers ms (take k qs) before mid → Answers ms q text → AppendsFront mid now text → Rose faults later → AnswersSo ms qs status.WriteFault before
+      now faults later
   so_write k q mid now later text within is so a part rose = record {
     answered = λ e. absurd (cc);
     cut = λ e. (
@@ -94,7 +98,8 @@ module _ (ms : List Member) (qs : List Question) (before : Option (List ℕ)) (f
       drop (k + 1) qs,
       so.text ++ text,
       sym (take-append-drop (k + 1) qs),
-      subst (λ (rs : List Question). AnswersAll ms rs (so.text ++ text)) (sym (take_more qs k q within ∙ ap (λ (r : Question). take k qs ++ r ∷ []) (sym is))) (answers_push ms (take k qs) q so.text text so.answers_are a),
+      subst (λ (rs : List Question). AnswersAll ms rs (so.text ++ text)) (sym (take_more qs k q within ∙ ap (λ (r : Question). take k qs ++ r ∷ []) (sym is)))
+          (answers_push ms (take k qs) q so.text text so.answers_are a),
       front_after before mid now so.text text so.wrote part,
     );
     cause = λ e. rose;
@@ -116,7 +121,8 @@ next_asked count (p ∷ qs) (suc k) q h within is = next_asked count qs k q h.1 
 
 -- The outcome of a snapshot.
 module _ (s : Snapshot) (before now : Option (List ℕ)) (faults later : ℕ) where
-  pub snapshot_told : (ended : AskStatus) → AreRight s.members (asks_untold s.questions) → AnswersSo s.members s.questions ended before now faults later → (ended ≡ status.Answered) ⊎ (ended ≡ status.Faulty) → WritesSnapshot s ended before now
+  pub snapshot_told : (ended : AskStatus) → AreRight s.members (asks_untold s.questions) → AnswersSo s.members s.questions ended before now faults later
+      → (ended ≡ status.Answered) ⊎ (ended ≡ status.Faulty) → WritesSnapshot s ended before now
   snapshot_told ended right so (inl e) = let a = so.answered e in subst (λ (t : AskStatus). WritesSnapshot s t before now) (sym e) (record { text = a.0; outcome = answers right a.0 a.1; wrote = a.2 })
   snapshot_told ended right so (inr e) = absurd (clash so.only)
     where
@@ -125,7 +131,8 @@ module _ (s : Snapshot) (before now : Option (List ℕ)) (faults later : ℕ) wh
       clash (inr (inl f)) = cc
       clash (inr (inr f)) = cc
 
-  pub snapshot_cut : (ended : AskStatus) → AreRight s.members (asks_untold s.questions) → AnswersSo s.members s.questions ended before now faults later → (ended ≡ status.WriteFault) ⊎ (ended ≡ status.OutOfMemory) → WritesFrontOf s before now
+  pub snapshot_cut : (ended : AskStatus) → AreRight s.members (asks_untold s.questions) → AnswersSo s.members s.questions ended before now faults later
+      → (ended ≡ status.WriteFault) ⊎ (ended ≡ status.OutOfMemory) → WritesFrontOf s before now
   snapshot_cut ended right so e = let c = so.cut e in record { text = c.2; begun = some right c.0 c.1 c.3 c.2 c.4; wrote = c.5 }
 
 appends_none : (a b : Option (List ℕ)) → Keeps a b → Appends a b []
@@ -139,18 +146,29 @@ kept s before now keeps = record { text = []; begun = nothing; wrote = all_front
 
 -- a reported fault
 module _ (s : Snapshot) (before now : Option (List ℕ)) (told_status : AskStatus) (code at : ℕ) where
-  pub fault_told : IsFirstFault s.members (asks_untold s.questions) code at → (told_status ≡ status.Faulty → Appends before now (line (codes "fault") (code ∷ at ∷ []))) → (told_status ≡ status.Faulty) ⊎ (told_status ≡ status.WriteFault) ⊎ (told_status ≡ status.OutOfMemory)
+  pub fault_told : IsFirstFault s.members (asks_untold s.questions) code at
+      → (told_status ≡ status.Faulty → Appends before now (line (codes "fault") (code ∷ at ∷ []))) → (told_status ≡ status.Faulty)
+      ⊎ (told_status ≡ status.WriteFault) ⊎ (told_status ≡ status.OutOfMemory)
       → (told_status ≡ status.Answered) ⊎ (told_status ≡ status.Faulty) → WritesSnapshot s told_status before now
-  fault_told first wrote only e = let is = faulty only e in subst (λ (t : AskStatus). WritesSnapshot s t before now) (sym is) (record { text = line (codes "fault") (code ∷ at ∷ []); outcome = fault code at first; wrote = wrote is })
+  fault_told first wrote only e = let is = faulty only e in subst (λ (t : AskStatus). WritesSnapshot s t before now) (sym is)
+      (record { text = line (codes "fault") (code ∷ at ∷ []); outcome = fault code at first; wrote = wrote is })
     where
-      faulty : (told_status ≡ status.Faulty) ⊎ (told_status ≡ status.WriteFault) ⊎ (told_status ≡ status.OutOfMemory) → (told_status ≡ status.Answered) ⊎ (told_status ≡ status.Faulty) → told_status ≡ status.Faulty
+      faulty : (told_status ≡ status.Faulty) ⊎ (told_status ≡ status.WriteFault) ⊎ (told_status ≡ status.OutOfMemory) → (told_status ≡ status.Answered)
+          ⊎ (told_status ≡ status.Faulty) → told_status ≡ status.Faulty
       faulty only (inr f) = f
       faulty (inl f) (inl g) = f
       faulty (inr (inl f)) (inl g) = absurd (cc)
       faulty (inr (inr f)) (inl g) = absurd (cc)
 
-  pub fault_cut : IsFirstFault s.members (asks_untold s.questions) code at → (told_status ≡ status.WriteFault → AppendsFront before now (line (codes "fault") (code ∷ at ∷ []))) → (told_status ≡ status.OutOfMemory → Keeps before now) → (told_status ≡ status.WriteFault) ⊎ (told_status ≡ status.OutOfMemory) → WritesFrontOf s before now
-  fault_cut first wrote keeps (inl e) = record { text = line (codes "fault") (code ∷ at ∷ []); begun = whole status.Faulty (line (codes "fault") (code ∷ at ∷ [])) (fault code at first); wrote = wrote e }
+  pub fault_cut : IsFirstFault s.members (asks_untold s.questions) code at → (told_status ≡ status.WriteFault → AppendsFront before now
+      (line (codes "fault") (code ∷ at ∷ []))) → (told_status ≡ status.OutOfMemory → Keeps before now) → (told_status ≡ status.WriteFault) ⊎ (told_status
+      ≡ status.OutOfMemory) → WritesFrontOf s before now
+  fault_cut first wrote keeps (inl e) = record {
+    text = line (codes "fault") (code ∷ at ∷ []);
+    begun = whole status.Faulty
+        (line (codes "fault") (code ∷ at ∷ [])) (fault code at first);
+    wrote = wrote e;
+  }
   fault_cut first wrote keeps (inr e) = kept s before now (keeps e)
 
 keeps_same : (a : Option (List ℕ)) → Keeps a a
@@ -176,11 +194,15 @@ module _ (bytes : List ℕ) (s : Snapshot) (few : length bytes < LIMIT) (spells 
 
 -- a reported bad line, and too many bytes
 module _ (bytes : List ℕ) (before now : Option (List ℕ)) (told_status : AskStatus) where
-  pub line_told : (number : ℕ) → length bytes < LIMIT → IsBadLine bytes number → (told_status ≡ status.Faulty → Appends before now (line (codes "bad line") (number ∷ []))) → (told_status ≡ status.Faulty) ⊎ (told_status ≡ status.WriteFault) ⊎ (told_status ≡ status.OutOfMemory)
+  pub line_told : (number : ℕ) → length bytes < LIMIT → IsBadLine bytes number
+      → (told_status ≡ status.Faulty → Appends before now (line (codes "bad line") (number ∷ []))) → (told_status ≡ status.Faulty)
+      ⊎ (told_status ≡ status.WriteFault) ⊎ (told_status ≡ status.OutOfMemory)
       → (told_status ≡ status.Answered) ⊎ (told_status ≡ status.Faulty) ⊎ (told_status ≡ status.TooLarge) → WritesOutcome bytes told_status before now
-  line_told number short bad wrote only e = let is = faulty only e in subst (λ (t : AskStatus). WritesOutcome bytes t before now) (sym is) (record { text = line (codes "bad line") (number ∷ []); outcome = bad_line number short bad; wrote = wrote is })
+  line_told number short bad wrote only e = let is = faulty only e in subst (λ (t : AskStatus). WritesOutcome bytes t before now) (sym is)
+      (record { text = line (codes "bad line") (number ∷ []); outcome = bad_line number short bad; wrote = wrote is })
     where
-      faulty : (told_status ≡ status.Faulty) ⊎ (told_status ≡ status.WriteFault) ⊎ (told_status ≡ status.OutOfMemory) → (told_status ≡ status.Answered) ⊎ (told_status ≡ status.Faulty) ⊎ (told_status ≡ status.TooLarge) → told_status ≡ status.Faulty
+      faulty : (told_status ≡ status.Faulty) ⊎ (told_status ≡ status.WriteFault) ⊎ (told_status ≡ status.OutOfMemory) → (told_status ≡ status.Answered)
+          ⊎ (told_status ≡ status.Faulty) ⊎ (told_status ≡ status.TooLarge) → told_status ≡ status.Faulty
       faulty (inl f) g = f
       faulty (inr (inl f)) (inl g) = absurd (cc)
       faulty (inr (inl f)) (inr (inl g)) = g
@@ -189,20 +211,32 @@ module _ (bytes : List ℕ) (before now : Option (List ℕ)) (told_status : AskS
       faulty (inr (inr f)) (inr (inl g)) = g
       faulty (inr (inr f)) (inr (inr g)) = absurd (cc)
 
-  pub line_cut : (number : ℕ) → length bytes < LIMIT → IsBadLine bytes number → (told_status ≡ status.WriteFault → AppendsFront before now (line (codes "bad line") (number ∷ []))) → (told_status ≡ status.OutOfMemory → Keeps before now) → (told_status ≡ status.WriteFault) ⊎ (told_status ≡ status.OutOfMemory) → WritesFront bytes before now
-  line_cut number short bad wrote keeps (inl e) = record { text = line (codes "bad line") (number ∷ []); begun = whole_bytes status.Faulty (line (codes "bad line") (number ∷ [])) (bad_line number short bad); wrote = wrote e }
+  pub line_cut : (number : ℕ) → length bytes < LIMIT → IsBadLine bytes number → (told_status ≡ status.WriteFault → AppendsFront before now
+      (line (codes "bad line") (number ∷ []))) → (told_status ≡ status.OutOfMemory → Keeps before now) → (told_status ≡ status.WriteFault) ⊎ (told_status
+      ≡ status.OutOfMemory) → WritesFront bytes before now
+  line_cut number short bad wrote keeps (inl e) = record {
+    text = line (codes "bad line") (number ∷ []);
+    begun = whole_bytes status.Faulty
+        (line (codes "bad line") (number ∷ [])) (bad_line number short bad);
+    wrote = wrote e;
+  }
   line_cut number short bad wrote keeps (inr e) = kept_bytes bytes before now (keeps e)
 
-  pub large_told : LIMIT ≤ length bytes → (told_status ≡ status.TooLarge → Appends before now (codes "too large\n")) → (told_status ≡ status.TooLarge) ⊎ (told_status ≡ status.WriteFault) → (told_status ≡ status.Answered) ⊎ (told_status ≡ status.Faulty) ⊎ (told_status ≡ status.TooLarge) → WritesOutcome bytes told_status before now
-  large_told many wrote only e = let is = too_large only e in subst (λ (t : AskStatus). WritesOutcome bytes t before now) (sym is) (record { text = codes "too large\n"; outcome = large many; wrote = wrote is })
+  pub large_told : LIMIT ≤ length bytes → (told_status ≡ status.TooLarge → Appends before now (codes "too large\n")) → (told_status ≡ status.TooLarge)
+      ⊎ (told_status ≡ status.WriteFault) → (told_status ≡ status.Answered) ⊎ (told_status ≡ status.Faulty) ⊎ (told_status ≡ status.TooLarge)
+      → WritesOutcome bytes told_status before now
+  large_told many wrote only e = let is = too_large only e in subst (λ (t : AskStatus). WritesOutcome bytes t before now) (sym is)
+      (record { text = codes "too large\n"; outcome = large many; wrote = wrote is })
     where
-      too_large : (told_status ≡ status.TooLarge) ⊎ (told_status ≡ status.WriteFault) → (told_status ≡ status.Answered) ⊎ (told_status ≡ status.Faulty) ⊎ (told_status ≡ status.TooLarge) → told_status ≡ status.TooLarge
+      too_large : (told_status ≡ status.TooLarge) ⊎ (told_status ≡ status.WriteFault) → (told_status ≡ status.Answered) ⊎ (told_status ≡ status.Faulty)
+          ⊎ (told_status ≡ status.TooLarge) → told_status ≡ status.TooLarge
       too_large (inl f) g = f
       too_large (inr f) (inl g) = absurd (cc)
       too_large (inr f) (inr (inl g)) = absurd (cc)
       too_large (inr f) (inr (inr g)) = g
 
-  pub large_cut : LIMIT ≤ length bytes → (told_status ≡ status.WriteFault → AppendsFront before now (codes "too large\n")) → (told_status ≡ status.TooLarge) ⊎ (told_status ≡ status.WriteFault) → (told_status ≡ status.WriteFault) ⊎ (told_status ≡ status.OutOfMemory) → WritesFront bytes before now
+  pub large_cut : LIMIT ≤ length bytes → (told_status ≡ status.WriteFault → AppendsFront before now (codes "too large\n")) → (told_status ≡ status.TooLarge)
+      ⊎ (told_status ≡ status.WriteFault) → (told_status ≡ status.WriteFault) ⊎ (told_status ≡ status.OutOfMemory) → WritesFront bytes before now
   large_cut many wrote only e = record { text = codes "too large\n"; begun = whole_bytes status.TooLarge (codes "too large\n") (large many); wrote = wrote (write_fault only e) }
     where
       write_fault : (told_status ≡ status.TooLarge) ⊎ (told_status ≡ status.WriteFault) → (told_status ≡ status.WriteFault) ⊎ (told_status ≡ status.OutOfMemory) → told_status ≡ status.WriteFault
@@ -211,7 +245,9 @@ module _ (bytes : List ℕ) (before now : Option (List ℕ)) (told_status : AskS
       write_fault (inl f) (inr g) = absurd (cc)
 
   -- a snapshot's statuses differ from that of too many bytes
-  pub not_large : (told_status ≡ status.Answered) ⊎ (told_status ≡ status.Faulty) ⊎ (told_status ≡ status.WriteFault) ⊎ (told_status ≡ status.OutOfMemory) → (told_status ≡ status.Answered) ⊎ (told_status ≡ status.Faulty) ⊎ (told_status ≡ status.TooLarge) → (told_status ≡ status.Answered) ⊎ (told_status ≡ status.Faulty)
+  pub not_large : (told_status ≡ status.Answered) ⊎ (told_status ≡ status.Faulty) ⊎ (told_status ≡ status.WriteFault) ⊎ (told_status ≡ status.OutOfMemory)
+      → (told_status ≡ status.Answered) ⊎ (told_status ≡ status.Faulty) ⊎ (told_status ≡ status.TooLarge) → (told_status ≡ status.Answered)
+      ⊎ (told_status ≡ status.Faulty)
   not_large only (inl f) = inl f
   not_large only (inr (inl f)) = inr f
   not_large (inl f) (inr (inr g)) = inl f
@@ -243,18 +279,25 @@ module _ (left after : Option (List ℕ)) (bytes : List ℕ) (took : Consumes le
   longer_begun more _ many (begun_snapshot s short spells text begun) = absurd (omega (arith, many, short))
 
   pub told_outcome : (ended : AskStatus) (before now : Option (List ℕ)) → WritesOutcome bytes ended before now → IfSome left (λ bs. WritesOutcome bs ended before now)
-  told_outcome ended before now w = told (λ bs. WritesOutcome bs ended before now) w (λ more many k. record { text = k.text; outcome = longer_outcome more k.text ended many k.outcome; wrote = k.wrote })
+  told_outcome ended before now w = told (λ bs. WritesOutcome bs ended before now) w (λ more many k. record {
+    text = k.text;
+    outcome = longer_outcome more
+        k.text ended many k.outcome;
+    wrote = k.wrote;
+  })
 
   pub told_front : (before now : Option (List ℕ)) → WritesFront bytes before now → IfSome left (λ bs. WritesFront bs before now)
   told_front before now w = told (λ bs. WritesFront bs before now) w (λ more many k. record { text = k.text; begun = longer_begun more k.text many k.begun; wrote = k.wrote })
 
   pub told_answer : (ended : AskStatus) (before now : Option (List ℕ)) → WritesOutcome bytes ended before now → IfSome left (λ bs. HasOutcome bs ended)
-  told_answer ended before now w = told (λ bs. HasOutcome bs ended) (record { text = w.text; outcome = w.outcome }) (λ more many k. record { text = k.text; outcome = longer_outcome more k.text ended many k.outcome })
+  told_answer ended before now w = told (λ bs. HasOutcome bs ended) (record { text = w.text; outcome = w.outcome })
+      (λ more many k. record { text = k.text; outcome = longer_outcome more k.text ended many k.outcome })
 
 -- which status comes
 module _ (left after : Option (List ℕ)) (bytes : List ℕ) (took : Consumes left after bytes) (ends : length bytes < LIMIT → IsAtEnd after) (before now : Option (List ℕ)) (told_status : AskStatus) where
   pub answer_comes : ((told_status ≡ status.Answered) ⊎ (told_status ≡ status.Faulty) ⊎ (told_status ≡ status.TooLarge) → WritesOutcome bytes told_status before now)
-      → (told_status ≡ status.Answered) ⊎ (told_status ≡ status.Faulty) ⊎ (told_status ≡ status.TooLarge) ⊎ (told_status ≡ status.WriteFault) ⊎ (told_status ≡ status.OutOfMemory) → IsCutShort told_status ⊎ IfSome left (λ bs. HasOutcome bs told_status)
+      → (told_status ≡ status.Answered) ⊎ (told_status ≡ status.Faulty) ⊎ (told_status ≡ status.TooLarge) ⊎ (told_status ≡ status.WriteFault)
+      ⊎ (told_status ≡ status.OutOfMemory) → IsCutShort told_status ⊎ IfSome left (λ bs. HasOutcome bs told_status)
   answer_comes wrote (inl e) = inr (told_answer left after bytes took ends told_status before now (wrote (inl e)))
   answer_comes wrote (inr (inl e)) = inr (told_answer left after bytes took ends told_status before now (wrote (inr (inl e))))
   answer_comes wrote (inr (inr (inl e))) = inr (told_answer left after bytes took ends told_status before now (wrote (inr (inr e))))

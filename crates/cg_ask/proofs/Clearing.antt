@@ -13,7 +13,7 @@ use Rattle.cg_ask.specs.Asked.{rows_of, edges, degrees_of, tracked_of, legacy_of
 use Rattle.cg_ask.specs.Dying.{Dies}
 use Rattle.cg_ask.specs.Marked.{MarkJust}
 use Rattle.cg_ask.proofs.Counting.{no_degree}
-use Rattle.cg_ask.proofs.Dead.{dead_just}
+use Rattle.cg_ask.proofs.DiesByCount.{dead_just}
 use Rattle.cg_ask.proofs.Reaching.{found_just}
 
 pub candidates_long : (ms : List Member) (marks : List Bool) → marks ≡ tracked_of ms → length marks ≡ length ms
@@ -26,10 +26,12 @@ same_marks : (marks others : List Bool) → marks ≡ others → (i : ℕ) → M
 same_marks marks others is i = (λ m. subst (λ (bs : List Bool). Marks bs i) is m, λ m. subst (λ (bs : List Bool). Marks bs i) (sym is) m)
 
 -- the candidates that the collection does not find reachable
-pub unreachable_just : (ms : List Member) (candidates held found lost : List Bool) → candidates ≡ tracked_of ms → MarkJust (length ms) (IsHeldElsewhere ms) held → length found ≡ length candidates → ((i : ℕ) → Marks found i ↔ Leads held candidates (rows_of ms) i)
+pub unreachable_just : (ms : List Member) (candidates held found lost : List Bool) → candidates ≡ tracked_of ms → MarkJust (length ms) (IsHeldElsewhere ms) held
+    → length found ≡ length candidates → ((i : ℕ) → Marks found i ↔ Leads held candidates (rows_of ms) i)
     → MarkJust (length candidates) (λ i. Marks candidates i × ¬ Marks found i) lost → MarkJust (length ms) (IsUnreachable ms) lost
 unreachable_just ms candidates held found lost is h len led l =
-    let f = found_just ms (rows_of ms) held candidates found (IsHeldElsewhere ms) (IsCandidate ms) h.just (same_marks candidates (tracked_of ms) is) (len ∙ candidates_long ms candidates is) led (edges ms) refl in
+    let f = found_just ms (rows_of ms) held candidates found (IsHeldElsewhere ms) (IsCandidate ms) h.just (same_marks candidates (tracked_of ms) is)
+    (len ∙ candidates_long ms candidates is) led (edges ms) refl in
     record {
       len = l.len ∙ candidates_long ms candidates is;
       just = λ i. (
@@ -39,7 +41,8 @@ unreachable_just ms candidates held found lost is h len led l =
     }
 
 -- those not set aside
-pub cleared_just : (ms : List Member) (lost marks aside cleared : List Bool) → MarkJust (length ms) (IsUnreachable ms) lost → marks ≡ legacy_of ms → length aside ≡ length lost → ((i : ℕ) → Marks aside i ↔ Leads marks lost (rows_of ms) i)
+pub cleared_just : (ms : List Member) (lost marks aside cleared : List Bool) → MarkJust (length ms) (IsUnreachable ms) lost → marks ≡ legacy_of ms
+    → length aside ≡ length lost → ((i : ℕ) → Marks aside i ↔ Leads marks lost (rows_of ms) i)
     → MarkJust (length lost) (λ i. Marks lost i × ¬ Marks aside i) cleared → MarkJust (length ms) (IsCleared ms) cleared
 cleared_just ms lost marks aside cleared l is len led k =
     let a = found_just ms (rows_of ms) marks lost aside (Marks (legacy_of ms)) (IsUnreachable ms) (same_marks marks (legacy_of ms) is) l.just (len ∙ l.len) led (edges ms) refl in
@@ -52,7 +55,8 @@ cleared_just ms lost marks aside cleared l is len led k =
     }
 
 -- those lost that do not die of that
-pub stuck_just : (ms : List Member) (lost cleared dead stuck : List Bool) → MarkJust (length ms) (IsLost ms) lost → MarkJust (length ms) (IsCleared ms) cleared → MarkJust (length ms) (Dies ms (Marks cleared)) dead → MarkJust (length lost) (λ i. Marks lost i × ¬ Marks dead i) stuck
+pub stuck_just : (ms : List Member) (lost cleared dead stuck : List Bool) → MarkJust (length ms) (IsLost ms) lost → MarkJust (length ms) (IsCleared ms) cleared
+    → MarkJust (length ms) (Dies ms (Marks cleared)) dead → MarkJust (length lost) (λ i. Marks lost i × ¬ Marks dead i) stuck
     → MarkJust (length ms) (IsStuck ms) stuck
 stuck_just ms lost cleared dead stuck l c d s =
     let die = dead_just ms cleared dead (IsCleared ms) c d in
@@ -65,12 +69,14 @@ stuck_just ms lost cleared dead stuck l c d s =
     }
 
 -- those with more references than candidates have to them
-pub elsewhere_just : (ms : List Member) (counts degrees : List ℕ) (held : List Bool) → length counts ≡ length ms → ((i : ℕ) → i < length ms → get_or counts i 0 ≡ occurrences i (targets_from (tracked_of ms) (rows_of ms))) → degrees ≡ degrees_of ms
+pub elsewhere_just : (ms : List Member) (counts degrees : List ℕ) (held : List Bool) → length counts ≡ length ms → ((i : ℕ) → i < length ms → get_or counts i 0
+    ≡ occurrences i (targets_from (tracked_of ms) (rows_of ms))) → degrees ≡ degrees_of ms
     → MarkJust (length counts) (λ i. get_or counts i 0 < get_or degrees i 0) held → MarkJust (length ms) (IsHeldElsewhere ms) held
 elsewhere_just ms counts degrees held long each is h = record {
   len = h.len ∙ long;
   just = λ i. (
-    λ m. let below : i < length ms = omega (arith, slice_get_within held i true m, h.len, long) in let less = (h.just i).0 m in omega (arith, less, each i below, ap (λ (ns : List ℕ). get_or ns i 0) is),
+    λ m. let below : i < length ms = omega (arith, slice_get_within held i true m, h.len, long) in let less = (h.just i).0 m
+        in omega (arith, less, each i below, ap (λ (ns : List ℕ). get_or ns i 0) is),
     λ p. let below = within i p in (h.just i).1 (omega (arith, p, each i below, ap (λ (ns : List ℕ). get_or ns i 0) is)),
   );
 }

@@ -31,7 +31,8 @@ bits false true h x r s t le = omega (arith, occurrences-append x r t, le)
 bits false false h x r s t le = le
 
 -- more nodes have more targets
-pub targets_mono : (x : ℕ) (marks others : List Bool) (rows : List (List ℕ)) → length others ≡ length rows → ((i : ℕ) → Marks marks i → Marks others i) → occurrences x (targets_from marks rows) ≤ occurrences x (targets_from others rows)
+pub targets_mono : (x : ℕ) (marks others : List Bool) (rows : List (List ℕ)) → length others ≡ length rows → ((i : ℕ) → Marks marks i → Marks others i)
+    → occurrences x (targets_from marks rows) ≤ occurrences x (targets_from others rows)
 targets_mono x [] others rows long h = omega arith
 targets_mono x (a ∷ marks) others [] long h = omega arith
 targets_mono x (a ∷ marks) [] (r ∷ rows) long h = absurd (omega (arith, long))
@@ -52,10 +53,17 @@ pub targets_set : (x : ℕ) (marks : List Bool) (rows : List (List ℕ)) (at : �
 targets_set x [] rows at within long off = absurd (omega (arith, within, long))
 targets_set x (m ∷ marks) [] at within long off = absurd (omega (arith, within))
 targets_set x (m ∷ marks) (r ∷ rows) zero within long off =
-    let now : occurrences x ((if m then r else []) ++ targets_from marks rows) ≡ occurrences x (targets_from marks rows) = ap (λ b. occurrences x ((if b then r else []) ++ targets_from marks rows)) off in
+    let now : occurrences x ((if m then r else []) ++ targets_from marks rows) ≡ occurrences x (targets_from marks rows) =
+    ap (λ b. occurrences x ((if b then r else []) ++ targets_from marks rows)) off in
     omega (arith, now, occurrences-append x r (targets_from marks rows))
 targets_set x (m ∷ marks) (r ∷ rows) (suc at) within long off =
-    omega (arith, targets_set x marks rows at (omega (arith, within)) (omega (arith, long)) off, occurrences-append x (if m then r else []) (targets_from (set marks at true) rows), occurrences-append x (if m then r else []) (targets_from marks rows))
+    omega (
+      arith,
+      targets_set x marks rows at (omega (arith, within)) (omega (arith, long)) off,
+      occurrences-append x (if m then r else [])
+          (targets_from (set marks at true) rows),
+      occurrences-append x (if m then r else []) (targets_from marks rows),
+    )
 
 -- a target of a node is a target of all
 pub concat_row : (rows : List (List ℕ)) (x : ℕ) → Includes (concat rows) x → (k : ℕ) × (row : List ℕ) × (slice_get rows k ≡ Some row) × Includes row x
@@ -93,10 +101,12 @@ past_end (x ∷ xs) (suc i) h = past_end xs i (omega (arith, h))
 concat_room : (rows : List (List ℕ)) (k : ℕ) (row : List ℕ) → k < length rows → row ≡ get_or rows k row → length (concat (take k rows)) + length row ≤ length (concat rows)
 concat_room rows k row within is =
     let parts : length (concat rows) ≡ length (concat (take (k + 1) rows)) + length (concat (drop (k + 1) rows)) =
-    ap (λ (rs : List (List ℕ)). length (concat rs)) (sym (take-append-drop (k + 1) rows)) ∙ ap (λ (xs : List ℕ). length xs) (concat-append (take (k + 1) rows) (drop (k + 1) rows)) ∙ length-append (concat (take (k + 1) rows)) (concat (drop (k + 1) rows)) in
+    ap (λ (rs : List (List ℕ)). length (concat rs)) (sym (take-append-drop (k + 1) rows)) ∙ ap (λ (xs : List ℕ). length xs) (concat-append (take (k + 1) rows)
+    (drop (k + 1) rows)) ∙ length-append (concat (take (k + 1) rows)) (concat (drop (k + 1) rows)) in
     omega (arith, parts, ap (λ (xs : List ℕ). length xs) (concat_next rows k row within is), length-append (concat (take k rows)) row)
 
-pub so_room : (count : ℕ) (rows : List (List ℕ)) (at : ℕ) (counts row : List ℕ) → at < length rows → row ≡ get_or rows at row → length (concat rows) < 2 ^ 64 → CountsSo count rows at counts → (i : ℕ) → get_or counts i 0 + length row < 2 ^ 64
+pub so_room : (count : ℕ) (rows : List (List ℕ)) (at : ℕ) (counts row : List ℕ) → at < length rows → row ≡ get_or rows at row → length (concat rows) < 2 ^ 64
+    → CountsSo count rows at counts → (i : ℕ) → get_or counts i 0 + length row < 2 ^ 64
 so_room count rows at counts row within is few so i = either (le_or i count)
     (λ below. omega (arith, so.each i below, few_occurrences i (concat (take at rows)), concat_room rows at row within is, few))
     (λ past. omega (arith, past_end counts i (omega (arith, past, so.len)), concat_room rows at row within is, few))
@@ -104,11 +114,13 @@ so_room count rows at counts row within is few so i = either (le_or i count)
     le_or : (i n : ℕ) → (i < n) ⊎ (n ≤ i)
     le_or i n = either (cases_lt i n) (λ l. inl l) (λ g. inr g)
 
-pub so_more : (count : ℕ) (rows : List (List ℕ)) (at : ℕ) (counts now row : List ℕ) → at < length rows → row ≡ get_or rows at row → CountsSo count rows at counts → Adds counts row now → CountsSo count rows (at + 1) now
+pub so_more : (count : ℕ) (rows : List (List ℕ)) (at : ℕ) (counts now row : List ℕ) → at < length rows → row ≡ get_or rows at row
+    → CountsSo count rows at counts → Adds counts row now → CountsSo count rows (at + 1) now
 so_more count rows at counts now row within is so h = record {
   len = h.len ∙ so.len;
   each = λ i below.
-      let parts : occurrences i (concat (take (at + 1) rows)) ≡ occurrences i (concat (take at rows)) + occurrences i row = ap (occurrences i) (concat_next rows at row within is) ∙ occurrences-append i (concat (take at rows)) row in
+      let parts : occurrences i (concat (take (at + 1) rows)) ≡ occurrences i (concat (take at rows)) + occurrences i row =
+      ap (occurrences i) (concat_next rows at row within is) ∙ occurrences-append i (concat (take at rows)) row in
       omega (arith, parts, so.each i below, h.adds i (omega (arith, below, so.len)));
 }
 
@@ -140,12 +152,21 @@ degrees-all_told (m ∷ ms) = ap (λ t. m.degree ∷ t) (degrees-all_told ms)
 pub occurrences-all_told : (x : ℕ) (ms : List Member) → occurrences x (references_of (all_told ms)) ≡ occurrences x (references_of ms) + occurrences x (all_words_of ms)
 occurrences-all_told x [] = refl
 occurrences-all_told x (m ∷ ms) =
-    omega (arith, occurrences-all_told x ms, occurrences-append x (m.refs ++ m.untold) (references_of (all_told ms)), occurrences-append x m.refs m.untold, occurrences-append x m.refs (references_of ms), occurrences-append x m.untold (all_words_of ms))
+    omega (
+      arith,
+      occurrences-all_told x ms,
+      occurrences-append x (m.refs ++ m.untold) (references_of (all_told ms)),
+      occurrences-append x m.refs m.untold,
+      occurrences-append x m.refs (references_of ms),
+      occurrences-append x m.untold (all_words_of ms),
+    )
 
-pub told_each : (ms : List Member) (all : List Bool) (counts : List ℕ) → all ≡ replicate (length ms) true → length counts ≡ length ms → ((i : ℕ) → i < length ms → get_or counts i 0 ≡ occurrences i (targets_from all (rows_of ms))) → CountEach (length ms) (references_of ms) counts
+pub told_each : (ms : List Member) (all : List Bool) (counts : List ℕ) → all ≡ replicate (length ms) true → length counts ≡ length ms
+    → ((i : ℕ) → i < length ms → get_or counts i 0 ≡ occurrences i (targets_from all (rows_of ms))) → CountEach (length ms) (references_of ms) counts
 told_each ms all counts is long each = record {
   len = long;
-  each = λ i within. each i within ∙ ap (λ (bs : List Bool). occurrences i (targets_from bs (rows_of ms))) is ∙ ap (occurrences i) (targets_all (rows_of ms) (length ms) (sym (length-map ms (λ (m : Member). m.refs))));
+  each = λ i within. each i within ∙ ap (λ (bs : List Bool). occurrences i (targets_from bs (rows_of ms))) is
+      ∙ ap (occurrences i) (targets_all (rows_of ms) (length ms) (sym (length-map ms (λ (m : Member). m.refs))));
 }
 
 -- a count that is read
@@ -160,7 +181,9 @@ pub record OutsideSo (ms : List Member) (at : ℕ) (outside : List ℕ) : Type 0
 pub outside_first : (ms : List Member) (outside : List ℕ) → outside ≡ [] → OutsideSo ms 0 outside
 outside_first ms outside is = record { len = ap (λ (ns : List ℕ). length ns) is; each = λ i low. absurd (omega (arith, low)) }
 
-pub outside_next : (ms : List Member) (c : Counts) (at : ℕ) (outside new : List ℕ) (m : Member) (told holds : ℕ) → IsCounts ms c → at < length ms → m ≡ get_or ms at m → told ≡ get_or c.told.items at told → holds ≡ m.degree - told → new ≡ outside ++ holds ∷ [] → OutsideSo ms at outside → OutsideSo ms (at + 1) new
+pub outside_next : (ms : List Member) (c : Counts) (at : ℕ) (outside new : List ℕ) (m : Member) (told holds : ℕ) → IsCounts ms c → at < length ms → m
+    ≡ get_or ms at m → told ≡ get_or c.told.items at told → holds ≡ m.degree - told → new ≡ outside ++ holds ∷ [] → OutsideSo ms at outside
+    → OutsideSo ms (at + 1) new
 outside_next ms c at outside new m told holds counts within is read less pushed h = record {
   len = omega (arith, ap (λ (ns : List ℕ). length ns) pushed, length-append outside (holds ∷ []), h.len);
   each = λ i low. either (cases_eq i at)

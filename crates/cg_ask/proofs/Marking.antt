@@ -28,18 +28,21 @@ zipped f [] others = []
 zipped f (a ∷ marks) [] = []
 zipped f (a ∷ marks) (b ∷ others) = f a b ∷ zipped f marks others
 
-zipped_suc : (f : Bool → Bool → Bool) (marks others : List Bool) (k : ℕ) (d : Bool) → k < length marks → length marks ≡ length others → zipped f (take (suc k) marks) (take (suc k) others) ≡ zipped f (take k marks) (take k others) ++ f (get_or marks k d) (get_or others k d) ∷ []
+zipped_suc : (f : Bool → Bool → Bool) (marks others : List Bool) (k : ℕ) (d : Bool) → k < length marks → length marks ≡ length others
+    → zipped f (take (suc k) marks) (take (suc k) others) ≡ zipped f (take k marks) (take k others) ++ f (get_or marks k d) (get_or others k d) ∷ []
 zipped_suc f [] others k d within long = absurd (omega (arith, within))
 zipped_suc f (a ∷ marks) [] k d within long = absurd (omega (arith, long))
 zipped_suc f (a ∷ marks) (b ∷ others) zero d within long = refl
 zipped_suc f (a ∷ marks) (b ∷ others) (suc k) d within long = ap (λ t. f a b ∷ t) (zipped_suc f marks others k d (omega (arith, within)) (omega (arith, long)))
 
-pub zipped_next : (f : Bool → Bool → Bool) (marks others : List Bool) (k : ℕ) (d : Bool) → k < length marks → length marks ≡ length others → zipped f (take (k + 1) marks) (take (k + 1) others) ≡ zipped f (take k marks) (take k others) ++ f (get_or marks k d) (get_or others k d) ∷ []
+pub zipped_next : (f : Bool → Bool → Bool) (marks others : List Bool) (k : ℕ) (d : Bool) → k < length marks → length marks ≡ length others
+    → zipped f (take (k + 1) marks) (take (k + 1) others) ≡ zipped f (take k marks) (take k others) ++ f (get_or marks k d) (get_or others k d) ∷ []
 zipped_next f marks others k d within long =
     let one : k + 1 ≡ suc k = omega arith in
     ap (λ n. zipped f (take n marks) (take n others)) one ∙ zipped_suc f marks others k d within long
 
-pub zipped_all : (f : Bool → Bool → Bool) (marks others left : List Bool) (k : ℕ) → length marks ≤ k → length marks ≡ length others → left ≡ zipped f (take k marks) (take k others) → left ≡ zipped f marks others
+pub zipped_all : (f : Bool → Bool → Bool) (marks others left : List Bool) (k : ℕ) → length marks ≤ k → length marks ≡ length others → left
+    ≡ zipped f (take k marks) (take k others) → left ≡ zipped f marks others
 zipped_all f marks others left k end long is = is ∙ ap (λ xs. zipped f xs (take k others)) (take_all k marks end) ∙ ap (zipped f marks) (take_all k others (omega (arith, end, long)))
 
 length-zipped : (f : Bool → Bool → Bool) (marks others : List Bool) → length marks ≡ length others → length (zipped f marks others) ≡ length marks
@@ -69,7 +72,10 @@ some_is a b e = cc
 pub only_at : (marks others : List Bool) (i : ℕ) → length marks ≡ length others → Marks (zipped only marks others) i ↔ (Marks marks i × ¬ Marks others i)
 only_at [] others i long = (λ m. absurd (cc), λ m. absurd (let h = m.0 in cc))
 only_at (a ∷ marks) [] i long = absurd (omega (arith, long))
-only_at (a ∷ marks) (b ∷ others) zero long = (λ m. let p = only_true a b (some_is (a && not b) true m) in (ap Some p.0, λ e. p.1 (some_is b true e)), λ m. ap Some (true_only a b (some_is a true m.0) (λ e. m.1 (ap Some e))))
+only_at (a ∷ marks) (b ∷ others) zero long = (
+  λ m. let p = only_true a b (some_is (a && not b) true m) in (ap Some p.0, λ e. p.1 (some_is b true e)),
+  λ m. ap Some (true_only a b (some_is a true m.0) (λ e. m.1 (ap Some e))),
+)
 only_at (a ∷ marks) (b ∷ others) (suc i) long = only_at marks others i (omega (arith, long))
 
 any_true : (a b : Bool) → (a || b) ≡ true → (a ≡ true) ⊎ (b ≡ true)
@@ -92,10 +98,12 @@ any_at (a ∷ marks) (b ∷ others) zero long = (
 any_at (a ∷ marks) (b ∷ others) (suc i) long = any_at marks others i (omega (arith, long))
 
 pub just_only : (marks others left : List Bool) → length marks ≡ length others → left ≡ zipped only marks others → MarkJust (length marks) (λ i. Marks marks i × ¬ Marks others i) left
-just_only marks others left long is = subst (λ (ms : List Bool). MarkJust (length marks) (λ i. Marks marks i × ¬ Marks others i) ms) (sym is) (record { len = length-zipped only marks others long; just = λ i. only_at marks others i long })
+just_only marks others left long is = subst (λ (ms : List Bool). MarkJust (length marks) (λ i. Marks marks i × ¬ Marks others i) ms) (sym is)
+    (record { len = length-zipped only marks others long; just = λ i. only_at marks others i long })
 
 pub just_any : (marks others left : List Bool) → length marks ≡ length others → left ≡ zipped any marks others → MarkJust (length marks) (λ i. Marks marks i ⊎ Marks others i) left
-just_any marks others left long is = subst (λ (ms : List Bool). MarkJust (length marks) (λ i. Marks marks i ⊎ Marks others i) ms) (sym is) (record { len = length-zipped any marks others long; just = λ i. any_at marks others i long })
+just_any marks others left long is = subst (λ (ms : List Bool). MarkJust (length marks) (λ i. Marks marks i ⊎ Marks others i) ms) (sym is)
+    (record { len = length-zipped any marks others long; just = λ i. any_at marks others i long })
 
 -- marks that represent the same set
 pub just_same : (count : ℕ) (P Q : ℕ → Type 0) (marks : List Bool) → MarkJust count P marks → ((i : ℕ) → i < count → P i → Q i) → ((i : ℕ) → Q i → P i) → MarkJust count Q marks
@@ -116,13 +124,16 @@ just_all count marks is = subst (λ (ms : List Bool). MarkJust count (λ i. i < 
     there (suc n) (suc i) below = there n i (omega (arith, below))
 
 pub just_none : (count : ℕ) (places : List ℕ) (marks : List Bool) → marks ≡ replicate count false → MarkJust count (Includes (take 0 places)) marks
-just_none count places marks is = subst (λ (ms : List Bool). MarkJust count (Includes (take 0 places)) ms) (sym is) (record { len = length-replicate count false; just = λ i. (λ m. absurd (unmarked count i m), λ h. absurd h) })
+just_none count places marks is = subst (λ (ms : List Bool). MarkJust count (Includes (take 0 places)) ms) (sym is)
+    (record { len = length-replicate count false; just = λ i. (λ m. absurd (unmarked count i m), λ h. absurd h) })
 
-just_one_more : (count : ℕ) (places : List ℕ) (marks : List Bool) (k at : ℕ) → at ≡ get_or places k 0 → k < length places → at < count → MarkJust count (Includes (take k places)) marks → MarkJust count (Includes (take (k + 1) places)) (set marks at true)
+just_one_more : (count : ℕ) (places : List ℕ) (marks : List Bool) (k at : ℕ) → at ≡ get_or places k 0 → k < length places → at < count
+    → MarkJust count (Includes (take k places)) marks → MarkJust count (Includes (take (k + 1) places)) (set marks at true)
 just_one_more count places marks k at is within inside h = record {
   len = length-set marks at true ∙ h.len;
   just = λ i. (
-    λ m. either (cases_eq i at) (λ e. subst (λ j. Includes (take (k + 1) places) j) (sym (e ∙ is)) (includes_last places k 0 within)) (λ n. includes_first places k 0 i within ((h.just i).0 (sym (slice_get-set_other marks at i true n) ∙ m))),
+    λ m. either (cases_eq i at) (λ e. subst (λ j. Includes (take (k + 1) places) j) (sym (e ∙ is)) (includes_last places k 0 within))
+        (λ n. includes_first places k 0 i within ((h.just i).0 (sym (slice_get-set_other marks at i true n) ∙ m))),
     λ m. either (includes_more places k 0 i within m)
         (λ old. either (cases_eq i at) (λ e. subst (λ j. Marks (set marks at true) j) (sym e) now) (λ n. slice_get-set_other marks at i true n ∙ (h.just i).1 old))
         (λ e. subst (λ j. Marks (set marks at true) j) (is ∙ e) now),
@@ -132,7 +143,8 @@ just_one_more count places marks k at is within inside h = record {
     now : Marks (set marks at true) at
     now = slice_get-set_same marks at true (omega (arith, inside, h.len))
 
-pub just_next : (count : ℕ) (places : List ℕ) (marks : List Bool) (k : ℕ) → k < length places → get_or places k 0 < count → MarkJust count (Includes (take k places)) marks → MarkJust count (Includes (take (k + 1) places)) (set marks (get_or places k 0) true)
+pub just_next : (count : ℕ) (places : List ℕ) (marks : List Bool) (k : ℕ) → k < length places → get_or places k 0 < count
+    → MarkJust count (Includes (take k places)) marks → MarkJust count (Includes (take (k + 1) places)) (set marks (get_or places k 0) true)
 just_next count places marks k within inside h = just_one_more count places marks k (get_or places k 0) refl within inside h
 
 pub just_places : (count : ℕ) (places : List ℕ) (marks : List Bool) (k : ℕ) → length places ≤ k → MarkJust count (Includes (take k places)) marks → MarkJust count (Includes places) marks
@@ -184,7 +196,8 @@ so_next at f marks new b is value h = record {
     front (x ∷ xs) y zero low = refl
     front (x ∷ xs) y (suc i) low = front xs y i (omega (arith, low))
 
-pub marks_all : (count at : ℕ) (f : ℕ → Bool) (P : ℕ → Type 0) (marks : List Bool) → count ≤ at → at ≤ count → ((i : ℕ) → i < count → (f i ≡ true) ↔ P i) → ((i : ℕ) → P i → i < count) → MarksSo at f marks → MarkJust count P marks
+pub marks_all : (count at : ℕ) (f : ℕ → Bool) (P : ℕ → Type 0) (marks : List Bool) → count ≤ at → at ≤ count → ((i : ℕ) → i < count → (f i ≡ true) ↔ P i)
+    → ((i : ℕ) → P i → i < count) → MarksSo at f marks → MarkJust count P marks
 marks_all count at f P marks end low means within h =
     let same : at ≡ count = omega (arith, end, low) in
     record {
@@ -200,7 +213,8 @@ past_end [] i h = refl
 past_end (x ∷ xs) zero h = absurd (omega (arith, h))
 past_end (x ∷ xs) (suc i) h = past_end xs i (omega (arith, h))
 
-pub below_all : (numbers others : List ℕ) (marks : List Bool) (at : ℕ) → length numbers ≡ length others → length numbers ≤ at → at ≤ length numbers → MarksSo at (λ i. nat_lt (get_or numbers i 0) (get_or others i 0)) marks → MarkJust (length numbers) (λ i. get_or numbers i 0 < get_or others i 0) marks
+pub below_all : (numbers others : List ℕ) (marks : List Bool) (at : ℕ) → length numbers ≡ length others → length numbers ≤ at → at ≤ length numbers
+    → MarksSo at (λ i. nat_lt (get_or numbers i 0) (get_or others i 0)) marks → MarkJust (length numbers) (λ i. get_or numbers i 0 < get_or others i 0) marks
 below_all numbers others marks at long end low h =
     marks_all (length numbers) at (λ i. nat_lt (get_or numbers i 0) (get_or others i 0)) (λ i. get_or numbers i 0 < get_or others i 0) marks end low
     (λ i within. (λ e. ltb-true (get_or numbers i 0) (get_or others i 0) e, λ p. lt-ltb (get_or numbers i 0) (get_or others i 0) p))

@@ -47,7 +47,8 @@ held_just ms outside held are is = subst (λ (bs : List Bool). MarkJust (length 
     member i h = either (cases_lt i (length ms)) (λ l. l) (λ g. absurd (omega (arith, h, no_degree ms i g)))
 
 -- the search finds exactly what paths reach
-pub found_just : (ms : List Member) (rows : List (List ℕ)) (starts allowed found : List Bool) (Held Inside : ℕ → Type 0) → ((i : ℕ) → Marks starts i ↔ Held i) → ((i : ℕ) → Marks allowed i ↔ Inside i) → length found ≡ length ms → ((i : ℕ) → Marks found i ↔ Leads starts allowed rows i)
+pub found_just : (ms : List Member) (rows : List (List ℕ)) (starts allowed found : List Bool) (Held Inside : ℕ → Type 0) → ((i : ℕ) → Marks starts i ↔ Held i)
+    → ((i : ℕ) → Marks allowed i ↔ Inside i) → length found ≡ length ms → ((i : ℕ) → Marks found i ↔ Leads starts allowed rows i)
     → (arrows : List Edge) → arrows ≡ edges_of rows → MarkJust (length ms) (Reach Held Inside arrows) found
 found_just ms rows starts allowed found Held Inside starting allowing len led arrows is = subst (λ (es : List Edge). MarkJust (length ms) (Reach Held Inside es) found) (sym is) (record {
   len = len;
@@ -58,7 +59,8 @@ found_just ms rows starts allowed found Held Inside starting allowing len led ar
 })
 
 -- what is not found is lost
-pub lost_just : (ms : List Member) (all found lost : List Bool) → MarkJust (length ms) (λ i. i < length ms) all → MarkJust (length ms) (IsReached ms) found → MarkJust (length all) (λ i. Marks all i × ¬ Marks found i) lost → MarkJust (length ms) (IsLost ms) lost
+pub lost_just : (ms : List Member) (all found lost : List Bool) → MarkJust (length ms) (λ i. i < length ms) all → MarkJust (length ms) (IsReached ms) found
+    → MarkJust (length all) (λ i. Marks all i × ¬ Marks found i) lost → MarkJust (length ms) (IsLost ms) lost
 lost_just ms all found lost a f h = record {
   len = h.len ∙ a.len;
   just = λ i. (
@@ -67,7 +69,9 @@ lost_just ms all found lost a f h = record {
   );
 }
 
-pub others_just : (ms : List Member) (places : List ℕ) (all these others : List Bool) → MarkJust (length ms) (λ i. i < length ms) all → MarkJust (length ms) (Includes places) these → MarkJust (length all) (λ i. Marks all i × ¬ Marks these i) others → MarkJust (length ms) (IsOther ms places) others
+pub others_just : (ms : List Member) (places : List ℕ) (all these others : List Bool) → MarkJust (length ms) (λ i. i < length ms) all
+    → MarkJust (length ms) (Includes places) these → MarkJust (length all) (λ i. Marks all i × ¬ Marks these i) others
+    → MarkJust (length ms) (IsOther ms places) others
 others_just ms places all these others a t h = record {
   len = h.len ∙ a.len;
   just = λ i. (

@@ -63,7 +63,8 @@ releases_none left dead waits = record {
 }
 
 -- some, then others
-pub releases_more : (first others left mid now : List ℕ) (dead then last : List Bool) (waits wait queue : List ℕ) → Releases first left dead waits mid then wait → Releases others mid then wait now last queue → Releases (first ++ others) left dead waits now last queue
+pub releases_more : (first others left mid now : List ℕ) (dead then last : List Bool) (waits wait queue : List ℕ) → Releases first left dead waits mid then wait
+    → Releases others mid then wait now last queue → Releases (first ++ others) left dead waits now last queue
 releases_more first others left mid now dead then last waits wait queue a b = record {
   len = b.len ∙ a.len;
   long = b.long ∙ a.long;
@@ -109,7 +110,8 @@ module _ (left : List ℕ) (dead : List Bool) (waits : List ℕ) (at number : �
     long = refl;
     leaves = λ i. lowered left at number i within is;
     stay = λ i m. m;
-    falls = λ i m none. absurd (let here : get_or (set left at number) i 0 ≡ number = ap (λ k. get_or (set left at number) k 0) (sym (at_is i m)) ∙ get_or-set_same left at number 0 within in omega (arith, here, none, some));
+    falls = λ i m none. absurd (let here : get_or (set left at number) i 0 ≡ number = ap (λ k. get_or (set left at number) k 0) (sym (at_is i m))
+        ∙ get_or-set_same left at number 0 within in omega (arith, here, none, some));
     only = λ i m. inl m;
     waiting = λ i. refl;
     measure = refl;
@@ -158,12 +160,15 @@ module _ (left : List ℕ) (dead : List Bool) (waits : List ℕ) (at number : �
           ∙ sum_by-set (λ b. cond {A = ℕ} (not b) 1 0) dead at true true inside
 
 -- the next of a row
-pub releases_next : (row left mid now : List ℕ) (dead then last : List Bool) (waits wait queue : List ℕ) (k : ℕ) → k < length row → Releases (take k row) left dead waits mid then wait → Releases (get_or row k 0 ∷ []) mid then wait now last queue
+pub releases_next : (row left mid now : List ℕ) (dead then last : List Bool) (waits wait queue : List ℕ) (k : ℕ) → k < length row → Releases (take k row) left
+    dead waits mid then wait → Releases (get_or row k 0 ∷ []) mid then wait now last queue
     → Releases (take (k + 1) row) left dead waits now last queue
 releases_next row left mid now dead then last waits wait queue k within a b =
-    subst (λ (ts : List ℕ). Releases ts left dead waits now last queue) (sym (take_more row k 0 within)) (releases_more (take k row) (get_or row k 0 ∷ []) left mid now dead then last waits wait queue a b)
+    subst (λ (ts : List ℕ). Releases ts left dead waits now last queue) (sym (take_more row k 0 within)) (releases_more (take k row) (get_or row k 0 ∷ []) left
+    mid now dead then last waits wait queue a b)
 
-pub releases_all : (row left now : List ℕ) (dead last : List Bool) (waits queue : List ℕ) (k : ℕ) → length row ≤ k → Releases (take k row) left dead waits now last queue → Releases row left dead waits now last queue
+pub releases_all : (row left now : List ℕ) (dead last : List Bool) (waits queue : List ℕ) (k : ℕ) → length row ≤ k → Releases (take k row) left dead waits now
+    last queue → Releases row left dead waits now last queue
 releases_all row left now dead last waits queue k end h = subst (λ (ts : List ℕ). Releases ts left dead waits now last queue) (take_all k row end) h
 
 -- the marked places, each once
@@ -204,11 +209,13 @@ pub wait_pushed : (marks : List Bool) (at : ℕ) (waits now : List ℕ) → get_
 wait_pushed marks at waits now on is h = subst (λ (ns : List ℕ). WaitBelow marks (at + 1) ns) (sym is) (wait_push marks at waits on h)
 
 -- One number lowered, and one mark.
-module _ (left : List ℕ) (dead : List Bool) (waits : List ℕ) (at read : ℕ) (within : at < length left) (long : length dead ≡ length left) (some : 0 < get_or left at 0) (is : read ≡ get_or left at read) where
+module _ (left : List ℕ) (dead : List Bool) (waits : List ℕ) (at read : ℕ) (within : at < length left) (long : length dead ≡ length left)
+    (some : 0 < get_or left at 0) (is : read ≡ get_or left at read) where
   read_is : get_or left at 0 ≡ (read - 1) + 1
   read_is = omega (arith, some, get_or_read_under left at (length left) read 0 is within refl)
 
-  pub released_new : (wait : List ℕ) (mark : Bool) → read - 1 ≡ 0 → mark ≡ get_or dead at mark → mark ≡ false → wait ≡ waits ++ at ∷ [] → Releases (at ∷ []) left dead waits (set left at (read - 1)) (set dead at true) wait
+  pub released_new : (wait : List ℕ) (mark : Bool) → read - 1 ≡ 0 → mark ≡ get_or dead at mark → mark ≡ false → wait ≡ waits ++ at ∷ []
+      → Releases (at ∷ []) left dead waits (set left at (read - 1)) (set dead at true) wait
   released_new wait mark none m off pushed =
       subst (λ (ns : List ℕ). Releases (at ∷ []) left dead waits (set left at (read - 1)) (set dead at true) ns) (sym pushed)
       (release_falls left dead waits at (read - 1) within long read_is none (slice_get_read dead (length dead) at mark refl (omega (arith, within, long)) m ∙ ap Some off))
@@ -220,7 +227,8 @@ module _ (left : List ℕ) (dead : List Bool) (waits : List ℕ) (at read : ℕ)
   released_still more = release_keeps left dead waits at (read - 1) within long read_is more
 
 -- there is one left for the next of a row
-pub one_left : (row left now : List ℕ) (k : ℕ) → k < length row → occurrences (get_or row k 0) row ≤ get_or left (get_or row k 0) 0 → get_or now (get_or row k 0) 0 + occurrences (get_or row k 0) (take k row) ≡ get_or left (get_or row k 0) 0 → 0 < get_or now (get_or row k 0) 0
+pub one_left : (row left now : List ℕ) (k : ℕ) → k < length row → occurrences (get_or row k 0) row ≤ get_or left (get_or row k 0) 0
+    → get_or now (get_or row k 0) 0 + occurrences (get_or row k 0) (take k row) ≡ get_or left (get_or row k 0) 0 → 0 < get_or now (get_or row k 0) 0
 one_left row left now k within enough so =
     let at = get_or row k 0 in
     let parts : occurrences at row ≡ occurrences at (take k row) + occurrences at (drop k row) = ap (occurrences at) (sym (take-append-drop k row)) ∙ occurrences-append at (take k row) (drop k row) in

@@ -18,15 +18,38 @@ untold_long (n ∷ ns) = omega (arith, spaced_long (n ∷ ns), length-append (co
 
 member_long : (m : Member) → length m.refs + length m.untold + 2 ≤ length (member_text m)
 member_long m =
-    omega (arith, spaced_long (member_numbers m), untold_long m.untold, length-append ((codes "m" ++ all_spaced (member_numbers m)) ++ 10 ∷ []) (untold_text m.untold), length-append (codes "m" ++ all_spaced (member_numbers m)) (10 ∷ []), length-append (codes "m") (all_spaced (member_numbers m)))
+    omega (
+      arith,
+      spaced_long (member_numbers m),
+      untold_long m.untold,
+      length-append ((codes "m" ++ all_spaced (member_numbers m)) ++ 10 ∷ [])
+          (untold_text m.untold),
+      length-append (codes "m" ++ all_spaced (member_numbers m)) (10 ∷ []),
+      length-append (codes "m") (all_spaced (member_numbers m)),
+    )
 
 members_long : (ms : List Member) → length (references_of ms) + length (all_words_of ms) + 2 * length ms ≤ length (flat_map member_text ms)
 members_long [] = omega arith
-members_long (m ∷ ms) = omega (arith, members_long ms, member_long m, length-append m.refs (references_of ms), length-append m.untold (all_words_of ms), length-append (member_text m) (flat_map member_text ms))
+members_long (m ∷ ms) = omega (
+  arith,
+  members_long ms,
+  member_long m,
+  length-append m.refs (references_of ms),
+  length-append m.untold (all_words_of ms),
+  length-append (member_text m) (flat_map member_text ms),
+)
 
 text_long : (s : Snapshot) → length (references_of s.members) + length (all_words_of s.members) + 2 * length s.members ≤ length (text s)
 text_long s =
-    omega (arith, members_long s.members, length-append ((codes "heap\n" ++ flat_map member_text s.members) ++ codes "end\n") (flat_map question_text s.questions), length-append (codes "heap\n" ++ flat_map member_text s.members) (codes "end\n"), length-append (codes "heap\n") (flat_map member_text s.members))
+    omega (
+      arith,
+      members_long s.members,
+      length-append ((codes "heap\n" ++ flat_map member_text s.members) ++ codes "end\n")
+          (flat_map question_text s.questions),
+      length-append (codes "heap\n" ++ flat_map member_text s.members) (codes "end\n"),
+      length-append (codes "heap\n")
+          (flat_map member_text s.members),
+    )
 
 -- the result of reading bytes that are not too many
 module _ (bytes : List ℕ) (s : Snapshot) (short : length bytes < LIMIT) (spells : Spells bytes s) where

@@ -76,7 +76,8 @@ pub record WritesFrontOf (s : Snapshot) (before now : Option (List ℕ)) : Type 
 -- The answers to these questions were written, or those to the first of them and a prefix of the next.
 pub record AnswersSo (ms : List Member) (qs : List Question) (status : AskStatus) (before now : Option (List ℕ)) (faults later : ℕ) : Type 0 where
   pub answered : status ≡ Answered → (text : List ℕ) × AnswersAll ms qs text × Appends before now text
-  pub cut : (status ≡ WriteFault) ⊎ (status ≡ OutOfMemory) → (first : List Question) × (rest : List Question) × (text : List ℕ) × (qs ≡ first ++ rest) × AnswersAll ms first text × AppendsFront before now text
+  pub cut : (status ≡ WriteFault) ⊎ (status ≡ OutOfMemory) → (first : List Question) × (rest : List Question) × (text : List ℕ) × (qs ≡ first ++ rest)
+      × AnswersAll ms first text × AppendsFront before now text
   pub cause : status ≡ WriteFault → Rose faults later
   pub only : (status ≡ Answered) ⊎ (status ≡ WriteFault) ⊎ (status ≡ OutOfMemory)
 

@@ -60,7 +60,8 @@ fn put_lines(
     }
 }
 
-/// Appends the answer to a question about members without faults: the question as asked, the lines, and `done`.
+/// Appends the answer to a question about members without faults: the question as asked, the lines,
+/// and `done`.
 pub(crate) fn put_answer(
     alloc: Global,
     members: &[Member],

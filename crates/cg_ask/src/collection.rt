@@ -31,7 +31,8 @@ fn held_elsewhere(
 ) -> Result<Vec<bool>, AllocError>
     requires candidates { candidates.now ≡ tracked_of members.now }
     requires few { length (references_of members.now) < 2 ^ 64 }
-    ensures { IfOk result (λ held. MarkJust (length members.now) (IsHeldElsewhere members.now) held.items) }
+    ensures { IfOk result (λ held. MarkJust (length members.now) (IsHeldElsewhere members.now)
+        held.items) }
 {
     let counts = count_targets(alloc, candidates, members)?;
     let degrees = in_degrees(alloc, members)?;
@@ -43,7 +44,8 @@ fn held_elsewhere(
 fn unreachable_of(alloc: Global, members: &[Member]) -> Result<Vec<bool>, AllocError>
     requires right { AreRight members.now false }
     requires few { length (references_of members.now) < 2 ^ 64 }
-    ensures { IfOk result (λ marks. MarkJust (length members.now) (IsUnreachable members.now) marks.items) }
+    ensures { IfOk result (λ marks. MarkJust (length members.now) (IsUnreachable members.now)
+        marks.items) }
 {
     let candidates = tracked(alloc, members)?;
     let held = held_elsewhere(alloc, members, &candidates)?;
@@ -56,7 +58,8 @@ fn unreachable_of(alloc: Global, members: &[Member]) -> Result<Vec<bool>, AllocE
 fn cleared_of(alloc: Global, members: &[Member]) -> Result<Vec<bool>, AllocError>
     requires right { AreRight members.now false }
     requires few { length (references_of members.now) < 2 ^ 64 }
-    ensures { IfOk result (λ marks. MarkJust (length members.now) (IsCleared members.now) marks.items) }
+    ensures { IfOk result (λ marks. MarkJust (length members.now) (IsCleared members.now)
+        marks.items) }
 {
     let lost = unreachable_of(alloc, members)?;
     let marks = legacy(alloc, members)?;
@@ -74,7 +77,8 @@ pub(crate) fn stuck_of(
     requires right { AreRight members.now false }
     requires few { length (references_of members.now) < 2 ^ 64 }
     requires lost { MarkJust (length members.now) (IsLost members.now) lost.now }
-    ensures { IfOk result (λ stuck. MarkJust (length members.now) (IsStuck members.now) stuck.items) }
+    ensures { IfOk result (λ stuck. MarkJust (length members.now) (IsStuck members.now)
+        stuck.items) }
 {
     let cleared = cleared_of(alloc, members)?;
     let dead = dying(alloc, members, &cleared)?;

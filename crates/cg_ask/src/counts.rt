@@ -18,7 +18,8 @@ pub(crate) struct Counts {
 /// How often each member occurs among references.
 fn count_told(alloc: Global, members: &[Member]) -> Result<Vec<u64>, AllocError>
     requires { length (references_of members.now) < 2 ^ 64 }
-    ensures { IfOk result (λ counts. CountEach (length members.now) (references_of members.now) counts.items) }
+    ensures { IfOk result (λ counts. CountEach (length members.now) (references_of members.now)
+        counts.items) }
 {
     let all = Vec::from_elem(alloc, true, members.len())?;
     let counts = count_targets(alloc, &all, members)?;
@@ -28,7 +29,8 @@ fn count_told(alloc: Global, members: &[Member]) -> Result<Vec<u64>, AllocError>
 /// How often each member occurs among untold words.
 fn count_words(alloc: Global, members: &[Member]) -> Result<Vec<u64>, AllocError>
     requires { length (all_words_of members.now) < 2 ^ 64 }
-    ensures { IfOk result (λ counts. CountEach (length members.now) (all_words_of members.now) counts.items) }
+    ensures { IfOk result (λ counts. CountEach (length members.now) (all_words_of members.now)
+        counts.items) }
 {
     let mut counts = Vec::from_elem(alloc, 0, members.len())?;
     'members: for member in members {

@@ -29,7 +29,8 @@ fn release(
     requires within { target < length left.old.items }
     requires long { length dead.old.items ≡ length left.old.items }
     requires some { 0 < slice_index left.old.items target }
-    ensures { OnOk result (Releases (target ∷ []) left.old.items dead.old.items waits.old.items left.new.items dead.new.items waits.new.items) }
+    ensures { OnOk result (Releases (target ∷ []) left.old.items dead.old.items waits.old.items
+        left.new.items dead.new.items waits.new.items) }
 {
     let number = left[target] - 1;
     left[target] = number;
@@ -50,7 +51,8 @@ fn release_all(
     requires within { (i : ℕ) → Includes row.now i → i < length left.old.items }
     requires long { length dead.old.items ≡ length left.old.items }
     requires some { (i : ℕ) → occurrences i row.now ≤ slice_index left.old.items i }
-    ensures { OnOk result (Releases row.now left.old.items dead.old.items waits.old.items left.new.items dead.new.items waits.new.items) }
+    ensures { OnOk result (Releases row.now left.old.items dead.old.items waits.old.items
+        left.new.items dead.new.items waits.new.items) }
 {
     'targets: for target in row {
         release(left, *target, dead, waits)?;
@@ -79,7 +81,8 @@ pub(crate) fn dying(
 ) -> Result<Vec<bool>, AllocError>
     requires right { AreRight members.now false }
     requires long { length given.now ≡ length members.now }
-    ensures { IfOk result (λ dead. MarkJust (length members.now) (Dies members.now (Marks given.now)) dead.items) }
+    ensures { IfOk result (λ dead. MarkJust (length members.now)
+        (Dies members.now (Marks given.now)) dead.items) }
 {
     let mut left = in_degrees(alloc, members)?;
     let mut dead = Vec::from_slice(alloc, given)?;

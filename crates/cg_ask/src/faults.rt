@@ -11,8 +11,9 @@ use cg_snapshot::Member;
 /// A fault of a recorded heap.
 #[derive(Clone, Copy, Debug, PartialEq, Eq, Drop)]
 pub struct Fault {
-    /// 2: a reference or an untold word names no member; 3: an in-degree is below the member's occurrences among the
-    /// references; 4: it is below those among references and untold words together.
+    /// 2: a reference or an untold word names no member; 3: an in-degree is below the member's
+    /// occurrences among the references; 4: it is below those among references and untold words
+    /// together.
     pub code: u8,
     /// The place of the member.
     pub member: usize,
@@ -48,8 +49,8 @@ fn fault_at(members: &[Member], counts: &Counts, with_words: bool, at: usize) ->
     None
 }
 
-/// The first member with a fault, and its least code; `None` if there is none. Untold words count only if they are
-/// asked about.
+/// The first member with a fault, and its least code; `None` if there is none. Untold words count
+/// only if they are asked about.
 pub(crate) fn find_fault(members: &[Member], counts: &Counts, with_words: bool) -> Option<Fault>
     requires { IsCounts members.now counts.now }
     ensures right { IfNone result (AreRight members.now with_words) }

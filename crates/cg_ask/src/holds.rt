@@ -21,7 +21,8 @@ fn times(places: &[usize], place: usize) -> u64
 
 /// Appends a row for each member that refers to the object.
 fn put_rows(out: &mut Vec<u8>, members: &[Member], object: usize) -> Result<(), AllocError>
-    ensures { OnOk result (AppendsRows (TellsReferrer members.now object) (codes "referrer") out.old.items out.new.items) }
+    ensures { OnOk result (AppendsRows (TellsReferrer members.now object) (codes "referrer")
+        out.old.items out.new.items) }
 {
     'members: for at in 0..members.len() {
         let times = times(members[at].refs.as_slice(), object);
@@ -41,7 +42,9 @@ pub(crate) fn put_referrers(
 ) -> Result<(), AllocError>
     requires outside { AreOutside members.now outside.now }
     requires within { object < length members.now }
-    ensures { OnOk result (AppendsTold (TellsReferrer members.now object) (codes "referrer") (λ rows. line (codes "outside") (outside_at members.now object ∷ [])) out.old.items out.new.items) }
+    ensures { OnOk result (AppendsTold (TellsReferrer members.now object) (codes "referrer")
+        (λ rows. line (codes "outside") (outside_at members.now object ∷ [])) out.old.items
+        out.new.items) }
 {
     put_rows(out, members, object)?;
     put_line(out, b"outside", &[outside[object]])?;
@@ -57,7 +60,8 @@ pub(crate) fn put_hidden(
 ) -> Result<(), AllocError>
     requires counts { IsCounts members.now counts.now }
     requires outside { AreOutside members.now outside.now }
-    ensures { OnOk result (AppendsRows (TellsHidden members.now) (codes "hidden") out.old.items out.new.items) }
+    ensures { OnOk result (AppendsRows (TellsHidden members.now) (codes "hidden") out.old.items
+        out.new.items) }
 {
     'members: for at in 0..members.len() {
         let holds = outside[at];

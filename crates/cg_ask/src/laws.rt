@@ -13,9 +13,11 @@ pub fn held_has_outside_holds()
     ensures { (ms : List Member) (o : ℕ) → IsHeld ms o ↔ 0 < outside_at ms o }
 {}
 
-/// The members reached while avoiding some are those that a path of others leads to from one held from outside.
+/// The members reached while avoiding some are those that a path of others leads to from one held
+/// from outside.
 pub fn ways_are_reach()
-    ensures { (ms : List Member) (without : List ℕ) (o : ℕ) → Reach (IsHeld ms) (IsOther ms without) (edges ms) o ↔ ((path : List ℕ) × IsWay ms without path o) }
+    ensures { (ms : List Member) (without : List ℕ) (o : ℕ) → Reach (IsHeld ms) (IsOther ms without)
+        (edges ms) o ↔ ((path : List ℕ) × IsWay ms without path o) }
 {}
 
 /// A member is lost exactly if no path leads to it.
@@ -25,5 +27,7 @@ pub fn lost_has_none()
 
 /// What dies by count and was reached is let go.
 pub fn dead_is_let_go()
-    ensures { (ms : List Member) (dropped : List ℕ) (o : ℕ) → AreRight ms false → AreMembers (length ms) dropped → Dies ms (Includes dropped) o → IsReached ms o → IsLetGo ms dropped o }
+    ensures { (ms : List Member) (dropped : List ℕ) (o : ℕ) → AreRight ms false
+        → AreMembers (length ms) dropped → Dies ms (Includes dropped) o → IsReached ms o
+        → IsLetGo ms dropped o }
 {}

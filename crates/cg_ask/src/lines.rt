@@ -21,7 +21,8 @@ pub(crate) fn put_line(out: &mut Vec<u8>, word: &[u8], numbers: &[u64]) -> Resul
 
 /// Appends a row for each marked place.
 pub(crate) fn put_marked(out: &mut Vec<u8>, word: &[u8], marks: &[bool]) -> Result<(), AllocError>
-    ensures { OnOk result (AppendsRows (λ m ns. Marks marks.now m × (ns ≡ [])) word.now out.old.items out.new.items) }
+    ensures { OnOk result (AppendsRows (λ m ns. Marks marks.now m × (ns ≡ [])) word.now
+        out.old.items out.new.items) }
 {
     'places: for at in 0..marks.len() {
         if marks[at] {
@@ -46,7 +47,8 @@ pub(crate) fn put_flagged(
     others: &[bool],
 ) -> Result<(), AllocError>
     requires { length marks.now ≡ length others.now }
-    ensures { OnOk result (AppendsRows (λ m ns. Marks marks.now m × (ns ≡ flags_of others.now m)) word.now out.old.items out.new.items) }
+    ensures { OnOk result (AppendsRows (λ m ns. Marks marks.now m × (ns ≡ flags_of others.now m))
+        word.now out.old.items out.new.items) }
 {
     'places: for at in 0..marks.len() {
         if marks[at] {

@@ -28,7 +28,8 @@ pub(crate) fn without(
     others: &[bool],
 ) -> Result<Vec<bool>, AllocError>
     requires { length marks.now ≡ length others.now }
-    ensures { IfOk result (λ left. MarkJust (length marks.now) (λ i. Marks marks.now i × ¬ Marks others.now i) left.items) }
+    ensures { IfOk result (λ left. MarkJust (length marks.now) (λ i. Marks marks.now i
+        × ¬ Marks others.now i) left.items) }
 {
     let mut left = Vec::new(alloc);
     'places: for at in 0..marks.len() {
@@ -44,7 +45,8 @@ pub(crate) fn joined(
     others: &[bool],
 ) -> Result<Vec<bool>, AllocError>
     requires { length marks.now ≡ length others.now }
-    ensures { IfOk result (λ all. MarkJust (length marks.now) (λ i. Marks marks.now i ⊎ Marks others.now i) all.items) }
+    ensures { IfOk result (λ all. MarkJust (length marks.now) (λ i. Marks marks.now i
+        ⊎ Marks others.now i) all.items) }
 {
     let mut all = Vec::new(alloc);
     'places: for at in 0..marks.len() {
@@ -56,7 +58,8 @@ pub(crate) fn joined(
 /// Marks the places where a number is below the other.
 pub(crate) fn below(alloc: Global, numbers: &[u64], others: &[u64]) -> Result<Vec<bool>, AllocError>
     requires { length numbers.now ≡ length others.now }
-    ensures { IfOk result (λ marks. MarkJust (length numbers.now) (λ i. slice_index numbers.now i < slice_index others.now i) marks.items) }
+    ensures { IfOk result (λ marks. MarkJust (length numbers.now) (λ i. slice_index numbers.now i <
+        slice_index others.now i) marks.items) }
 {
     let mut marks = Vec::new(alloc);
     'places: for at in 0..numbers.len() {

@@ -38,7 +38,8 @@ pub(crate) fn others_of(
     places: &[usize],
 ) -> Result<Vec<bool>, AllocError>
     requires { AreMembers (length members.now) places.now }
-    ensures { IfOk result (λ others. MarkJust (length members.now) (IsOther members.now places.now) others.items) }
+    ensures { IfOk result (λ others. MarkJust (length members.now) (IsOther members.now places.now)
+        others.items) }
 {
     let all = all_marked(alloc, members.len())?;
     let these = marked(alloc, members.len(), places)?;
@@ -56,7 +57,8 @@ pub(crate) fn reached_without(
     requires outside { AreOutside members.now outside.now }
     requires right { AreRight members.now false }
     requires places { AreMembers (length members.now) places.now }
-    ensures { IfOk result (λ found. MarkJust (length members.now) (Reach (IsHeld members.now) (IsOther members.now places.now) (edges members.now)) found.items) }
+    ensures { IfOk result (λ found. MarkJust (length members.now) (Reach (IsHeld members.now)
+        (IsOther members.now places.now) (edges members.now)) found.items) }
 {
     let held = held_of(alloc, members, outside)?;
     let others = others_of(alloc, members, places)?;
@@ -72,7 +74,8 @@ pub(crate) fn reached_of(
 ) -> Result<Vec<bool>, AllocError>
     requires outside { AreOutside members.now outside.now }
     requires right { AreRight members.now false }
-    ensures { IfOk result (λ found. MarkJust (length members.now) (IsReached members.now) found.items) }
+    ensures { IfOk result (λ found. MarkJust (length members.now) (IsReached members.now)
+        found.items) }
 {
     let held = held_of(alloc, members, outside)?;
     let all = all_marked(alloc, members.len())?;

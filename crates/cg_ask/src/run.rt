@@ -52,7 +52,8 @@ fn write_answers<K: Sink>(
     requires small { AllByRecursion IsSmallMember members.now }
     requires few { length members.now < 2 ^ 28 }
     requires asked { AllByRecursion (IsAsked (length members.now)) questions.now }
-    ensures { AnswersSo members.now questions.now result (K.written sink.old) (K.written sink.new) (K.faults sink.old) (K.faults sink.new) }
+    ensures { AnswersSo members.now questions.now result (K.written sink.old) (K.written sink.new)
+        (K.faults sink.old) (K.faults sink.new) }
 {
     let Ok(outside) = outside_holds(alloc, members, counts) else {
         return AskStatus::OutOfMemory;
@@ -75,10 +76,13 @@ fn ask_snapshot<K: Sink>(alloc: Global, snapshot: &Snapshot, sink: &mut K) -> As
     requires references { length (references_of snapshot.now.members) < 2 ^ 32 }
     requires words { length (all_words_of snapshot.now.members) < 2 ^ 32 }
     requires few { length snapshot.now.members < 2 ^ 28 }
-    ensures told { (result ≡ AskStatus.Answered) ⊎ (result ≡ AskStatus.Faulty) → WritesSnapshot snapshot.now result (K.written sink.old) (K.written sink.new) }
-    ensures cut { (result ≡ AskStatus.WriteFault) ⊎ (result ≡ AskStatus.OutOfMemory) → WritesFrontOf snapshot.now (K.written sink.old) (K.written sink.new) }
+    ensures told { (result ≡ AskStatus.Answered) ⊎ (result ≡ AskStatus.Faulty)
+        → WritesSnapshot snapshot.now result (K.written sink.old) (K.written sink.new) }
+    ensures cut { (result ≡ AskStatus.WriteFault) ⊎ (result ≡ AskStatus.OutOfMemory)
+        → WritesFrontOf snapshot.now (K.written sink.old) (K.written sink.new) }
     ensures cause { result ≡ AskStatus.WriteFault → Rose (K.faults sink.old) (K.faults sink.new) }
-    ensures only { (result ≡ AskStatus.Answered) ⊎ (result ≡ AskStatus.Faulty) ⊎ (result ≡ AskStatus.WriteFault) ⊎ (result ≡ AskStatus.OutOfMemory) }
+    ensures only { (result ≡ AskStatus.Answered) ⊎ (result ≡ AskStatus.Faulty)
+        ⊎ (result ≡ AskStatus.WriteFault) ⊎ (result ≡ AskStatus.OutOfMemory) }
 {
     let members = snapshot.members.as_slice();
     let questions = snapshot.questions.as_slice();
@@ -93,11 +97,16 @@ fn ask_snapshot<K: Sink>(alloc: Global, snapshot: &Snapshot, sink: &mut K) -> As
 
 /// Reads bytes and answers, or reports what is wrong.
 fn ask_bytes<K: Sink>(alloc: Global, bytes: Vec<u8>, sink: &mut K) -> AskStatus
-    ensures told { (result ≡ AskStatus.Answered) ⊎ (result ≡ AskStatus.Faulty) ⊎ (result ≡ AskStatus.TooLarge) → WritesOutcome bytes.items result (K.written sink.old) (K.written sink.new) }
+    ensures told { (result ≡ AskStatus.Answered) ⊎ (result ≡ AskStatus.Faulty)
+        ⊎ (result ≡ AskStatus.TooLarge) → WritesOutcome bytes.items result (K.written sink.old)
+        (K.written sink.new) }
     ensures many { result ≡ AskStatus.TooLarge → LIMIT ≤ length bytes.items }
-    ensures cut { (result ≡ AskStatus.WriteFault) ⊎ (result ≡ AskStatus.OutOfMemory) → WritesFront bytes.items (K.written sink.old) (K.written sink.new) }
+    ensures cut { (result ≡ AskStatus.WriteFault) ⊎ (result ≡ AskStatus.OutOfMemory)
+        → WritesFront bytes.items (K.written sink.old) (K.written sink.new) }
     ensures cause { result ≡ AskStatus.WriteFault → Rose (K.faults sink.old) (K.faults sink.new) }
-    ensures only { (result ≡ AskStatus.Answered) ⊎ (result ≡ AskStatus.Faulty) ⊎ (result ≡ AskStatus.TooLarge) ⊎ (result ≡ AskStatus.WriteFault) ⊎ (result ≡ AskStatus.OutOfMemory) }
+    ensures only { (result ≡ AskStatus.Answered) ⊎ (result ≡ AskStatus.Faulty)
+        ⊎ (result ≡ AskStatus.TooLarge) ⊎ (result ≡ AskStatus.WriteFault)
+        ⊎ (result ≡ AskStatus.OutOfMemory) }
 {
     if bytes.len() >= LIMIT {
         return tell_large(sink);
@@ -114,14 +123,23 @@ fn ask_bytes<K: Sink>(alloc: Global, bytes: Vec<u8>, sink: &mut K) -> AskStatus
 
 /// Reads a source to its end, and answers its questions.
 fn ask_source<S: Source, K: Sink>(alloc: Global, source: &mut S, sink: &mut K) -> AskStatus
-    ensures told { (result ≡ AskStatus.Answered) ⊎ (result ≡ AskStatus.Faulty) ⊎ (result ≡ AskStatus.TooLarge) → IfSome (S.left source.old) (λ bytes. WritesOutcome bytes result (K.written sink.old) (K.written sink.new)) }
-    ensures read_to_end { (result ≡ AskStatus.Answered) ⊎ (result ≡ AskStatus.Faulty) → IsAtEnd (S.left source.new) }
-    ensures taken { result ≡ AskStatus.TooLarge → TookTooMany (S.left source.old) (S.left source.new) }
-    ensures read_cause { result ≡ AskStatus.ReadFault → Rose (S.faults source.old) (S.faults source.new) }
+    ensures told { (result ≡ AskStatus.Answered) ⊎ (result ≡ AskStatus.Faulty)
+        ⊎ (result ≡ AskStatus.TooLarge) → IfSome (S.left source.old) (λ bytes. WritesOutcome bytes
+        result (K.written sink.old) (K.written sink.new)) }
+    ensures read_to_end { (result ≡ AskStatus.Answered) ⊎ (result ≡ AskStatus.Faulty)
+        → IsAtEnd (S.left source.new) }
+    ensures taken { result ≡ AskStatus.TooLarge → TookTooMany (S.left source.old)
+        (S.left source.new) }
+    ensures read_cause { result ≡ AskStatus.ReadFault → Rose (S.faults source.old)
+        (S.faults source.new) }
     ensures read { result ≡ AskStatus.ReadFault → Keeps (K.written sink.old) (K.written sink.new) }
-    ensures write_cause { result ≡ AskStatus.WriteFault → Rose (K.faults sink.old) (K.faults sink.new) }
-    ensures cut { (result ≡ AskStatus.WriteFault) ⊎ (result ≡ AskStatus.OutOfMemory) → IfSome (S.left source.old) (λ bytes. WritesFront bytes (K.written sink.old) (K.written sink.new)) }
-    ensures answers { IsCutShort result ⊎ IfSome (S.left source.old) (λ bytes. HasOutcome bytes result) }
+    ensures write_cause { result ≡ AskStatus.WriteFault → Rose (K.faults sink.old)
+        (K.faults sink.new) }
+    ensures cut { (result ≡ AskStatus.WriteFault) ⊎ (result ≡ AskStatus.OutOfMemory)
+        → IfSome (S.left source.old) (λ bytes. WritesFront bytes (K.written sink.old)
+        (K.written sink.new)) }
+    ensures answers { IsCutShort result ⊎ IfSome (S.left source.old) (λ bytes. HasOutcome bytes
+        result) }
     ensures words { result ≢ AskStatus.BadWords }
 {
     match read_up_to(alloc, source, LIMIT) {
@@ -131,43 +149,60 @@ fn ask_source<S: Source, K: Sink>(alloc: Global, source: &mut S, sink: &mut K) -
     }
 }
 
-/// Reads a recorded heap and questions from the source, and writes their answers to the sink, or a line for the first
-/// bad line or the first fault.
+/// Reads a recorded heap and questions from the source, and writes their answers to the sink, or a
+/// line for the first bad line or the first fault.
 ///
-/// It takes no words. Returns `Answered` or `Faulty` with all of that written; `BadWords` or `TooLarge`, each with its
-/// line written, if there are words or too many bytes; `ReadFault` or `WriteFault` if the source or the sink failed;
-/// and `OutOfMemory` if memory ran out. A failed write or lack of memory leaves the answers to the first questions, or
-/// a prefix of them. (Ours.)
+/// It takes no words. Returns `Answered` or `Faulty` with all of that written; `BadWords` or
+/// `TooLarge`, each with its line written, if there are words or too many bytes; `ReadFault` or
+/// `WriteFault` if the source or the sink failed; and `OutOfMemory` if memory ran out. A failed
+/// write or lack of memory leaves the answers to the first questions, or a prefix of them. (Ours.)
 pub fn ask_run<S: Source, K: Sink>(
     alloc: Global,
     words: &[String],
     source: &mut S,
     sink: &mut K,
 ) -> AskStatus
-    // The source was read to its end or past the limit, and what follows from its bytes was written.
-    ensures told { (result ≡ AskStatus.Answered) ⊎ (result ≡ AskStatus.Faulty) ⊎ (result ≡ AskStatus.TooLarge) → IfSome (S.left source.old) (λ bytes. WritesOutcome bytes result (K.written sink.old) (K.written sink.new)) }
-    ensures read_to_end { (result ≡ AskStatus.Answered) ⊎ (result ≡ AskStatus.Faulty) → IsAtEnd (S.left source.new) }
-    ensures taken { result ≡ AskStatus.TooLarge → TookTooMany (S.left source.old) (S.left source.new) }
+    // The source was read to its end or past the limit, and what follows from its bytes was
+    // written.
+    ensures told { (result ≡ AskStatus.Answered) ⊎ (result ≡ AskStatus.Faulty)
+        ⊎ (result ≡ AskStatus.TooLarge) → IfSome (S.left source.old) (λ bytes. WritesOutcome bytes
+        result (K.written sink.old) (K.written sink.new)) }
+    ensures read_to_end { (result ≡ AskStatus.Answered) ⊎ (result ≡ AskStatus.Faulty)
+        → IsAtEnd (S.left source.new) }
+    ensures taken { result ≡ AskStatus.TooLarge → TookTooMany (S.left source.old)
+        (S.left source.new) }
 
     // There are words, and that was reported.
-    ensures bad_words { result ≡ AskStatus.BadWords → Appends (K.written sink.old) (K.written sink.new) (codes "bad words\n") }
+    ensures bad_words { result ≡ AskStatus.BadWords → Appends (K.written sink.old)
+        (K.written sink.new) (codes "bad words\n") }
 
     // Faults, which come only if the fault count rose, and lack of memory.
-    ensures read_cause { result ≡ AskStatus.ReadFault → Rose (S.faults source.old) (S.faults source.new) }
+    ensures read_cause { result ≡ AskStatus.ReadFault → Rose (S.faults source.old)
+        (S.faults source.new) }
     ensures read { result ≡ AskStatus.ReadFault → Keeps (K.written sink.old) (K.written sink.new) }
-    ensures write_cause { result ≡ AskStatus.WriteFault → Rose (K.faults sink.old) (K.faults sink.new) }
-    ensures cut { words.now ≡ [] → (result ≡ AskStatus.WriteFault) ⊎ (result ≡ AskStatus.OutOfMemory) → IfSome (S.left source.old) (λ bytes. WritesFront bytes (K.written sink.old) (K.written sink.new)) }
-    ensures write_words { words.now ≢ [] → result ≡ AskStatus.WriteFault → AppendsFront (K.written sink.old) (K.written sink.new) (codes "bad words\n") }
+    ensures write_cause { result ≡ AskStatus.WriteFault → Rose (K.faults sink.old)
+        (K.faults sink.new) }
+    ensures cut { words.now ≡ [] → (result ≡ AskStatus.WriteFault)
+        ⊎ (result ≡ AskStatus.OutOfMemory) → IfSome (S.left source.old) (λ bytes. WritesFront bytes
+        (K.written sink.old) (K.written sink.new)) }
+    ensures write_words { words.now ≢ [] → result ≡ AskStatus.WriteFault
+        → AppendsFront (K.written sink.old) (K.written sink.new) (codes "bad words\n") }
 
-    // Which status comes: determined by the words and the bytes, except for faults and lack of memory.
-    ensures answers { words.now ≡ [] → IsCutShort result ⊎ IfSome (S.left source.old) (λ bytes. HasOutcome bytes result) }
+    // Which status comes: determined by the words and the bytes, except for faults and lack of
+    // memory.
+    ensures answers { words.now ≡ [] → IsCutShort result ⊎ IfSome (S.left source.old)
+        (λ bytes. HasOutcome bytes result) }
     ensures no_words { words.now ≡ [] → result ≢ AskStatus.BadWords }
-    ensures words { words.now ≢ [] → (result ≡ AskStatus.BadWords) ⊎ (result ≡ AskStatus.WriteFault) }
+    ensures words { words.now ≢ [] → (result ≡ AskStatus.BadWords)
+        ⊎ (result ≡ AskStatus.WriteFault) }
     ensures nothing_read { words.now ≢ [] → source.new ≡ source.old }
 
-    // If neither source nor sink fails, the status is determined by the bytes, except for lack of memory.
-    ensures complete { words.now ≡ [] → ¬ (Rose (S.faults source.old) (S.faults source.new)) → ¬ (Rose (K.faults sink.old) (K.faults sink.new))
-        → (result ≡ AskStatus.OutOfMemory) ⊎ IfSome (S.left source.old) (λ bytes. HasOutcome bytes result) }
+    // If neither source nor sink fails, the status is determined by the bytes, except for lack of
+    // memory.
+    ensures complete { words.now ≡ [] → ¬ (Rose (S.faults source.old) (S.faults source.new))
+        → ¬ (Rose (K.faults sink.old) (K.faults sink.new))
+        → (result ≡ AskStatus.OutOfMemory) ⊎ IfSome (S.left source.old) (λ bytes. HasOutcome bytes
+        result) }
 {
     if !words.is_empty() {
         return tell_bad_words(sink);

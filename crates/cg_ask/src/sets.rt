@@ -32,7 +32,8 @@ pub(crate) fn put_lost(
     requires outside { AreOutside members.now outside.now }
     requires right { AreRight members.now false }
     requires few { length (references_of members.now) < 2 ^ 64 }
-    ensures { OnOk result (AppendsRows (TellsLost members.now) (codes "lost") out.old.items out.new.items) }
+    ensures { OnOk result (AppendsRows (TellsLost members.now) (codes "lost") out.old.items
+        out.new.items) }
 {
     let lost = lost_of(alloc, members, outside)?;
     let stuck = stuck_of(alloc, members, &lost)?;
@@ -59,8 +60,10 @@ fn gone_of(
     requires outside { AreOutside members.now outside.now }
     requires right { AreRight members.now false }
     requires places { AreMembers (length members.now) places.now }
-    ensures gone { IfOk result (λ g. MarkJust (length members.now) (IsGone members.now places.now) g.gone.items) }
-    ensures dead { IfOk result (λ g. MarkJust (length members.now) (Dies members.now (Includes places.now)) g.dead.items) }
+    ensures gone { IfOk result (λ g. MarkJust (length members.now) (IsGone members.now places.now)
+        g.gone.items) }
+    ensures dead { IfOk result (λ g. MarkJust (length members.now)
+        (Dies members.now (Includes places.now)) g.dead.items) }
 {
     let given = marked(alloc, members.len(), places)?;
     let dead = dying(alloc, members, &given)?;
@@ -86,7 +89,8 @@ fn add_gone(totals: Totals, size: u64, by_count: bool) -> Totals
     requires bytes { totals.bytes + size < 2 ^ 64 }
     requires dead { totals.dead < 2 ^ 32 }
     requires dead_bytes { totals.dead_bytes + size < 2 ^ 64 }
-    ensures { result ≡ totals_from (totals.members + 1) (totals.bytes + size) (totals.dead + cond by_count 1 0) (totals.dead_bytes + cond by_count size 0) }
+    ensures { result ≡ totals_from (totals.members + 1) (totals.bytes + size)
+        (totals.dead + cond by_count 1 0) (totals.dead_bytes + cond by_count size 0) }
 {
     Totals {
         members: totals.members + 1,
@@ -102,7 +106,8 @@ fn put_gone(out: &mut Vec<u8>, members: &[Member], gone: &Gone) -> Result<Totals
     requires dead { length gone.now.dead.items ≡ length members.now }
     requires small { AllByRecursion IsSmallMember members.now }
     requires few { length members.now < 2 ^ 28 }
-    ensures { IfOk result (λ totals. AppendsGone members.now gone.now.gone.items gone.now.dead.items out.old.items out.new.items totals) }
+    ensures { IfOk result (λ totals. AppendsGone members.now gone.now.gone.items gone.now.dead.items
+        out.old.items out.new.items totals) }
 {
     let mut totals = Totals {
         members: 0,
@@ -133,7 +138,8 @@ pub(crate) fn put_dropped(
     requires places { AreMembers (length members.now) places.now }
     requires small { AllByRecursion IsSmallMember members.now }
     requires few { length members.now < 2 ^ 28 }
-    ensures { OnOk result (AppendsTold (TellsGone members.now places.now) (codes "gone") (λ rows. line (codes "total") (totals_of members.now rows)) out.old.items out.new.items) }
+    ensures { OnOk result (AppendsTold (TellsGone members.now places.now) (codes "gone")
+        (λ rows. line (codes "total") (totals_of members.now rows)) out.old.items out.new.items) }
 {
     let gone = gone_of(alloc, members, outside, places)?;
     let t = put_gone(out, members, &gone)?;
@@ -161,7 +167,8 @@ fn held_with_words(
 ) -> Result<Vec<bool>, AllocError>
     requires counts { IsCounts members.now counts.now }
     requires outside { AreOutside members.now outside.now }
-    ensures { IfOk result (λ held. MarkJust (length members.now) (IsHeld (all_told members.now)) held.items) }
+    ensures { IfOk result (λ held. MarkJust (length members.now) (IsHeld (all_told members.now))
+        held.items) }
 {
     let held = below(alloc, counts.words.as_slice(), outside)?;
     Ok(held)
@@ -177,7 +184,8 @@ fn kept_of(
     requires counts { IsCounts members.now counts.now }
     requires outside { AreOutside members.now outside.now }
     requires right { AreRight members.now false }
-    ensures { IfOk result (λ kept. MarkJust (length members.now) (IsKeptByWords members.now) kept.items) }
+    ensures { IfOk result (λ kept. MarkJust (length members.now) (IsKeptByWords members.now)
+        kept.items) }
 {
     let rows = rows_with_words(alloc, members)?;
     let held = held_with_words(alloc, members, counts, outside)?;
@@ -199,7 +207,8 @@ pub(crate) fn put_kept(
     requires counts { IsCounts members.now counts.now }
     requires outside { AreOutside members.now outside.now }
     requires right { AreRight members.now false }
-    ensures { OnOk result (AppendsRows (TellsKept members.now) (codes "kept") out.old.items out.new.items) }
+    ensures { OnOk result (AppendsRows (TellsKept members.now) (codes "kept") out.old.items
+        out.new.items) }
 {
     let kept = kept_of(alloc, members, counts, outside)?;
     put_marked(out, b"kept", &kept)?;

@@ -12,8 +12,10 @@ use std::alloc::{AllocError, Global};
 
 /// Reports that there are words.
 pub(crate) fn tell_bad_words<K: Sink>(sink: &mut K) -> AskStatus
-    ensures bad_words { result ≡ AskStatus.BadWords → Appends (K.written sink.old) (K.written sink.new) (codes "bad words\n") }
-    ensures write { result ≡ AskStatus.WriteFault → AppendsFront (K.written sink.old) (K.written sink.new) (codes "bad words\n") }
+    ensures bad_words { result ≡ AskStatus.BadWords → Appends (K.written sink.old)
+        (K.written sink.new) (codes "bad words\n") }
+    ensures write { result ≡ AskStatus.WriteFault → AppendsFront (K.written sink.old)
+        (K.written sink.new) (codes "bad words\n") }
     ensures cause { result ≡ AskStatus.WriteFault → Rose (K.faults sink.old) (K.faults sink.new) }
     ensures only { (result ≡ AskStatus.BadWords) ⊎ (result ≡ AskStatus.WriteFault) }
 {
@@ -25,8 +27,10 @@ pub(crate) fn tell_bad_words<K: Sink>(sink: &mut K) -> AskStatus
 
 /// Reports that there are too many bytes.
 pub(crate) fn tell_large<K: Sink>(sink: &mut K) -> AskStatus
-    ensures large { result ≡ AskStatus.TooLarge → Appends (K.written sink.old) (K.written sink.new) (codes "too large\n") }
-    ensures write { result ≡ AskStatus.WriteFault → AppendsFront (K.written sink.old) (K.written sink.new) (codes "too large\n") }
+    ensures large { result ≡ AskStatus.TooLarge → Appends (K.written sink.old) (K.written sink.new)
+        (codes "too large\n") }
+    ensures write { result ≡ AskStatus.WriteFault → AppendsFront (K.written sink.old)
+        (K.written sink.new) (codes "too large\n") }
     ensures cause { result ≡ AskStatus.WriteFault → Rose (K.faults sink.old) (K.faults sink.new) }
     ensures only { (result ≡ AskStatus.TooLarge) ⊎ (result ≡ AskStatus.WriteFault) }
 {
@@ -47,7 +51,8 @@ fn bad_line(alloc: Global, number: u64) -> Result<Vec<u8>, AllocError>
 
 /// The line that reports a fault.
 fn fault_line(alloc: Global, fault: Fault) -> Result<Vec<u8>, AllocError>
-    ensures { IfOk result (λ text. text.items ≡ line (codes "fault") (fault.code ∷ fault.member ∷ [])) }
+    ensures { IfOk result (λ text. text.items ≡ line (codes "fault") (fault.code ∷ fault.member
+        ∷ [])) }
 {
     let mut text = Vec::new(alloc);
     put_line(
@@ -60,11 +65,15 @@ fn fault_line(alloc: Global, fault: Fault) -> Result<Vec<u8>, AllocError>
 
 /// Reports a bad line.
 pub(crate) fn tell_bad_line<K: Sink>(alloc: Global, number: u64, sink: &mut K) -> AskStatus
-    ensures told { result ≡ AskStatus.Faulty → Appends (K.written sink.old) (K.written sink.new) (line (codes "bad line") (number ∷ [])) }
-    ensures write { result ≡ AskStatus.WriteFault → AppendsFront (K.written sink.old) (K.written sink.new) (line (codes "bad line") (number ∷ [])) }
+    ensures told { result ≡ AskStatus.Faulty → Appends (K.written sink.old) (K.written sink.new)
+        (line (codes "bad line") (number ∷ [])) }
+    ensures write { result ≡ AskStatus.WriteFault → AppendsFront (K.written sink.old)
+        (K.written sink.new) (line (codes "bad line") (number ∷ [])) }
     ensures cause { result ≡ AskStatus.WriteFault → Rose (K.faults sink.old) (K.faults sink.new) }
-    ensures memory { result ≡ AskStatus.OutOfMemory → Keeps (K.written sink.old) (K.written sink.new) }
-    ensures only { (result ≡ AskStatus.Faulty) ⊎ (result ≡ AskStatus.WriteFault) ⊎ (result ≡ AskStatus.OutOfMemory) }
+    ensures memory { result ≡ AskStatus.OutOfMemory → Keeps (K.written sink.old)
+        (K.written sink.new) }
+    ensures only { (result ≡ AskStatus.Faulty) ⊎ (result ≡ AskStatus.WriteFault)
+        ⊎ (result ≡ AskStatus.OutOfMemory) }
 {
     let Ok(text) = bad_line(alloc, number) else {
         return AskStatus::OutOfMemory;
@@ -77,11 +86,15 @@ pub(crate) fn tell_bad_line<K: Sink>(alloc: Global, number: u64, sink: &mut K) -
 
 /// Reports a fault.
 pub(crate) fn tell_fault<K: Sink>(alloc: Global, fault: Fault, sink: &mut K) -> AskStatus
-    ensures told { result ≡ AskStatus.Faulty → Appends (K.written sink.old) (K.written sink.new) (line (codes "fault") (fault.code ∷ fault.member ∷ [])) }
-    ensures write { result ≡ AskStatus.WriteFault → AppendsFront (K.written sink.old) (K.written sink.new) (line (codes "fault") (fault.code ∷ fault.member ∷ [])) }
+    ensures told { result ≡ AskStatus.Faulty → Appends (K.written sink.old) (K.written sink.new)
+        (line (codes "fault") (fault.code ∷ fault.member ∷ [])) }
+    ensures write { result ≡ AskStatus.WriteFault → AppendsFront (K.written sink.old)
+        (K.written sink.new) (line (codes "fault") (fault.code ∷ fault.member ∷ [])) }
     ensures cause { result ≡ AskStatus.WriteFault → Rose (K.faults sink.old) (K.faults sink.new) }
-    ensures memory { result ≡ AskStatus.OutOfMemory → Keeps (K.written sink.old) (K.written sink.new) }
-    ensures only { (result ≡ AskStatus.Faulty) ⊎ (result ≡ AskStatus.WriteFault) ⊎ (result ≡ AskStatus.OutOfMemory) }
+    ensures memory { result ≡ AskStatus.OutOfMemory → Keeps (K.written sink.old)
+        (K.written sink.new) }
+    ensures only { (result ≡ AskStatus.Faulty) ⊎ (result ≡ AskStatus.WriteFault)
+        ⊎ (result ≡ AskStatus.OutOfMemory) }
 {
     let Ok(text) = fault_line(alloc, fault) else {
         return AskStatus::OutOfMemory;

@@ -24,7 +24,8 @@ fn path_to(
     requires outside { AreOutside members.now outside.now }
     requires right { AreRight members.now false }
     requires but { AreMembers (length members.now) but.now }
-    ensures found { IfOk result (λ path. IfSome path (λ p. IsShortest members.now but.now p.items object)) }
+    ensures found { IfOk result (λ path. IfSome path (λ p. IsShortest members.now but.now p.items
+        object)) }
     ensures none { IfOk result (λ path. IfNone path (HasNone members.now but.now object)) }
 {
     let held = held_of(alloc, members, outside)?;
@@ -35,7 +36,8 @@ fn path_to(
 
 /// Appends a line for each further member of a path.
 fn put_rest(out: &mut Vec<u8>, path: &[usize]) -> Result<(), AllocError>
-    ensures { OnOk result (out.new.items ≡ out.old.items ++ flat_map (λ o. line (codes "via") (o ∷ [])) path.now) }
+    ensures { OnOk result (out.new.items ≡ out.old.items
+        ++ flat_map (λ o. line (codes "via") (o ∷ [])) path.now) }
 {
     'places: for place in path {
         put_line(out, b"via", &[*place as u64])?;

@@ -4,8 +4,8 @@ use cg_io::{MemSink, MemSource};
 use std::alloc::{AllocError, Global};
 use std::process::Abort;
 
-/// Expects this status and this text for these arguments and this input. The reads and writes with these numbers fail, each
-/// write after its first two bytes.
+/// Expects this status and this text for these arguments and this input. The reads and writes with
+/// these numbers fail, each write after its first two bytes.
 pub(crate) fn ask_call(
     rt: &impl Abort,
     alloc: Global,

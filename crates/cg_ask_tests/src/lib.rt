@@ -1,5 +1,6 @@
-//! Tests of the questions about a recorded heap, through their top call: on heaps drawn by hand, on heaps with faults, and with
-//! failing reads and writes. A separate crate, so that `cg_ask` is checked without them.
+//! Tests of the questions about a recorded heap, through their top call: on heaps drawn by hand, on
+//! heaps with faults, and with failing reads and writes. A separate crate, so that `cg_ask` is
+//! checked without them.
 #![tactic(auto)]
 
 #[cfg(test)]

@@ -1,4 +1,5 @@
-//! Questions about heaps drawn by hand. Each answer is worked out from the definitions in `docs/HEAPS.md`.
+//! Questions about heaps drawn by hand. Each answer is worked out from the definitions in
+//! `docs/HEAPS.md`.
 use crate::asked::ask;
 use cg_ask::AskStatus;
 use std::alloc::{AllocError, Global};
@@ -20,8 +21,8 @@ static REFERRERS: Worked = (
     b"referrers 1\nreferrer 0 2\noutside 1\ndone\nreferrers 0\noutside 1\ndone\n",
 );
 
-/// An untold word explains the only reference to member 0, and one of the two to member 1; only member 2 itself holds
-/// member 2.
+/// An untold word explains the only reference to member 0, and one of the two to member 1; only
+/// member 2 itself holds member 2.
 static HIDDEN: Worked = (
     b"heap\nm 1 8 1 0\nu 0\nm 2 8 1 0\nu 1\nm 1 8 1 0 2\nend\nhidden\nuntold\n",
     b"hidden\nhidden 0 1 0\nhidden 1 2 1\ndone\nuntold\nkept 0\ndone\n",
@@ -33,8 +34,9 @@ static TWO_WORDS: Worked = (
     b"hidden\nhidden 0 1 1\nhidden 1 3 1\ndone\n",
 );
 
-/// A ring of 0 and 1, which holds a legacy finalizer, 2; an untracked member that holds itself, 3; and a ring of an untracked
-/// member and a tracked one, 4 and 5. The collection clears only the first ring.
+/// A ring of 0 and 1, which holds a legacy finalizer, 2; an untracked member that holds itself, 3;
+/// and a ring of an untracked member and a tracked one, 4 and 5. The collection clears only the
+/// first ring.
 static LOST: Worked = (
     b"heap\nm 1 8 1 0 1\nm 1 8 1 0 0 2\nm 2 8 1 1 2\nm 1 8 0 0 3\nm 1 8 0 0 5\nm 1 8 1 0 4\nend\nlost\n",
     b"lost\nlost 0 0\nlost 1 0\nlost 2 1\nlost 3 1\nlost 4 1\nlost 5 1\ndone\n",

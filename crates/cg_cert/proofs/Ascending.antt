@@ -92,7 +92,8 @@ module _ (members : List Member) (up : IsStrictlyIncreasing (serials_of members)
 abbrev pub AscendTo : List Member → ℕ → Type 0
 AscendTo members n = (k : ℕ) → k + 1 < n → slice_index (serials_of members) k < slice_index (serials_of members) (k + 1)
 
-pub ascend_more : (members : List Member) (at : ℕ) (x y : Member) → at < length members → AscendTo members at → 0 < at → x ≡ get_or members (at - 1) x → y ≡ get_or members at y → x.serial < y.serial → AscendTo members (at + 1)
+pub ascend_more : (members : List Member) (at : ℕ) (x y : Member) → at < length members → AscendTo members at → 0 < at → x ≡ get_or members (at - 1) x → y
+    ≡ get_or members at y → x.serial < y.serial → AscendTo members (at + 1)
 ascend_more members at x y within so some before_it here less = λ k before. either (cases_order (k + 1) at)
     (λ same.
     let last : k ≡ at - 1 = omega (arith, same) in

@@ -38,7 +38,8 @@ edge_in : (members : List Member) (m : Member) (p : ℕ) → Includes members m 
 edge_in [] m p h r = absurd h
 edge_in (k ∷ members) m p (inl e) r =
     Includes-append_left (map (λ q. record { from = k.serial; to = q }) k.refs) (edges_of members) (record { from = m.serial; to = p })
-    (subst (λ (n : Member). Includes (map {B = Edge} (λ q. record { from = n.serial; to = q }) n.refs) (record { from = m.serial; to = p })) (sym e) (Includes-map {Y = Edge} (λ q. record { from = m.serial; to = q }) m.refs p r))
+    (subst (λ (n : Member). Includes (map {B = Edge} (λ q. record { from = n.serial; to = q }) n.refs) (record { from = m.serial; to = p })) (sym e)
+    (Includes-map {Y = Edge} (λ q. record { from = m.serial; to = q }) m.refs p r))
 edge_in (k ∷ members) m p (inr h) r = Includes-append_right (map (λ q. record { from = k.serial; to = q }) k.refs) (edges_of members) (record { from = m.serial; to = p }) (edge_in members m p h r)
 
 edge_from : (members : List Member) (e : Edge) → Includes (edges_of members) e → (m : Member) × Includes members m × (m.serial ≡ e.from) × Includes m.refs e.to
@@ -88,11 +89,13 @@ counted names once (p ∷ refs) (j ∷ row) e i o at =
 module _ (members : List Member) (rows : List (List ℕ)) (once : ArePlacedOnce (serials_of members)) (are : AreRowsOf (serials_of members) members rows) where
   row_at : (i : ℕ) (m : Member) → slice_get members i ≡ Some m → (row : List ℕ) × (slice_get rows i ≡ Some row) × IsRowOf (serials_of members) m.refs row
   row_at i m at =
-      from_mapped (names_in (serials_of members)) rows i (map Some m.refs) (ap (λ (os : List (List (Option ℕ))). slice_get os i) are ∙ mapped_at (λ (n : Member). map {B = Option ℕ} Some n.refs) members i m at)
+      from_mapped (names_in (serials_of members)) rows i (map Some m.refs) (ap (λ (os : List (List (Option ℕ))). slice_get os i) are
+      ∙ mapped_at (λ (n : Member). map {B = Option ℕ} Some n.refs) members i m at)
 
   member_at : (i : ℕ) (row : List ℕ) → slice_get rows i ≡ Some row → (m : Member) × (slice_get members i ≡ Some m) × IsRowOf (serials_of members) m.refs row
   member_at i row at =
-      let found = from_mapped (λ (n : Member). map {B = Option ℕ} Some n.refs) members i (names_in (serials_of members) row) (ap (λ (os : List (List (Option ℕ))). slice_get os i) (sym are) ∙ mapped_at (names_in (serials_of members)) rows i row at) in
+      let found = from_mapped (λ (n : Member). map {B = Option ℕ} Some n.refs) members i (names_in (serials_of members) row)
+      (ap (λ (os : List (List (Option ℕ))). slice_get os i) (sym are) ∙ mapped_at (names_in (serials_of members)) rows i row at) in
       (found.0, found.1, sym found.2)
 
   -- each target is a position
@@ -106,7 +109,8 @@ module _ (members : List Member) (rows : List (List ℕ)) (once : ArePlacedOnce 
 
   -- a member's occurrences are those of its position
   occurrences-at : (i : ℕ) (m : Member) → slice_get members i ≡ Some m → occurrences i (concat rows) ≡ occurrences m.serial (references_of members)
-  occurrences-at i m at = counted (serials_of members) once (references_of members) (concat rows) (rows_joined (serials_of members) members rows are) i m.serial (mapped_at (λ (n : Member). n.serial) members i m at)
+  occurrences-at i m at = counted (serials_of members) once (references_of members) (concat rows) (rows_joined (serials_of members) members rows are) i m.serial
+      (mapped_at (λ (n : Member). n.serial) members i m at)
 
   -- counts of positions are counts of references
   pub counts_there : (counts : List ℕ) → CountTargets rows counts → CountReferences members counts
@@ -178,7 +182,8 @@ same_marks (x ∷ a) (y ∷ b) long agree = heads x y (agree 0) (same_marks a b 
     heads false true e rest = let clash = e.1 refl in absurd (cc)
 
 -- a set was found correctly exactly if its marks are the computed ones
-pub finds_same : (names serials : List ℕ) (P : ℕ → Type 0) (marks found : List Bool) → MarksAll names serials marks → length found ≡ length names → ((i o : ℕ) → slice_get names i ≡ Some o → (Marks found i ↔ P o))
+pub finds_same : (names serials : List ℕ) (P : ℕ → Type 0) (marks found : List Bool) → MarksAll names serials marks → length found ≡ length names
+    → ((i o : ℕ) → slice_get names i ≡ Some o → (Marks found i ↔ P o))
     → ((o : ℕ) → Includes serials o → Includes names o) → ((o : ℕ) → P o → Includes names o) → (found ≡ marks) ↔ ((o : ℕ) → Includes serials o ↔ P o)
 finds_same names serials P marks found all long is named inside = (there, back)
   where

@@ -1,8 +1,8 @@
 pub mod Ascending
-pub mod Named
-pub mod Counted
+pub mod NamesAndPositions
+pub mod CountsOfMembers
 pub mod Judging
 pub mod Sets
-pub mod Locating
+pub mod GraphsByPositions
 pub mod Verdicts
 pub mod CheckFacts

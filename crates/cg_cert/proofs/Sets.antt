@@ -58,10 +58,16 @@ module _ (g : Graph) (l : Located) (located : IsLocated g l) where
 
     pub lost_same : (map not found ≡ l.lost.items) ↔ FindsLost g
     lost_same =
-        finds_same (serials_of g.members) g.lost (IsLost g.members) l.lost.items (map not found) located.lost (omega (arith, long, length-map found not, length-map g.members (λ (m : Member). m.serial))) unreached located.names.lost (λ o p. p.member)
+        finds_same (serials_of g.members) g.lost (IsLost g.members) l.lost.items (map not found) located.lost (omega (
+          arith,
+          long,
+          length-map found not,
+          length-map g.members (λ (m : Member). m.serial),
+        )) unreached located.names.lost (λ o p. p.member)
 
   -- the set found is what paths of lost members lead to from a marked one
-  module _ (right : FindsLost g) (found : List Bool) (long : length found ≡ length g.members) (led : (i : ℕ) → Marks found i ↔ Leads (map (λ (m : Member). m.legacy) g.members) l.lost.items (rows_in l.rows.items) i) where
+  module _ (right : FindsLost g) (found : List Bool) (long : length found ≡ length g.members) (led : (i : ℕ)
+      → Marks found i ↔ Leads (map (λ (m : Member). m.legacy) g.members) l.lost.items (rows_in l.rows.items) i) where
     sets_aside : (i o : ℕ) → slice_get (serials_of g.members) i ≡ Some o → Marks found i ↔ IsSetAside g.members o
     sets_aside i o at = (
       λ m. led_there g.members (rows_in l.rows.items) located.once located.rows (map (λ (m : Member). m.legacy) g.members) l.lost.items (IsMarked g.members) (IsLost g.members)
@@ -72,14 +78,16 @@ module _ (g : Graph) (l : Located) (located : IsLocated g l) where
 
     pub legacy_same : (found ≡ l.legacy.items) ↔ FindsSetAside g
     legacy_same =
-        finds_same (serials_of g.members) g.legacy (IsSetAside g.members) l.legacy.items found located.legacy (omega (arith, long, length-map g.members (λ (m : Member). m.serial))) sets_aside located.names.legacy (λ o p. (reach_inside p).member)
+        finds_same (serials_of g.members) g.legacy (IsSetAside g.members) l.legacy.items found located.legacy
+        (omega (arith, long, length-map g.members (λ (m : Member). m.serial))) sets_aside located.names.legacy (λ o p. (reach_inside p).member)
 
 -- equivalences compose
 through : {A B C : Type 0} → A ↔ B → B ↔ C → A ↔ C
 through f g = (λ a. g.0 (f.0 a), λ c. f.1 (g.1 c))
 
 -- the result of a search with these arguments
-led_by : (found starts allowed starts' allowed' : List Bool) (vecs vecs' : List (Vec ℕ)) → starts ≡ starts' → allowed ≡ allowed' → vecs ≡ vecs' → ((i : ℕ) → Marks found i ↔ Leads starts allowed (rows_in vecs) i) → (i : ℕ)
+led_by : (found starts allowed starts' allowed' : List Bool) (vecs vecs' : List (Vec ℕ)) → starts ≡ starts' → allowed ≡ allowed' → vecs ≡ vecs'
+    → ((i : ℕ) → Marks found i ↔ Leads starts allowed (rows_in vecs) i) → (i : ℕ)
     → Marks found i ↔ Leads starts' allowed' (rows_in vecs') i
 led_by found starts allowed starts' allowed' vecs vecs' a b c led i =
     subst (λ (xs : List Bool). Marks found i ↔ Leads xs allowed' (rows_in vecs') i) a
@@ -92,19 +100,23 @@ pub lost_answer : (g : Graph) (l : Located) → IsLocated g l → (held : List B
 lost_answer g l located held exceed found starts allowed unreachable lost vecs right a b c long led e f answer =
     through answer
     (through (λ same. sym e ∙ same ∙ f, λ same. e ∙ same ∙ sym f)
-    (lost_same g l located held exceed found (long ∙ ap length b ∙ length-replicate (length g.members) true) (led_by found starts allowed held (replicate (length g.members) true) vecs l.rows.items a b c led)))
+    (lost_same g l located held exceed found (long ∙ ap length b ∙ length-replicate (length g.members) true)
+    (led_by found starts allowed held (replicate (length g.members) true) vecs l.rows.items a b c led)))
 
 -- the answer of `finds_set_aside`
 pub legacy_answer : (g : Graph) (l : Located) → IsLocated g l → FindsLost g → (found starts allowed same legacy : List Bool) (vecs : List (Vec ℕ)) (right : Bool)
-    → starts ≡ map (λ (m : Member). m.legacy) g.members → allowed ≡ l.lost.items → vecs ≡ l.rows.items → length found ≡ length allowed → ((i : ℕ) → Marks found i ↔ Leads starts allowed (rows_in vecs) i)
+    → starts ≡ map (λ (m : Member). m.legacy) g.members → allowed ≡ l.lost.items → vecs ≡ l.rows.items → length found ≡ length allowed
+    → ((i : ℕ) → Marks found i ↔ Leads starts allowed (rows_in vecs) i)
     → same ≡ found → legacy ≡ l.legacy.items → (right ≡ true) ↔ (same ≡ legacy) → (right ≡ true) ↔ FindsSetAside g
 legacy_answer g l located finds found starts allowed same legacy vecs right a b c long led e f answer =
     through answer
     (through (λ is. sym e ∙ is ∙ f, λ is. e ∙ is ∙ sym f)
-    (legacy_same g l located finds found (omega (arith, long, ap length b, located.lost.len, length-map g.members (λ (m : Member). m.serial))) (led_by found starts allowed (map (λ (m : Member). m.legacy) g.members) l.lost.items vecs l.rows.items a b c led)))
+    (legacy_same g l located finds found (omega (arith, long, ap length b, located.lost.len, length-map g.members (λ (m : Member). m.serial)))
+    (led_by found starts allowed (map (λ (m : Member). m.legacy) g.members) l.lost.items vecs l.rows.items a b c led)))
 
 -- each target is a position of the marks
-pub search_within : (g : Graph) (l : Located) → IsLocated g l → (allowed : List Bool) (vecs : List (Vec ℕ)) → vecs ≡ l.rows.items → length allowed ≡ length g.members → (i : ℕ) → Includes (concat (rows_in vecs)) i → i < length allowed
+pub search_within : (g : Graph) (l : Located) → IsLocated g l → (allowed : List Bool) (vecs : List (Vec ℕ)) → vecs ≡ l.rows.items → length allowed
+    ≡ length g.members → (i : ℕ) → Includes (concat (rows_in vecs)) i → i < length allowed
 search_within g l located allowed vecs c long i h =
     let below = targets_within g.members (rows_in l.rows.items) located.once located.rows i (subst (λ (vs : List (Vec ℕ)). Includes (concat (rows_in vs)) i) c h) in
     omega (arith, below, long)

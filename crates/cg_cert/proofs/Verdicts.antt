@@ -38,14 +38,18 @@ parts_more records k r within read =
     ∙ flat_map-append parts_of (take k records) (r ∷ [])
     ∙ ap (λ (ps : List Part). all_parts (take k records) ++ ps) (append-nil (parts_of r))
 
-pub right_more : (records : List Rec) (k : ℕ) (r : Rec) → k < length records → r ≡ get_or records k r → All IsRight (all_parts (take k records)) → All IsRight (parts_of r) → All IsRight (all_parts (take (k + 1) records))
-right_more records k r within read before here = subst (λ (ps : List Part). All IsRight ps) (sym (parts_more records k r within read)) (All-append IsRight (all_parts (take k records)) (parts_of r) before here)
+pub right_more : (records : List Rec) (k : ℕ) (r : Rec) → k < length records → r ≡ get_or records k r → All IsRight (all_parts (take k records))
+    → All IsRight (parts_of r) → All IsRight (all_parts (take (k + 1) records))
+right_more records k r within read before here = subst (λ (ps : List Part). All IsRight ps) (sym (parts_more records k r within read))
+    (All-append IsRight (all_parts (take k records)) (parts_of r) before here)
 
-pub count_more : (records : List Rec) (k : ℕ) (r : Rec) (graphs more : ℕ) → k < length records → r ≡ get_or records k r → graphs ≡ length (all_parts (take k records)) → more ≡ length (parts_of r) → graphs + more ≡ length (all_parts (take (k + 1) records))
+pub count_more : (records : List Rec) (k : ℕ) (r : Rec) (graphs more : ℕ) → k < length records → r ≡ get_or records k r → graphs
+    ≡ length (all_parts (take k records)) → more ≡ length (parts_of r) → graphs + more ≡ length (all_parts (take (k + 1) records))
 count_more records k r graphs more within read before here = omega (arith, before, here, ap length (parts_more records k r within read), length-append (all_parts (take k records)) (parts_of r))
 
 -- a record has the first fault of all
-pub fault_more : (records : List Rec) (k : ℕ) (r : Rec) (graphs position code : ℕ) → k < length records → r ≡ get_or records k r → graphs ≡ length (all_parts (take k records)) → All IsRight (all_parts (take k records)) → IsFirstFault (parts_of r) position code
+pub fault_more : (records : List Rec) (k : ℕ) (r : Rec) (graphs position code : ℕ) → k < length records → r ≡ get_or records k r → graphs
+    ≡ length (all_parts (take k records)) → All IsRight (all_parts (take k records)) → IsFirstFault (parts_of r) position code
     → IsFirstFault (all_parts records) (graphs + position) code
 fault_more records k r graphs position code within read count before h = record {
   front = all_parts (take k records) ++ h.front;
@@ -72,7 +76,8 @@ pub record RightSoFar (done : List Rec) (k graphs : ℕ) : Type 0 where
   pub few : graphs ≤ 2 * k
   pub right : All IsRight (all_parts done)
 
-pub right_so_far_more : (records : List Rec) (k : ℕ) (r : Rec) (graphs more : ℕ) → k < length records → r ≡ get_or records k r → RightSoFar (take k records) k graphs → All IsRight (parts_of r) → more ≡ length (parts_of r) → more ≤ 2
+pub right_so_far_more : (records : List Rec) (k : ℕ) (r : Rec) (graphs more : ℕ) → k < length records → r ≡ get_or records k r → RightSoFar (take k records) k
+    graphs → All IsRight (parts_of r) → more ≡ length (parts_of r) → more ≤ 2
     → RightSoFar (take (k + 1) records) (k + 1) (graphs + more)
 right_so_far_more records k r graphs more within read so here count few = record {
   count = count_more records k r graphs more within read so.count count;
@@ -120,7 +125,8 @@ each_right (q ∷ ps) h p (inl e) = subst IsRight e (h 0 p (omega arith))
 each_right (q ∷ ps) h p (inr m) = each_right ps (λ k d within. h (suc k) d (omega (arith, within))) p m
 
 -- the first fault is in one place
-one_place : (front other : List Part) (p q : Part) (back rest : List Part) → front ++ p ∷ back ≡ other ++ q ∷ rest → ((x : Part) → Includes front x → IsRight x) → ((x : Part) → Includes other x → IsRight x) → (c d : ℕ) → HasFault p c → HasFault q d → (length front ≡ length other) × (p ≡ q)
+one_place : (front other : List Part) (p q : Part) (back rest : List Part) → front ++ p ∷ back ≡ other ++ q ∷ rest → ((x : Part) → Includes front x → IsRight x)
+    → ((x : Part) → Includes other x → IsRight x) → (c d : ℕ) → HasFault p c → HasFault q d → (length front ≡ length other) × (p ≡ q)
 one_place [] [] p q back rest e h k c d f g = (refl, cc)
 one_place [] (y ∷ other) p q back rest e h k c d f g = let same : p ≡ y = cc in absurd (no_fault p c (k p (inl (sym same))) f)
 one_place (x ∷ front) [] p q back rest e h k c d f g = let same : x ≡ q = cc in absurd (no_fault q d (h q (inl same)) g)
@@ -135,7 +141,8 @@ one_first ps i j c d h k =
     (omega (arith, h.position_is, k.position_is, found.0), one_code k.faulty c d (subst (λ p. HasFault p c) found.1 h.fault) k.fault)
 
 none_first : (ps : List Part) (i c : ℕ) → All IsRight ps → IsFirstFault ps i c → ⊥
-none_first ps i c all h = no_fault h.faulty c (each_right ps all h.faulty (subst (λ (xs : List Part). Includes xs h.faulty) (sym h.parts_are) (Includes-append_right h.front (h.faulty ∷ h.back) h.faulty (inl refl)))) h.fault
+none_first ps i c all h = no_fault h.faulty c (each_right ps all h.faulty (subst (λ (xs : List Part). Includes xs h.faulty) (sym h.parts_are)
+    (Includes-append_right h.front (h.faulty ∷ h.back) h.faulty (inl refl)))) h.fault
 
 -- bytes are the text of one list of records
 one_text : (bytes : List ℕ) (rs ss : List Rec) → IsTextOf rs bytes → IsTextOf ss bytes → rs ≡ ss

@@ -20,8 +20,8 @@ pub enum Verdict {
     No {
         /// The position of the first such graph, from 1; 0 if the bytes are not records.
         graph: u64,
-        /// Its least fault code: 2 a wrong name, 3 an in-degree too low, 4 the set found unreachable is wrong, 5 the
-        /// legacy set is wrong; 1 if the bytes are not records.
+        /// Its least fault code: 2 a wrong name, 3 an in-degree too low, 4 the set found
+        /// unreachable is wrong, 5 the legacy set is wrong; 1 if the bytes are not records.
         code: u8,
     },
 }
@@ -48,7 +48,8 @@ fn graphs_in(rec: &Rec) -> u64
 /// The first fault in a record, if it has one.
 fn fault_in(alloc: Global, rec: &Rec) -> Result<Option<Fault>, AllocError>
     ensures right { IfOk result (λ fault. IfNone fault (All IsRight (parts_of rec.now))) }
-    ensures fault { IfOk result (λ fault. IfSome fault (λ f. IsFirstFault (parts_of rec.now) f.position f.code)) }
+    ensures fault { IfOk result (λ fault. IfSome fault (λ f. IsFirstFault (parts_of rec.now) f.position
+        f.code)) }
     ensures few { IfOk result (λ fault. IfSome fault (λ f. f.position ≤ 2)) }
 {
     if let Some(code) = fault_of(alloc, &rec.first, true)? {
@@ -82,10 +83,12 @@ fn judge(alloc: Global, records: &[Rec]) -> Result<Verdict, AllocError>
     })
 }
 
-/// The verdict on bytes: whether they are records whose graphs are all right, else where the first fault is.
+/// The verdict on bytes: whether they are records whose graphs are all right, else where the first
+/// fault is.
 ///
-/// Takes time near linear in the bytes, and memory linear in them. `AllocError` means memory ran out. (When a graph is
-/// right: developer guide, "identifying reference cycles"; `gc` manual, `gc.garbage`.)
+/// Takes time near linear in the bytes, and memory linear in them. `AllocError` means memory ran
+/// out. (When a graph is right: developer guide, "identifying reference cycles"; `gc` manual,
+/// `gc.garbage`.)
 pub fn check_records(alloc: Global, bytes: &[u8]) -> Result<Verdict, AllocError>
     ensures { IfOk result (λ verdict. Judges bytes.now verdict) }
 {

@@ -80,7 +80,8 @@ fn finds_lost(
     Ok(are_same(&unreachable, &located.lost))
 }
 
-/// Whether the legacy set is exactly the members to set aside, if the set found unreachable is right.
+/// Whether the legacy set is exactly the members to set aside, if the set found unreachable is
+/// right.
 fn finds_set_aside(alloc: Global, graph: &Graph, located: &Located) -> Result<bool, AllocError>
     requires located { IsLocated graph.now located.now }
     requires lost { FindsLost graph.now }
@@ -98,7 +99,8 @@ pub(crate) fn fault_of(
     is_first: bool,
 ) -> Result<Option<u8>, AllocError>
     ensures right { IfOk result (λ fault. IfNone fault (IsRight (part is_first graph.now))) }
-    ensures fault { IfOk result (λ fault. IfSome fault (λ code. HasFault (part is_first graph.now) code)) }
+    ensures fault { IfOk result (λ fault. IfSome fault (λ code. HasFault (part is_first graph.now)
+        code)) }
 {
     let Some(located) = locate(alloc, graph)? else {
         return Ok(Some(2));

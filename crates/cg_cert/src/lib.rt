@@ -1,7 +1,9 @@
-//! A checker of records of collections: it says yes only if the recorded sets are right for the recorded graphs.
+//! A checker of records of collections: it says yes only if the recorded sets are right for the
+//! recorded graphs.
 //!
-//! The layer above rests on one contract: the verdict on bytes is a definition (`specs/Judged`), in terms of the text
-//! of records and of what a path of members reaches. The maker of a record need not be trusted.
+//! The layer above rests on one contract: the verdict on bytes is a definition (`specs/Judged`), in
+//! terms of the text of records and of what a path of members reaches. The maker of a record need
+//! not be trusted.
 //!
 //! - `table`: the serials of a graph, turned into positions of its members.
 //! - `counts`: how often members are referred to, compared with their in-degrees.

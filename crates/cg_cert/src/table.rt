@@ -33,8 +33,10 @@ fn positions_of(
     alloc: Global,
     members: &[Member],
 ) -> Result<Option<BTreeMap<u64, usize>>, AllocError>
-    ensures found { IfOk result (λ located. IfSome located (λ table. Locates (serials_of members.now) table)) }
-    ensures none { IfOk result (λ located. IfNone located (IsOnceEach (serials_of members.now) → ⊥)) }
+    ensures found { IfOk result (λ located. IfSome located (λ table. Locates (serials_of members.now)
+        table)) }
+    ensures none { IfOk result (λ located. IfNone located (IsOnceEach (serials_of members.now)
+        → ⊥)) }
 {
     let mut table = BTreeMap::new(alloc);
     'members: for at in 0..members.len() {
@@ -91,8 +93,8 @@ fn position_at(places: &Places, members: &[Member], guess: usize, serial: u64) -
     }
 }
 
-/// The position of a serial that the member at `at` refers to. Most references lead to a neighbour, or to the member
-/// after the `last` one found.
+/// The position of a serial that the member at `at` refers to. Most references lead to a neighbour,
+/// or to the member after the `last` one found.
 fn position_near(
     places: &Places,
     members: &[Member],
@@ -114,7 +116,8 @@ fn position_near(
     position_at(places, members, at.wrapping_sub(1), serial)
 }
 
-/// The positions of the serials that the member at `at` refers to, in order; `None` if one names no member.
+/// The positions of the serials that the member at `at` refers to, in order; `None` if one names no
+/// member.
 pub(crate) fn row_of(
     alloc: Global,
     places: &Places,
@@ -123,8 +126,10 @@ pub(crate) fn row_of(
     serials: &[u64],
 ) -> Result<Option<Vec<usize>>, AllocError>
     requires { Tells (serials_of members.now) places.now }
-    ensures found { IfOk result (λ named. IfSome named (λ row. IsRowOf (serials_of members.now) serials.now row.items)) }
-    ensures none { IfOk result (λ named. IfNone named (AreNames (serials_of members.now) serials.now → ⊥)) }
+    ensures found { IfOk result (λ named. IfSome named (λ row. IsRowOf (serials_of members.now) serials.now
+        row.items)) }
+    ensures none { IfOk result (λ named. IfNone named (AreNames (serials_of members.now) serials.now
+        → ⊥)) }
 {
     let mut row = Vec::with_capacity(alloc, serials.len())?;
     let mut last = at;
@@ -140,15 +145,18 @@ pub(crate) fn row_of(
     Ok(Some(row))
 }
 
-/// The row of each member: the positions of its references, in order; `None` if one names no member.
+/// The row of each member: the positions of its references, in order; `None` if one names no
+/// member.
 pub(crate) fn rows_of(
     alloc: Global,
     places: &Places,
     members: &[Member],
 ) -> Result<Option<Vec<Vec<usize>>>, AllocError>
     requires { Tells (serials_of members.now) places.now }
-    ensures found { IfOk result (λ named. IfSome named (λ rows. AreRowsOf (serials_of members.now) members.now (rows_in rows.items))) }
-    ensures none { IfOk result (λ named. IfNone named (AreNames (serials_of members.now) (references_of members.now) → ⊥)) }
+    ensures found { IfOk result (λ named. IfSome named (λ rows. AreRowsOf (serials_of members.now)
+        members.now (rows_in rows.items))) }
+    ensures none { IfOk result (λ named. IfNone named (AreNames (serials_of members.now)
+        (references_of members.now) → ⊥)) }
 {
     let mut rows = Vec::with_capacity(alloc, members.len())?;
     'members: for at in 0..members.len() {
@@ -168,9 +176,12 @@ pub(crate) fn marks_of(
     serials: &[u64],
 ) -> Result<Option<Vec<bool>>, AllocError>
     requires { Tells (serials_of members.now) places.now }
-    ensures found { IfOk result (λ named. IfSome named (λ marks. MarksAll (serials_of members.now) serials.now marks.items)) }
-    ensures sets { IfOk result (λ named. IfSome named (λ marks. IsSetOf (serials_of members.now) serials.now)) }
-    ensures none { IfOk result (λ named. IfNone named (IsSetOf (serials_of members.now) serials.now → ⊥)) }
+    ensures found { IfOk result (λ named. IfSome named (λ marks. MarksAll (serials_of members.now)
+        serials.now marks.items)) }
+    ensures sets { IfOk result (λ named. IfSome named (λ marks. IsSetOf (serials_of members.now)
+        serials.now)) }
+    ensures none { IfOk result (λ named. IfNone named (IsSetOf (serials_of members.now) serials.now
+        → ⊥)) }
 {
     let mut marks = Vec::from_elem(alloc, false, members.len())?;
     let mut guess = 0;

@@ -12,8 +12,10 @@ use itoa::Buffer;
 
 /// Reports that there are words.
 pub(crate) fn tell_bad_words<K: Sink>(sink: &mut K) -> CheckStatus
-    ensures bad_words { result ≡ CheckStatus.BadWords → Appends (K.written sink.old) (K.written sink.new) (codes "bad words\n") }
-    ensures write { result ≡ CheckStatus.WriteFault → AppendsFront (K.written sink.old) (K.written sink.new) (codes "bad words\n") }
+    ensures bad_words { result ≡ CheckStatus.BadWords → Appends (K.written sink.old)
+        (K.written sink.new) (codes "bad words\n") }
+    ensures write { result ≡ CheckStatus.WriteFault → AppendsFront (K.written sink.old)
+        (K.written sink.new) (codes "bad words\n") }
     ensures cause { result ≡ CheckStatus.WriteFault → Rose (K.faults sink.old) (K.faults sink.new) }
     ensures only { (result ≡ CheckStatus.BadWords) ⊎ (result ≡ CheckStatus.WriteFault) }
 {
@@ -25,8 +27,10 @@ pub(crate) fn tell_bad_words<K: Sink>(sink: &mut K) -> CheckStatus
 
 /// Reports that there are too many bytes.
 pub(crate) fn tell_large<K: Sink>(sink: &mut K) -> CheckStatus
-    ensures large { result ≡ CheckStatus.TooLarge → Appends (K.written sink.old) (K.written sink.new) (codes "too large\n") }
-    ensures write { result ≡ CheckStatus.WriteFault → AppendsFront (K.written sink.old) (K.written sink.new) (codes "too large\n") }
+    ensures large { result ≡ CheckStatus.TooLarge → Appends (K.written sink.old)
+        (K.written sink.new) (codes "too large\n") }
+    ensures write { result ≡ CheckStatus.WriteFault → AppendsFront (K.written sink.old)
+        (K.written sink.new) (codes "too large\n") }
     ensures cause { result ≡ CheckStatus.WriteFault → Rose (K.faults sink.old) (K.faults sink.new) }
     ensures only { (result ≡ CheckStatus.TooLarge) ⊎ (result ≡ CheckStatus.WriteFault) }
 {
@@ -76,8 +80,10 @@ fn status_for(verdict: Verdict) -> CheckStatus
 
 /// Writes a verdict.
 pub(crate) fn tell_verdict<K: Sink>(verdict: Verdict, sink: &mut K) -> CheckStatus
-    ensures told { result ≡ status_of verdict → Appends (K.written sink.old) (K.written sink.new) (verdict_text verdict) }
-    ensures write { result ≡ CheckStatus.WriteFault → AppendsFront (K.written sink.old) (K.written sink.new) (verdict_text verdict) }
+    ensures told { result ≡ status_of verdict → Appends (K.written sink.old) (K.written sink.new)
+        (verdict_text verdict) }
+    ensures write { result ≡ CheckStatus.WriteFault → AppendsFront (K.written sink.old)
+        (K.written sink.new) (verdict_text verdict) }
     ensures cause { result ≡ CheckStatus.WriteFault → Rose (K.faults sink.old) (K.faults sink.new) }
     ensures only { (result ≡ status_of verdict) ⊎ (result ≡ CheckStatus.WriteFault) }
 {

@@ -1,7 +1,8 @@
-//! Shared by the programs around their top call: command-line words, a reader that remembers, and remarks.
+//! Shared by the programs around their top call: command-line words, a reader that remembers, and
+//! remarks.
 //!
-//! Standard output belongs to the top call. Remarks go to standard error, for a person; a remark that fails is
-//! dropped. Apart from the words, a program's answer never depends on this crate.
+//! Standard output belongs to the top call. Remarks go to standard error, for a person; a remark
+//! that fails is dropped. Apart from the words, a program's answer never depends on this crate.
 #![tactic(auto)]
 
 mod numbers;

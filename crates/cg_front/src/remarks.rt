@@ -1,4 +1,5 @@
-//! Remarks for a person, on standard error. A failure there is ignored: no answer depends on a remark.
+//! Remarks for a person, on standard error. A failure there is ignored: no answer depends on a
+//! remark.
 use std::alloc::{AllocError, Global};
 use std::io::IsTerminal;
 
@@ -33,7 +34,8 @@ fn printable(alloc: Global, bytes: &[u8]) -> Result<String, AllocError> {
     Ok(text)
 }
 
-/// Shows a line of the input by its number, from 1: its first 200 bytes. Shows nothing if there is no such line.
+/// Shows a line of the input by its number, from 1: its first 200 bytes. Shows nothing if there is
+/// no such line.
 pub fn remark_line(rt: &HostRuntime, input: &[u8], number: u64) {
     let place = usize::try_from(number.saturating_sub(1)).unwrap_or(usize::MAX);
     let Some(line) = input.split(|byte| *byte == b'\n').nth(place) else {

@@ -6,8 +6,8 @@ use std::io::Read;
 /// The maximum number of bytes remembered.
 const MOST: usize = 1_048_576;
 
-/// A reader, and the first mebibyte of what it read. It reads exactly as the reader does. If memory runs out, it
-/// remembers less.
+/// A reader, and the first mebibyte of what it read. It reads exactly as the reader does. If memory
+/// runs out, it remembers less.
 #[derive(Drop)]
 pub struct Remembering<R: Read + Drop> {
     inner: R,

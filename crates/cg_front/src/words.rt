@@ -18,8 +18,8 @@ fn empty_word(alloc: Global) -> io::Result<Vec<String>> {
     Ok(words)
 }
 
-/// The words after the program's name, for its top call. If one is not UTF-8, they are a single empty word, which is
-/// no program's job. Returns an error only if memory runs out.
+/// The words after the program's name, for its top call. If one is not UTF-8, they are a single
+/// empty word, which is no program's job. Returns an error only if memory runs out.
 pub fn words_given(rt: &HostRuntime) -> io::Result<Vec<String>> {
     match words_after_name(rt) {
         Err(e) if e.kind() == ErrorKind::InvalidData => empty_word(rt.alloc()),

@@ -132,10 +132,13 @@ module _ {X : Type 0} (f : X → ℕ) where
   sum-put : (k : ℕ) (v : X) (es : List (ℕ × X)) → T (is_sorted nat_cmp es) → sum (put nat_cmp k v es) + part f (find nat_cmp k es) ≡ sum es + f v
   sum-put k v [] h = omega (arith, sum-cons (k, v) [])
   sum-put k v (e ∷ es) h =
-      elim (nat_cmp k e.0) as (λ r. nat_cmp k e.0 ≡ r → sum (by_order r ((k, v) ∷ e ∷ es) ((e.0, v) ∷ es) (e ∷ put nat_cmp k v es)) + part f (cond (is_eq r) (Some e.1) (find nat_cmp k es)) ≡ sum (e ∷ es) + f v) [
+      elim (nat_cmp k e.0) as (λ r. nat_cmp k e.0 ≡ r → sum (by_order r ((k, v) ∷ e ∷ es) ((e.0, v) ∷ es) (e ∷ put nat_cmp k v es)) + part f
+      (cond (is_eq r) (Some e.1) (find nat_cmp k es)) ≡ sum (e ∷ es) + f v) [
         | Less ↦ λ p.
             let len : suc (suc (length es)) ≡ cond (is_some (find nat_cmp k es)) (suc (length es)) (suc (length es) + 1) =
-            subst (λ r. length (by_order r ((k, v) ∷ e ∷ es) ((e.0, v) ∷ es) (e ∷ put nat_cmp k v es)) ≡ cond (is_some (cond (is_eq r) (Some e.1) (find nat_cmp k es))) (suc (length es)) (suc (length es) + 1)) p (length-put nat_cmp nat_cmp_total k v (e ∷ es) h) in
+            subst (λ r. length (by_order r ((k, v) ∷ e ∷ es) ((e.0, v) ∷ es) (e ∷ put nat_cmp k v es))
+            ≡ cond (is_some (cond (is_eq r) (Some e.1) (find nat_cmp k es))) (suc (length es)) (suc (length es) + 1)) p (length-put nat_cmp nat_cmp_total k
+            v (e ∷ es) h) in
             let none : find nat_cmp k es ≡ None = none_of_length _ _ len in
             ap (λ o. sum ((k, v) ∷ e ∷ es) + part f o) none ∙ omega (arith, sum-cons (k, v) (e ∷ es))
         | Equal ↦ λ p. omega (arith, sum-cons (e.0, v) es, sum-cons e es)

@@ -21,15 +21,18 @@ use Rattle.cg_graph.proofs.Maps.{entries-mapped, same_map, get-remove_same, get-
 use Rattle.cg_graph.proofs.Counts.{occurrences-entry_holdings}
 
 -- changing each node changes each object
-pub objects-mapped : (store : Store) (g : ℕ → Node → Node) (F : Object → Object) → ((s : ℕ) (n : Node) → object_from store.rows s (g s n) ≡ F (object_from store.rows s n)) → objects_of (record store { nodes = mapped g store.nodes }) ≡ map F (objects_of store)
+pub objects-mapped : (store : Store) (g : ℕ → Node → Node) (F : Object → Object) → ((s : ℕ) (n : Node) → object_from store.rows s (g s n)
+    ≡ F (object_from store.rows s n)) → objects_of (record store { nodes = mapped g store.nodes }) ≡ map F (objects_of store)
 objects-mapped store g F same = ap (map (λ (e : ℕ × Node). object_from store.rows e.0 e.1)) (entries-mapped g store.nodes) ∙ each (fin.entries store.nodes)
   where
-    each : (es : List (ℕ × Node)) → map (λ (e : ℕ × Node). object_from store.rows e.0 e.1) (map (λ (e : ℕ × Node). (e.0, g e.0 e.1)) es) ≡ map F (map (λ (e : ℕ × Node). object_from store.rows e.0 e.1) es)
+    each : (es : List (ℕ × Node)) → map (λ (e : ℕ × Node). object_from store.rows e.0 e.1) (map (λ (e : ℕ × Node). (e.0, g e.0 e.1)) es)
+        ≡ map F (map (λ (e : ℕ × Node). object_from store.rows e.0 e.1) es)
     each [] = refl
     each (e ∷ es) = λ i. same e.0 e.1 i ∷ each es i
 
 -- a change of nodes that no object shows
-pub objects-same : (store : Store) (g : ℕ → Node → Node) → ((s : ℕ) (n : Node) → object_from store.rows s (g s n) ≡ object_from store.rows s n) → objects_of (record store { nodes = mapped g store.nodes }) ≡ objects_of store
+pub objects-same : (store : Store) (g : ℕ → Node → Node) → ((s : ℕ) (n : Node) → object_from store.rows s (g s n) ≡ object_from store.rows s n)
+    → objects_of (record store { nodes = mapped g store.nodes }) ≡ objects_of store
 objects-same store g same = objects-mapped store g (λ x. x) same ∙ map_id (objects_of store)
   where
     map_id : (xs : List Object) → map (λ x. x) xs ≡ xs
@@ -37,7 +40,8 @@ objects-same store g same = objects-mapped store g (λ x. x) same ∙ map_id (ob
     map_id (x ∷ xs) = ap (λ l. x ∷ l) (map_id xs)
 
 -- changing one node changes one object
-pub objects-changed : (store : Store) (o : ℕ) (g : Node → Node) (f : Object → Object) → ((s : ℕ) (n : Node) → object_from store.rows s (g n) ≡ f (object_from store.rows s n)) → objects_of (record store { nodes = changed g o store.nodes }) ≡ change f o (objects_of store)
+pub objects-changed : (store : Store) (o : ℕ) (g : Node → Node) (f : Object → Object) → ((s : ℕ) (n : Node) → object_from store.rows s (g n)
+    ≡ f (object_from store.rows s n)) → objects_of (record store { nodes = changed g o store.nodes }) ≡ change f o (objects_of store)
 objects-changed store o g f same = objects-mapped store (λ s n. if s == o then g n else n) (λ x. if x.serial == o then f x else x) (λ s n. one (s == o) s n)
   where
     one : (b : Bool) (s : ℕ) (n : Node) → object_from store.rows s (if b then g n else n) ≡ (if b then f (object_from store.rows s n) else object_from store.rows s n)
@@ -65,7 +69,8 @@ object-at store o = each (fin.entries store.nodes) ∙ ap (option_map (object_fr
 pub occurrences-append : (s : ℕ) (xs ys : List ℕ) → occurrences s (xs ++ ys) ≡ occurrences s xs + occurrences s ys
 occurrences-append s xs ys = sum_by-append (λ r. cond (r == s) 1 0) xs ys
 
-sums-alike : (rows : List Row) (s : ℕ) (es : List (ℕ × Node)) → sum_by (λ (n : ℕ × List Entry). occurrences s (references n.1)) (map (λ (x : Object). (x.serial, x.entries)) (map (λ (e : ℕ × Node). object_from rows e.0 e.1) es)) ≡ sum_by (λ (e : ℕ × Node). held_by s e.1) es
+sums-alike : (rows : List Row) (s : ℕ) (es : List (ℕ × Node)) → sum_by (λ (n : ℕ × List Entry). occurrences s (references n.1))
+    (map (λ (x : Object). (x.serial, x.entries)) (map (λ (e : ℕ × Node). object_from rows e.0 e.1) es)) ≡ sum_by (λ (e : ℕ × Node). held_by s e.1) es
 sums-alike rows s [] = refl
 sums-alike rows s (e ∷ es) =
     sum_by-cons {X = ℕ × List Entry} (λ n. occurrences s (references n.1)) (e.0, e.1.entries) (map (λ (x : Object). (x.serial, x.entries)) (map (λ (e : ℕ × Node). object_from rows e.0 e.1) es))
@@ -76,7 +81,8 @@ sums-alike rows s (e ∷ es) =
 pub inner-holdings : (store : Store) (s : ℕ) → inner store s ≡ occurrences s (name_holdings store.names ++ (1 ∷ []) ++ entry_holdings (graph_of (objects_of store)))
 unfolding held_within
 inner-holdings store s =
-    let entries : occurrences s (entry_holdings (graph_of (objects_of store))) ≡ total (held_by s) store.nodes = occurrences-entry_holdings s (graph_of (objects_of store)) ∙ sums-alike store.rows s (fin.entries store.nodes) in
+    let entries : occurrences s (entry_holdings (graph_of (objects_of store))) ≡ total (held_by s) store.nodes = occurrences-entry_holdings s
+    (graph_of (objects_of store)) ∙ sums-alike store.rows s (fin.entries store.nodes) in
     omega (arith, entries, occurrences-append s (name_holdings store.names ++ (1 ∷ [])) (entry_holdings (graph_of (objects_of store))), occurrences-append s (name_holdings store.names) (1 ∷ []))
 
 -- the entries of a map with a key removed
@@ -110,7 +116,9 @@ objects-remove store o = ap (map (λ (e : ℕ × Node). object_from store.rows e
     each (e ∷ es) = go (not (e.0 == o)) (each es)
       where
         go : (b : Bool) → map (λ e. object_from store.rows e.0 e.1) (filter (λ e. not (e.0 == o)) es) ≡ filter (λ x. not (x.serial == o)) (map (λ e. object_from store.rows e.0 e.1) es)
-            → map (λ e. object_from store.rows e.0 e.1) (cond b (e ∷ filter (λ e. not (e.0 == o)) es) (filter (λ e. not (e.0 == o)) es)) ≡ cond b (object_from store.rows e.0 e.1 ∷ filter (λ x. not (x.serial == o)) (map (λ e. object_from store.rows e.0 e.1) es)) (filter (λ x. not (x.serial == o)) (map (λ e. object_from store.rows e.0 e.1) es))
+            → map (λ e. object_from store.rows e.0 e.1) (cond b (e ∷ filter (λ e. not (e.0 == o)) es) (filter (λ e. not (e.0 == o)) es))
+            ≡ cond b (object_from store.rows e.0 e.1 ∷ filter (λ x. not (x.serial == o)) (map (λ e. object_from store.rows e.0 e.1) es))
+            (filter (λ x. not (x.serial == o)) (map (λ e. object_from store.rows e.0 e.1) es))
         go true h = ap (λ l. object_from store.rows e.0 e.1 ∷ l) h
         go false h = h
 
@@ -134,11 +142,13 @@ module _ {X : Type 0} (k : ℕ) (v : X) where
       fin.entries-insert nat_cmp_total m k v
       ∙ put-last (fin.entries m) (λ q h. below q (subst IsSome (sym (fin.get-entries m q)) h))
 
-pub objects-made : (store : Store) (code : KindCode) (class : Option ℕ) (parts : List Entry) → ((q : ℕ) → IsSome (fin.get store.nodes q) → q ≤ store.last) → objects_of (made code class parts store) ≡ objects_of store ++ object_from store.rows (store.last + 1) (new_node code class parts) ∷ []
+pub objects-made : (store : Store) (code : KindCode) (class : Option ℕ) (parts : List Entry) → ((q : ℕ) → IsSome (fin.get store.nodes q) → q ≤ store.last)
+    → objects_of (made code class parts store) ≡ objects_of store ++ object_from store.rows (store.last + 1) (new_node code class parts) ∷ []
 objects-made store code class parts below =
     ap (map (λ (e : ℕ × Node). object_from store.rows e.0 e.1)) (entries-last (store.last + 1) (new_node code class parts) store.nodes (λ q h. let low = below q h in omega (arith, low)))
     ∙ map-append (fin.entries store.nodes)
   where
-    map-append : (es : List (ℕ × Node)) → map (λ (e : ℕ × Node). object_from store.rows e.0 e.1) (es ++ (store.last + 1, new_node code class parts) ∷ []) ≡ map (λ (e : ℕ × Node). object_from store.rows e.0 e.1) es ++ object_from store.rows (store.last + 1) (new_node code class parts) ∷ []
+    map-append : (es : List (ℕ × Node)) → map (λ (e : ℕ × Node). object_from store.rows e.0 e.1) (es ++ (store.last + 1, new_node code class parts) ∷ [])
+        ≡ map (λ (e : ℕ × Node). object_from store.rows e.0 e.1) es ++ object_from store.rows (store.last + 1) (new_node code class parts) ∷ []
     map-append [] = refl
     map-append (e ∷ es) = ap (λ l. object_from store.rows e.0 e.1 ∷ l) (map-append es)

@@ -25,7 +25,10 @@ Includes-insert_key k (x ∷ ks) o = go (nat_cmp k x) refl (Includes-insert_key 
     go : (r : Ordering) → nat_cmp k x ≡ r → Includes (insert_key nat_cmp ks k) o ↔ (Includes ks o ⊎ (k ≡ o)) → Includes (insert_key nat_cmp (x ∷ ks) k) o ↔ (Includes (x ∷ ks) o ⊎ (k ≡ o))
     go Less e rec = rw e (λ h. either h (λ i. inr i) (λ m. inl m), λ h. either h (λ m. inr m) (λ i. inl i))
     go Equal e rec = rw e (λ h. inl h, λ h. either h (λ m. m) (λ i. inl (sym (exact_unsigned k x e) ∙ i)))
-    go Greater e rec = rw e (λ h. either h (λ i. inl (inl i)) (λ m. either (rec.0 m) (λ n. inl (inr n)) (λ i. inr i)), λ h. either h (λ m. either m (λ i. inl i) (λ n. inr (rec.1 (inl n)))) (λ i. inr (rec.1 (inr i))))
+    go Greater e rec = rw e (
+      λ h. either h (λ i. inl (inl i)) (λ m. either (rec.0 m) (λ n. inl (inr n)) (λ i. inr i)),
+      λ h. either h (λ m. either m (λ i. inl i) (λ n. inr (rec.1 (inl n)))) (λ i. inr (rec.1 (inr i))),
+    )
 
 -- the next member inserted is the next in the list
 pub one_more : (objects keys : List ℕ) (i o : ℕ) → ((p : ℕ) → Includes keys p ↔ Includes (take i objects) p) → i < length objects → o ≡ get_or objects i 0
@@ -47,7 +50,8 @@ finds : (test : ℕ → Bool) (k : ℕ) (xs : List ℕ) (j : ℕ) → position_f
 finds test k [] j h = absurd (cc)
 finds test k (x ∷ xs) j h = go (test x) refl h (finds test (k + 1) xs j)
   where
-    go : (b : Bool) → test x ≡ b → cond b (Some k) (position_from test (k + 1) xs) ≡ Some j → (position_from test (k + 1) xs ≡ Some j → (i : ℕ) × (y : ℕ) × (j ≡ (k + 1) + i) × (slice_get xs i ≡ Some y) × (test y ≡ true))
+    go : (b : Bool) → test x ≡ b → cond b (Some k) (position_from test (k + 1) xs) ≡ Some j → (position_from test (k + 1) xs ≡ Some j → (i : ℕ) × (y : ℕ)
+        × (j ≡ (k + 1) + i) × (slice_get xs i ≡ Some y) × (test y ≡ true))
         → (i : ℕ) × (y : ℕ) × (j ≡ k + i) × (slice_get (x ∷ xs) i ≡ Some y) × (test y ≡ true)
     go true e s rec = (0, x, (let same : k ≡ j = cc in omega (arith, same)), refl, e)
     go false e s rec = let (i, y, is, at, passes) = rec s in (suc i, y, omega (arith, is), at, passes)
@@ -56,7 +60,8 @@ none_finds : (test : ℕ → Bool) (k : ℕ) (xs : List ℕ) → position_from t
 none_finds test k [] h x m = absurd m
 none_finds test k (y ∷ ys) h x m = go (test y) refl h m (none_finds test (k + 1) ys)
   where
-    go : (b : Bool) → test y ≡ b → cond b (Some k) (position_from test (k + 1) ys) ≡ None → (y ≡ x) ⊎ Includes ys x → (position_from test (k + 1) ys ≡ None → (z : ℕ) → Includes ys z → test z ≡ false) → test x ≡ false
+    go : (b : Bool) → test y ≡ b → cond b (Some k) (position_from test (k + 1) ys) ≡ None → (y ≡ x) ⊎ Includes ys x → (position_from test (k + 1) ys ≡ None
+        → (z : ℕ) → Includes ys z → test z ≡ false) → test x ≡ false
     go true e s n rec = absurd (cc)
     go false e s (inl i) rec = ap test (sym i) ∙ e
     go false e s (inr i) rec = rec s x i
@@ -120,7 +125,8 @@ module _ (held inside : List ℕ) (arrows : List Edge) where
     where
       go : (x : ℕ) → slice_get rest at ≡ Some x → touched arrows found x ≡ true → o ≡ x → Spreads held inside arrows (found ++ o ∷ []) (remove rest at)
       go x there passes here = record {
-        reached = λ p m. either (Includes-append_cases found (o ∷ []) p m) (λ h. so.reached p h) (λ h. either h (λ e. subst (λ q. Reach (Includes held) (Includes inside) arrows q) (sym here ∙ e) along) (λ f. absurd f));
+        reached = λ p m. either (Includes-append_cases found (o ∷ []) p m) (λ h. so.reached p h)
+            (λ h. either h (λ e. subst (λ q. Reach (Includes held) (Includes inside) arrows q) (sym here ∙ e) along) (λ f. absurd f));
         left = λ p m. so.left p (was_there rest at x there p m);
         all = λ p m. either (so.all p m) (λ h. inl (Includes-append_left found (o ∷ []) p h))
             (λ h. either (kept_or_taken rest at x there p h) (λ e. inl (Includes-append_right found (o ∷ []) p (inl (here ∙ e)))) (λ k. inr k));
@@ -139,7 +145,8 @@ module _ (held inside : List ℕ) (arrows : List Edge) where
       (subst (λ (ys : List ℕ). Spreads held inside arrows (found ++ o ∷ []) ys) (sym f')
       (with_one found rest at o so (sym (ap (λ (xs : List ℕ). position (touched arrows xs) left) e ∙ ap (position (touched arrows found)) f) ∙ sym is ∙ some) value))
 
-  all_found : (found rest : List ℕ) → Spreads held inside arrows found rest → position (touched arrows found) rest ≡ None → (o : ℕ) → Includes found o ↔ Reach (Includes held) (Includes inside) arrows o
+  all_found : (found rest : List ℕ) → Spreads held inside arrows found rest → position (touched arrows found) rest ≡ None → (o : ℕ) → Includes found o ↔ Reach
+      (Includes held) (Includes inside) arrows o
   all_found found rest so is o = (so.reached o, all o)
     where
       all : (p : ℕ) → Reach (Includes held) (Includes inside) arrows p → Includes found p
@@ -152,7 +159,8 @@ module _ (held inside : List ℕ) (arrows : List Edge) where
           absurd (cc))
 
   -- at the end: the same objects in another list
-  pub spreads_all : (found rest seen left same : List ℕ) (answer : Option ℕ) → Spreads held inside arrows found rest → seen ≡ found → left ≡ rest → answer ≡ position (touched arrows seen) left → answer ≡ None
+  pub spreads_all : (found rest seen left same : List ℕ) (answer : Option ℕ) → Spreads held inside arrows found rest → seen ≡ found → left ≡ rest → answer
+      ≡ position (touched arrows seen) left → answer ≡ None
       → ((o : ℕ) → Includes same o ↔ Includes found o) → (o : ℕ) → Includes same o ↔ Reach (Includes held) (Includes inside) arrows o
   spreads_all found rest seen left same answer so e f is none among o =
       let parts = all_found found rest so (sym (ap (λ (xs : List ℕ). position (touched arrows xs) left) e ∙ ap (position (touched arrows found)) f) ∙ sym is ∙ none) o in

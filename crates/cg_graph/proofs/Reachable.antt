@@ -11,18 +11,21 @@ use Rattle.cg_graph.specs.Reachable.{IsReachable, IsUnreachable}
 use Rattle.cg_graph.proofs.Search.{Reach-mono}
 
 module _ (store : Store) (holdings : List ℕ) (p : Place) (counts : (o : ℕ) → count_of store o ≡ occurrences o holdings) where
-  there : (objects : List Object) → objects_of store ≡ objects → (o : ℕ) → IsReachable store p o → Reach (IsOutsideHeld holdings (graph_of (objects_at objects p))) (Includes (serials_at objects p)) (edges (graph_of (objects_at objects p))) o
+  there : (objects : List Object) → objects_of store ≡ objects → (o : ℕ) → IsReachable store p o
+      → Reach (IsOutsideHeld holdings (graph_of (objects_at objects p))) (Includes (serials_at objects p)) (edges (graph_of (objects_at objects p))) o
   there objects is o r =
       subst (λ (xs : List Object). Reach (IsOutsideHeld holdings (graph_of (objects_at xs p))) (Includes (serials_at xs p)) (edges (graph_of (objects_at xs p))) o) is
       (Reach-mono (λ q h. let e = counts q in omega (arith, h, e)) (λ q h. h) (λ e h. h) r)
 
-  back : (objects : List Object) → objects_of store ≡ objects → (o : ℕ) → Reach (IsOutsideHeld holdings (graph_of (objects_at objects p))) (Includes (serials_at objects p)) (edges (graph_of (objects_at objects p))) o → IsReachable store p o
+  back : (objects : List Object) → objects_of store ≡ objects → (o : ℕ) → Reach (IsOutsideHeld holdings (graph_of (objects_at objects p)))
+      (Includes (serials_at objects p)) (edges (graph_of (objects_at objects p))) o → IsReachable store p o
   back objects is o r =
       Reach-mono (λ q h. let e = counts q in omega (arith, h, e)) (λ q h. h) (λ e h. h)
       (subst (λ (xs : List Object). Reach (IsOutsideHeld holdings (graph_of (objects_at xs p))) (Includes (serials_at xs p)) (edges (graph_of (objects_at xs p))) o) (sym is) r)
 
   -- if these are the objects, and each count is the number of occurrences in the holdings
-  pub reachable_alike : (objects : List Object) → objects_of store ≡ objects → (o : ℕ) → IsReachable store p o ↔ Reach (IsOutsideHeld holdings (graph_of (objects_at objects p))) (Includes (serials_at objects p)) (edges (graph_of (objects_at objects p))) o
+  pub reachable_alike : (objects : List Object) → objects_of store ≡ objects → (o : ℕ) → IsReachable store p o ↔ Reach
+      (IsOutsideHeld holdings (graph_of (objects_at objects p))) (Includes (serials_at objects p)) (edges (graph_of (objects_at objects p))) o
   reachable_alike objects is o = (there objects is o, back objects is o)
 
   pub unreachable_alike : (objects : List Object) → objects_of store ≡ objects → (o : ℕ)

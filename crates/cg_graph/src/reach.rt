@@ -22,14 +22,16 @@ fn is_next(edges: &[Edge], found: &[u64], object: u64) -> bool
 
 /// The position of the first object that an edge leads to from a found one.
 fn next_of(edges: &[Edge], found: &[u64], rest: &[u64]) -> Option<usize>
-    ensures { result ≡ position (λ o. list_any (λ e. (e.to == o) && includes found.now e.from) edges.now) rest.now }
+    ensures { result ≡ position (λ o. list_any (λ e. (e.to == o) && includes found.now e.from)
+        edges.now) rest.now }
 {
     rest.iter()
         .position(|object| is_next(edges, found, *object))
 }
 
 fn held_members(alloc: Global, inside: &[u64], held: &[u64]) -> Result<Vec<u64>, AllocError>
-    ensures { IfOk result (λ members. members.items ≡ filter (λ o. includes held.now o) inside.now) }
+    ensures { IfOk result (λ members. members.items ≡ filter (λ o. includes held.now o)
+        inside.now) }
 {
     inside
         .iter()
@@ -40,7 +42,8 @@ fn held_members(alloc: Global, inside: &[u64], held: &[u64]) -> Result<Vec<u64>,
 
 /// The members that are not held.
 fn other_members(alloc: Global, inside: &[u64], held: &[u64]) -> Result<Vec<u64>, AllocError>
-    ensures { IfOk result (λ members. members.items ≡ filter (λ o. not (includes held.now o)) inside.now) }
+    ensures { IfOk result (λ members. members.items ≡ filter (λ o. not (includes held.now o))
+        inside.now) }
 {
     inside
         .iter()
@@ -68,7 +71,8 @@ fn rising(alloc: Global, objects: &[u64]) -> Result<Vec<u64>, AllocError>
     listed(alloc, &set)
 }
 
-/// The members of `inside` reachable through members of `inside` from a member of `held`, ascending, each once.
+/// The members of `inside` reachable through members of `inside` from a member of `held`,
+/// ascending, each once.
 ///
 /// For tests: it checks every edge for every member. Returns `AllocError` only if memory runs out.
 pub fn reach_plain(
@@ -77,7 +81,8 @@ pub fn reach_plain(
     inside: &[u64],
     held: &[u64],
 ) -> Result<Vec<u64>, AllocError>
-    ensures members { IfOk result (λ found. (o : ℕ) → Includes found.items o ↔ Reach (Includes held.now) (Includes inside.now) edges.now o) }
+    ensures members { IfOk result (λ found. (o : ℕ) → Includes found.items o ↔ Reach
+        (Includes held.now) (Includes inside.now) edges.now o) }
     ensures rising { IfOk result (λ found. IsStrictlyIncreasing found.items) }
 {
     let mut found = held_members(alloc, inside, held)?;

@@ -44,7 +44,8 @@ six_kinds-at Inst = refl
 six_kinds-at Func = refl
 six_kinds-at Weak = refl
 
-module _ {K : Type 0} (kind : K → KindCode) (bodies : K → Bodies) (items : List K) (six : map kind items ≡ six_kinds) (old : List Bodies) (view : map bodies items ≡ old) (code : KindCode) (i : ℕ) (index : i ≡ code_index code) (k : K) (at : k ≡ get_or items i k) where
+module _ {K : Type 0} (kind : K → KindCode) (bodies : K → Bodies) (items : List K) (six : map kind items ≡ six_kinds) (old : List Bodies)
+    (view : map bodies items ≡ old) (code : KindCode) (i : ℕ) (index : i ≡ code_index code) (k : K) (at : k ≡ get_or items i k) where
   pub box_there : i < length items
   box_there = omega (arith, sym (length-map items kind) ∙ ap length six, index, code_index-below code)
 
@@ -74,17 +75,21 @@ module _ {K : Type 0} (kind : K → KindCode) (bodies : K → Bodies) (items : L
     box_unchanged is = map-set_same bodies items i l k (is ∙ ap bodies at) ∙ view
 
     -- making a body, whose spare capacity is the box's
-    pub box_made : (at' : ℕ) (entries : List Entry) → bodies l ≡ with_body (bodies k) at' entries (spare_at (bodies l) at') → map bodies (set items i l) ≡ boxes_with_body old code at' entries (spare_in_box (map bodies (set items i l)) code at')
+    pub box_made : (at' : ℕ) (entries : List Entry) → bodies l ≡ with_body (bodies k) at' entries (spare_at (bodies l) at') → map bodies (set items i l)
+        ≡ boxes_with_body old code at' entries (spare_in_box (map bodies (set items i l)) code at')
     box_made at' entries is =
         box_written (λ _ b. with_body b at' entries (spare_at (bodies l) at')) is
         ∙ ap (λ b. boxes_with_body old code at' entries (spare_at b at')) (sym box_after)
 
-    pub box_appended : (at' : ℕ) (x : Val) → bodies l ≡ with_body (bodies k) at' (entries_at (bodies k) at' ++ item x ∷ []) (spare_at (bodies l) at') → map bodies (set items i l) ≡ boxes_with_body old code at' (entries_in_box old code at' ++ item x ∷ []) (spare_in_box (map bodies (set items i l)) code at')
+    pub box_appended : (at' : ℕ) (x : Val) → bodies l ≡ with_body (bodies k) at' (entries_at (bodies k) at' ++ item x ∷ []) (spare_at (bodies l) at')
+        → map bodies (set items i l) ≡ boxes_with_body old code at' (entries_in_box old code at' ++ item x ∷ []) (spare_in_box (map bodies (set items i l)) code
+        at')
     box_appended at' x is =
         box_written (λ _ b. with_body b at' (entries_at b at' ++ item x ∷ []) (spare_at (bodies l) at')) is
         ∙ ap (λ b. boxes_with_body old code at' (entries_in_box old code at' ++ item x ∷ []) (spare_at b at')) (sym box_after)
 
-    pub box_reserved : (at' : ℕ) → bodies l ≡ with_body (bodies k) at' (entries_at (bodies k) at') (spare_at (bodies l) at') → map bodies (set items i l) ≡ boxes_with_body old code at' (entries_in_box old code at') (spare_in_box (map bodies (set items i l)) code at')
+    pub box_reserved : (at' : ℕ) → bodies l ≡ with_body (bodies k) at' (entries_at (bodies k) at') (spare_at (bodies l) at') → map bodies (set items i l)
+        ≡ boxes_with_body old code at' (entries_in_box old code at') (spare_in_box (map bodies (set items i l)) code at')
     box_reserved at' is =
         box_written (λ _ b. with_body b at' (entries_at b at') (spare_at (bodies l) at')) is
         ∙ ap (λ b. boxes_with_body old code at' (entries_in_box old code at') (spare_at b at')) (sym box_after)
@@ -114,7 +119,8 @@ is_there b x e = subst (λ c. IsTrue c ↔ IsSome x) (sym e) (known x)
     known None = (λ h. h, λ h. h)
     known (Some y) = (λ h. refl, λ h. refl)
 
-pub value_found : (code : KindCode) (es : List Entry) (key : Val) (b : Bool) (r : Option ℕ) → (code ≡ ListKind → ⊥) → IsMutable code → b ≡ is_some r → r ≡ position (has_key key) es → IsTrue b ↔ IsSome (value_under code es key)
+pub value_found : (code : KindCode) (es : List Entry) (key : Val) (b : Bool) (r : Option ℕ) → (code ≡ ListKind → ⊥) → IsMutable code → b ≡ is_some r → r
+    ≡ position (has_key key) es → IsTrue b ↔ IsSome (value_under code es key)
 value_found ListKind es key b r other mutable is found = absurd (other refl)
 value_found Tuple es key b r other mutable is found = absurd mutable
 value_found Dict es key b r other mutable is found = is_there b (value_at es key) (is ∙ ap is_some (found ∙ position_from-zero (has_key key) es) ∙ found_from key 0 es)

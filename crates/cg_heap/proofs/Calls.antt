@@ -25,9 +25,9 @@ use Rattle.cg_heap.proofs.ReferenceLemmas.{occurrences-le, reference-le, name-le
 use Rattle.cg_heap.specs.Boxes.{bodies_at, boxes_with_body, spare_in_box}
 use Rattle.cg_heap.specs.Keeps.{HeapKeeps, Alike, store_of, node_from, seat_in, HasClass}
 use Rattle.cg_heap.specs.Calls.{HasFewHolds, object_number, entry_number, code_of, IsMutable, IsLiveValue, value_in, with_put, merged, marked, with_number, lowered, with_node, IsSound, IsListed}
-use Rattle.cg_heap.proofs.Stands.{Closed, closed, keeps-held, keeps-unheld, live-mapped}
+use Rattle.cg_heap.proofs.HeapIsStore.{Closed, closed, keeps-held, keeps-unheld, live-mapped}
 use Rattle.cg_heap.proofs.Room.{room-below, live-node, one-enough, counted-has}
-use Rattle.cg_heap.proofs.Takes.{held-live}
+use Rattle.cg_heap.proofs.TakenEntries.{held-live}
 use Rattle.cg_heap.proofs.Moves.{keeps-named, keeps-moved, keeps-marked, keeps-numbered, keeps-lowered, keeps-merged, same-place}
 use Rattle.cg_heap.proofs.CountAll.{count-le, none-counted}
 use Rattle.cg_heap.proofs.Makes.{keeps-made}
@@ -36,7 +36,9 @@ use Rattle.cg_heap.proofs.CallerLemmas.{lives_on, kinds-held, kinds-unheld, kind
 use Rattle.cg_heap.proofs.RowsAndHolds.{kept}
 
 -- the fields of a heap, and the store they represent
-pub stands : (all : List Bodies) (v : Nodes) (names : List (Option Val)) (last : ℕ) (rows : List Row) (objects number : ℕ) (old : Store) → HeapKeeps all v.nodes objects number (store_of all v names last rows) × RowsAndHolds (store_of all v names last rows) → store_of all v names last rows ≡ old → Closed all v names last rows objects number old
+pub stands : (all : List Bodies) (v : Nodes) (names : List (Option Val)) (last : ℕ) (rows : List Row) (objects number : ℕ) (old : Store)
+    → HeapKeeps all v.nodes objects number (store_of all v names last rows) × RowsAndHolds (store_of all v names last rows) → store_of all v names last rows
+    ≡ old → Closed all v names last rows objects number old
 stands all v names last rows objects number old ok view = record { keeps = ok; is = view }
 
 -- a fact that holds after an error
@@ -56,7 +58,8 @@ pub still_live : (v w : Nodes) (refs : List ℕ) → w ≡ counted_up refs v →
 still_live v w refs e s live = subst (λ (z : Nodes). IsSome (fin.get z.nodes s)) (sym e) (live-mapped (λ s n. node_counted_up (occurrences s refs) n) v.nodes s live)
 
 -- after raising a count there is room again
-pub count_fits_after : (x : Val) (v w : Nodes) → w ≡ counted_up (references_of_value (Some x)) v → ((s : ℕ) → count_in (fin.get v.nodes s) < 4294967294) → (s : ℕ) → count_in (fin.get w.nodes s) < 4294967295
+pub count_fits_after : (x : Val) (v w : Nodes) → w ≡ counted_up (references_of_value (Some x)) v → ((s : ℕ) → count_in (fin.get v.nodes s) < 4294967294)
+    → (s : ℕ) → count_in (fin.get w.nodes s) < 4294967295
 count_fits_after x v w e fits s =
     subst (λ (z : Nodes). count_in (fin.get z.nodes s) < 4294967295) (sym e)
     (omega (arith, count-le (references_of_value (Some x)) v s, occurrences-le s (references_of_value (Some x)), reference-le x, fits s))
@@ -64,7 +67,8 @@ count_fits_after x v w e fits s =
 -- a put frees no object
 pub live_put : (store : Store) (o : ℕ) (key val : Val) (q : ℕ) → IsLive store q → IsLive (with_put store o key val) q
 live_put store o key val q live =
-    lives_on (rewritten o (after_put (code_of store o) (entries_of store o) key val) store) (with_put store o key val) (kinds-held (references_of_value (value_in store o key)) (rewritten o (after_put (code_of store o) (entries_of store o) key val) store)) q
+    lives_on (rewritten o (after_put (code_of store o) (entries_of store o) key val) store) (with_put store o key val)
+    (kinds-held (references_of_value (value_in store o key)) (rewritten o (after_put (code_of store o) (entries_of store o) key val) store)) q
     (lives_on store (rewritten o (after_put (code_of store o) (entries_of store o) key val) store) (kinds-rewritten o (after_put (code_of store o) (entries_of store o) key val) store) q live)
 
 -- holding no references changes nothing
@@ -84,7 +88,8 @@ takes Func k es i = absurd k
 takes Weak k es i = absurd k
 
 -- the places' lists and the rows do not matter here
-pub keeps-aside : {all : List Bodies} {nodes : fin.FinMap nat_cmp ArenaNode} {objects number : ℕ} {store : Store} {lists : List (List ℕ)} {rows : List Row} → HeapKeeps all nodes objects number store → HeapKeeps all nodes objects number (record store { lists = lists; rows = rows })
+pub keeps-aside : {all : List Bodies} {nodes : fin.FinMap nat_cmp ArenaNode} {objects number : ℕ} {store : Store} {lists : List (List ℕ)} {rows : List Row}
+    → HeapKeeps all nodes objects number store → HeapKeeps all nodes objects number (record store { lists = lists; rows = rows })
 keeps-aside ok = record {
   shape = record { six = ok.shape.six; alike = ok.shape.alike; apart = ok.shape.apart; below = ok.shape.below };
   counted = ok.counted;
@@ -134,7 +139,8 @@ module _ {all : List Bodies} {v : Nodes} {names : List (Option Val)} {last : ℕ
   live_value x live s e = has_node s (live s e)
 
   -- a field of the node equals the object's
-  pub field_is : {Y : Type 0} (f : ArenaNode → Y) (g : Node → Y) → ((n : ArenaNode) (k : ℕ) → g (node_from all n k) ≡ f n) → (o : ℕ) (y : Y) → IfSome (fin.get v.nodes o) (λ n. y ≡ f n) → IfSome (fin.get old.nodes o) (λ n. y ≡ g n)
+  pub field_is : {Y : Type 0} (f : ArenaNode → Y) (g : Node → Y) → ((n : ArenaNode) (k : ℕ) → g (node_from all n k) ≡ f n) → (o : ℕ) (y : Y)
+      → IfSome (fin.get v.nodes o) (λ n. y ≡ f n) → IfSome (fin.get old.nodes o) (λ n. y ≡ g n)
   field_is {Y} f g same o y told = subst (λ (s : Store). IfSome (fin.get s.nodes o) (λ n. y ≡ g n)) h.is (known (fin.get v.nodes o) (fin.get was.nodes o) (h.keeps.0.shape.alike o) told)
     where
       known : (a : Option ArenaNode) (x : Option Node) → Alike all a x → IfSome a (λ n. y ≡ f n) → IfSome x (λ n. y ≡ g n)
@@ -180,7 +186,8 @@ module _ {all : List Bodies} {v : Nodes} {names : List (Option Val)} {last : ℕ
       (kept was (unheld (o ∷ []) was) (kinds-unheld (o ∷ []) was) refl (omega (arith, total-unheld (o ∷ []) was, h.keeps.1.holds)) h.keeps.1) refl))
 
   -- after rebinding a name
-  pub after_name : (i : ℕ) (old_val new : Option Val) → slice_get names i ≡ Some old_val → ((s : ℕ) → 0 < occurrences s (references_of_value new) → IsLive old s) → HasFewHolds old → (v' : Nodes) → v' ≡ counted_up (references_of_value new) v → (names' : List (Option Val)) → names' ≡ set names i new
+  pub after_name : (i : ℕ) (old_val new : Option Val) → slice_get names i ≡ Some old_val → ((s : ℕ) → 0 < occurrences s (references_of_value new)
+      → IsLive old s) → HasFewHolds old → (v' : Nodes) → v' ≡ counted_up (references_of_value new) v → (names' : List (Option Val)) → names' ≡ set names i new
       → Closed all v' names' last rows objects number (held (references_of_value old_val) (named i new old))
   after_name i old_val new at live few v' counts names' is =
       subst (λ ns. Closed all v' ns last rows objects number (held (references_of_value old_val) (named i new old))) (sym is)
@@ -189,7 +196,8 @@ module _ {all : List Bodies} {v : Nodes} {names : List (Option Val)} {last : ℕ
       (closed all (counted_up (references_of_value new) v) objects number (held (references_of_value old_val) (named i new was))
       (keeps-named all v objects number was h.keeps.0 i old_val new at (λ s there. has_node s (live s there)))
       (kept was (held (references_of_value old_val) (named i new was)) (kinds-held (references_of_value old_val) (named i new was)) refl
-      (let fits = holds_fit few (references_of_value old_val) (let one = name-le old_val in omega (arith, one)) in omega (arith, total-held (references_of_value old_val) (named i new was), total_is, fits)) h.keeps.1) refl)))
+      (let fits = holds_fit few (references_of_value old_val) (let one = name-le old_val in omega (arith, one))
+      in omega (arith, total-held (references_of_value old_val) (named i new was), total_is, fits)) h.keeps.1) refl)))
 
   -- after changing places, marks or numbers
   pub after_move : (o : ℕ) (p : Place) (v' : Nodes) → v' ≡ with_node_moved o p v → Closed all v' names last rows objects number (moved o p old)
@@ -219,7 +227,8 @@ module _ {all : List Bodies} {v : Nodes} {names : List (Option Val)} {last : ℕ
       subst (λ s. Closed all v' names last rows objects number (with_node (with_number k) o s)) h.is
       (subst (λ w. Closed all w names last rows objects number (with_node (with_number k) o was)) (sym e)
       (closed all (with_node_changed (node_numbered k) o v) objects number (with_node (with_number k) o was) (keeps-numbered all v objects number was h.keeps.0 o k)
-      (kept was (with_node (with_number k) o was) (kinds-with_node (with_number k) (λ n. refl) o was) refl (omega (arith, total-with_node (with_number k) (λ n. refl) o was, h.keeps.1.holds)) h.keeps.1) refl))
+      (kept was (with_node (with_number k) o was) (kinds-with_node (with_number k) (λ n. refl) o was) refl
+      (omega (arith, total-with_node (with_number k) (λ n. refl) o was, h.keeps.1.holds)) h.keeps.1) refl))
 
   pub after_lower : (o : ℕ) (v' : Nodes) → v' ≡ with_node_changed node_lowered o v → Closed all v' names last rows objects number (with_node lowered o old)
   after_lower o v' e =
@@ -321,7 +330,9 @@ module _ {all : List Bodies} {v : Nodes} {names : List (Option Val)} {last : ℕ
   garbage_seat body told = h.keeps.0.root.seat ∙ ap (λ b. Some (ListKind, b)) (sym (garbage_is body told))
 
   -- after making an object
-  pub after_make : (garbage : ℕ) → IfSome (fin.get v.nodes 1) (λ n. garbage ≡ n.body) → objects < length (entries_of old 1) + spare_in_box all ListKind garbage → (code : KindCode) (class : Option ℕ) (parts : List Entry) → IsParts code parts → HasClass code class → ((s : ℕ) → 0 < occurrences s (references parts) → IsLive old s) → HasFewHolds old → objects < 1000000 → number + length parts ≤ 4000000
+  pub after_make : (garbage : ℕ) → IfSome (fin.get v.nodes 1) (λ n. garbage ≡ n.body) → objects < length (entries_of old 1) + spare_in_box all ListKind garbage
+      → (code : KindCode) (class : Option ℕ) (parts : List Entry) → IsParts code parts → HasClass code class → ((s : ℕ) → 0 < occurrences s (references parts)
+      → IsLive old s) → HasFewHolds old → objects < 1000000 → number + length parts ≤ 4000000
       → (body : ℕ) → fin.get (bodies_at all code) body ≡ None → (spare : ℕ) (all' : List Bodies) → all' ≡ boxes_with_body all code body parts spare
       → (room : ℕ) (v' : Nodes) → v' ≡ counted_up (references parts) (counted_up ((last + 1) ∷ []) (with_arena_node (last + 1) (new_arena_node code class body (first_place code)) (with_room room v)))
       → Closed all' v' names (last + 1) rows (objects + 1) (number + length parts) (made code class parts old)
@@ -329,9 +340,12 @@ module _ {all : List Bodies} {v : Nodes} {names : List (Option Val)} {last : ℕ
       subst (λ s. Closed all' v' names (last + 1) rows (objects + 1) (number + length parts) (made code class parts s)) h.is
       (subst (λ bs. Closed bs v' names (last + 1) rows (objects + 1) (number + length parts) (made code class parts was)) (sym is)
       (subst (λ w. Closed (boxes_with_body all code body parts spare) w names (last + 1) rows (objects + 1) (number + length parts) (made code class parts was)) (sym counts)
-      (closed (boxes_with_body all code body parts spare) (counted_up (references parts) (counted_up ((last + 1) ∷ []) (with_arena_node (last + 1) (new_arena_node code class body (first_place code)) (with_room room v)))) (objects + 1) (number + length parts) (made code class parts was)
+      (closed (boxes_with_body all code body parts spare)
+      (counted_up (references parts) (counted_up ((last + 1) ∷ []) (with_arena_node (last + 1) (new_arena_node code class body (first_place code))
+      (with_room room v)))) (objects + 1) (number + length parts) (made code class parts was)
       (keeps-made all (with_room room v) objects number was h.keeps.0 code class parts body spare vacant (λ s there. subst (λ o. IsLive o s) (sym h.is) (live s there)) is_parts class_fits
-      (subst (λ b. objects < length (entries_of was 1) + spare_in_box all ListKind b) (garbage_is garbage told) (subst (λ s. objects < length (entries_of s 1) + spare_in_box all ListKind garbage) (sym h.is) reserved)) few fits)
+      (subst (λ b. objects < length (entries_of was 1) + spare_in_box all ListKind b) (garbage_is garbage told)
+      (subst (λ s. objects < length (entries_of s 1) + spare_in_box all ListKind garbage) (sym h.is) reserved)) few fits)
       (kept was (made code class parts was) (kinds-made code class parts was h.keeps.0.shape.below) refl
       (let low : outside_total old < 2147483646 = holds in omega (arith, total-made code class parts was, total_is, low)) h.keeps.1)
       refl)))

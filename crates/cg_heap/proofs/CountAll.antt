@@ -16,7 +16,7 @@ use Rattle.cg_value.specs.declared.KindCode.TheVariants.{List as ListKind, Tuple
 use Rattle.cg_graph.specs.Object.{first_place}
 use Rattle.cg_heap.proofs.ReferenceLemmas.{occurrences-append, references-append, occurrences-le, occurrences-one, one_if}
 use Rattle.cg_heap.specs.Keeps.{seat_in}
-use Rattle.cg_heap.proofs.Stands.{live-mapped}
+use Rattle.cg_heap.proofs.HeapIsStore.{live-mapped}
 
 counts-more : (j k : ℕ) (a : Option ArenaNode) (m : ℕ) → m ≡ j + k → option_map (node_counted_up k) (option_map (node_counted_up j) a) ≡ option_map (node_counted_up m) a
 counts-more j k None m e = refl
@@ -43,7 +43,9 @@ count-le xs v s = subst (λ a. count_in a ≤ count_in (fin.get v.nodes s) + occ
     known (Some n) = omega arith
 
 -- the references of the entries so far and the next one
-references-more : (s : ℕ) (es : List Entry) (i : ℕ) (d : Entry) → i < length es → occurrences s (references (take (i + 1) es)) ≡ occurrences s (references (take i es)) + occurrences s (references_of_value (Some (get_or es i d).val)) + occurrences s (references_of_value (Some (get_or es i d).key))
+references-more : (s : ℕ) (es : List Entry) (i : ℕ) (d : Entry) → i < length es → occurrences s (references (take (i + 1) es))
+    ≡ occurrences s (references (take i es)) + occurrences s (references_of_value (Some (get_or es i d).val)) + occurrences s
+    (references_of_value (Some (get_or es i d).key))
 references-more s es i d h =
     ap (λ l. occurrences s (references l)) (take_more es i d h)
     ∙ references-append s (take i es) (get_or es i d ∷ [])
@@ -80,24 +82,41 @@ module _ (v now : Nodes) (es : List Entry) (i : ℕ) (d : Entry) (h : i < length
 
     module _ (next : Nodes) (counted : next ≡ counted_up (references_of_value (Some (get_or es i d).val)) now) where
       pub second-live : (s : ℕ) → (get_or es i d).key ≡ val.Ref s → IsSome (fin.get next.nodes s)
-      second-live s e = subst (λ (w : Nodes). IsSome (fin.get w.nodes s)) (sym counted) (live-mapped (λ s n. node_counted_up (occurrences s (references_of_value (Some (get_or es i d).val))) n) now.nodes s (live-now s (here s (inr e))))
+      second-live s e = subst (λ (w : Nodes). IsSome (fin.get w.nodes s)) (sym counted)
+          (live-mapped (λ s n. node_counted_up (occurrences s (references_of_value (Some (get_or es i d).val))) n) now.nodes s (live-now s (here s (inr e))))
 
       pub second-room : (s : ℕ) → (get_or es i d).key ≡ val.Ref s → count_in (fin.get next.nodes s) < 4294967295
       second-room s e =
           subst (λ (w : Nodes). count_in (fin.get w.nodes s) < 4294967295) (sym counted)
           (subst (λ (w : Nodes). count_in (fin.get (counted_up (references_of_value (Some (get_or es i d).val)) w).nodes s) < 4294967295) (sym so_far)
-          (omega (arith, count-le (references_of_value (Some (get_or es i d).val)) (counted_up (references (take i es)) v) s, count-le (references (take i es)) v s, references-more s es i d h, references-le s es (i + 1), room s)))
+          (omega (
+            arith,
+            count-le (references_of_value (Some (get_or es i d).val)) (counted_up (references (take i es)) v) s,
+            count-le (references (take i es))
+                v s,
+            references-more s es i d h,
+            references-le s es (i + 1),
+            room s,
+          )))
 
-  pub both-counted : (next last : Nodes) → next ≡ counted_up (references_of_value (Some (get_or es i d).val)) now → last ≡ counted_up (references_of_value (Some (get_or es i d).key)) next → last ≡ counted_up (references (take (i + 1) es)) v
+  pub both-counted : (next last : Nodes) → next ≡ counted_up (references_of_value (Some (get_or es i d).val)) now → last
+      ≡ counted_up (references_of_value (Some (get_or es i d).key)) next → last ≡ counted_up (references (take (i + 1) es)) v
   both-counted next last e f =
       f ∙ ap (counted_up (references_of_value (Some (get_or es i d).key))) (e ∙ ap (counted_up (references_of_value (Some (get_or es i d).val))) so_far)
-      ∙ ap (counted_up (references_of_value (Some (get_or es i d).key))) (counted_twice (references (take i es)) (references_of_value (Some (get_or es i d).val)) (references (take i es) ++ references_of_value (Some (get_or es i d).val)) v (λ s. occurrences-append s (references (take i es)) (references_of_value (Some (get_or es i d).val))))
+      ∙ ap (counted_up (references_of_value (Some (get_or es i d).key))) (counted_twice (references (take i es))
+      (references_of_value (Some (get_or es i d).val)) (references (take i es) ++ references_of_value (Some (get_or es i d).val)) v
+      (λ s. occurrences-append s (references (take i es)) (references_of_value (Some (get_or es i d).val))))
       ∙ counted_twice (references (take i es) ++ references_of_value (Some (get_or es i d).val)) (references_of_value (Some (get_or es i d).key)) (references (take (i + 1) es)) v
       (λ s. omega (arith, references-more s es i d h, occurrences-append s (references (take i es)) (references_of_value (Some (get_or es i d).val))))
 
 -- none counted yet, and all counted
 pub none-counted : (v : Nodes) → v ≡ counted_up [] v
-none-counted v = λ i. record { nodes = same_map v.nodes (counted_up [] v).nodes (λ s. known (fin.get v.nodes s) ∙ sym (get-mapped (λ s n. node_counted_up (occurrences s []) n) v.nodes s)) i; lists = v.lists; room = v.room }
+none-counted v = λ i. record {
+  nodes = same_map v.nodes (counted_up [] v).nodes (λ s. known (fin.get v.nodes s)
+      ∙ sym (get-mapped (λ s n. node_counted_up (occurrences s []) n) v.nodes s)) i;
+  lists = v.lists;
+  room = v.room;
+}
   where
     known : (a : Option ArenaNode) → a ≡ option_map (node_counted_up 0) a
     known None = refl
@@ -126,11 +145,14 @@ module _ (v w x : Nodes) (serial : ℕ) (n : ArenaNode) (room : ℕ) (fresh : fi
 
     pub others_room : (s k : ℕ) → count_in (fin.get v.nodes s) + k < 4294967294 → count_in (fin.get x.nodes s) + k < 4294967295
     others_room s k fits =
-        let up : count_in (fin.get x.nodes s) ≤ count_in (fin.get w.nodes s) + occurrences s (serial ∷ []) = subst (λ (u : Nodes). count_in (fin.get u.nodes s) ≤ count_in (fin.get w.nodes s) + occurrences s (serial ∷ [])) (sym counted) (count-le (serial ∷ []) w s) in
+        let up : count_in (fin.get x.nodes s) ≤ count_in (fin.get w.nodes s) + occurrences s (serial ∷ []) =
+        subst (λ (u : Nodes). count_in (fin.get u.nodes s) ≤ count_in (fin.get w.nodes s) + occurrences s (serial ∷ [])) (sym counted)
+        (count-le (serial ∷ []) w s) in
         let one : occurrences s (serial ∷ []) ≤ 1 = occurrences-le s (serial ∷ []) in
         let here : count_in (fin.get w.nodes s) ≤ count_in (fin.get v.nodes s) = elim (cases_eq s serial) [
           | inl same ↦ let is : count_in (fin.get w.nodes s) ≡ 0 = ap (λ k. count_in (fin.get w.nodes k)) same ∙ ap count_in added_here ∙ none in omega (arith, is)
-          | inr differs ↦ let is : count_in (fin.get w.nodes s) ≡ count_in (fin.get v.nodes s) = ap (λ (u : Nodes). count_in (fin.get u.nodes s)) added ∙ ap count_in (get-insert_other v.nodes serial s n differs) in omega (arith, is)
+          | inr differs ↦ let is : count_in (fin.get w.nodes s) ≡ count_in (fin.get v.nodes s) = ap (λ (u : Nodes). count_in (fin.get u.nodes s)) added
+              ∙ ap count_in (get-insert_other v.nodes serial s n differs) in omega (arith, is)
         ] in
         omega (arith, up, one, here, fits)
 

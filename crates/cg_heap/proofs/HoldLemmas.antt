@@ -69,7 +69,8 @@ pub outside-moved : (o : ℕ) (p : Place) (store : Store) (s : ℕ) → outside_
 outside-moved o p store s = outside-with_node (with_place p) (λ n. refl) o store s
 
 -- a new object has one hold
-pub outside-made : (code : KindCode) (class : Option ℕ) (parts : List Entry) (store : Store) → ((s : ℕ) → IsLive store s → s ≤ store.last) → (s : ℕ) → outside_of (made code class parts store) s ≡ outside_of store s + occurrences s ((store.last + 1) ∷ [])
+pub outside-made : (code : KindCode) (class : Option ℕ) (parts : List Entry) (store : Store) → ((s : ℕ) → IsLive store s → s ≤ store.last) → (s : ℕ)
+    → outside_of (made code class parts store) s ≡ outside_of store s + occurrences s ((store.last + 1) ∷ [])
 outside-made code class parts store below s = elim (cases_eq s (store.last + 1)) [
   | inl same ↦
       let one : one_if (store.last + 1 == s) ≡ 1 = ap one_if (eq-eqb (store.last + 1) s (sym same)) in
@@ -108,7 +109,13 @@ entry_holds store o i e at s = omega (arith, references-remove s (entries_of sto
 
 pub name-sum : (s : ℕ) (names : List (Option Val)) → occurrences s (name_holdings names) ≡ sum_by (λ v. occurrences s (references_of_value v)) names
 name-sum s [] = refl
-name-sum s (v ∷ names) = omega (arith, occurrences-append s (references_of_value v) (name_holdings names), name-sum s names, sum_by-cons {X = Option Val} (λ v. occurrences s (references_of_value v)) v names)
+name-sum s (v ∷ names) = omega (
+  arith,
+  occurrences-append s (references_of_value v) (name_holdings names),
+  name-sum s names,
+  sum_by-cons {X = Option Val}
+      (λ v. occurrences s (references_of_value v)) v names,
+)
 
 pub name_holds : (store : Store) (i : ℕ) (val : Option Val) → slice_get store.names i ≡ Some val → (s : ℕ) → occurrences s (references_of_value val) ≤ inner store s
 unfolding held_within

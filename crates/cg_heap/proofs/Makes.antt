@@ -20,17 +20,19 @@ use Rattle.cg_heap.proofs.ReferenceLemmas.{occurrences-one, one_if}
 use Rattle.cg_heap.specs.Boxes.{code_index, bodies_at, HasBody, spare_in_box}
 use Rattle.cg_heap.specs.Keeps.{HeapKeeps, Shape, Alike, size, one, node_from, seat_in, HasClass, IsWellMadeAt, IsGarbage}
 use Rattle.cg_heap.proofs.BoxLemmas.{code_index-below}
-use Rattle.cg_heap.proofs.Stands.{shape-up, up-counts, live-mapped, seat-up}
+use Rattle.cg_heap.proofs.HeapIsStore.{shape-up, up-counts, live-mapped, seat-up}
 use Rattle.cg_heap.proofs.Room.{live-node}
 use Rattle.cg_heap.proofs.Rewrites.{same_code, node_seated, object-of}
-use Rattle.cg_heap.proofs.Takes.{held-live}
+use Rattle.cg_heap.proofs.TakenEntries.{held-live}
 use Rattle.cg_value.specs.declared.KindCode.TheVariants.{List as ListKind}
 
 no_body : {X : Type 0} {Y : Type 0} (y : Option X) → y ≡ None → IsSome y → Y
 no_body None e h = absurd (cc)
 no_body (Some x) e h = absurd (cc)
 
-module _ (all : List Bodies) (v : Nodes) (objects number : ℕ) (store : Store) (ok : HeapKeeps all v.nodes objects number store) (code : KindCode) (class : Option ℕ) (parts : List Entry) (body spare : ℕ) (vacant : fin.get (bodies_at all code) body ≡ None) (live : (s : ℕ) → 0 < occurrences s (references parts) → IsLive store s) (is_parts : IsParts code parts) (class_fits : HasClass code class) where
+module _ (all : List Bodies) (v : Nodes) (objects number : ℕ) (store : Store) (ok : HeapKeeps all v.nodes objects number store) (code : KindCode)
+    (class : Option ℕ) (parts : List Entry) (body spare : ℕ) (vacant : fin.get (bodies_at all code) body ≡ None) (live : (s : ℕ)
+    → 0 < occurrences s (references parts) → IsLive store s) (is_parts : IsParts code parts) (class_fits : HasClass code class) where
   abbrev serial : ℕ
   serial = store.last + 1
 
@@ -156,7 +158,8 @@ module _ (all : List Bodies) (v : Nodes) (objects number : ℕ) (store : Store) 
   live-added s there =
       elim (cases_eq s serial) [
         | inl same ↦ subst IsSome (sym (get-insert_same v.nodes serial s (new_arena_node code class body (first_place code)) same)) refl
-        | inr differs ↦ subst IsSome (sym (get-insert_other v.nodes serial s (new_arena_node code class body (first_place code)) differs)) (live-node all v.nodes objects number store ok s (live s there))
+        | inr differs ↦ subst IsSome (sym (get-insert_other v.nodes serial s (new_arena_node code class body (first_place code)) differs))
+            (live-node all v.nodes objects number store ok s (live s there))
       ]
 
   pub made-counts : (s : ℕ) → count_in (fin.get (counted_up (serial ∷ []) added).nodes s) ≡ count_in (fin.get added.nodes s) + occurrences s (serial ∷ [])
@@ -188,7 +191,8 @@ module _ (all : List Bodies) (v : Nodes) (objects number : ℕ) (store : Store) 
             omega (arith, all-counts s, one, occurrences-one s serial, node, out, was, ok.counted s, inner-made s)
         | inr differs ↦
             let one : one_if (serial == s) ≡ 0 = ap one_if (ne_eqb serial s differs) in
-            let node : count_in (fin.get added.nodes s) ≡ count_in (fin.get v.nodes s) = ap count_in (get-insert_other v.nodes serial s (new_arena_node code class body (first_place code)) (λ e. differs (sym e))) in
+            let node : count_in (fin.get added.nodes s) ≡ count_in (fin.get v.nodes s) =
+            ap count_in (get-insert_other v.nodes serial s (new_arena_node code class body (first_place code)) (λ e. differs (sym e))) in
             let out : outside_of after s ≡ outside_of store s = ap outside_in (get-insert_other store.nodes serial s (new_node code class parts) (λ e. differs (sym e))) in
             omega (arith, all-counts s, one, occurrences-one s serial, node, out, ok.counted s, inner-made s)
       ]
@@ -218,7 +222,8 @@ module _ (all : List Bodies) (v : Nodes) (objects number : ℕ) (store : Store) 
       let (x, found, is, has) = object-of all v.nodes store.nodes 1 m (ok.shape.alike 1) at in
       (λ i. spare_in_box all_made (sym c i) (sym b i)) ∙ ap spare_of (made-kept m has) ∙ (λ i. spare_in_box all (c i) (b i))
 
-  pub keeps-made : objects < length (entries_of store 1) + spare_in_box all ListKind ok.root.body → objects < 1000000 → number + length parts ≤ 4000000 → HeapKeeps all_made counts.nodes (objects + 1) (number + length parts) after
+  pub keeps-made : objects < length (entries_of store 1) + spare_in_box all ListKind ok.root.body → objects < 1000000 → number + length parts ≤ 4000000
+      → HeapKeeps all_made counts.nodes (objects + 1) (number + length parts) after
   keeps-made reserved few fits =
       record {
         shape = shape-up all_made (counted_up (serial ∷ []) added).nodes after (shape-up all_made added.nodes after shape-made (serial ∷ [])) (references parts);
@@ -235,7 +240,8 @@ module _ (all : List Bodies) (v : Nodes) (objects number : ℕ) (store : Store) 
         saves = subst IsGarbage (sym root-kept) ok.saves;
         root = record {
           body = ok.root.body;
-          seat = seat-up (references parts) (counted_up (serial ∷ []) added).nodes 1 ∙ seat-up (serial ∷ []) added.nodes 1 ∙ where-other 1 (λ e. let low = ok.shape.below 1 root_live in absurd (omega (arith, e, low))) ∙ ok.root.seat;
+          seat = seat-up (references parts) (counted_up (serial ∷ []) added).nodes 1 ∙ seat-up (serial ∷ []) added.nodes 1
+              ∙ where-other 1 (λ e. let low = ok.shape.below 1 root_live in absurd (omega (arith, e, low))) ∙ ok.root.seat;
           ready =
               let len : length (entries_of after 1) ≡ length (entries_of store 1) = ap length root-kept in
               omega (arith, spare-made, len, reserved);

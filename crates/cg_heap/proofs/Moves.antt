@@ -22,9 +22,9 @@ use Rattle.cg_heap.proofs.HoldLemmas.{outside-held, name-sum, name_holds}
 use Rattle.cg_heap.specs.Boxes.{code_index, bodies_at, HasBody, spare_in_box}
 use Rattle.cg_heap.specs.Keeps.{HeapKeeps, Alike, size, one, node_from, seat_in, IsWellMade, IsWellMadeAt, IsGarbage}
 use Rattle.cg_heap.specs.Calls.{place_merged, marked, with_number, lowered}
-use Rattle.cg_heap.proofs.Stands.{shape-up, shape-held, up-counts, held-inner, held-ones, held-well, held-sizes, held-entries, keeps-counts, seat-up}
+use Rattle.cg_heap.proofs.HeapIsStore.{shape-up, shape-held, up-counts, held-inner, held-ones, held-well, held-sizes, held-entries, keeps-counts, seat-up}
 use Rattle.cg_heap.proofs.Rewrites.{object-of, bodies_gone, spare-left}
-use Rattle.cg_heap.proofs.Takes.{held-live}
+use Rattle.cg_heap.proofs.TakenEntries.{held-live}
 use Rattle.cg_value.specs.declared.Entry.{Entry}
 use Rattle.cg_value.specs.declared.KindCode.TheVariants.{List as ListKind}
 
@@ -50,8 +50,20 @@ module _ (all : List Bodies) (v : Nodes) (objects number : ℕ) (store : Store) 
     pub keeps-named : HeapKeeps all (counted_up (references_of_value new) v).nodes objects number bound
     keeps-named =
         record {
-          shape = shape-up all v.nodes bound (shape-held all v.nodes (named i new store) (record { six = ok.shape.six; alike = ok.shape.alike; apart = ok.shape.apart; below = ok.shape.below }) (references_of_value old)) (references_of_value new);
-          counted = λ s. omega (arith, ok.counted s, inner-named s, held-inner (references_of_value old) (named i new store) s, outside-held (references_of_value old) (named i new store) s (old_live s), up-counts (references_of_value new) v.nodes s (live s));
+          shape = shape-up all v.nodes bound (shape-held all v.nodes (named i new store) (record {
+            six = ok.shape.six;
+            alike = ok.shape.alike;
+            apart = ok.shape.apart;
+            below = ok.shape.below;
+          }) (references_of_value old)) (references_of_value new);
+          counted = λ s. omega (
+            arith,
+            ok.counted s,
+            inner-named s,
+            held-inner (references_of_value old) (named i new store) s,
+            outside-held (references_of_value old) (named i new store) s (old_live s),
+            up-counts (references_of_value new) v.nodes s (live s),
+          );
           well = held-well (references_of_value old) (named i new store) ok.well;
           numbered = held-ones (references_of_value old) (named i new store) ∙ ok.numbered;
           sized = omega (arith, held-sizes (references_of_value old) (named i new store), ap length (held-entries (references_of_value old) (named i new store) 1), ok.sized);
@@ -68,7 +80,9 @@ module _ (all : List Bodies) (v : Nodes) (objects number : ℕ) (store : Store) 
         }
 
   -- An object is changed in its node and in the store, except its entries, seat and counts.
-  module _ (f : ArenaNode → ArenaNode) (g : Node → Node) (at : (n : ArenaNode) → seat_in (Some (f n)) ≡ seat_in (Some n)) (pair : (x : Node) (n : ArenaNode) (k : ℕ) → x ≡ node_from all n k → g x ≡ node_from all (f n) k) (es : (x : Node) → (g x).entries ≡ x.entries) (out : (x : Node) → (g x).outside ≡ x.outside) (count : (n : ArenaNode) → (f n).count ≡ n.count) (well : (x : Node) → IsWellMade x → IsWellMade (g x)) where
+  module _ (f : ArenaNode → ArenaNode) (g : Node → Node) (at : (n : ArenaNode) → seat_in (Some (f n)) ≡ seat_in (Some n)) (pair : (x : Node) (n : ArenaNode)
+      (k : ℕ) → x ≡ node_from all n k → g x ≡ node_from all (f n) k) (es : (x : Node) → (g x).entries ≡ x.entries) (out : (x : Node) → (g x).outside
+      ≡ x.outside) (count : (n : ArenaNode) → (f n).count ≡ n.count) (well : (x : Node) → IsWellMade x → IsWellMade (g x)) where
     abbrev f_if : Bool → ArenaNode → ArenaNode
     f_if b n = if b then f n else n
 
@@ -106,16 +120,20 @@ module _ (all : List Bodies) (v : Nodes) (objects number : ℕ) (store : Store) 
 
   -- an object moves
   pub keeps-moved : (o : ℕ) (p : Place) → HeapKeeps all (changed (node_placed p) o v.nodes) objects number (record store { nodes = changed (with_place p) o store.nodes })
-  keeps-moved o p = keeps-changed (node_placed p) (with_place p) (λ n. refl) (λ x n k e. ap (with_place p) e) (λ x. refl) (λ x. refl) (λ n. refl) (λ x h. record { items = h.items; classed = h.classed; single = h.single }) o
+  keeps-moved o p = keeps-changed (node_placed p) (with_place p) (λ n. refl) (λ x n k e. ap (with_place p) e) (λ x. refl) (λ x. refl) (λ n. refl)
+      (λ x h. record { items = h.items; classed = h.classed; single = h.single }) o
 
   pub keeps-marked : (o : ℕ) → HeapKeeps all (changed node_finalized o v.nodes) objects number (record store { nodes = changed marked o store.nodes })
-  keeps-marked o = keeps-changed node_finalized marked (λ n. refl) (λ x n k e. ap marked e) (λ x. refl) (λ x. refl) (λ n. refl) (λ x h. record { items = h.items; classed = h.classed; single = h.single }) o
+  keeps-marked o = keeps-changed node_finalized marked (λ n. refl) (λ x n k e. ap marked e) (λ x. refl) (λ x. refl) (λ n. refl)
+      (λ x h. record { items = h.items; classed = h.classed; single = h.single }) o
 
   pub keeps-numbered : (o k : ℕ) → HeapKeeps all (changed (node_numbered k) o v.nodes) objects number (record store { nodes = changed (with_number k) o store.nodes })
-  keeps-numbered o k = keeps-changed (node_numbered k) (with_number k) (λ n. refl) (λ x n j e. ap (with_number k) e) (λ x. refl) (λ x. refl) (λ n. refl) (λ x h. record { items = h.items; classed = h.classed; single = h.single }) o
+  keeps-numbered o k = keeps-changed (node_numbered k) (with_number k) (λ n. refl) (λ x n j e. ap (with_number k) e) (λ x. refl) (λ x. refl) (λ n. refl)
+      (λ x h. record { items = h.items; classed = h.classed; single = h.single }) o
 
   pub keeps-lowered : (o : ℕ) → HeapKeeps all (changed node_lowered o v.nodes) objects number (record store { nodes = changed lowered o store.nodes })
-  keeps-lowered o = keeps-changed node_lowered lowered (λ n. refl) (λ x n j e. ap lowered e) (λ x. refl) (λ x. refl) (λ n. refl) (λ x h. record { items = h.items; classed = h.classed; single = h.single }) o
+  keeps-lowered o = keeps-changed node_lowered lowered (λ n. refl) (λ x n j e. ap lowered e) (λ x. refl) (λ x. refl) (λ n. refl)
+      (λ x h. record { items = h.items; classed = h.classed; single = h.single }) o
 
   -- all objects of a place move to another
   pub keeps-merged : (p q : Place) → HeapKeeps all (mapped (λ s n. arena_place_merged p q n) v.nodes) objects number (record store { nodes = mapped (λ s n. place_merged p q n) store.nodes })
@@ -131,7 +149,8 @@ module _ (all : List Bodies) (v : Nodes) (objects number : ℕ) (store : Store) 
       at true n = refl
       at false n = refl
 
-      alike : (b : Bool) (n : ArenaNode) (k : ℕ) → (if b then with_place q (node_from all n k) else node_from all n k) ≡ node_from all (if b then node_placed q n else n) (if b then with_place q (node_from all n k) else node_from all n k).outside
+      alike : (b : Bool) (n : ArenaNode) (k : ℕ) → (if b then with_place q (node_from all n k) else node_from all n k)
+          ≡ node_from all (if b then node_placed q n else n) (if b then with_place q (node_from all n k) else node_from all n k).outside
       alike true n k = refl
       alike false n k = refl
 
@@ -210,7 +229,8 @@ module _ (all : List Bodies) (v : Nodes) (objects number : ℕ) (store : Store) 
             body = ok.root.body;
             seat = ap seat_in (get-remove_other v.nodes o 1 (λ e. not_root (sym e))) ∙ ok.root.seat;
             ready =
-                let kept : spare_in_box all_gone ListKind ok.root.body ≡ spare_in_box all ListKind ok.root.body = spare-left all v.nodes store ok.shape o n found 1 ListKind ok.root.body (λ e. not_root (sym e)) ok.root.seat in
+                let kept : spare_in_box all_gone ListKind ok.root.body ≡ spare_in_box all ListKind ok.root.body = spare-left all v.nodes store ok.shape o n
+                found 1 ListKind ok.root.body (λ e. not_root (sym e)) ok.root.seat in
                 omega (arith, kept, root-kept, ok.root.ready);
           };
           garbage = omega (arith, root-kept, ok.garbage);

@@ -16,7 +16,8 @@ bound-set P (y ∷ names) (suc i) x old new zero bound = old zero bound
 bound-set P (y ∷ names) (suc i) x old new (suc j) bound = bound-set (λ k. P (suc k)) names i x (λ k. old (suc k)) new j bound
 
 -- the upper bound may be raised, and must be if a value is stored at it or above
-pub stored : (old : List (Option Val)) (upper i : ℕ) (x : Option Val) (new : List (Option Val)) (raised : ℕ) → (upper ≤ length old) × AreBoundBelow upper old → new ≡ set old i x → upper ≤ raised → raised ≤ length old → ((v : Val) → x ≡ Some v → i < raised) → (raised ≤ length new) × AreBoundBelow raised new
+pub stored : (old : List (Option Val)) (upper i : ℕ) (x : Option Val) (new : List (Option Val)) (raised : ℕ) → (upper ≤ length old) × AreBoundBelow upper old
+    → new ≡ set old i x → upper ≤ raised → raised ≤ length old → ((v : Val) → x ≡ Some v → i < raised) → (raised ≤ length new) × AreBoundBelow raised new
 stored old upper i x new raised h is more within above =
     subst (λ ns. (raised ≤ length ns) × AreBoundBelow raised ns) (sym is)
     (omega (arith, within, length-set old i x), bound-set (λ k. k < raised) old i x (λ j bound. omega (arith, h.1 j bound, more)) above)

@@ -20,16 +20,18 @@ use Rattle.cg_heap.proofs.HoldLemmas.{outside-held, outside-rewritten}
 use Rattle.cg_heap.proofs.ReferenceLemmas.{occurrences-append, references-append}
 use Rattle.cg_heap.specs.Keeps.{HeapKeeps, IsWellMade, IsGarbage}
 use Rattle.cg_heap.specs.Calls.{IsMutable}
-use Rattle.cg_heap.proofs.Stands.{shape-up, shape-held, up-counts, held-inner, held-ones, held-well, held-sizes, held-entries, live-mapped, seat-up}
+use Rattle.cg_heap.proofs.HeapIsStore.{shape-up, shape-held, up-counts, held-inner, held-ones, held-well, held-sizes, held-entries, live-mapped, seat-up}
 use Rattle.cg_heap.proofs.Rewrites.{all_after, object-of, shape-written, inner-written, ones-written, well-written, sizes-written, entries-written_other, spare-kept}
-use Rattle.cg_heap.proofs.Takes.{held-live}
+use Rattle.cg_heap.proofs.TakenEntries.{held-live}
 use Rattle.cg_heap.specs.Boxes.{spare_in_box}
 
 -- Changed entries: what enters is counted, what leaves is held.
-pub keeps-put : (all : List Bodies) (v : Nodes) (objects number : ℕ) (store : Store) (ok : HeapKeeps all v.nodes objects number store) (o : ℕ) (n : ArenaNode) (found : fin.get v.nodes o ≡ Some n) (es : List Entry) (spare : ℕ) (ups outs : List ℕ)
+pub keeps-put : (all : List Bodies) (v : Nodes) (objects number : ℕ) (store : Store) (ok : HeapKeeps all v.nodes objects number store) (o : ℕ) (n : ArenaNode)
+    (found : fin.get v.nodes o ≡ Some n) (es : List Entry) (spare : ℕ) (ups outs : List ℕ)
     → ((s : ℕ) → occurrences s (references es) + occurrences s outs ≡ occurrences s (references (entries_of store o)) + occurrences s ups)
     → ((s : ℕ) → occurrences s outs ≤ occurrences s (references (entries_of store o)))
-    → ((s : ℕ) → 0 < occurrences s ups → IsSome (fin.get v.nodes s)) → o ≢ 1 → ((x : Node) → fin.get store.nodes o ≡ Some x → IsWellMade x → IsWellMade (with_entries es x)) → (number' : ℕ) → number' + length (entries_of store o) ≡ number + length es → number' ≤ 4000000
+    → ((s : ℕ) → 0 < occurrences s ups → IsSome (fin.get v.nodes s)) → o ≢ 1 → ((x : Node) → fin.get store.nodes o ≡ Some x → IsWellMade x
+    → IsWellMade (with_entries es x)) → (number' : ℕ) → number' + length (entries_of store o) ≡ number + length es → number' ≤ 4000000
     → HeapKeeps (all_after all v.nodes store ok.shape o n found es spare) (counted_up ups v).nodes objects number' (held outs (rewritten o es store))
 keeps-put all v objects number store ok o n found es spare ups outs balance were live other well number' sizes limit =
     let (x, at, is, h) = object-of all v.nodes store.nodes o n (ok.shape.alike o) found in
@@ -40,7 +42,17 @@ keeps-put all v objects number store ok o n found es spare ups outs balance were
       shape = shape-up _ v.nodes (held outs (rewritten o es store)) (shape-held _ v.nodes (rewritten o es store) (shape-written all v.nodes store ok.shape o n found es spare) outs) ups;
       counted = λ s.
           let was : occurrences s (references x.entries) ≡ occurrences s (references (entries_of store o)) = ap (λ y. occurrences s (references (entries_in y))) (sym at) in
-          omega (arith, ok.counted s, inner-written store o x at es s, was, balance s, outside-rewritten o es store s, held-inner outs (rewritten o es store) s, outside-held outs (rewritten o es store) s (out_live x at s), up-counts ups v.nodes s (live s));
+          omega (
+            arith,
+            ok.counted s,
+            inner-written store o x at es s,
+            was,
+            balance s,
+            outside-rewritten o es store s,
+            held-inner outs (rewritten o es store) s,
+            outside-held outs (rewritten o es store) s (out_live x at s),
+            up-counts ups v.nodes s (live s),
+          );
       well = held-well outs (rewritten o es store) (well-written store o x at es ok.well (well x at));
       numbered = held-ones outs (rewritten o es store) ∙ ones-written store o x at es ∙ ok.numbered;
       sized = omega (arith, held-sizes outs (rewritten o es store), sizes-written store o x at es, len, root, ok.sized, sizes);
@@ -51,7 +63,8 @@ keeps-put all v objects number store ok o n found es spare ups outs balance were
         body = ok.root.body;
         seat = seat-up ups v.nodes 1 ∙ ok.root.seat;
         ready =
-            let kept : spare_in_box (all_after all v.nodes store ok.shape o n found es spare) ListKind ok.root.body ≡ spare_in_box all ListKind ok.root.body = spare-kept all v.nodes store ok.shape o n found es spare 1 ListKind ok.root.body (λ e. other (sym e)) ok.root.seat in
+            let kept : spare_in_box (all_after all v.nodes store ok.shape o n found es spare) ListKind ok.root.body ≡ spare_in_box all ListKind ok.root.body =
+            spare-kept all v.nodes store ok.shape o n found es spare 1 ListKind ok.root.body (λ e. other (sym e)) ok.root.seat in
             omega (arith, kept, root, ok.root.ready);
       };
       garbage = omega (arith, root, ok.garbage);
@@ -74,7 +87,8 @@ pair key v = record { key = key; val = v }
 module _ (key v old : Val) (s : ℕ) where
   replaces_next : (b : Bool) (e : Entry) (es rest : List Entry) (was : Option Val) → (if b then Some e.val else was) ≡ Some old
       → (was ≡ Some old → occurrences s (references rest) + occurrences s (references_of_value (Some old)) ≡ occurrences s (references es) + occurrences s (references_of_value (Some v)))
-      → occurrences s (references (if b then pair e.key v ∷ es else e ∷ rest)) + occurrences s (references_of_value (Some old)) ≡ occurrences s (references (e ∷ es)) + occurrences s (references_of_value (Some v))
+      → occurrences s (references (if b then pair e.key v ∷ es else e ∷ rest)) + occurrences s (references_of_value (Some old))
+      ≡ occurrences s (references (e ∷ es)) + occurrences s (references_of_value (Some v))
   replaces_next true e es rest was at more =
       let same : occurrences s (references_of_value (Some e.val)) ≡ occurrences s (references_of_value (Some old)) = ap (λ x. occurrences s (references_of_value (Some x))) (some_value at) in
       omega (
@@ -88,11 +102,13 @@ module _ (key v old : Val) (s : ℕ) where
   replaces_next false e es rest was at more =
       omega (arith, more at, occurrences-append s (entry_references e) (references rest), occurrences-append s (entry_references e) (references es))
 
-  put_replaces : (es : List Entry) → value_at es key ≡ Some old → occurrences s (references (put es key v)) + occurrences s (references_of_value (Some old)) ≡ occurrences s (references es) + occurrences s (references_of_value (Some v))
+  put_replaces : (es : List Entry) → value_at es key ≡ Some old → occurrences s (references (put es key v)) + occurrences s (references_of_value (Some old))
+      ≡ occurrences s (references es) + occurrences s (references_of_value (Some v))
   put_replaces [] at = absurd (cc)
   put_replaces (e ∷ es) at = replaces_next (same_value e.key key) e es (put es key v) (value_at es key) at (put_replaces es)
 
-length_next : (b : Bool) (e : Entry) (v : Val) (es rest : List Entry) (was : Option Val) → IsSome (if b then Some e.val else was) → (IsSome was → length rest ≡ length es) → length (if b then pair e.key v ∷ es else e ∷ rest) ≡ suc (length es)
+length_next : (b : Bool) (e : Entry) (v : Val) (es rest : List Entry) (was : Option Val) → IsSome (if b then Some e.val else was)
+    → (IsSome was → length rest ≡ length es) → length (if b then pair e.key v ∷ es else e ∷ rest) ≡ suc (length es)
 length_next true e v es rest was at more = refl
 length_next false e v es rest was at more = ap suc (more at)
 
@@ -100,7 +116,8 @@ put_length : (es : List Entry) (key v : Val) → IsSome (value_at es key) → le
 put_length [] key v at = absurd (cc)
 put_length (e ∷ es) key v at = length_next (same_value e.key key) e v es (put es key v) (value_at es key) at (put_length es key v)
 
-adds_next : (b : Bool) (e : Entry) (v : Val) (es rest added : List Entry) (was : Option Val) → (if b then Some e.val else was) ≡ None → (was ≡ None → rest ≡ es ++ added) → (if b then pair e.key v ∷ es else e ∷ rest) ≡ e ∷ es ++ added
+adds_next : (b : Bool) (e : Entry) (v : Val) (es rest added : List Entry) (was : Option Val) → (if b then Some e.val else was) ≡ None
+    → (was ≡ None → rest ≡ es ++ added) → (if b then pair e.key v ∷ es else e ∷ rest) ≡ e ∷ es ++ added
 adds_next true e v es rest added was at more = absurd (cc)
 adds_next false e v es rest added was at more = ap (λ l. e ∷ l) (more at)
 
@@ -110,7 +127,9 @@ put_adds [] key v at = refl
 put_adds (e ∷ es) key v at = adds_next (same_value e.key key) e v es (put es key v) (pair key v ∷ []) (value_at es key) at (put_adds es key v)
 
 -- an item of a list replaced
-item_next : (s : ℕ) (v old : Val) (es : List Entry) (i : ℕ) → AreItems es → option_map (λ e. e.val) (slice_get es i) ≡ Some old → occurrences s (references (set es i (item v))) + occurrences s (references_of_value (Some old)) ≡ occurrences s (references es) + occurrences s (references_of_value (Some v))
+item_next : (s : ℕ) (v old : Val) (es : List Entry) (i : ℕ) → AreItems es → option_map (λ e. e.val) (slice_get es i) ≡ Some old
+    → occurrences s (references (set es i (item v))) + occurrences s (references_of_value (Some old)) ≡ occurrences s (references es) + occurrences s
+    (references_of_value (Some v))
 item_next s v old [] i items at = absurd (cc)
 item_next s v old (e ∷ es) zero items at =
     let no_key : occurrences s (references_of_value (Some e.key)) ≡ 0 = ap (λ k. occurrences s (references_of_value (Some k))) (All-head (λ (x : Entry). x.key ≡ val.None) e es items) in
@@ -125,10 +144,18 @@ item_next s v old (e ∷ es) zero items at =
       occurrences-append s (references_of_value (Some e.val)) (references_of_value (Some e.key)),
     )
 item_next s v old (e ∷ es) (suc i) items at =
-    omega (arith, item_next s v old es i (All-tail (λ (x : Entry). x.key ≡ val.None) e es items) at, occurrences-append s (entry_references e) (references (set es i (item v))), occurrences-append s (entry_references e) (references es))
+    omega (
+      arith,
+      item_next s v old es i (All-tail (λ (x : Entry). x.key ≡ val.None) e es items) at,
+      occurrences-append s (entry_references e)
+          (references (set es i (item v))),
+      occurrences-append s (entry_references e) (references es),
+    )
 
 -- a value replaced, in a mutable kind
-pub replaced-balance : (c : KindCode) (es : List Entry) (key v old : Val) → (c ≡ ListKind → AreItems es) → IsMutable c → value_under c es key ≡ Some old → (s : ℕ) → occurrences s (references (after_put c es key v)) + occurrences s (references_of_value (Some old)) ≡ occurrences s (references es) + occurrences s (references_of_value (Some v))
+pub replaced-balance : (c : KindCode) (es : List Entry) (key v old : Val) → (c ≡ ListKind → AreItems es) → IsMutable c → value_under c es key ≡ Some old
+    → (s : ℕ) → occurrences s (references (after_put c es key v)) + occurrences s (references_of_value (Some old)) ≡ occurrences s (references es) + occurrences
+    s (references_of_value (Some v))
 replaced-balance ListKind es val.None v old items mutable at s = absurd (cc)
 replaced-balance ListKind es (val.Int (pos i)) v old items mutable at s = item_next s v old es i (items refl) at
 replaced-balance ListKind es (val.Int (negsuc i)) v old items mutable at s = absurd (cc)
@@ -153,7 +180,8 @@ replaced-length Func es key v mutable at = refl
 replaced-length Weak es key v mutable at = refl
 
 -- the replaced value was held
-pub replaced-were : (c : KindCode) (es : List Entry) (key old : Val) → (c ≡ ListKind → AreItems es) → IsMutable c → value_under c es key ≡ Some old → (s : ℕ) → occurrences s (references_of_value (Some old)) ≤ occurrences s (references es)
+pub replaced-were : (c : KindCode) (es : List Entry) (key old : Val) → (c ≡ ListKind → AreItems es) → IsMutable c → value_under c es key ≡ Some old → (s : ℕ)
+    → occurrences s (references_of_value (Some old)) ≤ occurrences s (references es)
 replaced-were c es key old items mutable at s = omega (arith, replaced-balance c es key val.None old items mutable at s)
 
 none_there : (es : List Entry) (i : ℕ) → i < length es → option_map (λ e. e.val) (slice_get es i) ≡ None → ⊥
@@ -174,7 +202,8 @@ added-put Inst es key v mutable can none = put_adds es key v none
 added-put Func es key v mutable can none = absurd mutable
 added-put Weak es key v mutable can none = absurd mutable
 
-pub added-balance : (es : List Entry) (key v : Val) (s : ℕ) → occurrences s (references (es ++ pair key v ∷ [])) + 0 ≡ occurrences s (references es) + occurrences s (references_of_value (Some v) ++ references_of_value (Some key))
+pub added-balance : (es : List Entry) (key v : Val) (s : ℕ) → occurrences s (references (es ++ pair key v ∷ [])) + 0 ≡ occurrences s (references es) +
+    occurrences s (references_of_value (Some v) ++ references_of_value (Some key))
 added-balance es key v s = omega (arith, references-append s es (pair key v ∷ []), occurrences-append s (references_of_value (Some v) ++ references_of_value (Some key)) [])
 
 -- What is true of an object stays true with other entries.

@@ -53,7 +53,8 @@ references-append s (x ∷ xs) ys =
 some_same : (x y : Entry) → Some x ≡ Some y → x ≡ y
 some_same x y e = cc
 
-pub references-remove : (s : ℕ) (es : List Entry) (i : ℕ) (e : Entry) → slice_get es i ≡ Some e → occurrences s (references es) ≡ occurrences s (references (remove es i)) + occurrences s (entry_references e)
+pub references-remove : (s : ℕ) (es : List Entry) (i : ℕ) (e : Entry) → slice_get es i ≡ Some e → occurrences s (references es)
+    ≡ occurrences s (references (remove es i)) + occurrences s (entry_references e)
 references-remove s [] i e at = absurd (cc)
 references-remove s (x ∷ es) zero e at =
     let is : x ≡ e = some_same x e at in
@@ -67,7 +68,8 @@ length-remove (x ∷ es) zero e at = refl
 length-remove (x ∷ es) (suc i) e at = ap suc (length-remove es i e at)
 
 -- the last entry removed
-pub last-remove : (es rest : List Entry) (e : Entry) → es ≡ rest ++ e ∷ [] → (without_last es ≡ rest) × ((s : ℕ) → occurrences s (references es) ≡ occurrences s (references rest) + occurrences s (entry_references e)) × (length es ≡ suc (length rest))
+pub last-remove : (es rest : List Entry) (e : Entry) → es ≡ rest ++ e ∷ [] → (without_last es ≡ rest) × ((s : ℕ) → occurrences s (references es)
+    ≡ occurrences s (references rest) + occurrences s (entry_references e)) × (length es ≡ suc (length rest))
 last-remove es rest e is =
     let len : length es ≡ length rest + 1 = ap length is ∙ length-append rest (e ∷ []) in
     let before : length es - 1 ≡ length rest = omega (arith, len) in (

@@ -19,7 +19,7 @@ use Rattle.cg_arena.specs.Nodes.{ArenaNode}
 use Rattle.cg_heap.specs.Boxes.{code_index, bodies_at, HasBody, spare_in_box}
 use Rattle.cg_heap.specs.Keeps.{Shape, Alike, node_from, seat_in, size, one, IsWellMade, IsWellMadeAt}
 use Rattle.cg_heap.proofs.BoxLemmas.{code_index-below}
-use Rattle.cg_heap.proofs.Stands.{is_live-mapped}
+use Rattle.cg_heap.proofs.HeapIsStore.{is_live-mapped}
 use Rattle.std.proofs.lemmas.Option.{some_pair_parts}
 
 abbrev code_at : ℕ → KindCode
@@ -47,14 +47,16 @@ node_seated None code body e = absurd (cc)
 node_seated (Some n) code body e = let parts = some_pair_parts n.code code n.body body e in (n, refl, parts.0, parts.1)
 
 -- the object of a node
-pub object-of : (all : List Bodies) (nodes : fin.FinMap nat_cmp ArenaNode) (m : fin.FinMap nat_cmp Node) (o : ℕ) (n : ArenaNode) → Alike all (fin.get nodes o) (fin.get m o) → fin.get nodes o ≡ Some n → (x : Node) × (fin.get m o ≡ Some x) × (x ≡ node_from all n x.outside) × HasBody all n.code n.body
+pub object-of : (all : List Bodies) (nodes : fin.FinMap nat_cmp ArenaNode) (m : fin.FinMap nat_cmp Node) (o : ℕ) (n : ArenaNode) → Alike all (fin.get nodes o)
+    (fin.get m o) → fin.get nodes o ≡ Some n → (x : Node) × (fin.get m o ≡ Some x) × (x ≡ node_from all n x.outside) × HasBody all n.code n.body
 object-of all nodes m o n h found = known (fin.get m o) (subst (λ a. Alike all a (fin.get m o)) found h)
   where
     known : (y : Option Node) → Alike all (Some n) y → (x : Node) × (y ≡ Some x) × (x ≡ node_from all n x.outside) × HasBody all n.code n.body
     known None h = absurd h
     known (Some x) h = (x, refl, h.0, h.1)
 
-module _ (all : List Bodies) (nodes : fin.FinMap nat_cmp ArenaNode) (store : Store) (ok : Shape all nodes store) (o : ℕ) (n : ArenaNode) (found : fin.get nodes o ≡ Some n) (es : List Entry) (spare : ℕ) where
+module _ (all : List Bodies) (nodes : fin.FinMap nat_cmp ArenaNode) (store : Store) (ok : Shape all nodes store) (o : ℕ) (n : ArenaNode)
+    (found : fin.get nodes o ≡ Some n) (es : List Entry) (spare : ℕ) where
   abbrev written : Bodies
   written = with_body (bodies_at all n.code) n.body es spare
 
@@ -153,7 +155,8 @@ module _ (store : Store) (o : ℕ) (x : Node) (found : fin.get store.nodes o ≡
       elim (cases_eq s o) [
         | inl same ↦
             let here : IsWellMade x = subst IsWellMadeAt found (was o) in
-            subst IsWellMadeAt (sym (get-changed_same (with_entries es) o store.nodes s same ∙ ap (λ q. option_map (with_entries es) (fin.get store.nodes q)) same ∙ ap (option_map (with_entries es)) found)) (new here)
+            subst IsWellMadeAt (sym (get-changed_same (with_entries es) o store.nodes s same ∙ ap (λ q. option_map (with_entries es) (fin.get store.nodes q))
+            same ∙ ap (option_map (with_entries es)) found)) (new here)
         | inr differs ↦ subst IsWellMadeAt (sym (get-changed_other (with_entries es) o store.nodes s differs)) (was s)
       ]
 
@@ -169,7 +172,8 @@ module _ (store : Store) (o : ℕ) (x : Node) (found : fin.get store.nodes o ≡
   -- two objects together have at most as many entries as all objects
   pub two-sizes : (s : ℕ) → s ≢ o → length x.entries + length (entries_of store s) ≤ total size store.nodes
   two-sizes s differs =
-      let first : total size (fin.remove store.nodes o) + length x.entries ≡ total size store.nodes = ap (λ y. total size (fin.remove store.nodes o) + part size y) (sym found) ∙ total-remove size store.nodes o in
+      let first : total size (fin.remove store.nodes o) + length x.entries ≡ total size store.nodes =
+      ap (λ y. total size (fin.remove store.nodes o) + part size y) (sym found) ∙ total-remove size store.nodes o in
       let second = total-remove size (fin.remove store.nodes o) s in
       let there : part size (fin.get (fin.remove store.nodes o) s) ≡ length (entries_of store s) = ap (part size) (get-remove_other store.nodes o s differs) ∙ known (fin.get store.nodes s) in
       omega (arith, first, second, there)

@@ -38,12 +38,14 @@ pub inner-le : (store : Store) (s : ℕ) → inner store s ≤ length store.name
 unfolding held_within
 inner-le store s = omega (arith, occurrences-le s (name_holdings store.names), names-le store.names, occurrences-le s (1 ∷ []), sum-le s (fin.entries store.nodes))
 
-pub room-below : (all : List Bodies) (nodes : fin.FinMap nat_cmp ArenaNode) (objects number : ℕ) (store : Store) → HeapKeeps all nodes objects number store → RowsAndHolds store → (s : ℕ) → count_in (fin.get nodes s) < 4000000000
+pub room-below : (all : List Bodies) (nodes : fin.FinMap nat_cmp ArenaNode) (objects number : ℕ) (store : Store) → HeapKeeps all nodes objects number store
+    → RowsAndHolds store → (s : ℕ) → count_in (fin.get nodes s) < 4000000000
 room-below all nodes objects number store ok rest s =
     omega (arith, ok.counted s, inner-le store s, outside-le store s, ok.sized, ok.entry_limit, ok.garbage, ok.names, rest.holds)
 
 -- the nodes and the store agree on liveness
-pub live-node : (all : List Bodies) (nodes : fin.FinMap nat_cmp ArenaNode) (objects number : ℕ) (store : Store) → HeapKeeps all nodes objects number store → (s : ℕ) → IsLive store s → IsSome (fin.get nodes s)
+pub live-node : (all : List Bodies) (nodes : fin.FinMap nat_cmp ArenaNode) (objects number : ℕ) (store : Store) → HeapKeeps all nodes objects number store
+    → (s : ℕ) → IsLive store s → IsSome (fin.get nodes s)
 live-node all nodes objects number store ok s live = known (fin.get nodes s) (fin.get store.nodes s) (ok.shape.alike s) live
   where
     known : (a : Option ArenaNode) (x : Option Node) → Alike all a x → IsSome x → IsSome a
@@ -63,5 +65,6 @@ one-enough store o has s =
           omega (arith, is, occurrences-one s o)
     ]
 
-pub counted-has : (all : List Bodies) (nodes : fin.FinMap nat_cmp ArenaNode) (objects number : ℕ) (store : Store) → HeapKeeps all nodes objects number store → (s : ℕ) → 0 < outside_of store s → 0 < count_in (fin.get nodes s)
+pub counted-has : (all : List Bodies) (nodes : fin.FinMap nat_cmp ArenaNode) (objects number : ℕ) (store : Store) → HeapKeeps all nodes objects number store
+    → (s : ℕ) → 0 < outside_of store s → 0 < count_in (fin.get nodes s)
 counted-has all nodes objects number store ok s has = omega (arith, ok.counted s, has)

@@ -82,7 +82,8 @@ fails false b x y = refl
 pub no_referent : (rows : List Row) (o : ℕ) → slice_get (weak_references_in rows o) 0 ≡ None → slice_get (waiting_in rows o) 0 ≡ None → All (λ r. r.referent ≢ o) rows
 no_referent rows o newest waiting =
     all_both (λ r. waits_with o r ≡ false) (λ r. refers_to o r ≡ false) (λ r. r.referent ≢ o)
-    (λ r not_waits not_refers same. let no : (r.referent == o) ≡ false = fails (r.referent == o) r.waits not_waits not_refers in let yes : (r.referent == o) ≡ true = eq-eqb r.referent o same in absurd (let e : true ≡ false = sym yes ∙ no in cc))
+    (λ r not_waits not_refers same. let no : (r.referent == o) ≡ false = fails (r.referent == o) r.waits not_waits not_refers in let yes : (r.referent == o)
+    ≡ true = eq-eqb r.referent o same in absurd (let e : true ≡ false = sym yes ∙ no in cc))
     rows
     (no_newest (waits_with o) (λ r. waits_with o r ≡ false) (λ r is. is) rows waiting)
     (no_newest (refers_to o) (λ r. refers_to o r ≡ false) (λ r is. is) rows newest)
@@ -97,7 +98,8 @@ row_left weak (x ∷ rows) = go (cases_eq x.weak weak) (row_left weak rows)
   where
     go : (x.weak ≡ weak) ⊎ (x.weak ≢ weak) → All (λ r. r.weak ≢ weak) (without_row weak rows) → All (λ r. r.weak ≢ weak) (without_row weak (x ∷ rows))
     go (inl same) rest = subst (All (λ r. r.weak ≢ weak)) (sym (ap (λ b. cond (not b) (x ∷ without_row weak rows) (without_row weak rows)) (eq-eqb x.weak weak same))) rest
-    go (inr differs) rest = subst (All (λ r. r.weak ≢ weak)) (sym (ap (λ b. cond (not b) (x ∷ without_row weak rows) (without_row weak rows)) (ne_eqb x.weak weak differs))) (All-cons (λ r. r.weak ≢ weak) x (without_row weak rows) differs rest)
+    go (inr differs) rest = subst (All (λ r. r.weak ≢ weak)) (sym (ap (λ b. cond (not b) (x ∷ without_row weak rows) (without_row weak rows))
+        (ne_eqb x.weak weak differs))) (All-cons (λ r. r.weak ≢ weak) x (without_row weak rows) differs rest)
 
 -- together: it is in no row, as `free` requires
 pub in_no_row : (rows : List Row) (o : ℕ) → All (λ r. r.weak ≢ o) rows → All (λ r. r.referent ≢ o) rows → IsInNoRow o rows

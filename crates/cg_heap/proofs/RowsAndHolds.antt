@@ -20,7 +20,8 @@ kept old new kinds same fits ok = record {
   rows = record {
     rise = subst IsRising (sym same) ok.rows.rise;
     weak = subst (All (λ r. HasCode new r.weak Weak)) (sym same) (All-weaker (λ r. HasCode old r.weak Weak) (λ r. HasCode new r.weak Weak) (λ r has. kinds r.weak Weak has) old.rows ok.rows.weak);
-    referent = subst (All (λ r. IsLive new r.referent)) (sym same) (All-weaker (λ r. IsLive old r.referent) (λ r. IsLive new r.referent) (λ r live. lives_on old new kinds r.referent live) old.rows ok.rows.referent);
+    referent = subst (All (λ r. IsLive new r.referent)) (sym same) (All-weaker (λ r. IsLive old r.referent) (λ r. IsLive new r.referent)
+        (λ r live. lives_on old new kinds r.referent live) old.rows ok.rows.referent);
   };
   holds = fits;
 }
@@ -30,14 +31,18 @@ pub kept-gone : (o : ℕ) (store : Store) → IsInNoRow o store.rows → RowsAnd
 kept-gone o store none ok = record {
   rows = record {
     rise = ok.rows.rise;
-    weak = all_both (λ r. HasCode store r.weak Weak) (λ r. (r.weak ≢ o) × (r.referent ≢ o)) (λ r. HasCode (gone o store) r.weak Weak) (λ r has differs. kinds-gone o store r.weak Weak differs.0 has) store.rows ok.rows.weak none;
-    referent = all_both (λ r. IsLive store r.referent) (λ r. (r.weak ≢ o) × (r.referent ≢ o)) (λ r. IsLive (gone o store) r.referent) (λ r live differs. let (c, has) = kind_of_live store r.referent live in live_of_kind (gone o store) r.referent c (kinds-gone o store r.referent c differs.1 has)) store.rows ok.rows.referent none;
+    weak = all_both (λ r. HasCode store r.weak Weak) (λ r. (r.weak ≢ o) × (r.referent ≢ o)) (λ r. HasCode (gone o store) r.weak Weak)
+        (λ r has differs. kinds-gone o store r.weak Weak differs.0 has) store.rows ok.rows.weak none;
+    referent = all_both (λ r. IsLive store r.referent) (λ r. (r.weak ≢ o) × (r.referent ≢ o)) (λ r. IsLive (gone o store) r.referent)
+        (λ r live differs. let (c, has) = kind_of_live store r.referent live in live_of_kind (gone o store) r.referent c
+        (kinds-gone o store r.referent c differs.1 has)) store.rows ok.rows.referent none;
   };
   holds = omega (arith, ok.holds, total-gone o store);
 }
 
 -- a weak reference gets its referent
-pub kept-attached : (weak : ℕ) (referent : Option ℕ) (store : Store) → All (λ r. r.weak < weak) store.rows → (IsSome referent → HasCode store weak Weak) → IfSome referent (λ o. IsLive store o) → RowsAndHolds store → RowsAndHolds (attached weak referent store)
+pub kept-attached : (weak : ℕ) (referent : Option ℕ) (store : Store) → All (λ r. r.weak < weak) store.rows → (IsSome referent → HasCode store weak Weak)
+    → IfSome referent (λ o. IsLive store o) → RowsAndHolds store → RowsAndHolds (attached weak referent store)
 kept-attached weak None store newest kind live ok = record { rows = record { rise = ok.rows.rise; weak = ok.rows.weak; referent = ok.rows.referent }; holds = ok.holds }
 kept-attached weak (Some o) store newest kind live ok = record {
   rows = record {

@@ -23,15 +23,15 @@ use Rattle.cg_heap.proofs.HoldLemmas.{outside-rewritten}
 use Rattle.cg_heap.proofs.ReferenceLemmas.{occurrences-append, push-item, occurrences-le, occurrences-one, one_if}
 use Rattle.cg_heap.specs.Boxes.{HasBody, entries_in_box, spare_in_box, boxes_with_body}
 use Rattle.cg_heap.specs.Keeps.{HeapKeeps, Shape, store_of, one, IsSaved, IsGarbage, IsWellMade}
-use Rattle.cg_heap.proofs.Stands.{Closed, closed, shape-up, seat-up, up-counts}
+use Rattle.cg_heap.proofs.HeapIsStore.{Closed, closed, shape-up, seat-up, up-counts}
 use Rattle.cg_heap.proofs.Room.{live-node}
 use Rattle.cg_heap.proofs.Rewrites.{node_seated, object-of, rewritten-same, shape-written, spare-written, inner-written, ones-written, well-written, sizes-written, entries-written}
-use Rattle.cg_heap.proofs.Takes.{held-live}
+use Rattle.cg_heap.proofs.TakenEntries.{held-live}
 use Rattle.cg_heap.proofs.Puts.{well-append}
 use Rattle.cg_heap.proofs.CallerLemmas.{kinds-rewritten, total-rewritten}
 use Rattle.cg_heap.proofs.RowsAndHolds.{kept}
 use Rattle.cg_heap.proofs.Calls.{garbage_is, garbage_seat}
-use Rattle.cg_heap.proofs.SeatCalls.{has_body, entries_are}
+use Rattle.cg_heap.proofs.CallsOnSeats.{has_body, entries_are}
 
 one_there : (y : Option Node) → IsSome y → part one y ≡ 1
 one_there None h = absurd (cc)
@@ -71,7 +71,15 @@ module _ (all : List Bodies) (v : Nodes) (objects number : ℕ) (store : Store) 
         | inr differs ↦
             let none : one_if (1 == s) ≡ 0 = ap one_if (ne_eqb 1 s (λ e. differs (sym e))) in
             let was : occurrences s (references x.entries) ≡ occurrences s (references (entries_of store 1)) = ap (λ y. occurrences s (references (entries_in y))) (sym at) in
-            held-live all v.nodes objects number store ok s (omega (arith, inner-written store 1 x at [] s, was, has, none, occurrences-one s 1, occurrences-append s (1 ∷ []) (references (entries_of store 1))))
+            held-live all v.nodes objects number store ok s (omega (
+              arith,
+              inner-written store 1 x at [] s,
+              was,
+              has,
+              none,
+              occurrences-one s 1,
+              occurrences-append s (1 ∷ []) (references (entries_of store 1)),
+            ))
       ]
 
   -- the garbage list names live objects, each once
@@ -88,7 +96,16 @@ module _ (all : List Bodies) (v : Nodes) (objects number : ℕ) (store : Store) 
           | inl same ↦
               let none : one_if (1 == s) ≡ 0 = ap one_if (ne_eqb 1 s (λ e. other (sym same ∙ sym e))) in
               let here : occurrences s (references (entries_of store 1)) ≡ 0 = ap (λ k. occurrences k (references (entries_of store 1))) same ∙ new in
-              omega (arith, occurrences-append s (o ∷ []) (1 ∷ references (entries_of store 1)), occurrences-append s (1 ∷ []) (references (entries_of store 1)), occurrences-le s (o ∷ []), occurrences-one s 1, none, here)
+              omega (
+                arith,
+                occurrences-append s (o ∷ []) (1 ∷ references (entries_of store 1)),
+                occurrences-append s (1 ∷ [])
+                    (references (entries_of store 1)),
+                occurrences-le s (o ∷ []),
+                occurrences-one s 1,
+                none,
+                here,
+              )
           | inr differs ↦
               let none : one_if (o == s) ≡ 0 = ap one_if (ne_eqb o s (λ e. differs (sym e))) in
               omega (arith, occurrences-append s (o ∷ []) (1 ∷ references (entries_of store 1)), occurrences-one s o, none, ok.saves.once s)
@@ -111,7 +128,8 @@ module _ (all : List Bodies) (v : Nodes) (objects number : ℕ) (store : Store) 
     abbrev es : List Entry
     es = entries_of store 1 ++ item (val.Ref o) ∷ []
 
-    keeps-saved : n.code ≡ ListKind → n.body ≡ ok.root.body → (spare : ℕ) → spare_in_box all n.code n.body ≤ spare + 1 → HeapKeeps (boxes_with_body all n.code n.body es spare) (counted_up (o ∷ []) v).nodes objects number (rewritten 1 es store)
+    keeps-saved : n.code ≡ ListKind → n.body ≡ ok.root.body → (spare : ℕ) → spare_in_box all n.code n.body ≤ spare + 1
+        → HeapKeeps (boxes_with_body all n.code n.body es spare) (counted_up (o ∷ []) v).nodes objects number (rewritten 1 es store)
     keeps-saved list at_root spare less =
         let (x, at, is, body) = object-of all v.nodes store.nodes 1 n (ok.shape.alike 1) found in
         let now : entries_of (rewritten 1 es store) 1 ≡ es = entries-written store 1 x at es in
@@ -136,20 +154,31 @@ module _ (all : List Bodies) (v : Nodes) (objects number : ℕ) (store : Store) 
                       absurd (omega (arith, has, none, occurrences-one s o))
                 ]),
               );
-          well = well-written store 1 x at es ok.well (λ good. subst (λ (l : List Entry). IsWellMade (with_entries (l ++ item (val.Ref o) ∷ []) x)) (sym (ap entries_in at)) (well-append x (val.Ref o) (ap (λ (y : Node). y.code) is ∙ list) good));
+          well = well-written store 1 x at es ok.well (λ good. subst (λ (l : List Entry). IsWellMade (with_entries (l ++ item (val.Ref o) ∷ []) x))
+              (sym (ap entries_in at)) (well-append x (val.Ref o) (ap (λ (y : Node). y.code) is ∙ list) good));
           numbered = ones-written store 1 x at es ∙ ok.numbered;
           sized = omega (arith, sizes-written store 1 x at es, len, longer, after, ok.sized);
           object_limit = ok.object_limit;
           entry_limit = ok.entry_limit;
           saves = subst IsGarbage (sym now) (record {
             saved = All-push IsSaved (entries_of store 1) (item (val.Ref o)) ok.saves.saved (o, refl);
-            once = λ s. omega (arith, once_more s, occurrences-append s (o ∷ []) (1 ∷ references (entries_of store 1)), occurrences-append s (1 ∷ []) (references es), occurrences-append s (1 ∷ []) (references (entries_of store 1)), push-item s (entries_of store 1) (val.Ref o));
+            once = λ s. omega (
+              arith,
+              once_more s,
+              occurrences-append s (o ∷ []) (1 ∷ references (entries_of store 1)),
+              occurrences-append s (1 ∷ [])
+                  (references es),
+              occurrences-append s (1 ∷ []) (references (entries_of store 1)),
+              push-item s (entries_of store 1) (val.Ref o),
+            );
           });
           root = record {
             body = ok.root.body;
             seat = seat-up (o ∷ []) v.nodes 1 ∙ ok.root.seat;
             ready =
-                let spare_now : spare_in_box (boxes_with_body all n.code n.body es spare) ListKind ok.root.body ≡ spare = (λ i. spare_in_box (boxes_with_body all n.code n.body es spare) (sym list i) (sym at_root i)) ∙ spare-written all v.nodes store ok.shape 1 n found es spare in
+                let spare_now : spare_in_box (boxes_with_body all n.code n.body es spare) ListKind ok.root.body ≡ spare =
+                (λ i. spare_in_box (boxes_with_body all n.code n.body es spare) (sym list i) (sym at_root i)) ∙ spare-written all v.nodes store ok.shape 1 n
+                found es spare in
                 let spare_was : spare_in_box all n.code n.body ≡ spare_in_box all ListKind ok.root.body = (λ i. spare_in_box all (list i) (at_root i)) in
                 omega (arith, spare_now, spare_was, less, longer, after, ok.root.ready);
           };
@@ -158,9 +187,11 @@ module _ (all : List Bodies) (v : Nodes) (objects number : ℕ) (store : Store) 
         }
 
   -- the garbage list gets more room
-  keeps-reserved : n.code ≡ ListKind → n.body ≡ ok.root.body → (spare : ℕ) → spare_in_box all n.code n.body ≤ spare → HeapKeeps (boxes_with_body all n.code n.body (entries_of store 1) spare) v.nodes objects number store
+  keeps-reserved : n.code ≡ ListKind → n.body ≡ ok.root.body → (spare : ℕ) → spare_in_box all n.code n.body ≤ spare
+      → HeapKeeps (boxes_with_body all n.code n.body (entries_of store 1) spare) v.nodes objects number store
   keeps-reserved list at_root spare more = record {
-    shape = subst (λ s. Shape (boxes_with_body all n.code n.body (entries_of store 1) spare) v.nodes s) (rewritten-same store 1) (shape-written all v.nodes store ok.shape 1 n found (entries_of store 1) spare);
+    shape = subst (λ s. Shape (boxes_with_body all n.code n.body (entries_of store 1) spare) v.nodes s) (rewritten-same store 1)
+        (shape-written all v.nodes store ok.shape 1 n found (entries_of store 1) spare);
     counted = ok.counted;
     well = ok.well;
     numbered = ok.numbered;
@@ -172,7 +203,9 @@ module _ (all : List Bodies) (v : Nodes) (objects number : ℕ) (store : Store) 
       body = ok.root.body;
       seat = ok.root.seat;
       ready =
-          let spare_now : spare_in_box (boxes_with_body all n.code n.body (entries_of store 1) spare) ListKind ok.root.body ≡ spare = (λ i. spare_in_box (boxes_with_body all n.code n.body (entries_of store 1) spare) (sym list i) (sym at_root i)) ∙ spare-written all v.nodes store ok.shape 1 n found (entries_of store 1) spare in
+          let spare_now : spare_in_box (boxes_with_body all n.code n.body (entries_of store 1) spare) ListKind ok.root.body ≡ spare =
+          (λ i. spare_in_box (boxes_with_body all n.code n.body (entries_of store 1) spare) (sym list i) (sym at_root i)) ∙ spare-written all v.nodes store
+          ok.shape 1 n found (entries_of store 1) spare in
           let spare_was : spare_in_box all n.code n.body ≡ spare_in_box all ListKind ok.root.body = (λ i. spare_in_box all (list i) (at_root i)) in
           omega (arith, spare_now, spare_was, more, ok.root.ready);
     };
@@ -180,7 +213,8 @@ module _ (all : List Bodies) (v : Nodes) (objects number : ℕ) (store : Store) 
     names = ok.names;
   }
 
-module _ {all : List Bodies} {v : Nodes} {names : List (Option Val)} {last : ℕ} {rows : List Row} {objects number : ℕ} {old : Store} (h : Closed all v names last rows objects number old) (body : ℕ) (told : IfSome (fin.get v.nodes 1) (λ n. body ≡ n.body)) where
+module _ {all : List Bodies} {v : Nodes} {names : List (Option Val)} {last : ℕ} {rows : List Row} {objects number : ℕ} {old : Store}
+    (h : Closed all v names last rows objects number old) (body : ℕ) (told : IfSome (fin.get v.nodes 1) (λ n. body ≡ n.body)) where
   abbrev was : Store
   was = store_of all v names last rows
 
@@ -205,7 +239,8 @@ module _ {all : List Bodies} {v : Nodes} {names : List (Option Val)} {last : ℕ
       omega (arith, len, saved_fit all v objects number was h.keeps.0 root.0 root.1)
 
   -- after reserving room
-  pub after_reserve : (spare : ℕ) → spare_in_box all ListKind body ≤ spare → (all' : List Bodies) → all' ≡ boxes_with_body all ListKind body (entries_in_box all ListKind body) spare → Closed all' v names last rows objects number old
+  pub after_reserve : (spare : ℕ) → spare_in_box all ListKind body ≤ spare → (all' : List Bodies) → all' ≡ boxes_with_body all ListKind body
+      (entries_in_box all ListKind body) spare → Closed all' v names last rows objects number old
   after_reserve spare more all' is =
       subst (λ s. Closed all' v names last rows objects number s) h.is
       (subst (λ bs. Closed bs v names last rows objects number was) (sym (is ∙ (λ i. boxes_with_body all (sym root.2 i) (sym root.3 i) ((garbage_entries ∙ entries_was) i) spare)))
@@ -214,7 +249,8 @@ module _ {all : List Bodies} {v : Nodes} {names : List (Option Val)} {last : ℕ
       (subst (λ (q : KindCode × ℕ). spare_in_box all q.0 q.1 ≤ spare) (λ i. (sym root.2 i, sym root.3 i)) more))
       h.keeps.1 refl))
 
-  pub ready_after : (all' : List Bodies) → objects + 1 ≤ length (entries_in_box all ListKind body) + spare_in_box all' ListKind body → objects < length (entries_of old 1) + spare_in_box all' ListKind body
+  pub ready_after : (all' : List Bodies) → objects + 1 ≤ length (entries_in_box all ListKind body) + spare_in_box all' ListKind body
+      → objects < length (entries_of old 1) + spare_in_box all' ListKind body
   ready_after all' room = let len = ap length garbage_entries in omega (arith, room, len)
 
   -- after saving an object
@@ -231,14 +267,20 @@ module _ {all : List Bodies} {v : Nodes} {names : List (Option Val)} {last : ℕ
         let is : spare_in_box all ListKind body ≡ spare_in_box all ListKind h.keeps.0.root.body = ap (spare_in_box all ListKind) (garbage_is h body told) in
         omega (arith, fewer, is, h.keeps.0.root.ready)
 
-    pub after_save : (all' : List Bodies) → all' ≡ boxes_with_body all ListKind body (entries_in_box all ListKind body ++ item (val.Ref o) ∷ []) (spare_in_box all ListKind body - 1) → (v' : Nodes) → v' ≡ counted_up (o ∷ []) v
+    pub after_save : (all' : List Bodies) → all' ≡ boxes_with_body all ListKind body (entries_in_box all ListKind body ++ item (val.Ref o) ∷ [])
+        (spare_in_box all ListKind body - 1) → (v' : Nodes) → v' ≡ counted_up (o ∷ []) v
         → Closed all' v' names last rows objects number (rewritten 1 (entries_of old 1 ++ item (val.Ref o) ∷ []) old)
     after_save all' is v' counts =
         subst (λ s. Closed all' v' names last rows objects number (rewritten 1 (entries_of s 1 ++ item (val.Ref o) ∷ []) s)) h.is
-        (subst (λ bs. Closed bs v' names last rows objects number (rewritten 1 (entries_of was 1 ++ item (val.Ref o) ∷ []) was)) (sym (is ∙ (λ i. boxes_with_body all (sym root.2 i) (sym root.3 i) ((garbage_entries ∙ entries_was) i ++ item (val.Ref o) ∷ []) (spare_in_box all ListKind body - 1))))
-        (subst (λ w. Closed (boxes_with_body all root.0.code root.0.body (entries_of was 1 ++ item (val.Ref o) ∷ []) (spare_in_box all ListKind body - 1)) w names last rows objects number (rewritten 1 (entries_of was 1 ++ item (val.Ref o) ∷ []) was)) (sym counts)
-        (closed (boxes_with_body all root.0.code root.0.body (entries_of was 1 ++ item (val.Ref o) ∷ []) (spare_in_box all ListKind body - 1)) (counted_up (o ∷ []) v) objects number (rewritten 1 (entries_of was 1 ++ item (val.Ref o) ∷ []) was)
+        (subst (λ bs. Closed bs v' names last rows objects number (rewritten 1 (entries_of was 1 ++ item (val.Ref o) ∷ []) was))
+        (sym (is ∙ (λ i. boxes_with_body all (sym root.2 i) (sym root.3 i) ((garbage_entries ∙ entries_was) i ++ item (val.Ref o) ∷ [])
+        (spare_in_box all ListKind body - 1))))
+        (subst (λ w. Closed (boxes_with_body all root.0.code root.0.body (entries_of was 1 ++ item (val.Ref o) ∷ []) (spare_in_box all ListKind body - 1)) w
+        names last rows objects number (rewritten 1 (entries_of was 1 ++ item (val.Ref o) ∷ []) was)) (sym counts)
+        (closed (boxes_with_body all root.0.code root.0.body (entries_of was 1 ++ item (val.Ref o) ∷ []) (spare_in_box all ListKind body - 1))
+        (counted_up (o ∷ []) v) objects number (rewritten 1 (entries_of was 1 ++ item (val.Ref o) ∷ []) was)
         (keeps-saved all v objects number was h.keeps.0 root.0 root.1 o live_was other new_was root.2 at_root (spare_in_box all ListKind body - 1)
         (let same : spare_in_box all root.0.code root.0.body ≡ spare_in_box all ListKind body = (λ i. spare_in_box all (root.2 i) (root.3 i)) in omega (arith, same)))
-        (kept was (rewritten 1 (entries_of was 1 ++ item (val.Ref o) ∷ []) was) (kinds-rewritten 1 (entries_of was 1 ++ item (val.Ref o) ∷ []) was) refl (omega (arith, total-rewritten 1 (entries_of was 1 ++ item (val.Ref o) ∷ []) was, h.keeps.1.holds)) h.keeps.1)
+        (kept was (rewritten 1 (entries_of was 1 ++ item (val.Ref o) ∷ []) was) (kinds-rewritten 1 (entries_of was 1 ++ item (val.Ref o) ∷ []) was) refl
+        (omega (arith, total-rewritten 1 (entries_of was 1 ++ item (val.Ref o) ∷ []) was, h.keeps.1.holds)) h.keeps.1)
         refl)))

@@ -11,7 +11,7 @@ use Rattle.cg_graph.specs.Store.{Store, IsLive, HasCode}
 use Rattle.cg_graph.specs.Changes.{made}
 use Rattle.cg_arena.specs.Nodes.{Nodes}
 use Rattle.cg_heap.specs.Keeps.{store_of}
-use Rattle.cg_heap.proofs.Stands.{Closed, closed}
+use Rattle.cg_heap.proofs.HeapIsStore.{Closed, closed}
 use Rattle.cg_graph.specs.Rows.{with_row_waiting, without_row}
 use Rattle.cg_heap.specs.Weak.{HasReferent, with_new_row, attached, cleared_weak, forgotten_weak}
 use Rattle.cg_heap.proofs.CallerLemmas.{lives_on, live_of_kind, kinds-made, made_kind}
@@ -24,7 +24,8 @@ module _ {all : List Bodies} {v : Nodes} {names : List (Option Val)} {last : ℕ
   was = store_of all v names last rows
 
   -- a weak reference loses its referent
-  pub after_clear : (weak : ℕ) (wait : Bool) (rows' : List Row) → rows' ≡ (if wait then with_row_waiting weak rows else without_row weak rows) → Closed all v names last rows' objects number (cleared_weak weak wait old)
+  pub after_clear : (weak : ℕ) (wait : Bool) (rows' : List Row) → rows' ≡ (if wait then with_row_waiting weak rows else without_row weak rows)
+      → Closed all v names last rows' objects number (cleared_weak weak wait old)
   after_clear weak wait rows' e =
       subst (λ s. Closed all v names last rows' objects number (cleared_weak weak wait s)) h.is
       (subst (λ r. Closed all v names last r objects number (cleared_weak weak wait was)) (sym e)
@@ -38,10 +39,13 @@ module _ {all : List Bodies} {v : Nodes} {names : List (Option Val)} {last : ℕ
 
   -- all rows have weak references below a new serial
   pub rows_below : All (λ r. r.weak < last + 1) rows
-  rows_below = All-weaker (λ r. HasCode was r.weak Weak) (λ r. r.weak < last + 1) (λ r has. let low : r.weak ≤ last = h.keeps.0.shape.below r.weak (live_of_kind was r.weak Weak has) in omega (arith, low)) rows h.keeps.1.rows.weak
+  rows_below = All-weaker (λ r. HasCode was r.weak Weak) (λ r. r.weak < last + 1) (λ r has. let low : r.weak ≤ last = h.keeps.0.shape.below r.weak
+      (live_of_kind was r.weak Weak has) in omega (arith, low)) rows h.keeps.1.rows.weak
 
   -- a weak reference gets its referent
-  pub after_attach : (weak : ℕ) (referent : Option ℕ) → All (λ r. r.weak < weak) rows → (IsSome referent → HasCode old weak Weak) → IfSome referent (λ o. IsLive old o) → (rows' : List Row) → rows' ≡ with_new_row weak referent rows → Closed all v names last rows' objects number (attached weak referent old)
+  pub after_attach : (weak : ℕ) (referent : Option ℕ) → All (λ r. r.weak < weak) rows → (IsSome referent → HasCode old weak Weak)
+      → IfSome referent (λ o. IsLive old o) → (rows' : List Row) → rows' ≡ with_new_row weak referent rows → Closed all v names last rows' objects number
+      (attached weak referent old)
   after_attach weak referent newest kind live rows' e =
       subst (λ s. Closed all v names last rows' objects number (attached weak referent s)) h.is
       (subst (λ r. Closed all v names last r objects number (attached weak referent was)) (sym e)
@@ -59,12 +63,15 @@ module _ {all : List Bodies} {v : Nodes} {names : List (Option Val)} {last : ℕ
   last_is = ap (λ (s : Store). s.last) h.is
 
   -- and its row is added
-  pub after_making : (code : KindCode) (class : Option ℕ) (parts : List Entry) (referent : Option ℕ) → HasReferent code referent → IfSome referent (λ o. IsLive old o) → (all' : List Bodies) (v' : Nodes) (objects' number' : ℕ) → Closed all' v' names (last + 1) rows objects' number' (made code class parts old)
+  pub after_making : (code : KindCode) (class : Option ℕ) (parts : List Entry) (referent : Option ℕ) → HasReferent code referent
+      → IfSome referent (λ o. IsLive old o) → (all' : List Bodies) (v' : Nodes) (objects' number' : ℕ) → Closed all' v' names (last + 1) rows objects' number'
+      (made code class parts old)
       → (rows' : List Row) → rows' ≡ with_new_row (last + 1) referent rows → Closed all' v' names (last + 1) rows' objects' number' (attached (old.last + 1) referent (made code class parts old))
   after_making code class parts referent has live all' v' objects' number' made_so rows' e =
       subst (λ k. Closed all' v' names (last + 1) rows' objects' number' (attached (k + 1) referent (made code class parts old))) last_is
       (after_attach made_so (last + 1) referent (rows_below h)
-      (λ some. subst (λ k. HasCode (made code class parts old) (k + 1) Weak) (sym last_is) (subst (HasCode (made code class parts old) (old.last + 1)) (refers code has some) (made_kind code class parts old)))
+      (λ some. subst (λ k. HasCode (made code class parts old) (k + 1) Weak) (sym last_is) (subst (HasCode (made code class parts old) (old.last + 1))
+      (refers code has some) (made_kind code class parts old)))
       (still referent live) rows' e)
     where
       refers : (c : KindCode) → HasReferent c referent → IsSome referent → c ≡ Weak

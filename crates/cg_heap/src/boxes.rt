@@ -220,7 +220,8 @@ impl<B: Kind> Boxes<B> {
     pub fn append(&mut self, list: usize, val: Val) -> Result<(), AllocError>
         requires { HasBody self.old code.List list }
         ensures ok { OnOk result (self.new ≡ boxes_with_body self.old code.List list
-            (entries_in_box self.old code.List list ++ item val ∷ []) (spare_in_box self.new code.List list)) }
+            (entries_in_box self.old code.List list ++ item val ∷ [])
+            (spare_in_box self.new code.List list)) }
         ensures err { OnErr result (self.new ≡ self.old) }
     {
         let lists = &mut self.kinds[0];
@@ -234,7 +235,8 @@ impl<B: Kind> Boxes<B> {
         ensures ok { OnOk result (self.new ≡ boxes_with_body self.old code.List list
             (entries_in_box self.old code.List list) (spare_in_box self.new code.List list)) }
         ensures room { OnOk result (n ≤ spare_in_box self.new code.List list) }
-        ensures no_less { OnOk result (spare_in_box self.old code.List list ≤ spare_in_box self.new code.List list) }
+        ensures no_less { OnOk result (spare_in_box self.old code.List list ≤ spare_in_box self.new
+            code.List list) }
         ensures err { OnErr result (self.new ≡ self.old) }
     {
         let lists = &mut self.kinds[0];
@@ -249,8 +251,10 @@ impl<B: Kind> Boxes<B> {
         ensures ok { OnOk result (self.new ≡ boxes_with_body self.old code.List list
             (entries_in_box self.old code.List list) (spare_in_box self.new code.List list)) }
         ensures room { OnOk result (total ≤
-            length (entries_in_box self.old code.List list) + spare_in_box self.new code.List list) }
-        ensures no_less { OnOk result (spare_in_box self.old code.List list ≤ spare_in_box self.new code.List list) }
+            length (entries_in_box self.old code.List list) + spare_in_box self.new code.List
+            list) }
+        ensures no_less { OnOk result (spare_in_box self.old code.List list ≤ spare_in_box self.new
+            code.List list) }
         ensures err { OnErr result (self.new ≡ self.old) }
     {
         let code = KindCode::List;
@@ -264,7 +268,8 @@ impl<B: Kind> Boxes<B> {
         requires held { HasBody self.old code.List list }
         requires room { 0 < spare_in_box self.old code.List list }
         ensures { self.new ≡ boxes_with_body self.old code.List list
-            (entries_in_box self.old code.List list ++ item val ∷ []) (spare_in_box self.old code.List list - 1) }
+            (entries_in_box self.old code.List list ++ item val ∷ [])
+            (spare_in_box self.old code.List list - 1) }
     {
         let lists = &mut self.kinds[0];
         lists.append_reserved(list, val);

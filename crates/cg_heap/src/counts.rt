@@ -98,7 +98,8 @@ pub fn count_near(arena: &mut Arena, val: Val, near: Near)
 /// Counts the references of entries.
 pub fn count_all(arena: &mut Arena, parts: &[Entry])
     requires live { (s : ℕ) → 0 < occurrences s (references parts.now) → HasNode arena.old s }
-    requires room { (s : ℕ) → count_at arena.old s + occurrences s (references parts.now) < 4294967295 }
+    requires room { (s : ℕ) → count_at arena.old s + occurrences s (references parts.now) <
+        4294967295 }
     ensures { arena.new ≡ counted_up (references parts.now) arena.old }
 {
     for part in parts {
@@ -140,9 +141,11 @@ pub fn add_object(
     requires fresh { fin.get arena.old.nodes serial ≡ None }
     requires spare { 0 < arena.old.room }
     requires live { (s : ℕ) → 0 < occurrences s (references parts.now) → HasNode arena.old s }
-    requires room { (s : ℕ) → count_at arena.old s + occurrences s (references parts.now) < 4294967294 }
+    requires room { (s : ℕ) → count_at arena.old s + occurrences s (references parts.now) <
+        4294967294 }
     ensures { ((room : ℕ) × (arena.new ≡ counted_up (references parts.now) (counted_up (serial ∷ [])
-        (with_node serial (new_node code class body (place_at_first code)) (with_room room arena.old))))) }
+        (with_node serial (new_node code class body (place_at_first code))
+        (with_room room arena.old))))) }
 {
     arena.add_reserved(serial, code, class, body, first_place(code));
     arena.inc(serial);

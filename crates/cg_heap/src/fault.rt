@@ -7,7 +7,8 @@ pub enum HeapFault {
     /// 1,000,000 objects are live, not counting the garbage list.
     #[error("too many objects")]
     ObjectLimit,
-    /// The objects would have more than 4,000,000 entries in total, not counting those of the garbage list.
+    /// The objects would have more than 4,000,000 entries in total, not counting those of the
+    /// garbage list.
     #[error("too many entries")]
     EntryLimit,
     /// Memory ran out.

@@ -30,15 +30,16 @@ use std::marker::Model;
 
 /// Objects, whose entries are in six boxes of kinds, and names.
 ///
-/// An object is identified by its serial; serials rise and are never reused. `#1` is the garbage list, held by the
-/// garbage root. Each live object has a number of outside holds, owned by the caller: an object's count is the number
-/// of references to it from names, the garbage root and entries, plus its outside holds. (Developer guide, "Reference
-/// counting". The limits and the serials are ours.)
+/// An object is identified by its serial; serials rise and are never reused. `#1` is the garbage
+/// list, held by the garbage root. Each live object has a number of outside holds, owned by the
+/// caller: an object's count is the number of references to it from names, the garbage root and
+/// entries, plus its outside holds. (Developer guide, "Reference counting". The limits and the
+/// serials are ours.)
 ///
-/// Every call that takes a serial requires it to be live, every call that takes a name requires it to be below the
-/// number given to `new`, and every call that takes a place requires a generation of at most 2. Only `new`, `make`,
-/// `append` and `put` can fail for lack of memory. `take` and `take_key` may allocate an order of many keys, and do
-/// without if that fails.
+/// Every call that takes a serial requires it to be live, every call that takes a name requires it
+/// to be below the number given to `new`, and every call that takes a place requires a generation
+/// of at most 2. Only `new`, `make`, `append` and `put` can fail for lack of memory. `take` and
+/// `take_key` may allocate an order of many keys, and do without if that fails.
 #[derive(Drop)]
 pub struct Heap<B: Kind> {
     boxes: Boxes<B>,
@@ -69,8 +70,8 @@ impl<B: Kind> Model for Heap<B> {
 impl<B: Kind> Heap<B> {
     /// A heap with only the garbage list, and `names` unbound names, below 2^30.
     ///
-    /// `kinds` has the kinds in the order of `KindCode`, without objects. Returns `AllocError` only if memory runs
-    /// out.
+    /// `kinds` has the kinds in the order of `KindCode`, without objects. Returns `AllocError` only
+    /// if memory runs out.
     pub fn new(alloc: Global, kinds: Vec<B>, names: u32) -> Result<Self, AllocError>
         requires kinds { map B.kind kinds.items ≡ six_kinds }
         requires empty { map B.bodies kinds.items ≡ replicate 6 fin.empty }
@@ -94,11 +95,11 @@ impl<B: Kind> Heap<B> {
         })
     }
 
-    /// Exposes the heap's invariant to proofs, and does nothing at run time: what names, the garbage root and entries
-    /// hold is live, no live serial is above the last, each in-degree is below 2^32, each object is once in the list
-    /// of its place and in no other, the garbage list names each object at most once and never itself, each row is
-    /// that of a live weak reference with a live referent, and there are at most 1,000,000 objects and 4,000,000
-    /// entries.
+    /// Exposes the heap's invariant to proofs, and does nothing at run time: what names, the
+    /// garbage root and entries hold is live, no live serial is above the last, each in-degree is
+    /// below 2^32, each object is once in the list of its place and in no other, the garbage list
+    /// names each object at most once and never itself, each row is that of a live weak reference
+    /// with a live referent, and there are at most 1,000,000 objects and 4,000,000 entries.
     #[inline(always)]
     pub fn sound(&self)
         ensures { IsSound self.now }
@@ -106,7 +107,8 @@ impl<B: Kind> Heap<B> {
         let _untracked = self.arena.size(Place::Untracked);
     }
 
-    /// The in-degree, below 2^32. (Python: `sys.getrefcount`, without the reference of its argument.)
+    /// The in-degree, below 2^32. (Python: `sys.getrefcount`, without the reference of its
+    /// argument.)
     #[inline(always)]
     pub fn refs(&self, object: u64) -> u64
         requires { IsLive self.now object }
@@ -172,7 +174,8 @@ impl<B: Kind> Heap<B> {
         self.arena.is_finalized(object)
     }
 
-    /// The collector's number, 0 at first. (Developer guide, "Identifying reference cycles": `gc_refs`.)
+    /// The collector's number, 0 at first. (Developer guide, "Identifying reference cycles":
+    /// `gc_refs`.)
     pub fn gc_of(&self, object: u64) -> u32
         requires { IsLive self.now object }
         ensures { IfSome (fin.get self.now.nodes object) (λ n. result ≡ n.number) }
@@ -232,8 +235,8 @@ impl<B: Kind> Heap<B> {
         self.boxes.value_of(seat, key)
     }
 
-    /// `value_of`, with a hint of the object's slot, if the object is of this kind. `None` exactly if it is of
-    /// another.
+    /// `value_of`, with a hint of the object's slot, if the object is of this kind. `None` exactly
+    /// if it is of another.
     #[inline(always)]
     pub fn value_if(&self, code: KindCode, object: u64, near: Near, key: Val) -> Option<Option<Val>>
         requires { IsLive self.now object }

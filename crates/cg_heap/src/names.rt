@@ -33,7 +33,8 @@ impl Model for Names {
 
     ghost view = { λ n. values_of n.names.items };
 
-    ghost invariant = { λ n. (n.upper ≤ length (values_of n.names.items)) × AreBoundBelow n.upper (values_of n.names.items) };
+    ghost invariant = { λ n. (n.upper ≤ length (values_of n.names.items)) × AreBoundBelow n.upper
+        (values_of n.names.items) };
 }
 
 /// Replaces the value of a name, and returns the old one.
@@ -99,8 +100,8 @@ impl Names {
         old
     }
 
-    /// The bound name with the greatest number. It skips each unbound name once, unless a name above it is bound
-    /// again.
+    /// The bound name with the greatest number. It skips each unbound name once, unless a name
+    /// above it is bound again.
     pub fn greatest(&mut self) -> Option<usize>
         ensures same { self.new ≡ self.old }
         ensures greatest { IsGreatestBound self.old result }

@@ -4,8 +4,8 @@ ghost use Rattle.std.specs.Prelude.{◌≡◌, ℕ, ◌+◌, ◌<◌};
 use std::marker::Model;
 use std::sync::ledger::{Blank, Book, Ledger, Share};
 
-/// The number of looks at entries and at the rows of weak references: contracts see a rising number; at run time there
-/// is no counter.
+/// The number of looks at entries and at the rows of weak references: contracts see a rising
+/// number; at run time there is no counter.
 ///
 /// Only the calls of `heap/look`, and `Heap::look_near` and `Heap::note_near`, raise it. (Ours.)
 #[derive(Drop)]

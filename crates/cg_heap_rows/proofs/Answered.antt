@@ -105,7 +105,12 @@ lost_and_taken_is_answered = record {
   right = a_ring_that_was_dropped_is_right;
   answers = record {
     lines = rows_text (codes "lost") (lost_rows a_ring_that_was_dropped) ++ [];
-    is_answer = (lost_rows a_ring_that_was_dropped, tells_lost a_ring_that_was_dropped a_ring_that_was_dropped_is_right (record { reaches = refl; finds = refl; sets_aside = refl; dies = refl }), refl);
+    is_answer = (
+      lost_rows a_ring_that_was_dropped,
+      tells_lost a_ring_that_was_dropped a_ring_that_was_dropped_is_right
+          (record { reaches = refl; finds = refl; sets_aside = refl; dies = refl }),
+      refl,
+    );
     whole = refl;
   };
 }
@@ -119,7 +124,12 @@ lost_and_kept_by_an_untracked_member_is_answered = record {
   right = a_ring_by_an_untracked_member_is_right;
   answers = record {
     lines = rows_text (codes "lost") (lost_rows a_ring_by_an_untracked_member) ++ [];
-    is_answer = (lost_rows a_ring_by_an_untracked_member, tells_lost a_ring_by_an_untracked_member a_ring_by_an_untracked_member_is_right (record { reaches = refl; finds = refl; sets_aside = refl; dies = refl }), refl);
+    is_answer = (
+      lost_rows a_ring_by_an_untracked_member,
+      tells_lost a_ring_by_an_untracked_member a_ring_by_an_untracked_member_is_right
+          (record { reaches = refl; finds = refl; sets_aside = refl; dies = refl }),
+      refl,
+    );
     whole = refl;
   };
 }
@@ -133,7 +143,12 @@ lost_and_set_aside_is_answered = record {
   right = a_ring_with_a_legacy_finalizer_is_right;
   answers = record {
     lines = rows_text (codes "lost") (lost_rows a_ring_with_a_legacy_finalizer) ++ [];
-    is_answer = (lost_rows a_ring_with_a_legacy_finalizer, tells_lost a_ring_with_a_legacy_finalizer a_ring_with_a_legacy_finalizer_is_right (record { reaches = refl; finds = refl; sets_aside = refl; dies = refl }), refl);
+    is_answer = (
+      lost_rows a_ring_with_a_legacy_finalizer,
+      tells_lost a_ring_with_a_legacy_finalizer a_ring_with_a_legacy_finalizer_is_right
+          (record { reaches = refl; finds = refl; sets_aside = refl; dies = refl }),
+      refl,
+    );
     whole = refl;
   };
 }
@@ -147,7 +162,12 @@ dropped_with_a_ring_is_answered = record {
   right = a_ring_that_one_holds_is_right;
   answers = record {
     lines = rows_text (codes "gone") (gone_rows a_ring_that_one_holds (0 ∷ [])) ++ line (codes "total") (totals_of a_ring_that_one_holds (gone_rows a_ring_that_one_holds (0 ∷ [])));
-    is_answer = (gone_rows a_ring_that_one_holds (0 ∷ []), tells_gone a_ring_that_one_holds (0 ∷ []) a_ring_that_one_holds_is_right (omega arith, tt) (record { reaches = refl; without = refl; dies = refl }), refl);
+    is_answer = (
+      gone_rows a_ring_that_one_holds (0 ∷ []),
+      tells_gone a_ring_that_one_holds (0 ∷ []) a_ring_that_one_holds_is_right (omega arith, tt)
+          (record { reaches = refl; without = refl; dies = refl }),
+      refl,
+    );
     whole = refl;
   };
 }
@@ -158,7 +178,12 @@ dropped_out_of_a_ring_is_answered = record {
   right = a_ring_that_one_holds_is_right;
   answers = record {
     lines = rows_text (codes "gone") (gone_rows a_ring_that_one_holds (1 ∷ [])) ++ line (codes "total") (totals_of a_ring_that_one_holds (gone_rows a_ring_that_one_holds (1 ∷ [])));
-    is_answer = (gone_rows a_ring_that_one_holds (1 ∷ []), tells_gone a_ring_that_one_holds (1 ∷ []) a_ring_that_one_holds_is_right (omega arith, tt) (record { reaches = refl; without = refl; dies = refl }), refl);
+    is_answer = (
+      gone_rows a_ring_that_one_holds (1 ∷ []),
+      tells_gone a_ring_that_one_holds (1 ∷ []) a_ring_that_one_holds_is_right (omega arith, tt)
+          (record { reaches = refl; without = refl; dies = refl }),
+      refl,
+    );
     whole = refl;
   };
 }
@@ -183,7 +208,12 @@ dropped_together_is_answered = record {
   right = two_that_share_is_right;
   answers = record {
     lines = rows_text (codes "gone") (gone_rows two_that_share (1 ∷ 0 ∷ [])) ++ line (codes "total") (totals_of two_that_share (gone_rows two_that_share (1 ∷ 0 ∷ [])));
-    is_answer = (gone_rows two_that_share (1 ∷ 0 ∷ []), tells_gone two_that_share (1 ∷ 0 ∷ []) two_that_share_is_right (omega arith, (omega arith, tt)) (record { reaches = refl; without = refl; dies = refl }), refl);
+    is_answer = (
+      gone_rows two_that_share (1 ∷ 0 ∷ []),
+      tells_gone two_that_share (1 ∷ 0 ∷ []) two_that_share_is_right (omega arith, (omega arith, tt))
+          (record { reaches = refl; without = refl; dies = refl }),
+      refl,
+    );
     whole = refl;
   };
 }
@@ -203,4 +233,40 @@ kept_by_an_untold_word_is_answered = record {
 }
 
 pub all_answered : EachIsAnswered worked_heaps
-all_answered = (why_by_two_is_answered, (why_by_one_is_answered, (why_by_none_without_is_answered, (why_a_lost_one_is_answered, (referrers_with_a_double_reference_is_answered, (referrers_of_what_is_held_from_outside_is_answered, (hidden_by_untold_words_is_answered, (lost_and_taken_is_answered, (lost_and_kept_by_an_untracked_member_is_answered, (lost_and_set_aside_is_answered, (dropped_with_a_ring_is_answered, (dropped_out_of_a_ring_is_answered, (dropped_alone_is_answered, (dropped_together_is_answered, (kept_by_an_untold_word_is_answered, tt)))))))))))))))
+all_answered = (
+  why_by_two_is_answered,
+  (
+    why_by_one_is_answered,
+    (
+      why_by_none_without_is_answered,
+      (
+        why_a_lost_one_is_answered,
+        (
+          referrers_with_a_double_reference_is_answered,
+          (
+            referrers_of_what_is_held_from_outside_is_answered,
+            (
+              hidden_by_untold_words_is_answered,
+              (
+                lost_and_taken_is_answered,
+                (
+                  lost_and_kept_by_an_untracked_member_is_answered,
+                  (
+                    lost_and_set_aside_is_answered,
+                    (
+                      dropped_with_a_ring_is_answered,
+                      (
+                        dropped_out_of_a_ring_is_answered,
+                        (dropped_alone_is_answered, (dropped_together_is_answered, (kept_by_an_untold_word_is_answered, tt))),
+                      ),
+                    ),
+                  ),
+                ),
+              ),
+            ),
+          ),
+        ),
+      ),
+    ),
+  ),
+)

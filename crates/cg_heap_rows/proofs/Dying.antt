@@ -15,7 +15,7 @@ use Rattle.cg_ask.specs.Dying.{IsClosed, Dies}
 use Rattle.cg_ask.specs.Faults.{AreRight}
 use Rattle.cg_ask.specs.Marked.{MarkJust}
 use Rattle.cg_ask.proofs.Counting.{targets_few, targets_mono, no_degree}
-use Rattle.cg_ask.proofs.Faulty.{covered_all}
+use Rattle.cg_ask.proofs.Faults.{covered_all}
 use Rattle.cg_heap_rows.proofs.Tables.{both, marks_to, passes, marks_of, length-marks_to}
 
 module _ (ms : List Member) (given : List Bool) where
@@ -50,7 +50,8 @@ module _ (ms : List Member) (given : List Bool) where
       len = ap (λ (bs : List Bool). length bs) (sym settled) ∙ length-marks_to (length ms) (is_dying dead);
       given = λ i g. goes_in i (omega (arith, slice_get_within given i true g, long)) (or_left (is_marked given i) (loses_all dead i) (is_of_marks given i g));
       dies = λ i some all. goes_in i (member i some) (or_right (is_marked given i) (loses_all dead i)
-          (both (nat_lt 0 (degree_at ms i)) (occurrences i (targets_from dead (rows_of ms)) == degree_at ms i) (lt-ltb 0 (degree_at ms i) some) (eq-eqb (occurrences i (targets_from dead (rows_of ms))) (degree_at ms i) all)));
+          (both (nat_lt 0 (degree_at ms i)) (occurrences i (targets_from dead (rows_of ms)) == degree_at ms i) (lt-ltb 0 (degree_at ms i) some)
+          (eq-eqb (occurrences i (targets_from dead (rows_of ms))) (degree_at ms i) all)));
     }
       where
         goes_in : (i : ℕ) → i < length ms → is_dying dead i ≡ true → Marks dead i

@@ -35,11 +35,13 @@ module _ (starts allowed : List Bool) (rows : List (List ℕ)) where
     goes_in : (i : ℕ) → Marks allowed i → (is_marked starts i || includes (targets_from found rows) i) ≡ true → Marks found i
     goes_in i a e =
         subst (λ (bs : List Bool). Marks bs i) settled
-        (marks_of (length allowed) (is_next found) i (slice_get_within allowed i true a) (both (is_marked allowed i) (is_marked starts i || includes (targets_from found rows) i) (is_of_marks allowed i a) e))
+        (marks_of (length allowed) (is_next found) i (slice_get_within allowed i true a) (both (is_marked allowed i) (is_marked starts i
+        || includes (targets_from found rows) i) (is_of_marks allowed i a) e))
 
     pub found_leads : (i : ℕ) → Leads starts allowed rows i → Marks found i
     found_leads _ (begins i s a) = goes_in i a (or_left (is_marked starts i) (includes (targets_from found rows) i) (is_of_marks starts i s))
-    found_leads _ (follows i j row l at h a) = goes_in j a (or_right (is_marked starts j) (includes (targets_from found rows) j) (includes-of (targets_from found rows) j (target_in found rows i row j (found_leads i l) at h)))
+    found_leads _ (follows i j row l at h a) = goes_in j a (or_right (is_marked starts j) (includes (targets_from found rows) j)
+        (includes-of (targets_from found rows) j (target_in found rows i row j (found_leads i l) at h)))
 
     pub found_long : length found ≡ length allowed
     found_long = ap (λ (bs : List Bool). length bs) (sym settled) ∙ length-marks_to (length allowed) (is_next found)

@@ -18,20 +18,22 @@ use Rattle.cg_ask.proofs.Counting.{no_degree}
 use Rattle.cg_ask.proofs.Marking.{only, any, zipped, just_only, just_any, just_all, member_of}
 use Rattle.cg_ask.proofs.Reaching.{found_just, lost_just}
 use Rattle.cg_ask.proofs.Clearing.{unreachable_just, cleared_just, stuck_just}
-use Rattle.cg_ask.proofs.Dead.{dead_just as dead_same}
-use Rattle.cg_ask.proofs.Gone.{gone_just}
-use Rattle.cg_ask.proofs.Kept.{kept_just, length-all_told}
+use Rattle.cg_ask.proofs.DiesByCount.{dead_just as dead_same}
+use Rattle.cg_ask.proofs.WouldGo.{gone_just}
+use Rattle.cg_ask.proofs.KeptByUntoldWords.{kept_just, length-all_told}
 use Rattle.cg_heap_rows.proofs.Tables.{marks_to, all_to, all_pass, just_to}
 use Rattle.cg_heap_rows.proofs.Found.{step, found_in, led, found_long}
 use Rattle.cg_heap_rows.proofs.Dying.{step as dying_step, dead_in, dead_just}
 
 -- whether a member's references and words name members, and its in-degree is consistent
 abbrev is_right : List Member → ℕ → Bool
-is_right ms i = are_below (length ms) (get_or (rows_of ms) i []) && (are_below (length ms) (get_or (words_of ms) i []) && nat_lt (occurrences i (references_of ms) + occurrences i (all_words_of ms)) (degree_at ms i + 1))
+is_right ms i = are_below (length ms) (get_or (rows_of ms) i []) && (are_below (length ms) (get_or (words_of ms) i [])
+    && nat_lt (occurrences i (references_of ms) + occurrences i (all_words_of ms)) (degree_at ms i + 1))
 
 pub are_right : (ms : List Member) → all_to (length ms) (is_right ms) ≡ true → AreRight ms true
 are_right ms all i below =
-    let parts = true_and (are_below (length ms) (get_or (rows_of ms) i [])) (are_below (length ms) (get_or (words_of ms) i []) && nat_lt (occurrences i (references_of ms) + occurrences i (all_words_of ms)) (degree_at ms i + 1)) (all_pass (length ms) (is_right ms) i all below) in
+    let parts = true_and (are_below (length ms) (get_or (rows_of ms) i [])) (are_below (length ms) (get_or (words_of ms) i [])
+    && nat_lt (occurrences i (references_of ms) + occurrences i (all_words_of ms)) (degree_at ms i + 1)) (all_pass (length ms) (is_right ms) i all below) in
     let rest = true_and (are_below (length ms) (get_or (words_of ms) i [])) (nat_lt (occurrences i (references_of ms) + occurrences i (all_words_of ms)) (degree_at ms i + 1)) parts.1 in
     let less = ltb-true (occurrences i (references_of ms) + occurrences i (all_words_of ms)) (degree_at ms i + 1) rest.1 in
     record {
@@ -69,7 +71,8 @@ others_just ms without = just_to (length ms) (λ i. not (includes without i)) (I
 abbrev pub IsSettled : List Bool → List Bool → List (List ℕ) → ℕ → Type 0
 IsSettled starts allowed rows k = step starts allowed rows (found_in starts allowed rows k) ≡ found_in starts allowed rows k
 
-pub reach_just : (ms : List Member) (starts allowed : List Bool) (Held Inside : ℕ → Type 0) (k : ℕ) → MarkJust (length ms) Held starts → MarkJust (length ms) Inside allowed → IsSettled starts allowed (rows_of ms) k
+pub reach_just : (ms : List Member) (starts allowed : List Bool) (Held Inside : ℕ → Type 0) (k : ℕ) → MarkJust (length ms) Held starts
+    → MarkJust (length ms) Inside allowed → IsSettled starts allowed (rows_of ms) k
     → MarkJust (length ms) (Reach Held Inside (edges ms)) (found_in starts allowed (rows_of ms) k)
 reach_just ms starts allowed Held Inside k s a settled =
     found_just ms (rows_of ms) starts allowed (found_in starts allowed (rows_of ms) k) Held Inside s.just a.just
@@ -143,11 +146,16 @@ pub record CollectsAll (ms : List Member) : Type 0 where
 
 pub stuck_is : (ms : List Member) → AreRight ms true → CollectsAll ms → MarkJust (length ms) (IsStuck ms) (stuck ms)
 stuck_is ms right c =
-    let h : MarkJust (length ms) (IsHeldElsewhere ms) (held_elsewhere ms) = just_to (length ms) (λ i. nat_lt (occurrences i (targets_from (tracked_of ms) (rows_of ms))) (degree_at ms i)) (IsHeldElsewhere ms)
-    (λ i below. (λ e. ltb-true (occurrences i (targets_from (tracked_of ms) (rows_of ms))) (degree_at ms i) e, λ h. lt-ltb (occurrences i (targets_from (tracked_of ms) (rows_of ms))) (degree_at ms i) h))
+    let h : MarkJust (length ms) (IsHeldElsewhere ms) (held_elsewhere ms) =
+    just_to (length ms) (λ i. nat_lt (occurrences i (targets_from (tracked_of ms) (rows_of ms))) (degree_at ms i)) (IsHeldElsewhere ms)
+    (λ i below. (
+      λ e. ltb-true (occurrences i (targets_from (tracked_of ms) (rows_of ms))) (degree_at ms i) e,
+      λ h. lt-ltb (occurrences i (targets_from (tracked_of ms) (rows_of ms))) (degree_at ms i) h,
+    ))
     (λ i h. either (cases_lt i (length ms)) (λ l. l) (λ g. absurd (omega (arith, h, no_degree ms i g)))) in
     let found_len = found_long (held_elsewhere ms) (tracked_of ms) (rows_of ms) (reached_in_collection ms) c.finds in
-    let u = unreachable_just ms (tracked_of ms) (held_elsewhere ms) (reached_in_collection ms) (unreachable ms) refl h found_len (led (held_elsewhere ms) (tracked_of ms) (rows_of ms) (length ms) c.finds)
+    let u = unreachable_just ms (tracked_of ms) (held_elsewhere ms) (reached_in_collection ms) (unreachable ms) refl h found_len
+    (led (held_elsewhere ms) (tracked_of ms) (rows_of ms) (length ms) c.finds)
     (just_only (tracked_of ms) (reached_in_collection ms) (unreachable ms) (sym found_len) refl) in
     let aside_len = found_long (legacy_of ms) (unreachable ms) (rows_of ms) (aside ms) c.sets_aside in
     let k = cleared_just ms (unreachable ms) (legacy_of ms) (aside ms) (cleared ms) u refl aside_len (led (legacy_of ms) (unreachable ms) (rows_of ms) (length ms) c.sets_aside)
@@ -186,7 +194,8 @@ gone_is ms places right members d =
     let b = reached_just ms d.reaches in
     let a = reached_without_just ms places d.without in
     let l = just_only (reached ms) (reached_without ms places) (let_go ms places) (b.len ∙ sym a.len) refl in
-    gone_just ms places (dead ms places) (reached ms) (reached_without ms places) (let_go ms places) (gone ms places) k b a l (just_any (dead ms places) (let_go ms places) (gone ms places) (k.len ∙ sym (l.len ∙ b.len)) refl)
+    gone_just ms places (dead ms places) (reached ms) (reached_without ms places) (let_go ms places) (gone ms places) k b a l
+    (just_any (dead ms places) (let_go ms places) (gone ms places) (k.len ∙ sym (l.len ∙ b.len)) refl)
 
 -- the members kept by untold words
 abbrev pub reached_with_words : List Member → List Bool
@@ -204,5 +213,6 @@ kept_is ms k =
     let h = subst (λ n. MarkJust n (IsHeld (all_told ms)) (held (all_told ms))) (length-all_told ms) (held_just (all_told ms)) in
     let b = reached_just ms k.reaches in
     let len = found_long (held (all_told ms)) (all ms) (rows_of (all_told ms)) (reached_with_words ms) k.with_words in
-    kept_just ms (rows_of (all_told ms)) (held (all_told ms)) (all ms) (reached_with_words ms) (reached ms) (kept ms) refl h (all_just ms) len (led (held (all_told ms)) (all ms) (rows_of (all_told ms)) (length ms) k.with_words)
+    kept_just ms (rows_of (all_told ms)) (held (all_told ms)) (all ms) (reached_with_words ms) (reached ms) (kept ms) refl h (all_just ms) len
+    (led (held (all_told ms)) (all ms) (rows_of (all_told ms)) (length ms) k.with_words)
     b (just_only (reached ms) (reached_with_words ms) (kept ms) (b.len ∙ sym (len ∙ (all_just ms).len)) refl)

@@ -79,7 +79,8 @@ module _ (test : ℕ → Bool) (numbers : ℕ → List ℕ) where
       by true e h = record {
         rise = rise_push (rows_to n test numbers) (n, numbers n) h.rise (λ r m. ((h.just r.0 r.1).0 m).below);
         just = λ m ns. (
-          λ k. either (Includes-append_cases (rows_to n test numbers) ((n, numbers n) ∷ []) (m, ns) k) (λ old. more m ns ((h.just m ns).0 old)) (λ new. either new (λ is. last m ns (ap (λ (r : Row). r.0) is) (ap (λ (r : Row). r.1) is)) (λ f. absurd f)),
+          λ k. either (Includes-append_cases (rows_to n test numbers) ((n, numbers n) ∷ []) (m, ns) k) (λ old. more m ns ((h.just m ns).0 old))
+              (λ new. either new (λ is. last m ns (ap (λ (r : Row). r.0) is) (ap (λ (r : Row). r.1) is)) (λ f. absurd f)),
           λ r. either (cases_eq m n)
               (λ is. Includes-append_right (rows_to n test numbers) ((n, numbers n) ∷ []) (m, ns) (inl (same m ns (sym is) (ap numbers (sym is) ∙ sym r.numbers))))
               (λ no. Includes-append_left (rows_to n test numbers) ((n, numbers n) ∷ []) (m, ns) ((h.just m ns).1 (less m ns no r))),

@@ -47,11 +47,16 @@ tells_hidden ms =
     tells_same (IsRow (length ms) (λ m. nat_lt 0 (outside_at ms m)) (hidden_numbers ms)) (TellsHidden ms) (hidden_rows ms)
     (tells_to (λ m. nat_lt 0 (outside_at ms m)) (hidden_numbers ms) (length ms))
     (λ m ns r. record { some = ltb-true 0 (outside_at ms m) r.passes; numbers = r.numbers })
-    (λ m ns t. record { below = either (cases_lt m (length ms)) (λ l. l) (λ g. absurd (let s = t.some in omega (arith, s, no_degree ms m g))); passes = lt-ltb 0 (outside_at ms m) t.some; numbers = t.numbers })
+    (λ m ns t. record {
+      below = either (cases_lt m (length ms)) (λ l. l) (λ g. absurd (let s = t.some in omega (arith, s, no_degree ms m g)));
+      passes = lt-ltb 0 (outside_at ms m) t.some;
+      numbers = t.numbers;
+    })
 
 -- members of a set, each with whether it is in another
 module _ (count : ℕ) (P Q : ℕ → Type 0) (marks others : List Bool) (a : MarkJust count P marks) (b : MarkJust count Q others) where
-  tells_flags : (R : ℕ → List ℕ → Type 0) → ((m : ℕ) (ns : List ℕ) → P m → IsFlag (Q m) ns → R m ns) → ((m : ℕ) (ns : List ℕ) → R m ns → P m × IsFlag (Q m) ns) → Tells R (rows_to count (is_marked marks) (flags_of others))
+  tells_flags : (R : ℕ → List ℕ → Type 0) → ((m : ℕ) (ns : List ℕ) → P m → IsFlag (Q m) ns → R m ns) → ((m : ℕ) (ns : List ℕ) → R m ns → P m × IsFlag (Q m) ns)
+      → Tells R (rows_to count (is_marked marks) (flags_of others))
   tells_flags R there back =
       tells_same (IsRow count (is_marked marks) (flags_of others)) R (rows_to count (is_marked marks) (flags_of others)) (tells_to (is_marked marks) (flags_of others) count)
       (λ m ns r. there m ns ((a.just m).0 (marks_of_is marks m r.passes)) (flag_of (Q m) others m ns (b.just m) r.numbers))
@@ -64,14 +69,16 @@ abbrev pub lost_rows : List Member → List Row
 lost_rows ms = rows_to (length ms) (is_marked (lost ms)) (flags_of (stuck ms))
 
 pub tells_lost : (ms : List Member) → AreRight ms true → CollectsAll ms → Tells (TellsLost ms) (lost_rows ms)
-tells_lost ms right c = tells_flags (length ms) (IsLost ms) (IsStuck ms) (lost ms) (stuck ms) (all_lost_just ms c.reaches) (stuck_is ms right c) (TellsLost ms) (λ m ns p q. record { lost = p; stuck = q }) (λ m ns t. (t.lost, t.stuck))
+tells_lost ms right c = tells_flags (length ms) (IsLost ms) (IsStuck ms) (lost ms) (stuck ms) (all_lost_just ms c.reaches) (stuck_is ms right c) (TellsLost ms)
+    (λ m ns p q. record { lost = p; stuck = q }) (λ m ns t. (t.lost, t.stuck))
 
 abbrev pub gone_rows : List Member → List ℕ → List Row
 gone_rows ms places = rows_to (length ms) (is_marked (gone ms places)) (flags_of (dead ms places))
 
 pub tells_gone : (ms : List Member) (places : List ℕ) → AreRight ms true → AreMembers (length ms) places → DropsAll ms places → Tells (TellsGone ms places) (gone_rows ms places)
 tells_gone ms places right members d =
-    tells_flags (length ms) (IsGone ms places) (Dies ms (Includes places)) (gone ms places) (dead ms places) (gone_is ms places right members d) (dead_is ms places right members d) (TellsGone ms places)
+    tells_flags (length ms) (IsGone ms places) (Dies ms (Includes places)) (gone ms places) (dead ms places) (gone_is ms places right members d)
+    (dead_is ms places right members d) (TellsGone ms places)
     (λ m ns p q. record { gone = p; by_count = q }) (λ m ns t. (t.gone, t.by_count))
 
 abbrev no_numbers : ℕ → List ℕ

@@ -7,7 +7,7 @@ use Rattle.cg_search.specs.Places.{is_marked}
 use Rattle.cg_search.proofs.Edges.{edge_in, marks_of_is, is_of_marks}
 use Rattle.cg_snapshot.specs.declared.heap.Member.{Member}
 use Rattle.cg_ask.specs.Asked.{rows_of, IsHeld, IsOther, IsWay, IsShortest, HasNone}
-use Rattle.cg_ask.proofs.Ways.{ways_are_reach}
+use Rattle.cg_ask.proofs.HolderPaths.{ways_are_reach}
 use Rattle.cg_heap_rows.proofs.Tables.{clash}
 use Rattle.cg_heap_rows.proofs.Sets.{held, held_just, others, others_just, reached_without, reached_without_just, ReachesAllWithout}
 
@@ -30,7 +30,8 @@ module _ (ms : List Member) (without : List ℕ) where
       longer (x ∷ path) w = omega arith
 
   -- a member that is not, through one that is
-  pub by_two : (o p : ℕ) (row : List ℕ) → is_marked (held ms) o ≡ true → is_marked (held ms) p ≡ false → is_marked (others ms without) o ≡ true → is_marked (others ms without) p ≡ true → slice_get (rows_of ms) o ≡ Some row → includes row p ≡ true
+  pub by_two : (o p : ℕ) (row : List ℕ) → is_marked (held ms) o ≡ true → is_marked (held ms) p ≡ false → is_marked (others ms without) o ≡ true
+      → is_marked (others ms without) p ≡ true → slice_get (rows_of ms) o ≡ Some row → includes row p ≡ true
       → IsShortest ms without (o ∷ p ∷ []) p
   by_two o p row h free i j at refers = record {
     is_way = record {

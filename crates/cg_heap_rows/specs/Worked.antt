@@ -196,4 +196,6 @@ kept_by_an_untold_word = record {
 }
 
 abbrev pub worked_heaps : List WorkedHeap
-worked_heaps = why_by_two ∷ why_by_one ∷ why_by_none_without ∷ why_a_lost_one ∷ referrers_with_a_double_reference ∷ referrers_of_what_is_held_from_outside ∷ hidden_by_untold_words ∷ lost_and_taken ∷ lost_and_kept_by_an_untracked_member ∷ lost_and_set_aside ∷ dropped_with_a_ring ∷ dropped_out_of_a_ring ∷ dropped_alone ∷ dropped_together ∷ kept_by_an_untold_word ∷ []
+worked_heaps = why_by_two ∷ why_by_one ∷ why_by_none_without ∷ why_a_lost_one ∷ referrers_with_a_double_reference ∷ referrers_of_what_is_held_from_outside
+    ∷ hidden_by_untold_words ∷ lost_and_taken ∷ lost_and_kept_by_an_untracked_member ∷ lost_and_set_aside ∷ dropped_with_a_ring ∷ dropped_out_of_a_ring
+    ∷ dropped_alone ∷ dropped_together ∷ kept_by_an_untold_word ∷ []

@@ -20,8 +20,8 @@ pub enum InputFault {
 
 /// Reads until the source reports its end or `most` bytes were read, and returns the bytes.
 ///
-/// Fewer than `most` bytes means all that the source had. `ReadFault` comes only if its fault count rose;
-/// `OutOfMemory` leaves the source somewhere before its end.
+/// Fewer than `most` bytes means all that the source had. `ReadFault` comes only if its fault count
+/// rose; `OutOfMemory` leaves the source somewhere before its end.
 pub fn read_up_to<S: Source>(
     alloc: Global,
     source: &mut S,
@@ -30,7 +30,8 @@ pub fn read_up_to<S: Source>(
     ensures bytes { IfOk result (λ b. Consumes (S.left source.old) (S.left source.new) b.items) }
     ensures size { IfOk result (λ b. length b.items ≤ most) }
     ensures end { IfOk result (λ b. length b.items < most → IsAtEnd (S.left source.new)) }
-    ensures fault { result ≡ Err InputFault.ReadFault → Rose (S.faults source.old) (S.faults source.new) }
+    ensures fault { result ≡ Err InputFault.ReadFault → Rose (S.faults source.old)
+        (S.faults source.new) }
     ensures later { S.faults source.old ≤ S.faults source.new }
 {
     let mut bytes = Vec::new(alloc);

@@ -1,9 +1,9 @@
-//! Sources and sinks of bytes that account for their failures: each counts its faults, and a call fails only if the
-//! count rose.
+//! Sources and sinks of bytes that account for their failures: each counts its faults, and a call
+//! fails only if the count rose.
 //!
-//! The layers above rest on the traits `Source` and `Sink` alone. Four implementations are in memory, for tests and
-//! fault injection; two adapters wrap the standard library's readers and writers. The adapters are the edge to the
-//! outside: nothing is known about their bytes.
+//! The layers above rest on the traits `Source` and `Sink` alone. Four implementations are in
+//! memory, for tests and fault injection; two adapters wrap the standard library's readers and
+//! writers. The adapters are the edge to the outside: nothing is known about their bytes.
 #![tactic(auto)]
 
 mod input;

@@ -9,11 +9,11 @@ use crate::{Sink, WriteFailed};
 use std::alloc::Global;
 use std::marker::Model;
 
-/// A growing list of the bytes written, visible to contracts. Calls are numbered from 1; the listed calls fail and
-/// keep the first few bytes.
+/// A growing list of the bytes written, visible to contracts. Calls are numbered from 1; the listed
+/// calls fail and keep the first few bytes.
 ///
-/// A contract sees a `MemoryOutput`: the bytes, the calls so far, that list, how many bytes a listed call keeps, and
-/// the faults so far.
+/// A contract sees a `MemoryOutput`: the bytes, the calls so far, that list, how many bytes a
+/// listed call keeps, and the faults so far.
 #[derive(Drop)]
 pub struct MemSink {
     bytes: Vec<u8>,
@@ -26,14 +26,27 @@ pub struct MemSink {
 impl Model for MemSink {
     ghost Value = { MemoryOutput };
 
-    ghost view = { λ s. record { bytes = s.bytes.items; calls = s.calls; fails = s.fails.items; keep = s.keep; faults = s.faults } };
+    ghost view = { λ s. record {
+      bytes = s.bytes.items;
+      calls = s.calls;
+      fails = s.fails.items;
+      keep = s.keep;
+      faults = s.faults;
+    } };
 }
 
 impl MemSink {
-    /// An empty sink, before its first call. Calls whose numbers (from 1) are in `fails` will fail and keep the first
-    /// `keep` bytes given. With an empty list every fault is an allocation failure.
+    /// An empty sink, before its first call. Calls whose numbers (from 1) are in `fails` will fail
+    /// and keep the first `keep` bytes given. With an empty list every fault is an allocation
+    /// failure.
     pub fn new(alloc: Global, fails: Vec<u64>, keep: usize) -> MemSink
-        ensures { result ≡ record { bytes = []; calls = 0; fails = fails.items; keep = keep; faults = 0 } }
+        ensures { result ≡ record {
+          bytes = [];
+          calls = 0;
+          fails = fails.items;
+          keep = keep;
+          faults = 0;
+        } }
     {
         MemSink {
             bytes: Vec::new(alloc),
@@ -64,11 +77,12 @@ impl Sink for MemSink {
 
     ghost faults = { λ s. s.faults };
 
-    /// Appends the bytes. A listed call appends the first few and fails. If the allocation fails, the call, listed or
-    /// not, appends nothing and fails. Each failure counts as a fault.
+    /// Appends the bytes. A listed call appends the first few and fails. If the allocation fails,
+    /// the call, listed or not, appends nothing and fails. Each failure counts as a fault.
     fn write(&mut self, bytes: &[u8]) -> Result<(), WriteFailed>
         ensures ok { OnOk result (Appends (Some self.old.bytes) (Some self.new.bytes) bytes.now) }
-        ensures err { OnErr result (AppendsFront (Some self.old.bytes) (Some self.new.bytes) bytes.now) }
+        ensures err { OnErr result (AppendsFront (Some self.old.bytes) (Some self.new.bytes)
+            bytes.now) }
         ensures cause { HasCause self.old.faults self.new.faults result }
 
         // The listed calls fail.
@@ -76,7 +90,8 @@ impl Sink for MemSink {
 
         // The sink after a call. If the allocation fails, nothing is kept.
         ensures wrote { OnOk result (self.new ≡ after_write self.old bytes.now) }
-        ensures failed { OnErr result ((self.new ≡ after_failed_write self.old (kept_at_fault self.old bytes.now))
+        ensures failed { OnErr result
+            ((self.new ≡ after_failed_write self.old (kept_at_fault self.old bytes.now))
             ⊎ (self.new ≡ after_failed_write self.old [])) }
     {
         let fails = is_next_listed(&self.fails, self.calls);

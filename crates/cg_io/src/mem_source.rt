@@ -11,7 +11,8 @@ use std::marker::Model;
 
 /// Bytes in memory, visible to contracts. Calls are numbered from 1; exactly the listed ones fail.
 ///
-/// A contract sees a `MemoryInput`: the remaining bytes, the calls so far, that list, and the faults so far.
+/// A contract sees a `MemoryInput`: the remaining bytes, the calls so far, that list, and the
+/// faults so far.
 #[derive(Drop)]
 pub struct MemSource {
     bytes: Vec<u8>,
@@ -24,15 +25,26 @@ pub struct MemSource {
 impl Model for MemSource {
     ghost Value = { MemoryInput };
 
-    ghost view = { λ s. record { left = drop s.at s.bytes.items; calls = s.calls; fails = s.fails.items; faults = s.faults } };
+    ghost view = { λ s. record {
+      left = drop s.at s.bytes.items;
+      calls = s.calls;
+      fails = s.fails.items;
+      faults = s.faults;
+    } };
 
     ghost invariant = { λ s. s.at ≤ length s.bytes.items };
 }
 
 impl MemSource {
-    /// A source of these bytes, before its first call. Calls whose numbers (from 1) are in `fails` will fail.
+    /// A source of these bytes, before its first call. Calls whose numbers (from 1) are in `fails`
+    /// will fail.
     pub fn new(bytes: Vec<u8>, fails: Vec<u64>) -> MemSource
-        ensures { result ≡ record { left = bytes.items; calls = 0; fails = fails.items; faults = 0 } }
+        ensures { result ≡ record {
+          left = bytes.items;
+          calls = 0;
+          fails = fails.items;
+          faults = 0;
+        } }
     {
         MemSource {
             bytes,
@@ -49,8 +61,8 @@ impl Source for MemSource {
 
     ghost faults = { λ s. s.faults };
 
-    /// Reads as many bytes as remain and fit into `buf`. `ReadFailed` comes exactly if this call is listed; then the
-    /// bytes and `buf` are unchanged, and the fault is counted.
+    /// Reads as many bytes as remain and fit into `buf`. `ReadFailed` comes exactly if this call is
+    /// listed; then the bytes and `buf` are unchanged, and the fault is counted.
     fn read(&mut self, buf: &mut [u8]) -> Result<usize, ReadFailed>
         requires { 0 < length buf.old }
         ensures bound { ReadsAtMost result buf.new }

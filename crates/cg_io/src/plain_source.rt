@@ -49,7 +49,8 @@ impl Source for PlainSource {
         // The result, the remaining bytes, and the contents of the buffer.
         ensures ok { result ≡ Ok (min (length self.old) (length buf.old)) }
         ensures left { self.new ≡ drop (length buf.old) self.old }
-        ensures copied { buf.new ≡ take (length buf.old) self.old ++ drop (length self.old) buf.old }
+        ensures copied { buf.new ≡ take (length buf.old) self.old ++ drop (length self.old)
+            buf.old }
     {
         let n = copy_front(&self.bytes[self.at..], buf);
         self.at += n;

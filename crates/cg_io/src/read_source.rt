@@ -9,13 +9,14 @@ use crate::{ReadFailed, Source};
 use std::io::{ErrorKind, Read};
 use std::marker::Model;
 
-/// How often a read or write is attempted before `Interrupted` counts as a fault: once, and 100 retries.
+/// How often a read or write is attempted before `Interrupted` counts as a fault: once, and 100
+/// retries.
 pub(crate) const TRIES: usize = 101;
 
 /// Any reader, with a count of its faults. Over `std::io::Read`.
 ///
-/// A contract sees a `ReaderInUse`: the bytes the reader has left, if known, and the faults so far. As a source it
-/// reveals nothing about its bytes.
+/// A contract sees a `ReaderInUse`: the bytes the reader has left, if known, and the faults so far.
+/// As a source it reveals nothing about its bytes.
 #[derive(Drop)]
 pub struct ReadSource<R: Read + Drop> {
     inner: R,
@@ -60,8 +61,8 @@ impl<R: Read + Drop> Source for ReadSource<R> {
 
     ghost faults = { λ s. s.faults };
 
-    /// Reads once from the reader. A read that returns `Interrupted` is retried, at most 100 times; any other error,
-    /// or one more `Interrupted`, is a fault.
+    /// Reads once from the reader. A read that returns `Interrupted` is retried, at most 100 times;
+    /// any other error, or one more `Interrupted`, is a fault.
     fn read(&mut self, buf: &mut [u8]) -> Result<usize, ReadFailed>
         requires { 0 < length buf.old }
         ensures bound { ReadsAtMost result buf.new }

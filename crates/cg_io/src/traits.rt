@@ -21,10 +21,11 @@ pub trait Source {
     // How often the source has failed. The count stops at the largest 64-bit number.
     ghost faults: { Self → ℕ };
 
-    /// Reads the next bytes into the front of `buf`, and returns how many, from 0 to the length of `buf`.
+    /// Reads the next bytes into the front of `buf`, and returns how many, from 0 to the length of
+    /// `buf`.
     ///
-    /// 0 means the end: nothing remains. `ReadFailed` consumes nothing, and comes only if the fault count rose in this
-    /// call or is at its maximum.
+    /// 0 means the end: nothing remains. `ReadFailed` consumes nothing, and comes only if the fault
+    /// count rose in this call or is at its maximum.
     fn read(&mut self, buf: &mut [u8]) -> Result<usize, ReadFailed>
         requires { 0 < length buf.old }
         ensures bound { ReadsAtMost result buf.new }
@@ -42,8 +43,8 @@ pub trait Sink {
 
     /// Writes all of `bytes`.
     ///
-    /// `WriteFailed` leaves a prefix of `bytes` written, from none to all of them, and comes only if the fault count
-    /// rose in this call or is at its maximum.
+    /// `WriteFailed` leaves a prefix of `bytes` written, from none to all of them, and comes only
+    /// if the fault count rose in this call or is at its maximum.
     fn write(&mut self, bytes: &[u8]) -> Result<(), WriteFailed>
         ensures ok { OnOk result (Appends (written self.old) (written self.new) bytes.now) }
         ensures err { OnErr result (AppendsFront (written self.old) (written self.new) bytes.now) }

@@ -12,8 +12,8 @@ use std::marker::Model;
 
 /// Any writer, with a count of its faults. Over `std::io::Write`.
 ///
-/// A contract sees a `WriterInUse`: what the writer holds, if known, and the faults so far. As a sink it reveals
-/// nothing about its bytes.
+/// A contract sees a `WriterInUse`: what the writer holds, if known, and the faults so far. As a
+/// sink it reveals nothing about its bytes.
 #[derive(Drop)]
 pub struct WriteSink<W: Write + Drop> {
     inner: W,
@@ -56,7 +56,8 @@ fn write_patiently<W: Write>(inner: &mut W, bytes: &[u8]) -> Result<usize, Write
 /// Writes all of the bytes, prefix by prefix.
 fn write_fronts<W: Write>(inner: &mut W, bytes: &[u8]) -> Result<(), WriteFailed>
     ensures ok { OnOk result (Appends (W.contents inner.old) (W.contents inner.new) bytes.now) }
-    ensures err { OnErr result (AppendsFront (W.contents inner.old) (W.contents inner.new) bytes.now) }
+    ensures err { OnErr result (AppendsFront (W.contents inner.old) (W.contents inner.new)
+        bytes.now) }
 {
     let mut rest = bytes;
     'fronts: while !rest.is_empty() {
@@ -74,15 +75,16 @@ impl<W: Write + Drop> Sink for WriteSink<W> {
 
     ghost faults = { λ s. s.faults };
 
-    /// Writes the bytes to the writer, in as many calls as it takes. A write that returns `Interrupted` is retried, at
-    /// most 100 times (`Write::write_all` retries without limit). Any other error, one more `Interrupted`, or a write
-    /// of zero bytes is a fault.
+    /// Writes the bytes to the writer, in as many calls as it takes. A write that returns
+    /// `Interrupted` is retried, at most 100 times (`Write::write_all` retries without limit). Any
+    /// other error, one more `Interrupted`, or a write of zero bytes is a fault.
     fn write(&mut self, bytes: &[u8]) -> Result<(), WriteFailed>
         ensures ok { OnOk result (Appends None None bytes.now) }
         ensures err { OnErr result (AppendsFront None None bytes.now) }
         ensures cause { HasCause self.old.faults self.new.faults result }
 
-        // The writer received all of the bytes, or a prefix of them if the call fails; each failure is counted.
+        // The writer received all of the bytes, or a prefix of them if the call fails; each failure
+        // is counted.
         ensures to_writer { OnOk result (Appends self.old.contents self.new.contents bytes.now) }
         ensures front { OnErr result (AppendsFront self.old.contents self.new.contents bytes.now) }
         ensures unfailed { OnOk result (self.new.faults ≡ self.old.faults) }

@@ -56,7 +56,8 @@ insert_twice m k v w =
     ])
 
 -- an item appended after room was reserved
-pub appended : (old mid new : Bodies) (at n k : ℕ) (x : Val) → mid ≡ with_body old at (entries_at old at) n → new ≡ with_body mid at (entries_at mid at ++ item x ∷ []) k → new ≡ with_body old at (entries_at old at ++ item x ∷ []) (spare_at new at)
+pub appended : (old mid new : Bodies) (at n k : ℕ) (x : Val) → mid ≡ with_body old at (entries_at old at) n → new ≡ with_body mid at (entries_at mid at
+    ++ item x ∷ []) k → new ≡ with_body old at (entries_at old at ++ item x ∷ []) (spare_at new at)
 appended old mid new at n k x e f =
     let both : new ≡ with_body old at (entries_at old at ++ item x ∷ []) k =
     f ∙ (λ i. with_body (e i) at (entries_at (e i) at ++ item x ∷ []) k)

@@ -28,7 +28,8 @@ found_from key k i (x ∷ es) at =
   where
     go : (b : Bool) → cond b (Some k) (position_from (has_key key) (k + 1) es) ≡ Some i
         → (position_from (has_key key) (k + 1) es ≡ Some i → (j : ℕ) × (i ≡ (k + 1) + j) × ((e : Entry) × Stands es key j e))
-        → (j : ℕ) × (i ≡ k + j) × ((e : Entry) × (slice_get (x ∷ es) j ≡ Some e) × ((if b then Some x else entry_at es key) ≡ Some e) × ((if b then Some x.val else value_at es key) ≡ Some e.val) × ((if b then es else x ∷ without_key es key) ≡ remove (x ∷ es) j))
+        → (j : ℕ) × (i ≡ k + j) × ((e : Entry) × (slice_get (x ∷ es) j ≡ Some e) × ((if b then Some x else entry_at es key) ≡ Some e)
+        × ((if b then Some x.val else value_at es key) ≡ Some e.val) × ((if b then es else x ∷ without_key es key) ≡ remove (x ∷ es) j))
     go true at next = let is = some_is k i at in (0, omega (arith, is), (x, refl, refl, refl, refl))
     go false at next =
         let (j, is, (e, there)) = next at in (suc j, omega (arith, is), (e, there.here, there.entry, there.value, ap (λ l. x ∷ l) there.rest))
@@ -65,7 +66,8 @@ none_from : (key : Val) (k : ℕ) (es : List Entry) → position_from (has_key k
 none_from key k [] at = refl
 none_from key k (x ∷ es) at = go (same_value x.key key) at (none_from key (k + 1) es)
   where
-    go : (b : Bool) → cond b (Some k) (position_from (has_key key) (k + 1) es) ≡ None → (position_from (has_key key) (k + 1) es ≡ None → entry_at es key ≡ None) → (if b then Some x else entry_at es key) ≡ None
+    go : (b : Bool) → cond b (Some k) (position_from (has_key key) (k + 1) es) ≡ None → (position_from (has_key key) (k + 1) es ≡ None → entry_at es key ≡ None)
+        → (if b then Some x else entry_at es key) ≡ None
     go true at next = absurd (cc)
     go false at next = next at
 
@@ -80,7 +82,8 @@ stands_somewhere key (x ∷ es) e at =
     (i, record { here = here; entry = entry; value = value; rest = rest })
   where
     go : (b : Bool) → cond b (Some x) (entry_at es key) ≡ Some e → (entry_at es key ≡ Some e → (i : ℕ) × Stands es key i e)
-        → (i : ℕ) × ((slice_get (x ∷ es) i ≡ Some e) × ((if b then Some x else entry_at es key) ≡ Some e) × ((if b then Some x.val else value_at es key) ≡ Some e.val) × ((if b then es else x ∷ without_key es key) ≡ remove (x ∷ es) i))
+        → (i : ℕ) × ((slice_get (x ∷ es) i ≡ Some e) × ((if b then Some x else entry_at es key) ≡ Some e) × ((if b then Some x.val else value_at es key)
+        ≡ Some e.val) × ((if b then es else x ∷ without_key es key) ≡ remove (x ∷ es) i))
     go true at next = (0, (at, at, ap (option_map (λ (y : Entry). y.val)) at, refl))
     go false at next = let (i, there) = next at in (suc i, (there.here, there.entry, there.value, ap (λ l. x ∷ l) there.rest))
 

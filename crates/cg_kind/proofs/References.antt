@@ -29,7 +29,8 @@ slice_get_behind es from i e here =
     (sym (get_or-drop from es i e ∙ get_or_from_slice_get es (from + i) e e here))
 
 -- the references of the next entry, from a position on
-pub note_more : (es : List Entry) (from i : ℕ) (e : Entry) → from ≤ i → slice_get es i ≡ Some e → references (take (i + 1 - from) (drop from es)) ≡ references (take (i - from) (drop from es)) ++ entry_references e
+pub note_more : (es : List Entry) (from i : ℕ) (e : Entry) → from ≤ i → slice_get es i ≡ Some e → references (take (i + 1 - from) (drop from es))
+    ≡ references (take (i - from) (drop from es)) ++ entry_references e
 note_more es from i e behind here =
     let n : i + 1 - from ≡ i - from + 1 = omega (arith, behind) in
     let m : i ≡ from + (i - from) = omega (arith, behind) in

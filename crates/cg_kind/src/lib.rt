@@ -1,7 +1,9 @@
-//! The boxed interface of a kind of objects: lists, tuples, dictionaries, instances, functions or weak references.
+//! The boxed interface of a kind of objects: lists, tuples, dictionaries, instances, functions or
+//! weak references.
 //!
-//! The layer above rests on one contract: a kind is a map from places to bodies, and each call determines the whole
-//! map after it. So a call on one place keeps all other places, and an error keeps the map.
+//! The layer above rests on one contract: a kind is a map from places to bodies, and each call
+//! determines the whole map after it. So a call on one place keeps all other places, and an error
+//! keeps the map.
 #![tactic(auto)]
 
 ghost use Rattle.std.specs.Prelude.{◌≡◌, ◌≢◌, ◌<◌, ◌≤◌, ◌+◌, ◌-◌, ◌++◌, ◌∷◌, ◌↔◌, [], length, take, IfOk, OnOk, OnErr, IfSome, OnSome, IfNone, IsNone, IsSome, IsOk, None, Some, position, slice_get};
@@ -20,7 +22,8 @@ use std::alloc::AllocError;
 
 /// A kind of objects. It keeps the entries of its objects, each object at a place.
 ///
-/// Every call except `code` and `make` needs a place that holds an object. An entry that leaves is returned.
+/// Every call except `code` and `make` needs a place that holds an object. An entry that leaves is
+/// returned.
 pub trait Kind: Drop {
     /// Which of the six kinds it is.
     ghost kind: { Self → KindCode };
@@ -34,8 +37,8 @@ pub trait Kind: Drop {
 
     /// Makes an object from these entries and returns its place. Fails only if memory runs out.
     ///
-    /// Lists and tuples take any items, dictionaries and instances none, functions at most eight cells, weak
-    /// references at most one callback.
+    /// Lists and tuples take any items, dictionaries and instances none, functions at most eight
+    /// cells, weak references at most one callback.
     fn make(&mut self, parts: &[Entry]) -> Result<usize, AllocError>
         requires { IsParts (kind self.old) parts.now }
         ensures made { IfOk result (λ at. bodies self.new ≡
@@ -67,14 +70,15 @@ pub trait Kind: Drop {
         }
     }
 
-    /// Visits the entries from a position on, at most `AT_ONCE`, and writes their references to the front of `found`,
-    /// which has length `ROOM` or more: for each entry its value's, then its key's. A kind may visit them faster than
-    /// by position.
+    /// Visits the entries from a position on, at most `AT_ONCE`, and writes their references to the
+    /// front of `found`, which has length `ROOM` or more: for each entry its value's, then its
+    /// key's. A kind may visit them faster than by position.
     fn note_from(&self, at: usize, from: usize, found: &mut [u64]) -> Noted
         requires held { Holds (bodies self.now) at }
         requires within { from ≤ length (entries_at (bodies self.now) at) }
         requires room { ROOM ≤ length found.old }
-        ensures next { result.next ≡ from + length (next_entries (entries_at (bodies self.now) at) from) }
+        ensures next { result.next ≡ from + length (next_entries (entries_at (bodies self.now) at)
+            from) }
         ensures references { take result.references found.new ≡
             references (next_entries (entries_at (bodies self.now) at) from) }
         ensures few { result.references ≤ ROOM }
@@ -93,8 +97,8 @@ pub trait Kind: Drop {
         requires { Holds (bodies self.now) at }
         ensures { result ≡ position (has_key key) (entries_at (bodies self.now) at) };
 
-    /// The value of the first entry with this key, `None` exactly if there is none. A kind may find it without the
-    /// position.
+    /// The value of the first entry with this key, `None` exactly if there is none. A kind may find
+    /// it without the position.
     fn value_of(&self, at: usize, key: Val) -> Option<Val>
         requires { Holds (bodies self.now) at }
         ensures { result ≡ value_at (entries_at (bodies self.now) at) key }
@@ -105,11 +109,12 @@ pub trait Kind: Drop {
         }
     }
 
-    /// Puts a value at an index of a list, or under a key of a dictionary or instance, and returns the value that it
-    /// replaces. `Ok(None)` means exactly a new key; only a new key can fail, if memory runs out.
+    /// Puts a value at an index of a list, or under a key of a dictionary or instance, and returns
+    /// the value that it replaces. `Ok(None)` means exactly a new key; only a new key can fail, if
+    /// memory runs out.
     ///
-    /// An existing key keeps its position and its key, as in Python's dictionaries; a new one goes last. A tuple,
-    /// function or weak reference ignores the call.
+    /// An existing key keeps its position and its key, as in Python's dictionaries; a new one goes
+    /// last. A tuple, function or weak reference ignores the call.
     fn put(&mut self, at: usize, key: Val, val: Val) -> Result<Option<Val>, AllocError>
         requires held { Holds (bodies self.old) at }
         requires can { CanPut (kind self.old) (entries_at (bodies self.old) at) key }
@@ -118,12 +123,13 @@ pub trait Kind: Drop {
             (spare_at (bodies self.old) at)) }
         ensures replaced { IfOk result (λ was. was ≡
             value_under (kind self.old) (entries_at (bodies self.old) at) key) }
-        ensures present { IsSome (value_under (kind self.old) (entries_at (bodies self.old) at) key) → IsOk result }
+        ensures present { IsSome (value_under (kind self.old) (entries_at (bodies self.old) at) key)
+            → IsOk result }
         ensures err { OnErr result (bodies self.new ≡ bodies self.old) }
         ensures same_kind { kind self.new ≡ kind self.old };
 
-    /// Removes the entry at a position below the length from a list, dictionary or instance; later ones move down. An
-    /// object of another kind keeps it.
+    /// Removes the entry at a position below the length from a list, dictionary or instance; later
+    /// ones move down. An object of another kind keeps it.
     fn take(&mut self, at: usize, i: usize) -> Entry
         requires held { Holds (bodies self.old) at }
         requires within { i < length (entries_at (bodies self.old) at) }
@@ -133,8 +139,8 @@ pub trait Kind: Drop {
             (spare_after_leave (kind self.old) (spare_at (bodies self.old) at)) }
         ensures same_kind { kind self.new ≡ kind self.old };
 
-    /// Takes the first entry with this key, as `take` does by position; `None` exactly if there is none. A kind may
-    /// find it without the position.
+    /// Takes the first entry with this key, as `take` does by position; `None` exactly if there is
+    /// none. A kind may find it without the position.
     fn take_key(&mut self, at: usize, key: Val) -> Option<Entry>
         requires { Holds (bodies self.old) at }
         ensures entry { result ≡ entry_under (entries_at (bodies self.old) at) key }
@@ -162,13 +168,15 @@ pub trait Kind: Drop {
         ensures none { IfNone result (bodies self.new ≡ bodies self.old) }
         ensures same_kind { kind self.new ≡ kind self.old };
 
-    /// Reserves room in a list for `n` more items; fails if memory runs out. The spare capacity never falls.
+    /// Reserves room in a list for `n` more items; fails if memory runs out. The spare capacity
+    /// never falls.
     fn reserve(&mut self, at: usize, n: usize) -> Result<(), AllocError>
         requires { Holds (bodies self.old) at }
         ensures ok { OnOk result (bodies self.new ≡ with_body (bodies self.old) at
             (entries_at (bodies self.old) at) (spare_at (bodies self.new) at)) }
         ensures room { kind self.old ≡ code.List → OnOk result (n ≤ spare_at (bodies self.new) at) }
-        ensures no_less { OnOk result (spare_at (bodies self.old) at ≤ spare_at (bodies self.new) at) }
+        ensures no_less { OnOk result (spare_at (bodies self.old) at ≤ spare_at (bodies self.new)
+            at) }
         ensures err { OnErr result (bodies self.new ≡ bodies self.old) }
         ensures same_kind { kind self.new ≡ kind self.old };
 
@@ -176,7 +184,8 @@ pub trait Kind: Drop {
     fn append_reserved(&mut self, at: usize, val: Val)
         requires held { Holds (bodies self.old) at }
         requires room { kind self.old ≡ code.List → 0 < spare_at (bodies self.old) at }
-        ensures appends { kind self.old ≡ code.List → bodies self.new ≡ with_body (bodies self.old) at
+        ensures appends { kind self.old ≡ code.List → bodies self.new ≡ with_body (bodies self.old)
+            at
             (entries_at (bodies self.old) at ++ item val ∷ []) (spare_at (bodies self.old) at - 1) }
         ensures others { kind self.old ≢ code.List → bodies self.new ≡ bodies self.old }
         ensures same_kind { kind self.new ≡ kind self.old };

@@ -35,7 +35,8 @@ pub fn note_reference(found: &mut [u64], count: usize, reference: Option<u64>) -
     }
 }
 
-/// Writes the references of an entry, its value's then its key's, after the first `count`, and returns the new count.
+/// Writes the references of an entry, its value's then its key's, after the first `count`, and
+/// returns the new count.
 #[inline(always)]
 pub fn note_entry(found: &mut [u64], count: usize, entry: Entry) -> usize
     requires { count + 2 ≤ length found.old }

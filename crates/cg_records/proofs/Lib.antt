@@ -3,6 +3,6 @@ pub mod Machine
 pub mod Numbers
 pub mod Options
 pub mod Read
-pub mod Small
+pub mod SmallNumbers
 pub mod Sound
 pub mod Spelled

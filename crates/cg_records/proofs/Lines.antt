@@ -151,14 +151,16 @@ one_ended (m ∷ []) (n ∷ []) x y p q l e =
 one_ended (m ∷ []) (n ∷ k ∷ ns) x y p q l e = absurd (omega arith)
 one_ended (m ∷ j ∷ ms) (n ∷ []) x y p q l e = absurd (omega arith)
 one_ended (m ∷ j ∷ ms) (n ∷ k ∷ ns) x y p q l e =
-    let one = one_number m n 32 32 (ended (j ∷ ms) ++ x) (ended (k ∷ ns) ++ y) p.0 q.0 (omega arith) (omega arith) (sym (append_assoc (decimal m) (32 ∷ ended (j ∷ ms)) x) ∙ e ∙ append_assoc (decimal n) (32 ∷ ended (k ∷ ns)) y) in
+    let one = one_number m n 32 32 (ended (j ∷ ms) ++ x) (ended (k ∷ ns) ++ y) p.0 q.0 (omega arith) (omega arith)
+    (sym (append_assoc (decimal m) (32 ∷ ended (j ∷ ms)) x) ∙ e ∙ append_assoc (decimal n) (32 ∷ ended (k ∷ ns)) y) in
     let more = one_ended (j ∷ ms) (k ∷ ns) x y p.1 q.1 (omega arith) one.2 in
     (ap (λ i. i ∷ j ∷ ms) one.0 ∙ ap (λ is. n ∷ is) more.0, more.1)
 
 -- no line's text is a prefix of another's
 pub one_line : (a b : Line) (x y : List ℕ) → IsLine a → IsLine b → line_text a ++ x ≡ line_text b ++ y → (a ≡ b) × (x ≡ y)
 one_line a b x y p q e =
-    let word = one_word (word_of a) (word_of b) (numbers_text a ++ x) (numbers_text b ++ y) (sym (append_assoc (word_text (word_of a)) (numbers_text a) x) ∙ e ∙ append_assoc (word_text (word_of b)) (numbers_text b) y) in
+    let word = one_word (word_of a) (word_of b) (numbers_text a ++ x) (numbers_text b ++ y) (sym (append_assoc (word_text (word_of a)) (numbers_text a) x) ∙ e
+    ∙ append_assoc (word_text (word_of b)) (numbers_text b) y) in
     let same : length (numbers_of a) ≡ length (numbers_of b) = length-numbers_of a ∙ ap arity word.0 ∙ sym (length-numbers_of b) in
     let behind = one_ended (numbers_of a) (numbers_of b) x y (are_small a p) (are_small b q) same (ap (λ t. t ++ x) (sym (numbers_text-is a)) ∙ word.1 ∙ ap (λ t. t ++ y) (numbers_text-is b)) in
     (sym (line_of-parts a) ∙ ap (λ w. line_of w (numbers_of a)) word.0 ∙ ap (line_of (word_of b)) behind.0 ∙ line_of-parts b, behind.1)
@@ -180,7 +182,8 @@ mark_at_most : (b : Bool) → mark_of b ≤ 1
 mark_at_most true = omega arith
 mark_at_most false = omega arith
 
-pub not_member : (bytes rest : List ℕ) → ((serial degree mark : ℕ) (x : List ℕ) → serial < 2 ^ 64 → degree < 2 ^ 64 → mark ≤ 1 → rest ≢ decimal serial ++ 32 ∷ decimal degree ++ 32 ∷ decimal mark ++ 10 ∷ x)
+pub not_member : (bytes rest : List ℕ) → ((serial degree mark : ℕ) (x : List ℕ) → serial < 2 ^ 64 → degree < 2 ^ 64 → mark ≤ 1 → rest ≢ decimal serial ++ 32
+    ∷ decimal degree ++ 32 ∷ decimal mark ++ 10 ∷ x)
     → bytes ≡ word_text words.Member ++ rest → (l : Line) (x : List ℕ) → IsLine l → bytes ≢ line_text l ++ x
 not_member bytes rest none is l x h e = let parts = line_parts words.Member l bytes rest x is e in by l h parts.0 parts.1
   where
@@ -188,7 +191,8 @@ not_member bytes rest none is l x h e = let parts = line_parts words.Member l by
     by (lines.Record g) h w t = absurd (cc)
     by lines.First h w t = absurd (cc)
     by lines.Second h w t = absurd (cc)
-    by (lines.Member serial degree legacy) h w t = none serial degree (mark_of legacy) x h.0 h.1 (mark_at_most legacy) (t ∙ regroup_line serial degree (mark_of legacy) x ∙ sym (regroup serial degree (mark_of legacy) x))
+    by (lines.Member serial degree legacy) h w t = none serial degree (mark_of legacy) x h.0 h.1 (mark_at_most legacy)
+        (t ∙ regroup_line serial degree (mark_of legacy) x ∙ sym (regroup serial degree (mark_of legacy) x))
     by (lines.Reference n) h w t = absurd (cc)
     by (lines.Lost n) h w t = absurd (cc)
     by (lines.Legacy n) h w t = absurd (cc)

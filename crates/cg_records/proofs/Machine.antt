@@ -64,7 +64,8 @@ module _ (rs : List Rec) (g : ℕ) (f : Option Graph) where
   run_members : (done ms : List Member) → run (here (graph done [] [])) (flat_map member_lines ms) ≡ Some (here (graph (done ++ ms) [] []))
   run_members done [] = ap (λ l. Some (here (graph l [] []))) (sym (append-nil done))
   run_members done (m ∷ ms) =
-      chain (here (graph (done ++ member m.serial m.degree m.legacy [] ∷ []) [] [])) (here (graph (done ++ m ∷ []) [] [])) (map lines.Reference m.refs) (flat_map member_lines ms) (Some (here (graph (done ++ m ∷ ms) [] [])))
+      chain (here (graph (done ++ member m.serial m.degree m.legacy [] ∷ []) [] [])) (here (graph (done ++ m ∷ []) [] [])) (map lines.Reference m.refs)
+      (flat_map member_lines ms) (Some (here (graph (done ++ m ∷ ms) [] [])))
       (run_references done m.serial m.degree m.legacy [] m.refs)
       (run_members (done ++ m ∷ []) ms ∙ ap (λ l. Some (here (graph l [] []))) (append_assoc done (m ∷ []) ms))
 
@@ -74,23 +75,29 @@ module _ (rs : List Rec) (g : ℕ) (f : Option Graph) where
 
   run_graph : (a : Graph) → run (here (graph [] [] [])) (graph_lines a) ≡ Some (here (graph a.members a.lost []))
   run_graph a =
-      chain (here (graph [] [] [])) (here (graph a.members [] [])) (flat_map member_lines a.members) (map lines.Lost a.lost) (Some (here (graph a.members a.lost []))) (run_members [] a.members) (run_lost a.members [] a.lost)
+      chain (here (graph [] [] [])) (here (graph a.members [] [])) (flat_map member_lines a.members) (map lines.Lost a.lost)
+      (Some (here (graph a.members a.lost []))) (run_members [] a.members) (run_lost a.members [] a.lost)
 
-run_legacy : (rs : List Rec) (g : ℕ) (ms : List Member) (lost done ns : List ℕ) → run (draft rs (Within g None (graph ms lost done))) (map lines.Legacy ns) ≡ Some (draft rs (Within g None (graph ms lost (done ++ ns))))
+run_legacy : (rs : List Rec) (g : ℕ) (ms : List Member) (lost done ns : List ℕ) → run (draft rs (Within g None (graph ms lost done))) (map lines.Legacy ns)
+    ≡ Some (draft rs (Within g None (graph ms lost (done ++ ns))))
 run_legacy rs g ms lost done [] = ap (λ l. Some (draft rs (Within g None (graph ms lost l)))) (sym (append-nil done))
 run_legacy rs g ms lost done (n ∷ ns) = run_legacy rs g ms lost (done ++ n ∷ []) ns ∙ ap (λ l. Some (draft rs (Within g None (graph ms lost l)))) (append_assoc done (n ∷ []) ns)
 
-run_rest : (rs : List Rec) (g : ℕ) (a : Graph) (second : Option Graph) → IfSome second (λ b. b.legacy ≡ []) → run (draft rs (Within g None a)) (rest_lines second) ≡ Some (draft (rs ++ recorded g a second ∷ []) Between)
+run_rest : (rs : List Rec) (g : ℕ) (a : Graph) (second : Option Graph) → IfSome second (λ b. b.legacy ≡ []) → run (draft rs (Within g None a))
+    (rest_lines second) ≡ Some (draft (rs ++ recorded g a second ∷ []) Between)
 run_rest rs g a None h = refl
 run_rest rs g a (Some b) h =
-    chain (draft rs (Within g (Some a) (graph [] [] []))) (draft rs (Within g (Some a) (graph b.members b.lost []))) (graph_lines b) (lines.Stop ∷ []) (Some (draft (rs ++ recorded g a (Some b) ∷ []) Between)) (run_graph rs g (Some a) b)
+    chain (draft rs (Within g (Some a) (graph [] [] []))) (draft rs (Within g (Some a) (graph b.members b.lost []))) (graph_lines b) (lines.Stop ∷ [])
+    (Some (draft (rs ++ recorded g a (Some b) ∷ []) Between)) (run_graph rs g (Some a) b)
     (ap (λ l. Some (draft (rs ++ recorded g a (Some (graph b.members b.lost l)) ∷ []) Between)) (sym h))
 
 run_record : (rs : List Rec) (r : Rec) → IfSome r.second (λ b. b.legacy ≡ []) → run (draft rs Between) (record_lines r) ≡ Some (draft (rs ++ r ∷ []) Between)
 run_record rs r h =
-    chain (draft rs (Within r.generation None (graph [] [] []))) (draft rs (Within r.generation None (graph r.first.members r.first.lost []))) (graph_lines r.first) (map lines.Legacy r.first.legacy ++ rest_lines r.second)
+    chain (draft rs (Within r.generation None (graph [] [] []))) (draft rs (Within r.generation None (graph r.first.members r.first.lost [])))
+    (graph_lines r.first) (map lines.Legacy r.first.legacy ++ rest_lines r.second)
     (Some (draft (rs ++ r ∷ []) Between)) (run_graph rs r.generation None r.first)
-    (chain (draft rs (Within r.generation None (graph r.first.members r.first.lost []))) (draft rs (Within r.generation None r.first)) (map lines.Legacy r.first.legacy) (rest_lines r.second) (Some (draft (rs ++ r ∷ []) Between))
+    (chain (draft rs (Within r.generation None (graph r.first.members r.first.lost []))) (draft rs (Within r.generation None r.first))
+    (map lines.Legacy r.first.legacy) (rest_lines r.second) (Some (draft (rs ++ r ∷ []) Between))
     (run_legacy rs r.generation r.first.members r.first.lost [] r.first.legacy) (run_rest rs r.generation r.first r.second h))
 
 -- only first graphs have legacy sets

@@ -77,7 +77,8 @@ no_shorter m n s x y low small e =
     elim (cases_lt (length (decimal m)) (length (decimal n))) [
       | inl lt ↦
           let digit = digits_decimal model n small (length (decimal m)) lt in
-          let there : get_or (decimal n) (length (decimal m)) 0 ≡ s = sym (get_or-append (decimal n) y 0 (length (decimal m)) lt) ∙ sym (ap (λ (l : List ℕ). get_or l (length (decimal m)) 0) e) ∙ get_or-append_seam (decimal m) s x 0 in
+          let there : get_or (decimal n) (length (decimal m)) 0 ≡ s = sym (get_or-append (decimal n) y 0 (length (decimal m)) lt)
+          ∙ sym (ap (λ (l : List ℕ). get_or l (length (decimal m)) 0) e) ∙ get_or-append_seam (decimal m) s x 0 in
           absurd (omega arith)
       | inr le ↦ le
     ]

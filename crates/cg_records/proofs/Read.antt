@@ -13,7 +13,7 @@ use Rattle.cg_records.specs.Reading.{draft, step}
 use Rattle.cg_records.specs.RecordLines.{all_lines}
 use Rattle.cg_records.proofs.Lines.{one_line}
 use Rattle.cg_records.proofs.Machine.{run, start, is_stuck, run-all_lines}
-use Rattle.cg_records.proofs.Small.{lines_fit, lines_back, are_plain}
+use Rattle.cg_records.proofs.SmallNumbers.{lines_fit, lines_back, are_plain}
 use Rattle.cg_records.proofs.Sound.{Holds, holds_start, holds_more, ended_says}
 use Rattle.cg_records.proofs.Spelled.{lines_text, spelled, AreLines, are_more, text_more, line_takes, follows}
 
@@ -73,8 +73,14 @@ module _ (bytes rest : List ℕ) (d : Draft) (h : HasRead bytes rest d) (rs : Li
 read_end : (bytes rest : List ℕ) (d : Draft) (rs : List Rec) → HasRead bytes rest d → length rest ≡ 0 → d ≡ draft rs Ended → Spells bytes rs × All IsSmall rs
 read_end bytes rest d rs h empty ended =
     let ends = ended_says h.done rs d h.holds ended in
-    let back = lines_back rs (subst AreLines (sym ends.0) h.fits) ends.1 in
-    (record { writable = back.0; text = h.says ∙ ap (λ t. lines_text h.done ++ t) (nil_from_length rest empty) ∙ append-nil (lines_text h.done) ∙ ap lines_text (sym ends.0) ∙ sym (spelled rs) }, back.1)
+    let back = lines_back rs (subst AreLines (sym ends.0) h.fits) ends.1 in (
+      record {
+        writable = back.0;
+        text = h.says ∙ ap (λ t. lines_text h.done ++ t) (nil_from_length rest empty) ∙ append-nil (lines_text h.done)
+            ∙ ap lines_text (sym ends.0) ∙ sym (spelled rs);
+      },
+      back.1,
+    )
 
 -- what holds of the draft at the end holds of the bytes
 module _ (bytes rest : List ℕ) (d : Draft) (h : HasRead bytes rest d) (empty : length rest ≡ 0) where

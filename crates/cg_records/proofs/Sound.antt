@@ -50,7 +50,8 @@ record Grows (d : Draft) (l : Line) (e : Draft) : Type 0 where
 nothing_more : (xs : List Line) → (xs ++ []) ++ [] ≡ xs
 nothing_more xs = append-nil (xs ++ []) ∙ append-nil xs
 
-reference_more : (m : Member) (old : List Member) (n : ℕ) (o : Option (List Member)) (ns : List Member) → ((rest : List Member) → o ≡ Some rest → flat_map member_lines rest ≡ flat_map member_lines old ++ lines.Reference n ∷ [])
+reference_more : (m : Member) (old : List Member) (n : ℕ) (o : Option (List Member)) (ns : List Member) → ((rest : List Member) → o ≡ Some rest
+    → flat_map member_lines rest ≡ flat_map member_lines old ++ lines.Reference n ∷ [])
     → option_map (λ rest. m ∷ rest) o ≡ Some ns → flat_map member_lines ns ≡ flat_map member_lines (m ∷ old) ++ lines.Reference n ∷ []
 reference_more m old n None ns ih e = absurd (cc)
 reference_more m old n (Some rest) ns ih e =
@@ -62,7 +63,8 @@ reference_lines [] ns n e = absurd (cc)
 reference_lines (m ∷ []) ns n e =
     let is : member m.serial m.degree m.legacy (m.refs ++ n ∷ []) ∷ [] ≡ ns = cc in
     sym (ap (flat_map member_lines) is) ∙ ap (λ t. lines.Member m.serial m.degree m.legacy ∷ (t ++ [])) (map_push lines.Reference m.refs n)
-    ∙ ap (λ t. lines.Member m.serial m.degree m.legacy ∷ t) (append-nil (map lines.Reference m.refs ++ lines.Reference n ∷ []) ∙ ap (λ t. t ++ lines.Reference n ∷ []) (sym (append-nil (map lines.Reference m.refs))))
+    ∙ ap (λ t. lines.Member m.serial m.degree m.legacy ∷ t) (append-nil (map lines.Reference m.refs ++ lines.Reference n ∷ [])
+    ∙ ap (λ t. t ++ lines.Reference n ∷ []) (sym (append-nil (map lines.Reference m.refs))))
 reference_lines (m ∷ k ∷ ms) ns n e = reference_more m (k ∷ ms) n (with_reference (k ∷ ms) n) ns (λ rest p. reference_lines (k ∷ ms) rest n p) e
 
 -- a graph gets one more line, and has no legacy set before or after
@@ -71,11 +73,13 @@ record HasMore (a : Graph) (l : Line) (b : Graph) : Type 0 where
   pub before : a.legacy ≡ []
   pub after : b.legacy ≡ []
 
-more_of_member : (ms : List Member) (lost legacy : List ℕ) (s d : ℕ) (mark : Bool) (b : Graph) → in_graph (graph ms lost legacy) (lines.Member s d mark) ≡ Some b → HasMore (graph ms lost legacy) (lines.Member s d mark) b
+more_of_member : (ms : List Member) (lost legacy : List ℕ) (s d : ℕ) (mark : Bool) (b : Graph) → in_graph (graph ms lost legacy) (lines.Member s d mark)
+    ≡ Some b → HasMore (graph ms lost legacy) (lines.Member s d mark) b
 more_of_member ms [] [] s d mark b e =
     let is : graph (ms ++ member s d mark [] ∷ []) [] [] ≡ b = cc in
     subst (HasMore (graph ms [] []) (lines.Member s d mark)) is (record {
-      says = append-nil (flat_map member_lines (ms ++ member s d mark [] ∷ [])) ∙ flat_map-append member_lines ms (member s d mark [] ∷ []) ∙ ap (λ t. t ++ lines.Member s d mark ∷ []) (sym (append-nil (flat_map member_lines ms)));
+      says = append-nil (flat_map member_lines (ms ++ member s d mark [] ∷ [])) ∙ flat_map-append member_lines ms (member s d mark [] ∷ [])
+          ∙ ap (λ t. t ++ lines.Member s d mark ∷ []) (sym (append-nil (flat_map member_lines ms)));
       before = refl;
       after = refl;
     })
@@ -116,14 +120,17 @@ module _ (rs : List Rec) (g : ℕ) where
   grows_more None a l c h =
       record {
         says =
-            ap (λ t. flat_map record_lines rs ++ lines.Record g ∷ lines.First ∷ t) (ap (λ t. graph_lines c ++ map lines.Legacy t) h.after ∙ append-nil (graph_lines c) ∙ h.says ∙ ap (λ t. t ++ l ∷ []) (sym (append-nil (graph_lines a)) ∙ ap (λ t. graph_lines a ++ map lines.Legacy t) (sym h.before)))
+            ap (λ t. flat_map record_lines rs ++ lines.Record g ∷ lines.First ∷ t) (ap (λ t. graph_lines c ++ map lines.Legacy t) h.after
+            ∙ append-nil (graph_lines c) ∙ h.says ∙ ap (λ t. t ++ l ∷ []) (sym (append-nil (graph_lines a)) ∙ ap (λ t. graph_lines a ++ map lines.Legacy t)
+            (sym h.before)))
             ∙ pushed (flat_map record_lines rs) (lines.Record g) lines.First l (full a);
         plain = λ p q. (p, tt);
       }
   grows_more (Some f) a l c h =
       record {
         says =
-            ap (λ t. flat_map record_lines rs ++ lines.Record g ∷ lines.First ∷ t) (ap (λ t. graph_lines f ++ (map lines.Legacy f.legacy ++ lines.Second ∷ t)) h.says ∙ behind (graph_lines f) (map lines.Legacy f.legacy) (graph_lines a))
+            ap (λ t. flat_map record_lines rs ++ lines.Record g ∷ lines.First ∷ t) (ap (λ t. graph_lines f ++ (map lines.Legacy f.legacy ++ lines.Second ∷ t))
+            h.says ∙ behind (graph_lines f) (map lines.Legacy f.legacy) (graph_lines a))
             ∙ pushed (flat_map record_lines rs) (lines.Record g) lines.First l (graph_lines f ++ (map lines.Legacy f.legacy ++ lines.Second ∷ graph_lines a));
         plain = λ p q. (p, h.after);
       }
@@ -143,7 +150,8 @@ module _ (rs : List Rec) (g : ℕ) where
       let is : draft rs (Within g None (graph a.members a.lost (a.legacy ++ n ∷ []))) ≡ e = cc in
       subst (Grows (draft rs (Within g None a)) (lines.Legacy n)) is (record {
         says =
-            ap (λ t. flat_map record_lines rs ++ lines.Record g ∷ lines.First ∷ t) (ap (λ t. graph_lines a ++ t) (map_push lines.Legacy a.legacy n) ∙ sym (append_assoc (graph_lines a) (map lines.Legacy a.legacy) (lines.Legacy n ∷ [])))
+            ap (λ t. flat_map record_lines rs ++ lines.Record g ∷ lines.First ∷ t) (ap (λ t. graph_lines a ++ t) (map_push lines.Legacy a.legacy n)
+            ∙ sym (append_assoc (graph_lines a) (map lines.Legacy a.legacy) (lines.Legacy n ∷ [])))
             ∙ pushed (flat_map record_lines rs) (lines.Record g) lines.First (lines.Legacy n) (full a);
         plain = λ p q. (p, tt);
       })

@@ -55,7 +55,8 @@ second_grouped g = simp append_assoc
 rest_spelled : (second : Option Graph) → rest_text second ≡ lines_text (rest_lines second)
 rest_spelled None = refl
 rest_spelled (Some g) =
-    ap (λ t. (codes "graph 2\n" ++ t) ++ codes "stop\n") (graph_spelled g) ∙ second_grouped (lines_text (graph_lines g)) ∙ ap (λ t. codes "graph 2\n" ++ t) (sym (lines_text-append (graph_lines g) (lines.Stop ∷ [])))
+    ap (λ t. (codes "graph 2\n" ++ t) ++ codes "stop\n") (graph_spelled g) ∙ second_grouped (lines_text (graph_lines g)) ∙ ap (λ t. codes "graph 2\n" ++ t)
+    (sym (lines_text-append (graph_lines g) (lines.Stop ∷ [])))
 
 record_grouped : (n g l r : List ℕ) → ((((codes "record " ++ (n ++ 10 ∷ [])) ++ codes "graph 1\n") ++ g) ++ l) ++ r ≡ (codes "record " ++ (n ++ 10 ∷ [])) ++ (codes "graph 1\n" ++ (g ++ (l ++ r)))
 record_grouped n g l r = simp append_assoc
@@ -68,7 +69,8 @@ record_spelled r =
     record_grouped (decimal r.generation) (graph_text r.first) (flat_map (numbered (codes "legacy")) r.first.legacy) (rest_text r.second)
     ∙ ap (λ t. (codes "record " ++ (decimal r.generation ++ 10 ∷ [])) ++ (codes "graph 1\n" ++ t)) behind
   where
-    behind : graph_text r.first ++ (flat_map (numbered (codes "legacy")) r.first.legacy ++ rest_text r.second) ≡ lines_text (graph_lines r.first ++ (map lines.Legacy r.first.legacy ++ rest_lines r.second))
+    behind : graph_text r.first ++ (flat_map (numbered (codes "legacy")) r.first.legacy ++ rest_text r.second)
+        ≡ lines_text (graph_lines r.first ++ (map lines.Legacy r.first.legacy ++ rest_lines r.second))
     behind =
         ap (λ t. t ++ (flat_map (numbered (codes "legacy")) r.first.legacy ++ rest_text r.second)) (graph_spelled r.first)
         ∙ ap (λ t. lines_text (graph_lines r.first) ++ (t ++ rest_text r.second)) (sym (each_line lines.Legacy (numbered (codes "legacy")) (λ n. refl) r.first.legacy))
@@ -94,7 +96,8 @@ are_more (m ∷ ls) l h k = (h.0, are_more ls l h.1 k)
 
 pub text_more : (bytes rest after : List ℕ) (ls : List Line) (l : Line) → bytes ≡ lines_text ls ++ rest → rest ≡ line_text l ++ after → bytes ≡ lines_text (ls ++ l ∷ []) ++ after
 text_more bytes rest after ls l p q =
-    p ∙ ap (λ t. lines_text ls ++ t) q ∙ sym (append_assoc (lines_text ls) (line_text l) after) ∙ ap (λ t. (lines_text ls ++ t) ++ after) (sym (append-nil (line_text l))) ∙ ap (λ t. t ++ after) (sym (lines_text-append ls (l ∷ [])))
+    p ∙ ap (λ t. lines_text ls ++ t) q ∙ sym (append_assoc (lines_text ls) (line_text l) after) ∙ ap (λ t. (lines_text ls ++ t) ++ after)
+    (sym (append-nil (line_text l))) ∙ ap (λ t. t ++ after) (sym (lines_text-append ls (l ∷ [])))
 
 some_text : (w : Word) → 0 < length (word_text w)
 some_text words.Record = omega arith
@@ -114,7 +117,8 @@ line_takes l bytes after e =
     omega (arith, ap length e, length-append (line_text l) after, length-append (word_text (word_of l)) (numbers_text l))
 
 -- if the text of lines starts with that of others, they continue after those
-pub follows : (front ls : List Line) (rest : List ℕ) → AreLines front → AreLines ls → lines_text ls ≡ lines_text front ++ rest → (more : List Line) × (ls ≡ front ++ more) × (lines_text more ≡ rest) × AreLines more
+pub follows : (front ls : List Line) (rest : List ℕ) → AreLines front → AreLines ls → lines_text ls ≡ lines_text front ++ rest → (more : List Line)
+    × (ls ≡ front ++ more) × (lines_text more ≡ rest) × AreLines more
 follows [] ls rest p q e = (ls, refl, e, q)
 follows (a ∷ front) [] rest p q e =
     let some = line_takes a (lines_text (a ∷ front) ++ rest) (lines_text front ++ rest) (append_assoc (line_text a) (lines_text front) rest) in absurd (omega (arith, ap length e))

@@ -59,7 +59,8 @@ impl Members {
 
     /// Adds a reference to the last member, and returns whether there is one.
     pub(crate) fn refer(&mut self, serial: u64) -> Result<bool, AllocError>
-        ensures { IfOk result (λ there. with_reference self.old serial ≡ cond there (Some self.new) None) }
+        ensures { IfOk result (λ there. with_reference self.old serial ≡ cond there (Some self.new)
+            None) }
     {
         match self.members.pop() {
             None => Ok(false),

@@ -6,5 +6,6 @@ ghost use Rattle.cg_records.specs.declared.graph.Rec.{Rec};
 
 /// No two lists of records share a text, so written records are read back unchanged.
 pub fn one_reading()
-    ensures { (a b : List Rec) → All IsWritable a → All IsSmall a → All IsWritable b → All IsSmall b → text a ≡ text b → a ≡ b }
+    ensures { (a b : List Rec) → All IsWritable a → All IsSmall a → All IsWritable b → All IsSmall b
+        → text a ≡ text b → a ≡ b }
 {}

@@ -47,7 +47,8 @@ pub(crate) enum Line {
 
 /// The bytes after a prefix.
 fn after<'a>(prefix: &[u8], bytes: &'a [u8]) -> Option<&'a [u8]>
-    ensures { MatchOption result ((rest : List ℕ) → bytes.now ≢ prefix.now ++ rest) (λ rest. bytes.now ≡ prefix.now ++ rest.now) }
+    ensures { MatchOption result ((rest : List ℕ) → bytes.now ≢ prefix.now ++ rest)
+        (λ rest. bytes.now ≡ prefix.now ++ rest.now) }
 {
     bytes.strip_prefix(prefix)
 }
@@ -55,7 +56,8 @@ fn after<'a>(prefix: &[u8], bytes: &'a [u8]) -> Option<&'a [u8]>
 /// The word at the front, and the bytes after it.
 fn read_word(bytes: &[u8]) -> Option<(Word, &[u8])>
     ensures found { IfSome result (λ read. bytes.now ≡ word_text read.0 ++ read.1.now) }
-    ensures none { IfNone result ((word : Word) (rest : List ℕ) → bytes.now ≢ word_text word ++ rest) }
+    ensures none { IfNone result ((word : Word) (rest : List ℕ) → bytes.now ≢ word_text word
+        ++ rest) }
 {
     if let Some(rest) = after(b"r ", bytes) {
         return Some((Word::Reference, rest));
@@ -94,7 +96,8 @@ fn read_word(bytes: &[u8]) -> Option<(Word, &[u8])>
 fn read_last(bytes: &[u8], most: u64) -> Option<(u64, &[u8])>
     ensures found { IfSome result (λ read. bytes.now ≡ decimal read.0 ++ 10 ∷ read.1.now) }
     ensures few { IfSome result (λ read. read.0 ≤ most) }
-    ensures none { IfNone result ((number : ℕ) (rest : List ℕ) → number ≤ most → bytes.now ≢ decimal number ++ 10 ∷ rest) }
+    ensures none { IfNone result ((number : ℕ) (rest : List ℕ) → number ≤ most
+        → bytes.now ≢ decimal number ++ 10 ∷ rest) }
 {
     let (number, rest) = read_number(bytes, b'\n')?;
     if most < number {
@@ -105,9 +108,11 @@ fn read_last(bytes: &[u8], most: u64) -> Option<(u64, &[u8])>
 
 /// A member's serial, degree and mark, and the bytes after the line.
 fn read_member(bytes: &[u8]) -> Option<(u64, u64, u64, &[u8])>
-    ensures found { IfSome result (λ read. bytes.now ≡ decimal read.0 ++ 32 ∷ decimal read.1 ++ 32 ∷ decimal read.2 ++ 10 ∷ read.3.now) }
+    ensures found { IfSome result (λ read. bytes.now ≡ decimal read.0 ++ 32 ∷ decimal read.1 ++ 32
+        ∷ decimal read.2 ++ 10 ∷ read.3.now) }
     ensures few { IfSome result (λ read. (read.0 < 2 ^ 64) × (read.1 < 2 ^ 64) × (read.2 ≤ 1)) }
-    ensures none { IfNone result ((serial degree mark : ℕ) (rest : List ℕ) → serial < 2 ^ 64 → degree < 2 ^ 64 → mark ≤ 1
+    ensures none { IfNone result ((serial degree mark : ℕ) (rest : List ℕ) → serial < 2 ^ 64
+        → degree < 2 ^ 64 → mark ≤ 1
         → bytes.now ≢ decimal serial ++ 32 ∷ decimal degree ++ 32 ∷ decimal mark ++ 10 ∷ rest) }
 {
     let (serial, rest) = read_number(bytes, b' ')?;
@@ -120,7 +125,8 @@ fn read_member(bytes: &[u8]) -> Option<(u64, u64, u64, &[u8])>
 pub(crate) fn read_line(bytes: &[u8]) -> Option<(Line, &[u8])>
     ensures found { IfSome result (λ read. bytes.now ≡ line_text read.0 ++ read.1.now) }
     ensures fits { IfSome result (λ read. IsLine read.0) }
-    ensures none { IfNone result ((line : Line) (rest : List ℕ) → IsLine line → bytes.now ≢ line_text line ++ rest) }
+    ensures none { IfNone result ((line : Line) (rest : List ℕ) → IsLine line
+        → bytes.now ≢ line_text line ++ rest) }
 {
     let (word, rest) = read_word(bytes)?;
     match word {

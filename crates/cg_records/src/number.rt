@@ -26,7 +26,8 @@ fn is_plain_word(word: &[u8]) -> bool
 
 /// The number with one more digit, if the byte is a digit and the result fits.
 fn with_digit(number: u64, byte: u8) -> Option<u64>
-    ensures found { IfSome result (λ more. IsInRange 48 57 byte × (more ≡ number * 10 + (byte - 48))) }
+    ensures found { IfSome result (λ more. IsInRange 48 57 byte
+        × (more ≡ number * 10 + (byte - 48))) }
     ensures fits { IfSome result (λ more. more < 2 ^ 64) }
     ensures none { IfNone result (IsInRange 48 57 byte → 2 ^ 64 ≤ number * 10 + (byte - 48)) }
 {
@@ -36,8 +37,8 @@ fn with_digit(number: u64, byte: u8) -> Option<u64>
     number.checked_mul(10)?.checked_add(u64::from(byte - b'0'))
 }
 
-/// The number that a word denotes in decimal without leading zeros; `None` if it is not one, or needs more than 64
-/// bits.
+/// The number that a word denotes in decimal without leading zeros; `None` if it is not one, or
+/// needs more than 64 bits.
 pub fn number_of_word(word: &[u8]) -> Option<u64>
     ensures found { IfSome result (λ number. word.now ≡ decimal number) }
     ensures fits { IfSome result (λ number. number < 2 ^ 64) }
@@ -58,7 +59,8 @@ pub(crate) fn read_number(bytes: &[u8], stop: u8) -> Option<(u64, &[u8])>
     requires { stop < 48 }
     ensures found { IfSome result (λ read. bytes.now ≡ decimal read.0 ++ stop ∷ read.1.now) }
     ensures fits { IfSome result (λ read. read.0 < 2 ^ 64) }
-    ensures none { IfNone result ((number : ℕ) (rest : List ℕ) → number < 2 ^ 64 → bytes.now ≢ decimal number ++ stop ∷ rest) }
+    ensures none { IfNone result ((number : ℕ) (rest : List ℕ) → number < 2 ^ 64
+        → bytes.now ≢ decimal number ++ stop ∷ rest) }
 {
     let end = place_of(bytes, stop);
     if end == bytes.len() {

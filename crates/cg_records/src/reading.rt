@@ -25,8 +25,10 @@ fn records_of(draft: Draft) -> Option<Records>
 
 /// The records whose text the bytes are, line by line.
 fn read_lines(alloc: Global, bytes: &[u8]) -> Result<Option<Records>, AllocError>
-    ensures found { IfOk result (λ read. IfSome read (λ records. Spells bytes.now records × All IsSmall records)) }
-    ensures none { IfOk result (λ read. IfNone read ((records : List Rec) → All IsSmall records → Spells bytes.now records → ⊥)) }
+    ensures found { IfOk result (λ read. IfSome read (λ records. Spells bytes.now records
+        × All IsSmall records)) }
+    ensures none { IfOk result (λ read. IfNone read ((records : List Rec) → All IsSmall records
+        → Spells bytes.now records → ⊥)) }
 {
     let mut draft = Draft {
         records: Records::new(Vec::new(alloc)),
@@ -51,11 +53,14 @@ fn read_lines(alloc: Global, bytes: &[u8]) -> Result<Option<Records>, AllocError
 /// Takes time and memory linear in the bytes. Returns `AllocError` only if memory runs out.
 pub fn read_records(alloc: Global, bytes: &[u8]) -> Result<Option<Records>, AllocError>
     // The bytes are the text of the records read.
-    ensures found { IfOk result (λ read. IfSome read (λ records. Spells bytes.now records × All IsSmall records)) }
+    ensures found { IfOk result (λ read. IfSome read (λ records. Spells bytes.now records
+        × All IsSmall records)) }
     // If the bytes are the text of some records, those are read.
-    ensures only { (records : List Rec) → Spells bytes.now records → All IsSmall records → IfOk result (λ read. read ≡ Some records) }
+    ensures only { (records : List Rec) → Spells bytes.now records → All IsSmall records
+        → IfOk result (λ read. read ≡ Some records) }
     // `None` is returned only if the bytes are the text of no records.
-    ensures none { IfOk result (λ read. IfNone read ((records : List Rec) → All IsSmall records → Spells bytes.now records → ⊥)) }
+    ensures none { IfOk result (λ read. IfNone read ((records : List Rec) → All IsSmall records
+        → Spells bytes.now records → ⊥)) }
 {
     read_lines(alloc, bytes)
 }

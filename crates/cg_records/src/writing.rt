@@ -27,7 +27,8 @@ fn put_numbered(out: &mut Vec<u8>, word: &[u8], number: u64) -> Result<(), Alloc
 
 /// Writes a line for each number.
 fn put_each(out: &mut Vec<u8>, word: &[u8], numbers: &Serials) -> Result<(), AllocError>
-    ensures { OnOk result (out.new.items ≡ out.old.items ++ flat_map (numbered word.now) numbers.now) }
+    ensures { OnOk result (out.new.items ≡ out.old.items ++ flat_map (numbered word.now)
+        numbers.now) }
 {
     'numbers: for number in numbers.as_slice() {
         put_numbered(out, word, *number)?;

@@ -38,7 +38,8 @@ adds_one counts at number within read = record {
         omega (arith, now, was, occurrences-same i at [] e)
 
 -- the next target of a row is a place
-pub adds_next : (old counts row : List ℕ) (k number : ℕ) → k < length row → get_or row k 0 < length counts → number ≡ get_or counts (get_or row k 0) 0 → Adds old (take k row) counts → Adds old (take (k + 1) row) (set counts (get_or row k 0) (number + 1))
+pub adds_next : (old counts row : List ℕ) (k number : ℕ) → k < length row → get_or row k 0 < length counts → number ≡ get_or counts (get_or row k 0) 0
+    → Adds old (take k row) counts → Adds old (take (k + 1) row) (set counts (get_or row k 0) (number + 1))
 adds_next old counts row k number inside within read h =
     subst (λ (ts : List ℕ). Adds old ts (set counts (get_or row k 0) (number + 1))) (sym (take_more row k 0 inside))
     (adds_more old counts (set counts (get_or row k 0) (number + 1)) (take k row) (get_or row k 0 ∷ []) h (adds_one counts (get_or row k 0) number within read))
@@ -47,7 +48,8 @@ adds_next old counts row k number inside within read h =
 pub adds_skip : (old counts row : List ℕ) (k : ℕ) → k < length row → length counts ≤ get_or row k 0 → Adds old (take k row) counts → Adds old (take (k + 1) row) counts
 adds_skip old counts row k inside past h =
     subst (λ (ts : List ℕ). Adds old ts counts) (sym (take_more row k 0 inside))
-    (adds_more old counts counts (take k row) (get_or row k 0 ∷ []) h (record { len = refl; adds = λ i below. omega (arith, occurrences-other i (get_or row k 0) [] (λ e. absurd (omega (arith, e, below, past)))) }))
+    (adds_more old counts counts (take k row) (get_or row k 0 ∷ []) h
+    (record { len = refl; adds = λ i below. omega (arith, occurrences-other i (get_or row k 0) [] (λ e. absurd (omega (arith, e, below, past)))) }))
 
 -- the nodes so far, and the next
 targets_suc : (marks : List Bool) (rows : List (List ℕ)) (k : ℕ) (row : List ℕ) → k < length rows → length marks ≡ length rows → row ≡ get_or rows k row
@@ -56,7 +58,8 @@ targets_suc [] rows k row within long is = absurd (omega (arith, long, within))
 targets_suc (m ∷ marks) [] k row within long is = absurd (omega (arith, within))
 targets_suc (m ∷ marks) (r ∷ rows) zero row within long is = append-nil (if m then r else []) ∙ ap (λ (x : List ℕ). if m then x else []) (sym is)
 targets_suc (m ∷ marks) (r ∷ rows) (suc k) row within long is =
-    ap (λ (ts : List ℕ). (if m then r else []) ++ ts) (targets_suc marks rows k row (omega (arith, within)) (omega (arith, long)) is) ∙ sym (append_assoc (if m then r else []) (targets_from (take k marks) (take k rows)) (if get_or marks k false then row else []))
+    ap (λ (ts : List ℕ). (if m then r else []) ++ ts) (targets_suc marks rows k row (omega (arith, within)) (omega (arith, long)) is)
+    ∙ sym (append_assoc (if m then r else []) (targets_from (take k marks) (take k rows)) (if get_or marks k false then row else []))
 
 pub targets_next : (marks : List Bool) (rows : List (List ℕ)) (k : ℕ) (row : List ℕ) → k < length rows → length marks ≡ length rows → row ≡ get_or rows k row
     → targets_from (take (k + 1) marks) (take (k + 1) rows) ≡ targets_from (take k marks) (take k rows) ++ (if get_or marks k false then row else [])
@@ -76,7 +79,8 @@ chosen true r = omega arith
 chosen false r = omega arith
 
 -- there is room for the next row
-pub room_next : (marks : List Bool) (rows : List (List ℕ)) (k : ℕ) (row : List ℕ) → k < length rows → row ≡ get_or rows k row → length (targets_from (take k marks) (take k rows)) + length row ≤ length (concat rows)
+pub room_next : (marks : List Bool) (rows : List (List ℕ)) (k : ℕ) (row : List ℕ) → k < length rows → row ≡ get_or rows k row
+    → length (targets_from (take k marks) (take k rows)) + length row ≤ length (concat rows)
 room_next marks [] k row within is = absurd (omega (arith, within))
 room_next [] (r ∷ rows) zero row within is = omega (arith, length-append r (concat rows), ap (λ (x : List ℕ). length x) is)
 room_next (m ∷ marks) (r ∷ rows) zero row within is = omega (arith, length-append r (concat rows), ap (λ (x : List ℕ). length x) is)
@@ -105,7 +109,8 @@ past_end [] i h = refl
 past_end (x ∷ xs) zero h = absurd (omega (arith, h))
 past_end (x ∷ xs) (suc i) h = past_end xs i (omega (arith, h))
 
-pub counts_room : (marks : List Bool) (rows : List (List ℕ)) (at : ℕ) (counts row : List ℕ) → at < length rows → row ≡ get_or rows at row → length (concat rows) < 2 ^ 64 → CountsTo marks rows at counts → (i : ℕ) → get_or counts i 0 + length row < 2 ^ 64
+pub counts_room : (marks : List Bool) (rows : List (List ℕ)) (at : ℕ) (counts row : List ℕ) → at < length rows → row ≡ get_or rows at row
+    → length (concat rows) < 2 ^ 64 → CountsTo marks rows at counts → (i : ℕ) → get_or counts i 0 + length row < 2 ^ 64
 counts_room marks rows at counts row within is few so i = either (le_or i (length rows))
     (λ below. omega (arith, so.each i below, few_occurrences i (targets_from (take at marks) (take at rows)), room_next marks rows at row within is, few))
     (λ past. omega (arith, past_end counts i (omega (arith, past, so.len)), room_next marks rows at row within is, few))
@@ -113,21 +118,26 @@ counts_room marks rows at counts row within is few so i = either (le_or i (lengt
     le_or : (i n : ℕ) → (i < n) ⊎ (n ≤ i)
     le_or i n = either (cases_lt i n) (λ l. inl l) (λ g. inr g)
 
-pub counts_more : (marks : List Bool) (rows : List (List ℕ)) (at : ℕ) (counts now row : List ℕ) → at < length rows → length marks ≡ length rows → row ≡ get_or rows at row → get_or marks at false ≡ true → CountsTo marks rows at counts → Adds counts row now → CountsTo marks rows (at + 1) now
+pub counts_more : (marks : List Bool) (rows : List (List ℕ)) (at : ℕ) (counts now row : List ℕ) → at < length rows → length marks ≡ length rows → row
+    ≡ get_or rows at row → get_or marks at false ≡ true → CountsTo marks rows at counts → Adds counts row now → CountsTo marks rows (at + 1) now
 counts_more marks rows at counts now row within long is mark so h = record {
   len = h.len ∙ so.len;
   each = λ i below.
       let parts : occurrences i (targets_from (take (at + 1) marks) (take (at + 1) rows)) ≡ occurrences i (targets_from (take at marks) (take at rows)) + occurrences i row =
-      ap (occurrences i) (targets_next marks rows at row within long is ∙ ap (λ b. targets_from (take at marks) (take at rows) ++ (if b then row else [])) mark) ∙ occurrences-append i (targets_from (take at marks) (take at rows)) row in
+      ap (occurrences i) (targets_next marks rows at row within long is ∙ ap (λ b. targets_from (take at marks) (take at rows) ++ (if b then row else [])) mark)
+      ∙ occurrences-append i (targets_from (take at marks) (take at rows)) row in
       omega (arith, parts, so.each i below, h.adds i (omega (arith, below, so.len)));
 }
 
-pub counts_skip : (marks : List Bool) (rows : List (List ℕ)) (at : ℕ) (counts : List ℕ) → at < length rows → length marks ≡ length rows → get_or marks at false ≡ false → CountsTo marks rows at counts → CountsTo marks rows (at + 1) counts
+pub counts_skip : (marks : List Bool) (rows : List (List ℕ)) (at : ℕ) (counts : List ℕ) → at < length rows → length marks ≡ length rows → get_or marks at false
+    ≡ false → CountsTo marks rows at counts → CountsTo marks rows (at + 1) counts
 counts_skip marks rows at counts within long mark so = record {
   len = so.len;
   each = λ i below.
       so.each i below
-      ∙ ap (occurrences i) (sym (targets_next marks rows at (get_or rows at []) within long (get_or-twice rows at) ∙ ap (λ b. targets_from (take at marks) (take at rows) ++ (if b then get_or rows at [] else [])) mark ∙ append-nil (targets_from (take at marks) (take at rows))));
+      ∙ ap (occurrences i) (sym (targets_next marks rows at (get_or rows at []) within long (get_or-twice rows at)
+      ∙ ap (λ b. targets_from (take at marks) (take at rows) ++ (if b then get_or rows at [] else [])) mark
+      ∙ append-nil (targets_from (take at marks) (take at rows))));
 }
   where
     get_or-twice : (rs : List (List ℕ)) (k : ℕ) → get_or rs k [] ≡ get_or rs k (get_or rs k [])
@@ -135,9 +145,11 @@ counts_skip marks rows at counts within long mark so = record {
     get_or-twice (r ∷ rs) zero = refl
     get_or-twice (r ∷ rs) (suc k) = get_or-twice rs k
 
-pub counts_all : (marks : List Bool) (rows : List (List ℕ)) (at : ℕ) (counts : List ℕ) → length rows ≤ at → length marks ≡ length rows → CountsTo marks rows at counts → (i : ℕ) → i < length rows → get_or counts i 0 ≡ occurrences i (targets_from marks rows)
+pub counts_all : (marks : List Bool) (rows : List (List ℕ)) (at : ℕ) (counts : List ℕ) → length rows ≤ at → length marks ≡ length rows
+    → CountsTo marks rows at counts → (i : ℕ) → i < length rows → get_or counts i 0 ≡ occurrences i (targets_from marks rows)
 counts_all marks rows at counts end long so i within =
-    so.each i within ∙ ap (λ (bs : List Bool). occurrences i (targets_from bs (take at rows))) (take_all at marks (omega (arith, long, end))) ∙ ap (λ (rs : List (List ℕ)). occurrences i (targets_from marks rs)) (take_all at rows end)
+    so.each i within ∙ ap (λ (bs : List Bool). occurrences i (targets_from bs (take at rows))) (take_all at marks (omega (arith, long, end)))
+    ∙ ap (λ (rs : List (List ℕ)). occurrences i (targets_from marks rs)) (take_all at rows end)
 
 -- the row of a node
 pub row_of_node : {N : Type 0} (f : N → List ℕ) (nodes : List N) (at : ℕ) (n : N) (row : List ℕ) → at < length nodes → n ≡ get_or nodes at n → row ≡ f n → row ≡ get_or (map f nodes) at row

@@ -120,7 +120,8 @@ trail_of found trails have o m =
     ends (Some j) t p i by e = subst (IsTrailOf o) (sym by.1.2) e
 
 -- the trail of the object at a position
-pub trail_at : (found : Findings) (trails : List (List ℕ)) → HaveTrails found trails → (i o : ℕ) (h : Option ℕ) → slice_get found i ≡ Some (o, h) → (rest : List ℕ) × (slice_get trails i ≡ Some (o ∷ rest))
+pub trail_at : (found : Findings) (trails : List (List ℕ)) → HaveTrails found trails → (i o : ℕ) (h : Option ℕ) → slice_get found i ≡ Some (o, h)
+    → (rest : List ℕ) × (slice_get trails i ≡ Some (o ∷ rest))
 trail_at found trails have i o h at = let r = have.each i (o, h) at in go h r.0 r.1 r.2
   where
     go : (k : Option ℕ) (t : List ℕ) → slice_get trails i ≡ Some t → TrailBy trails i o k t → (rest : List ℕ) × (slice_get trails i ≡ Some (o ∷ rest))
@@ -237,7 +238,8 @@ module _ (Held : ℕ → Type 0) (arrows : List Edge) where
         omega (arith, less, at_most u m)
       where
         all_lengthen : Lengthen trails
-        all_lengthen = lengthen_append h.trails longer h.lengthen (lengthen_flat (suc (length trail)) longer long) (λ t u k m. let a = h.near trail t here.1 k in let e = long u m in omega (arith, a, e))
+        all_lengthen = lengthen_append h.trails longer h.lengthen (lengthen_flat (suc (length trail)) longer long) (λ t u k m. let a = h.near trail t here.1 k
+            in let e = long u m in omega (arith, a, e))
 
     new_have : HaveTrails new trails
     new_have = subst (λ (es : Findings). HaveTrails es trails) (sym finds.is) have
@@ -252,7 +254,8 @@ module _ (Held : ℕ → Type 0) (arrows : List Edge) where
       lengthen = lengthen_append h.trails longer h.lengthen (lengthen_flat (suc (length trail)) longer long) (λ t u k m. let a = h.near trail t here.1 k in let e = long u m in omega (arith, a, e));
       within = omega (arith, low, new_length);
       near = next_near;
-      closed = λ t m p leads. either (Includes-append_cases (take place h.trails) (trail ∷ []) t (subst (λ (ts : List (List ℕ)). Includes ts t) (taken_left h.trails longer (place + 1) (omega (arith, low, h.have.many)) ∙ next_taken h.trails place trail here.1) m))
+      closed = λ t m p leads. either (Includes-append_cases (take place h.trails) (trail ∷ []) t (subst (λ (ts : List (List ℕ)). Includes ts t)
+          (taken_left h.trails longer (place + 1) (omega (arith, low, h.have.many)) ∙ next_taken h.trails place trail here.1) m))
           (λ k. let r = h.closed t k p leads in (r.0, Includes-append_left h.trails longer r.0 r.1, r.2, r.3))
           (λ k. either k (λ e. last t e p leads) (λ f. absurd f));
     }
@@ -273,7 +276,8 @@ module _ (Held : ℕ → Type 0) (arrows : List Edge) where
     leads_on [] o p e a = absurd e
     leads_on (q ∷ t) o p e a = subst (λ r. Includes arrows (record { from = r; to = p })) (sym e) a
 
-    along : (object : ℕ) (path : List ℕ) (o : ℕ) (t : List ℕ) → Includes h.trails t → IsTrailOf o t → LeadsTo arrows o path object → (u : List ℕ) × Includes h.trails u × IsTrailOf object u × (length u ≤ length t + length path)
+    along : (object : ℕ) (path : List ℕ) (o : ℕ) (t : List ℕ) → Includes h.trails t → IsTrailOf o t → LeadsTo arrows o path object → (u : List ℕ)
+        × Includes h.trails u × IsTrailOf object u × (length u ≤ length t + length path)
     along object [] o t m e leads = (t, m, subst (λ p. IsTrailOf p t) leads e, omega arith)
     along object (next ∷ path) o t m e leads =
         let r = closed_all t m next (leads_on t o next e leads.0) in
@@ -360,14 +364,16 @@ back_first found last path cursor none is low =
     (subst (λ (c : Option ℕ). HasGoneBack found last [] c) (sym is) (record { within = low; left = λ trails have trail at. (trail, at, refl) }))
 
 -- the holder of a found object comes before it
-pub back_lower : (found : Findings) (trails : List (List ℕ)) → HaveTrails found trails → (place o : ℕ) (holder : Option ℕ) → slice_get found place ≡ Some (o, holder) → (ahead_of holder < ahead_of (Some place)) × IsWithin found holder
+pub back_lower : (found : Findings) (trails : List (List ℕ)) → HaveTrails found trails → (place o : ℕ) (holder : Option ℕ) → slice_get found place
+    ≡ Some (o, holder) → (ahead_of holder < ahead_of (Some place)) × IsWithin found holder
 back_lower found trails have place o holder at = let r = have.each place (o, holder) at in go holder r.0 r.2
   where
     go : (k : Option ℕ) (t : List ℕ) → TrailBy trails place o k t → (ahead_of k < ahead_of (Some place)) × IsWithin found k
     go None t by = (omega arith, tt)
     go (Some j) t by = (omega (arith, by.0), omega (arith, by.0, slice_get_within found place (o, holder) at))
 
-pub back_more : (found : Findings) (trails : List (List ℕ)) → HaveTrails found trails → (last place o : ℕ) (holder : Option ℕ) (path new : List ℕ) → HasGoneBack found last path (Some place) → slice_get found place ≡ Some (o, holder) → new ≡ path ++ o ∷ []
+pub back_more : (found : Findings) (trails : List (List ℕ)) → HaveTrails found trails → (last place o : ℕ) (holder : Option ℕ) (path new : List ℕ)
+    → HasGoneBack found last path (Some place) → slice_get found place ≡ Some (o, holder) → new ≡ path ++ o ∷ []
     → HasGoneBack found last new holder
 back_more found trails have last place o holder path new gone at is = record {
   within = (back_lower found trails have place o holder at).1;
@@ -453,7 +459,8 @@ finds_more old mid new refs object holder a b = record {
 pub start_none : (Held : ℕ → Type 0) → ((o : ℕ) → ¬ Held o) → IsStart Held []
 start_none Held none = record { only = λ e m. absurd m; all = λ o h. absurd (none o h); once = λ o. omega arith }
 
-pub start_more : (Held Now : ℕ → Type 0) (old new : Findings) (object : ℕ) → IsStart Held old → Finds old (object ∷ []) None new → Now object → ((o : ℕ) → Held o → Now o) → ((o : ℕ) → Now o → Held o ⊎ (object ≡ o)) → IsStart Now new
+pub start_more : (Held Now : ℕ → Type 0) (old new : Findings) (object : ℕ) → IsStart Held old → Finds old (object ∷ []) None new → Now object
+    → ((o : ℕ) → Held o → Now o) → ((o : ℕ) → Now o → Held o ⊎ (object ≡ o)) → IsStart Now new
 start_more Held Now old new object a f now into out = record {
   only = λ e m. either (Includes-append_cases old f.more e (subst (λ (l : Findings). Includes l e) f.is m))
       (λ k. let r = a.only e k in (into e.0 r.0, r.1))

@@ -26,7 +26,8 @@ module _ (allowed : List Bool) where
   }
 
   -- a new target that is allowed
-  pub visits_new : (target : ℕ) (old : List Bool) (waits : List ℕ) → Marks allowed target → slice_get old target ≡ Some false → Visits (λ i. i ≡ target) allowed old waits (set old target true) (waits ++ target ∷ [])
+  pub visits_new : (target : ℕ) (old : List Bool) (waits : List ℕ) → Marks allowed target → slice_get old target ≡ Some false → Visits (λ i. i ≡ target) allowed
+      old waits (set old target true) (waits ++ target ∷ [])
   visits_new target old waits free mark = record {
     len = length-set old target true;
     marked = λ i e a. subst (λ j. Marks (set old target true) j) (sym e) now;
@@ -63,7 +64,8 @@ module _ (allowed : List Bool) where
   }
 
   -- some targets, then others
-  pub visits_more : (First Then All : ℕ → Type 0) (a b c : List Bool) (u v w : List ℕ) → Visits First allowed a u b v → Visits Then allowed b v c w → ((i : ℕ) → All i → First i ⊎ Then i) → ((i : ℕ) → First i → All i) → ((i : ℕ) → Then i → All i)
+  pub visits_more : (First Then All : ℕ → Type 0) (a b c : List Bool) (u v w : List ℕ) → Visits First allowed a u b v → Visits Then allowed b v c w
+      → ((i : ℕ) → All i → First i ⊎ Then i) → ((i : ℕ) → First i → All i) → ((i : ℕ) → Then i → All i)
       → Visits All allowed a u c w
   visits_more First Then All a b c u v w h k parts f g = record {
     len = k.len ∙ h.len;
@@ -76,7 +78,8 @@ module _ (allowed : List Bool) where
   }
 
   -- the next target of a row
-  pub visits_next : (row : List ℕ) (at d : ℕ) (a b c : List Bool) (u v w : List ℕ) → at < length row → Visits (Includes (take at row)) allowed a u b v → Visits (λ i. i ≡ get_or row at d) allowed b v c w → Visits (Includes (take (at + 1) row)) allowed a u c w
+  pub visits_next : (row : List ℕ) (at d : ℕ) (a b c : List Bool) (u v w : List ℕ) → at < length row → Visits (Includes (take at row)) allowed a u b v
+      → Visits (λ i. i ≡ get_or row at d) allowed b v c w → Visits (Includes (take (at + 1) row)) allowed a u c w
   visits_next row at d a b c u v w within h k =
       visits_more (Includes (take at row)) (λ i. i ≡ get_or row at d) (Includes (take (at + 1) row)) a b c u v w h k
       (λ i m. either (includes_more row at d i within m) (λ x. inl x) (λ e. inr (sym e)))
@@ -84,14 +87,16 @@ module _ (allowed : List Bool) where
       (λ i e. subst (λ j. Includes (take (at + 1) row) j) (sym e) (includes_last row at d within))
 
   -- the starts below a position
-  pub visits_start : (starts : List Bool) (at : ℕ) (a b c : List Bool) (u v w : List ℕ) → Marks starts at → Visits (λ i. (i < at) × Marks starts i) allowed a u b v → Visits (λ i. i ≡ at) allowed b v c w → Visits (λ i. (i < at + 1) × Marks starts i) allowed a u c w
+  pub visits_start : (starts : List Bool) (at : ℕ) (a b c : List Bool) (u v w : List ℕ) → Marks starts at → Visits (λ i. (i < at) × Marks starts i) allowed a u
+      b v → Visits (λ i. i ≡ at) allowed b v c w → Visits (λ i. (i < at + 1) × Marks starts i) allowed a u c w
   visits_start starts at a b c u v w start h k =
       visits_more (λ i. (i < at) × Marks starts i) (λ i. i ≡ at) (λ i. (i < at + 1) × Marks starts i) a b c u v w h k
       (λ i m. either (cases_eq i at) (λ e. inr e) (λ n. inl (omega (arith, m.0, n), m.1)))
       (λ i m. (omega (arith, m.0), m.1))
       (λ i e. (omega (arith, e), subst (λ j. Marks starts j) (sym e) start))
 
-  pub visits_no_start : (starts : List Bool) (at : ℕ) (a b : List Bool) (u v : List ℕ) → ¬ Marks starts at → Visits (λ i. (i < at) × Marks starts i) allowed a u b v → Visits (λ i. (i < at + 1) × Marks starts i) allowed a u b v
+  pub visits_no_start : (starts : List Bool) (at : ℕ) (a b : List Bool) (u v : List ℕ) → ¬ Marks starts at → Visits (λ i. (i < at) × Marks starts i) allowed a u
+      b v → Visits (λ i. (i < at + 1) × Marks starts i) allowed a u b v
   visits_no_start starts at a b u v none h =
       visits_more (λ i. (i < at) × Marks starts i) (λ i. ⊥) (λ i. (i < at + 1) × Marks starts i) a b b u v v h (visits_nothing (λ i. ⊥) b v (λ i f. f))
       (λ i m. either (cases_eq i at) (λ e. absurd (none (subst (λ j. Marks starts j) e m.1))) (λ n. inl (omega (arith, m.0, n), m.1)))
@@ -114,7 +119,8 @@ pub record Searches (starts allowed : List Bool) (rows : List (List ℕ)) (marks
 
 module _ (starts allowed : List Bool) (rows : List (List ℕ)) where
   -- the starts were visited
-  pub searches_first : (old marks : List Bool) (none waits : List ℕ) → old ≡ replicate (length allowed) false → none ≡ [] → Visits (Marks starts) allowed old none marks waits → Searches starts allowed rows marks waits
+  pub searches_first : (old marks : List Bool) (none waits : List ℕ) → old ≡ replicate (length allowed) false → none ≡ [] → Visits (Marks starts) allowed old
+      none marks waits → Searches starts allowed rows marks waits
   searches_first old marks none waits is nil h = record {
     len = h.len ∙ ap length is ∙ length-replicate (length allowed) false;
     led = λ i m. either (h.only i m) (λ before. absurd (unmarked (length allowed) i (ap (λ ms. slice_get ms i) (sym is) ∙ before))) (λ y. begins i y.0 y.1);
@@ -124,7 +130,8 @@ module _ (starts allowed : List Bool) (rows : List (List ℕ)) where
   }
 
   -- the row of a waiting place was visited
-  pub searches_more : (marks now : List Bool) (waits rest wait : List ℕ) (at : ℕ) (row : List ℕ) → Searches starts allowed rows marks waits → waits ≡ rest ++ at ∷ [] → slice_get rows at ≡ Some row → Visits (Includes row) allowed marks rest now wait
+  pub searches_more : (marks now : List Bool) (waits rest wait : List ℕ) (at : ℕ) (row : List ℕ) → Searches starts allowed rows marks waits → waits ≡ rest ++ at
+      ∷ [] → slice_get rows at ≡ Some row → Visits (Includes row) allowed marks rest now wait
       → Searches starts allowed rows now wait
   searches_more marks now waits rest wait at row so popped here h = record {
     len = h.len ∙ so.len;
@@ -142,7 +149,8 @@ module _ (starts allowed : List Bool) (rows : List (List ℕ)) where
       waited = so.waiting at (subst (λ (ns : List ℕ). Includes ns at) (sym popped) (Includes-append_right rest (at ∷ []) at (inl refl)))
 
   -- a place taken from the work list is a position
-  pub popped_within : (marks : List Bool) (waits rest : List ℕ) (popped : Option ℕ) (at : ℕ) → Searches starts allowed rows marks waits → waits ≡ rest ++ option_to_list popped → popped ≡ Some at → at < length allowed
+  pub popped_within : (marks : List Bool) (waits rest : List ℕ) (popped : Option ℕ) (at : ℕ) → Searches starts allowed rows marks waits → waits ≡ rest
+      ++ option_to_list popped → popped ≡ Some at → at < length allowed
   popped_within marks waits rest popped at so parts is =
       let mark = so.waiting at (subst (λ (ns : List ℕ). Includes ns at) (sym (parts ∙ ap (λ o. rest ++ option_to_list o) is)) (Includes-append_right rest (at ∷ []) at (inl refl))) in
       omega (arith, slice_get_within marks at true mark, so.len)
@@ -166,13 +174,16 @@ pub row_here : {N : Type 0} (row : N → List ℕ) (nodes : List N) (at : ℕ) (
 row_here row nodes at n within read = slice_get-map row nodes at ∙ ap (option_map row) (slice_get_read nodes (length nodes) at n refl within read)
 
 -- visiting a target whose marks are read
-pub reads_new : (allowed old : List Bool) (waits wait : List ℕ) (target : ℕ) (mark : Bool) → target < length allowed → length old ≡ length allowed → get_or allowed target false ≡ true → mark ≡ get_or old target mark → mark ≡ false → wait ≡ waits ++ target ∷ []
+pub reads_new : (allowed old : List Bool) (waits wait : List ℕ) (target : ℕ) (mark : Bool) → target < length allowed → length old ≡ length allowed
+    → get_or allowed target false ≡ true → mark ≡ get_or old target mark → mark ≡ false → wait ≡ waits ++ target ∷ []
     → Visits (λ i. i ≡ target) allowed old waits (set old target true) wait
 reads_new allowed old waits wait target mark within long free read off pushed =
     subst (λ (ns : List ℕ). Visits (λ i. i ≡ target) allowed old waits (set old target true) ns) (sym pushed)
-    (visits_new allowed target old waits (slice_get-get_or allowed target false within ∙ ap Some free) (slice_get_read old (length old) target mark refl (omega (arith, within, long)) read ∙ ap Some off))
+    (visits_new allowed target old waits (slice_get-get_or allowed target false within ∙ ap Some free) (slice_get_read old (length old) target mark refl
+    (omega (arith, within, long)) read ∙ ap Some off))
 
-pub reads_marked : (allowed old : List Bool) (waits : List ℕ) (target : ℕ) (mark : Bool) → target < length allowed → length old ≡ length allowed → mark ≡ get_or old target mark → mark ≡ true → Visits (λ i. i ≡ target) allowed old waits old waits
+pub reads_marked : (allowed old : List Bool) (waits : List ℕ) (target : ℕ) (mark : Bool) → target < length allowed → length old ≡ length allowed → mark
+    ≡ get_or old target mark → mark ≡ true → Visits (λ i. i ≡ target) allowed old waits old waits
 reads_marked allowed old waits target mark within long read on =
     visits_none allowed target old waits (λ a. slice_get_read old (length old) target mark refl (omega (arith, within, long)) read ∙ ap Some on)
 

@@ -46,7 +46,8 @@ pub record Found (allowed : List Bool) (old : Findings) (targets : List ℕ) (ho
   pub finds : Finds old (filter (is_marked allowed) targets) holder new
 
 -- a new place
-pub found_new : (allowed marks : List Bool) (old new : Findings) (t : ℕ) (holder : Option ℕ) (mark : Bool) → Agree allowed marks old → t < length allowed → get_or allowed t false ≡ true → mark ≡ get_or marks t mark → mark ≡ false → new ≡ old ++ (t, holder) ∷ []
+pub found_new : (allowed marks : List Bool) (old new : Findings) (t : ℕ) (holder : Option ℕ) (mark : Bool) → Agree allowed marks old → t < length allowed
+    → get_or allowed t false ≡ true → mark ≡ get_or marks t mark → mark ≡ false → new ≡ old ++ (t, holder) ∷ []
     → Found allowed old (t ∷ []) holder (set marks t true) new
 found_new allowed marks old new t holder mark so within free read off is = record {
   agree = record {
@@ -82,7 +83,8 @@ found_new allowed marks old new t holder mark so within free read off is = recor
         ∙ sum_by-set (λ b. cond {A = ℕ} (not b) 1 0) marks t true true (omega (arith, within, so.len))
 
 -- a place found before
-pub found_before : (allowed marks : List Bool) (old : Findings) (t : ℕ) (holder : Option ℕ) (mark : Bool) → Agree allowed marks old → t < length allowed → get_or allowed t false ≡ true → mark ≡ get_or marks t mark → mark ≡ true → Found allowed old (t ∷ []) holder marks old
+pub found_before : (allowed marks : List Bool) (old : Findings) (t : ℕ) (holder : Option ℕ) (mark : Bool) → Agree allowed marks old → t < length allowed
+    → get_or allowed t false ≡ true → mark ≡ get_or marks t mark → mark ≡ true → Found allowed old (t ∷ []) holder marks old
 found_before allowed marks old t holder mark so within free read on = record {
   agree = so;
   finds = subst (λ (ts : List ℕ). Finds old ts holder old) (sym (filter_one_yes (is_marked allowed) t free))
@@ -112,7 +114,8 @@ finds_then old mid new first then holder a b = record {
 }
 
 -- the next of a row
-pub finds_next : (allowed : List Bool) (old mid new : Findings) (row : List ℕ) (k : ℕ) (holder : Option ℕ) → k < length row → Finds old (filter (is_marked allowed) (take k row)) holder mid → Finds mid (filter (is_marked allowed) (get_or row k 0 ∷ [])) holder new
+pub finds_next : (allowed : List Bool) (old mid new : Findings) (row : List ℕ) (k : ℕ) (holder : Option ℕ) → k < length row
+    → Finds old (filter (is_marked allowed) (take k row)) holder mid → Finds mid (filter (is_marked allowed) (get_or row k 0 ∷ [])) holder new
     → Finds old (filter (is_marked allowed) (take (k + 1) row)) holder new
 finds_next allowed old mid new row k holder within a b =
     subst (λ (ts : List ℕ). Finds old ts holder new)
@@ -126,7 +129,8 @@ StartsBelow starts allowed at i = (i < at) × StartsAt starts allowed i
 pub starts_none : (starts allowed : List Bool) (found : Findings) → found ≡ [] → IsStart (StartsBelow starts allowed 0) found
 starts_none starts allowed found is = subst (λ (es : Findings). IsStart (StartsBelow starts allowed 0) es) (sym is) (start_none (StartsBelow starts allowed 0) (λ o h. absurd (omega (arith, h.0))))
 
-pub starts_more : (starts allowed : List Bool) (at : ℕ) (old new : Findings) → get_or starts at false ≡ true → IsStart (StartsBelow starts allowed at) old → Finds old (filter (is_marked allowed) (at ∷ [])) None new → IsStart (StartsBelow starts allowed (at + 1)) new
+pub starts_more : (starts allowed : List Bool) (at : ℕ) (old new : Findings) → get_or starts at false ≡ true → IsStart (StartsBelow starts allowed at) old
+    → Finds old (filter (is_marked allowed) (at ∷ [])) None new → IsStart (StartsBelow starts allowed (at + 1)) new
 starts_more starts allowed at old new start h f = either (cases_of (is_marked allowed at))
     (λ yes.
     start_more (StartsBelow starts allowed at) (StartsBelow starts allowed (at + 1)) old new at h (subst (λ (ts : List ℕ). Finds old ts None new) (filter_one_yes (is_marked allowed) at yes) f)
@@ -148,7 +152,8 @@ starts_more starts allowed at old new start h f = either (cases_of (is_marked al
     no_more [] h = refl
     no_more (e ∷ es) h = absurd (h e (inl refl))
 
-pub starts_skip : (starts allowed : List Bool) (at : ℕ) (found : Findings) → get_or starts at false ≡ false → IsStart (StartsBelow starts allowed at) found → IsStart (StartsBelow starts allowed (at + 1)) found
+pub starts_skip : (starts allowed : List Bool) (at : ℕ) (found : Findings) → get_or starts at false ≡ false → IsStart (StartsBelow starts allowed at) found
+    → IsStart (StartsBelow starts allowed (at + 1)) found
 starts_skip starts allowed at found off h =
     start_same (StartsBelow starts allowed at) (StartsBelow starts allowed (at + 1)) found h (λ i m. (omega (arith, m.0), m.1))
     (λ i m. either (cases_eq at i) (λ e. absurd (clash off (is_of_marks starts at (subst (λ j. Marks starts j) (sym e) m.1.0)))) (λ n. (omega (arith, m.0, n), m.1)))
@@ -157,7 +162,8 @@ starts_skip starts allowed at found off h =
     clash e f = absurd (cc)
 
 pub starts_all : (starts allowed : List Bool) (at : ℕ) (found : Findings) → length starts ≤ at → IsStart (StartsBelow starts allowed at) found → IsStart (StartsAt starts allowed) found
-starts_all starts allowed at found end h = start_same (StartsBelow starts allowed at) (StartsAt starts allowed) found h (λ i m. m.1) (λ i m. (omega (arith, slice_get_within starts i true m.0, end), m))
+starts_all starts allowed at found end h = start_same (StartsBelow starts allowed at) (StartsAt starts allowed) found h (λ i m. m.1)
+    (λ i m. (omega (arith, slice_get_within starts i true m.0, end), m))
 
 -- The progress of the search.
 pub record Walks (starts allowed : List Bool) (rows : List (List ℕ)) (marks : List Bool) (found : Findings) (at : ℕ) : Type 0 where
@@ -168,11 +174,13 @@ pub record Walks (starts allowed : List Bool) (rows : List (List ℕ)) (marks : 
 pub place_within : (allowed marks : List Bool) (found : Findings) (at : ℕ) (e : ℕ × Option ℕ) → Agree allowed marks found → slice_get found at ≡ Some e → e.0 < length allowed
 place_within allowed marks found at e so is = slice_get_within allowed e.0 true (so.found_allowed e.0 (Includes-map (λ (f : ℕ × Option ℕ). f.0) found e (get_in found at e is)))
 
-pub walks_more : (starts allowed : List Bool) (rows : List (List ℕ)) (marks now : List Bool) (found new : Findings) (at o : ℕ) (holder : Option ℕ) (row : List ℕ) → Walks starts allowed rows marks found at → slice_get found at ≡ Some (o, holder) → slice_get rows o ≡ Some row
+pub walks_more : (starts allowed : List Bool) (rows : List (List ℕ)) (marks now : List Bool) (found new : Findings) (at o : ℕ) (holder : Option ℕ)
+    (row : List ℕ) → Walks starts allowed rows marks found at → slice_get found at ≡ Some (o, holder) → slice_get rows o ≡ Some row
     → Agree allowed now new → Finds found (filter (is_marked allowed) row) (Some at) new → Walks starts allowed rows now new (at + 1)
 walks_more starts allowed rows marks now found new at o holder row so is here agree finds = record {
   agree = agree;
-  spread = spread_more (StartsAt starts allowed) (steps_of allowed rows) found new at o holder (filter (is_marked allowed) row) so.spread is (λ r m. step_in allowed rows o row r here m) (λ r m. step_out allowed rows o row r here m) finds;
+  spread = spread_more (StartsAt starts allowed) (steps_of allowed rows) found new at o holder (filter (is_marked allowed) row) so.spread is
+      (λ r m. step_in allowed rows o row r here m) (λ r m. step_out allowed rows o row r here m) finds;
 }
 
 -- the position of a place among the findings
@@ -183,7 +191,8 @@ found_from : (target k : ℕ) (es : Findings) (j : ℕ) → position_from (is_at
 found_from target k [] j h = absurd (cc)
 found_from target k (e ∷ es) j h = go (e.0 == target) refl h (found_from target (k + 1) es j)
   where
-    go : (b : Bool) → e.0 == target ≡ b → cond b (Some k) (position_from (is_at target) (k + 1) es) ≡ Some j → (position_from (is_at target) (k + 1) es ≡ Some j → (i : ℕ) × (j ≡ (k + 1) + i) × (slice_get (objects_in es) i ≡ Some target))
+    go : (b : Bool) → e.0 == target ≡ b → cond b (Some k) (position_from (is_at target) (k + 1) es) ≡ Some j → (position_from (is_at target) (k + 1) es ≡ Some j
+        → (i : ℕ) × (j ≡ (k + 1) + i) × (slice_get (objects_in es) i ≡ Some target))
         → (i : ℕ) × (j ≡ k + i) × (slice_get (objects_in (e ∷ es)) i ≡ Some target)
     go true is s rec = (0, (let same : k ≡ j = cc in omega (arith, same)), ap Some (eqb-true e.0 target is))
     go false is s rec = let r = rec s in (suc r.0, omega (arith, r.1), r.2)
@@ -192,7 +201,8 @@ none_from : (target k : ℕ) (es : Findings) → position_from (is_at target) k 
 none_from target k [] h m = m
 none_from target k (e ∷ es) h m = go (e.0 == target) refl h m (none_from target (k + 1) es)
   where
-    go : (b : Bool) → e.0 == target ≡ b → cond b (Some k) (position_from (is_at target) (k + 1) es) ≡ None → (e.0 ≡ target) ⊎ Includes (objects_in es) target → (position_from (is_at target) (k + 1) es ≡ None → Includes (objects_in es) target → ⊥) → ⊥
+    go : (b : Bool) → e.0 == target ≡ b → cond b (Some k) (position_from (is_at target) (k + 1) es) ≡ None → (e.0 ≡ target) ⊎ Includes (objects_in es) target
+        → (position_from (is_at target) (k + 1) es ≡ None → Includes (objects_in es) target → ⊥) → ⊥
     go true is s n rec = absurd (cc)
     go false is s (inl same) rec = let yes = eq-eqb e.0 target same in absurd (cc)
     go false is s (inr i) rec = rec s i
@@ -207,7 +217,8 @@ pub no_place : (target : ℕ) (es : Findings) → position (λ e. e.0 == target)
 no_place target es h = none_from target 0 es (sym (position_from-zero (is_at target) es) ∙ h)
 
 -- no place remains to be followed
-pub walks_over : (starts allowed : List Bool) (rows : List (List ℕ)) (marks : List Bool) (found : Findings) (at : ℕ) → Walks starts allowed rows marks found at → length found ≤ at → IsOver (StartsAt starts allowed) (steps_of allowed rows) found
+pub walks_over : (starts allowed : List Bool) (rows : List (List ℕ)) (marks : List Bool) (found : Findings) (at : ℕ) → Walks starts allowed rows marks found at
+    → length found ≤ at → IsOver (StartsAt starts allowed) (steps_of allowed rows) found
 walks_over starts allowed rows marks found at so end =
     let same : at ≡ length found = omega (arith, so.spread.within, end) in
     subst (λ n. HasSpread (StartsAt starts allowed) (steps_of allowed rows) found n) same so.spread

@@ -29,7 +29,8 @@ pub fn count_targets<N: Node>(
     requires few { length (concat (map N.points_to nodes.now)) < 2 ^ 64 }
     ensures len { IfOk result (λ counts. length counts.items ≡ length nodes.now) }
     ensures counts { IfOk result (λ counts. (i : ℕ) → i < length nodes.now
-        → slice_index counts.items i ≡ occurrences i (targets_from marks.now (map N.points_to nodes.now))) }
+        → slice_index counts.items i
+        ≡ occurrences i (targets_from marks.now (map N.points_to nodes.now))) }
 {
     let mut counts = Vec::from_elem(alloc, 0, nodes.len())?;
     'nodes: for at in 0..nodes.len() {

@@ -17,7 +17,8 @@ fn visit(
 ) -> Result<(), AllocError>
     requires within { target < length allowed.now }
     requires long { length marks.old.items ≡ length allowed.now }
-    ensures { OnOk result (Visits (λ i. i ≡ target) allowed.now marks.old.items waits.old.items marks.new.items waits.new.items) }
+    ensures { OnOk result (Visits (λ i. i ≡ target) allowed.now marks.old.items waits.old.items
+        marks.new.items waits.new.items) }
 {
     if allowed[target] && !marks[target] {
         marks[target] = true;
@@ -35,7 +36,8 @@ fn visit_row(
 ) -> Result<(), AllocError>
     requires within { (i : ℕ) → Includes row.now i → i < length allowed.now }
     requires long { length marks.old.items ≡ length allowed.now }
-    ensures { OnOk result (Visits (Includes row.now) allowed.now marks.old.items waits.old.items marks.new.items waits.new.items) }
+    ensures { OnOk result (Visits (Includes row.now) allowed.now marks.old.items waits.old.items
+        marks.new.items waits.new.items) }
 {
     'targets: for target in row {
         visit(allowed, *target, marks, waits)?;
@@ -51,7 +53,8 @@ fn visit_starts(
 ) -> Result<(), AllocError>
     requires as_many { length starts.now ≡ length allowed.now }
     requires long { length marks.old.items ≡ length allowed.now }
-    ensures { OnOk result (Visits (Marks starts.now) allowed.now marks.old.items waits.old.items marks.new.items waits.new.items) }
+    ensures { OnOk result (Visits (Marks starts.now) allowed.now marks.old.items waits.old.items
+        marks.new.items waits.new.items) }
 {
     'starts: for at in 0..starts.len() {
         if starts[at] {
@@ -70,9 +73,11 @@ pub fn reached<N: Node>(
 ) -> Result<Vec<bool>, AllocError>
     requires as_many { length starts.now ≡ length allowed.now }
     requires long { length nodes.now ≡ length allowed.now }
-    requires within { (i : ℕ) → Includes (concat (map N.points_to nodes.now)) i → i < length allowed.now }
+    requires within { (i : ℕ) → Includes (concat (map N.points_to nodes.now)) i
+        → i < length allowed.now }
     ensures len { IfOk result (λ found. length found.items ≡ length allowed.now) }
-    ensures led { IfOk result (λ found. (i : ℕ) → (Marks found.items i ↔ Leads starts.now allowed.now (map N.points_to nodes.now) i)) }
+    ensures led { IfOk result (λ found. (i : ℕ)
+        → (Marks found.items i ↔ Leads starts.now allowed.now (map N.points_to nodes.now) i)) }
 {
     let mut marks = Vec::from_elem(alloc, false, allowed.len())?;
     let mut waits = Vec::new(alloc);

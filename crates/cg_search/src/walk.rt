@@ -22,7 +22,8 @@ fn find(
     requires within { target < length allowed.now }
     requires agree { Agree allowed.now marks.old.items found.old.items }
     ensures agree { OnOk result (Agree allowed.now marks.new.items found.new.items) }
-    ensures finds { OnOk result (Finds found.old.items (filter (is_marked allowed.now) (target ∷ [])) holder found.new.items) }
+    ensures finds { OnOk result (Finds found.old.items (filter (is_marked allowed.now) (target ∷ [])) holder
+        found.new.items) }
 {
     if allowed[target] && !marks[target] {
         marks[target] = true;
@@ -42,7 +43,8 @@ fn find_row(
     requires within { (i : ℕ) → Includes row.now i → i < length allowed.now }
     requires agree { Agree allowed.now marks.old.items found.old.items }
     ensures agree { OnOk result (Agree allowed.now marks.new.items found.new.items) }
-    ensures finds { OnOk result (Finds found.old.items (filter (is_marked allowed.now) row.now) (Some holder) found.new.items) }
+    ensures finds { OnOk result (Finds found.old.items (filter (is_marked allowed.now) row.now)
+        (Some holder) found.new.items) }
 {
     'targets: for target in row {
         find(allowed, *target, Some(holder), marks, found)?;
@@ -80,8 +82,10 @@ pub(crate) fn walk<N: Node>(
 ) -> Result<Found, AllocError>
     requires as_many { length starts.now ≡ length allowed.now }
     requires long { length nodes.now ≡ length allowed.now }
-    requires within { (i : ℕ) → Includes (concat (map N.points_to nodes.now)) i → i < length allowed.now }
-    ensures { IfOk result (λ found. IsOver (StartsAt starts.now allowed.now) (steps_of allowed.now (map N.points_to nodes.now)) found.items) }
+    requires within { (i : ℕ) → Includes (concat (map N.points_to nodes.now)) i
+        → i < length allowed.now }
+    ensures { IfOk result (λ found. IsOver (StartsAt starts.now allowed.now)
+        (steps_of allowed.now (map N.points_to nodes.now)) found.items) }
 {
     let mut marks = Vec::from_elem(alloc, false, allowed.len())?;
     let mut found = Vec::new(alloc);

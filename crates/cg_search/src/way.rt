@@ -45,9 +45,12 @@ pub fn shortest_way<N: Node>(
 ) -> Result<Option<Vec<usize>>, AllocError>
     requires as_many { length starts.now ≡ length allowed.now }
     requires long { length nodes.now ≡ length allowed.now }
-    requires within { (i : ℕ) → Includes (concat (map N.points_to nodes.now)) i → i < length allowed.now }
-    ensures found { IfOk result (λ way. IfSome way (λ path. IsShortestWay starts.now allowed.now (map N.points_to nodes.now) path.items target)) }
-    ensures none { IfOk result (λ way. IfNone way (HasNoWay starts.now allowed.now (map N.points_to nodes.now) target)) }
+    requires within { (i : ℕ) → Includes (concat (map N.points_to nodes.now)) i
+        → i < length allowed.now }
+    ensures found { IfOk result (λ way. IfSome way (λ path. IsShortestWay starts.now allowed.now
+        (map N.points_to nodes.now) path.items target)) }
+    ensures none { IfOk result
+        (λ way. IfNone way (HasNoWay starts.now allowed.now (map N.points_to nodes.now) target)) }
 {
     let found = walk(alloc, starts, allowed, nodes)?;
     match position_in(&found, target) {

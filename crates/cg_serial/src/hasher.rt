@@ -9,10 +9,10 @@ pub type SerialHashing = BuildHasherDefault<SerialHasher>;
 
 /// Hashes one serial, for an `IndexMap`.
 ///
-/// Eight consecutive serials share a group of the map, which is one cache line, and differ in their tags. A
-/// multiplication spreads the groups of eight, so those of a dense range fill the map's groups evenly. The factor was
-/// chosen among about a hundred tried: it keeps the longest probes short for dense serials and for every 2nd, 3rd,
-/// 8th, 64th, 100th, 1,000th and more.
+/// Eight consecutive serials share a group of the map, which is one cache line, and differ in their
+/// tags. A multiplication spreads the groups of eight, so those of a dense range fill the map's
+/// groups evenly. The factor was chosen among about a hundred tried: it keeps the longest probes
+/// short for dense serials and for every 2nd, 3rd, 8th, 64th, 100th, 1,000th and more.
 #[derive(Clone, Copy)]
 pub struct SerialHasher {
     hash: u64,
@@ -26,7 +26,8 @@ impl Default for SerialHasher {
     }
 }
 
-/// The hash of a serial: its group of eight in the bits below the tag, its position within the group in the tag.
+/// The hash of a serial: its group of eight in the bits below the tag, its position within the
+/// group in the tag.
 #[inline(always)]
 fn spread(serial: u64) -> u64
     ensures { result ≡ spread serial }

@@ -1,8 +1,8 @@
-pub mod Cuts
-pub mod Meaning
+pub mod CutBytes
+pub mod MeaningOfLines
 pub mod Machine
 pub mod Numbers
 pub mod Read
-pub mod Rowed
+pub mod DistinctRows
 pub mod Sound
 pub mod Spelled

@@ -65,7 +65,8 @@ untold_had (k ∷ []) m words some = ap (option_map (λ rest. k ∷ rest)) (unto
 untold_had (k ∷ l ∷ ms) m words some = ap (option_map (λ rest. k ∷ rest)) (untold_had (l ∷ ms) m words some)
 
 -- the last member had none
-pub untold_given : (ms : List Member) (m : Member) (words : List ℕ) → none_in m.untold ≡ true → with_untold (ms ++ m ∷ []) words ≡ Some (ms ++ member m.degree m.size m.tracked m.legacy m.refs words ∷ [])
+pub untold_given : (ms : List Member) (m : Member) (words : List ℕ) → none_in m.untold ≡ true → with_untold (ms ++ m ∷ []) words
+    ≡ Some (ms ++ member m.degree m.size m.tracked m.legacy m.refs words ∷ [])
 untold_given [] m words none = ap (option_map (λ k. k ∷ [])) (by m.untold none)
   where
     by : (told : List ℕ) → none_in told ≡ true → told_more m told words ≡ Some (member m.degree m.size m.tracked m.legacy m.refs words)
@@ -74,14 +75,16 @@ untold_given [] m words none = ap (option_map (λ k. k ∷ [])) (by m.untold non
 untold_given (k ∷ []) m words none = ap (option_map (λ rest. k ∷ rest)) (untold_given [] m words none)
 untold_given (k ∷ l ∷ ms) m words none = ap (option_map (λ rest. k ∷ rest)) (untold_given (l ∷ ms) m words none)
 
-run_untold : (ms : List Member) (qs : List Question) (d s : ℕ) (t l : Bool) (refs words : List ℕ) → run (draft (ms ++ member d s t l refs [] ∷ []) qs Inside) (untold_lines words) ≡ Some (draft (ms ++ member d s t l refs words ∷ []) qs Inside)
+run_untold : (ms : List Member) (qs : List Question) (d s : ℕ) (t l : Bool) (refs words : List ℕ) → run (draft (ms ++ member d s t l refs [] ∷ []) qs Inside)
+    (untold_lines words) ≡ Some (draft (ms ++ member d s t l refs words ∷ []) qs Inside)
 run_untold ms qs d s t l refs [] = refl
 run_untold ms qs d s t l refs (n ∷ ns) = ap (λ o. then (option_map (λ ks. draft ks qs Inside) o) (λ e. Some e)) (untold-last ms d s t l refs (n ∷ ns))
 
 run_members : (done ms : List Member) (qs : List Question) → run (draft done qs Inside) (flat_map member_lines ms) ≡ Some (draft (done ++ ms) qs Inside)
 run_members done [] qs = ap (λ l. Some (draft l qs Inside)) (sym (append-nil done))
 run_members done (m ∷ ms) qs =
-    chain (draft (done ++ member m.degree m.size m.tracked m.legacy m.refs [] ∷ []) qs Inside) (draft (done ++ m ∷ []) qs Inside) (untold_lines m.untold) (flat_map member_lines ms) (Some (draft (done ++ m ∷ ms) qs Inside))
+    chain (draft (done ++ member m.degree m.size m.tracked m.legacy m.refs [] ∷ []) qs Inside) (draft (done ++ m ∷ []) qs Inside) (untold_lines m.untold)
+    (flat_map member_lines ms) (Some (draft (done ++ m ∷ ms) qs Inside))
     (run_untold done qs m.degree m.size m.tracked m.legacy m.refs m.untold)
     (run_members (done ++ m ∷ []) ms qs ∙ ap (λ l. Some (draft l qs Inside)) (append_assoc done (m ∷ []) ms))
 

@@ -8,7 +8,7 @@ use Rattle.cg_records.specs.Lists.{none_in}
 use Rattle.cg_records.proofs.Numbers.{AreDigits, digits_after}
 use Rattle.std.proofs.lemmas.Str.Parse.{IsNumeralModel, numerals_by_fold, tells_by_index}
 use Rattle.cg_snapshot.specs.Rows.{spaced, all_spaced, but_text, AreSmall, Lacks, IsTail}
-use Rattle.cg_snapshot.proofs.Cuts.{cut_once, tail_is_at, lacks_append}
+use Rattle.cg_snapshot.proofs.CutBytes.{cut_once, tail_is_at, lacks_append}
 
 model : IsNumeralModel AreDigits (digits_after 0)
 model = numerals_by_fold AreDigits tells_by_index digits_after (record { empty = λ n. refl; more = λ n c cs k. refl })
@@ -26,7 +26,8 @@ tails a b x y e = cc
 -- one number after a space
 pub one_spaced : (n m : ℕ) (x y : List ℕ) → n < 2 ^ 64 → m < 2 ^ 64 → IsTail x → IsTail y → spaced n ++ x ≡ spaced m ++ y → (n ≡ m) × (x ≡ y)
 one_spaced n m x y p q a b e =
-    let parts = cut_once 32 (decimal n) (decimal m) x y (decimal_lacks 32 n (omega arith) p) (decimal_lacks 32 m (omega arith) q) (tail_is_at x a) (tail_is_at y b) (tails 32 32 (decimal n ++ x) (decimal m ++ y) e) in
+    let parts = cut_once 32 (decimal n) (decimal m) x y (decimal_lacks 32 n (omega arith) p) (decimal_lacks 32 m (omega arith) q) (tail_is_at x a)
+    (tail_is_at y b) (tails 32 32 (decimal n ++ x) (decimal m ++ y) e) in
     (decimal_injective n m p q parts.0, parts.1)
 
 -- the bytes do not start with a space and a number
@@ -45,7 +46,8 @@ one_numbers [] [] x y p q a b s t e = (refl, e)
 one_numbers [] (m ∷ ms) x y p q a b s t e = absurd (s m (all_spaced ms ++ y) q.0 (tail_all ms y b) (e ∙ append_assoc (spaced m) (all_spaced ms) y))
 one_numbers (n ∷ ns) [] x y p q a b s t e = absurd (t n (all_spaced ns ++ x) p.0 (tail_all ns x a) (sym e ∙ append_assoc (spaced n) (all_spaced ns) x))
 one_numbers (n ∷ ns) (m ∷ ms) x y p q a b s t e =
-    let one = one_spaced n m (all_spaced ns ++ x) (all_spaced ms ++ y) p.0 q.0 (tail_all ns x a) (tail_all ms y b) (sym (append_assoc (spaced n) (all_spaced ns) x) ∙ e ∙ append_assoc (spaced m) (all_spaced ms) y) in
+    let one = one_spaced n m (all_spaced ns ++ x) (all_spaced ms ++ y) p.0 q.0 (tail_all ns x a) (tail_all ms y b)
+    (sym (append_assoc (spaced n) (all_spaced ns) x) ∙ e ∙ append_assoc (spaced m) (all_spaced ms) y) in
     let rest = one_numbers ns ms x y p.1 q.1 a b s t one.1 in
     (ap (λ k. k ∷ ns) one.0 ∙ ap (λ ks. m ∷ ks) rest.0, rest.1)
 
@@ -90,23 +92,28 @@ but_lacks (n ∷ ns) p = (λ e. absurd (omega (arith, e)), (λ e. absurd (omega 
 
 -- the numbers so far, and the next
 pub spaced_next : (ns : List ℕ) (k : ℕ) → k < length ns → all_spaced (take (k + 1) ns) ≡ all_spaced (take k ns) ++ spaced (get_or ns k 0)
-spaced_next ns k within = ap all_spaced (take_more ns k 0 within) ∙ flat_map-append spaced (take k ns) (get_or ns k 0 ∷ []) ∙ ap (λ t. all_spaced (take k ns) ++ t) (append-nil (spaced (get_or ns k 0)))
+spaced_next ns k within = ap all_spaced (take_more ns k 0 within) ∙ flat_map-append spaced (take k ns) (get_or ns k 0 ∷ [])
+    ∙ ap (λ t. all_spaced (take k ns) ++ t) (append-nil (spaced (get_or ns k 0)))
 
 -- a word that is not a number
-pub not_spaced : (bytes after word tail : List ℕ) (number : ℕ) (rest : List ℕ) → number < 2 ^ 64 → IsTail rest → bytes ≡ 32 ∷ after → after ≡ word ++ tail → Lacks 32 word → IsTail tail → ((n : ℕ) → n < 2 ^ 64 → word ≢ decimal n) → bytes ≢ spaced number ++ rest
+pub not_spaced : (bytes after word tail : List ℕ) (number : ℕ) (rest : List ℕ) → number < 2 ^ 64 → IsTail rest → bytes ≡ 32 ∷ after → after ≡ word ++ tail
+    → Lacks 32 word → IsTail tail → ((n : ℕ) → n < 2 ^ 64 → word ≢ decimal n) → bytes ≢ spaced number ++ rest
 not_spaced bytes after word tail number rest small is_tail space cut lacks is none same =
-    let parts = cut_once 32 word (decimal number) tail rest lacks (decimal_lacks 32 number (omega arith) small) (tail_is_at tail is) (tail_is_at rest is_tail) (sym cut ∙ tails 32 32 after (decimal number ++ rest) (sym space ∙ same)) in
+    let parts = cut_once 32 word (decimal number) tail rest lacks (decimal_lacks 32 number (omega arith) small) (tail_is_at tail is) (tail_is_at rest is_tail)
+    (sym cut ∙ tails 32 32 after (decimal number ++ rest) (sym space ∙ same)) in
     none number small parts.0
 
 -- numbers after a word `but`
-pub but_word : (bytes rest word tail but : List ℕ) → ¬ (length bytes ≡ 0) → bytes ≡ codes " but" ++ rest → rest ≡ word ++ tail → Lacks 32 word → IsTail tail → bytes ≡ but_text but → (word ≡ []) × (tail ≡ all_spaced but) × (0 < length but)
+pub but_word : (bytes rest word tail but : List ℕ) → ¬ (length bytes ≡ 0) → bytes ≡ codes " but" ++ rest → rest ≡ word ++ tail → Lacks 32 word → IsTail tail
+    → bytes ≡ but_text but → (word ≡ []) × (tail ≡ all_spaced but) × (0 < length but)
 but_word bytes rest word tail [] some begins cut lacks is same = absurd (some (ap (λ (t : List ℕ). length t) same))
 but_word bytes rest word tail (n ∷ ns) some begins cut lacks is same =
     let here : rest ≡ all_spaced (n ∷ ns) = four 32 98 117 116 rest (all_spaced (n ∷ ns)) (sym begins ∙ same) in
     let parts = cut_once 32 word [] tail (all_spaced (n ∷ ns)) lacks tt (tail_is_at tail is) refl (sym cut ∙ here) in
     (parts.0, parts.1, omega arith)
 
-pub but_numbers : (bytes rest word tail but ns left : List ℕ) → ¬ (length bytes ≡ 0) → bytes ≡ codes " but" ++ rest → rest ≡ word ++ tail → Lacks 32 word → IsTail tail → AreSmall but → bytes ≡ but_text but → tail ≡ all_spaced ns ++ left → AreSmall ns → IsTail left → Stops left → (0 < length ns) × (left ≡ [])
+pub but_numbers : (bytes rest word tail but ns left : List ℕ) → ¬ (length bytes ≡ 0) → bytes ≡ codes " but" ++ rest → rest ≡ word ++ tail → Lacks 32 word
+    → IsTail tail → AreSmall but → bytes ≡ but_text but → tail ≡ all_spaced ns ++ left → AreSmall ns → IsTail left → Stops left → (0 < length ns) × (left ≡ [])
 but_numbers bytes rest word tail but ns left some begins cut lacks is small same numbers are left_is stops =
     let parts = but_word bytes rest word tail but some begins cut lacks is same in
     let one = one_numbers ns but left [] are small left_is tt stops stops_nil (sym numbers ∙ parts.1 ∙ sym (append-nil (all_spaced but))) in

@@ -8,9 +8,9 @@ use Rattle.cg_snapshot.specs.declared.draft.Draft.{Draft}
 use Rattle.cg_snapshot.specs.Lines.{raw_line, IsLine, lines_of}
 use Rattle.cg_snapshot.specs.Reading.{draft, step}
 use Rattle.cg_snapshot.specs.Text.{text, IsWritable, Spells, Begins, HasNoFeed, Leaves, by_line, at_end, IsBadLine}
-use Rattle.cg_snapshot.proofs.Cuts.{lacks_not}
+use Rattle.cg_snapshot.proofs.CutBytes.{lacks_not}
 use Rattle.cg_snapshot.proofs.Machine.{run, start, is_stuck, run-lines_of}
-use Rattle.cg_snapshot.proofs.Meaning.{one_line}
+use Rattle.cg_snapshot.proofs.MeaningOfLines.{one_line}
 use Rattle.cg_snapshot.proofs.Sound.{snapshot, Holds, holds_start, holds_more, completes, few_members}
 use Rattle.cg_snapshot.proofs.Spelled.{lines_text, lines_text-append, spelled, AreLines, lines_append, lines_fit, raws_lack, first_line, one_more, follows}
 
@@ -29,10 +29,12 @@ read_start bytes = record { done = []; says = refl; fits = tt; holds = holds_sta
 last_line : (l : Line) → lines_text (l ∷ []) ≡ raw_line l ++ 10 ∷ []
 last_line l = append-nil (raw_line l ++ 10 ∷ [])
 
-pub read_more : (bytes rest raw after : List ℕ) (d e : Draft) (number : ℕ) (l : Line) → HasRead bytes rest d number → IsLine l → rest ≡ raw ++ 10 ∷ after → raw ≡ raw_line l → step d l ≡ Some e → HasRead bytes after e (number + 1)
+pub read_more : (bytes rest raw after : List ℕ) (d e : Draft) (number : ℕ) (l : Line) → HasRead bytes rest d number → IsLine l → rest ≡ raw ++ 10 ∷ after → raw
+    ≡ raw_line l → step d l ≡ Some e → HasRead bytes after e (number + 1)
 read_more bytes rest raw after d e number l h fits cut is s = record {
   done = h.done ++ l ∷ [];
-  says = h.says ∙ ap (λ t. lines_text h.done ++ t) (cut ∙ ap (λ t. t ++ 10 ∷ after) is ∙ sym (append_assoc (raw_line l) (10 ∷ []) after)) ∙ sym (append_assoc (lines_text h.done) (raw_line l ++ 10 ∷ []) after)
+  says = h.says ∙ ap (λ t. lines_text h.done ++ t) (cut ∙ ap (λ t. t ++ 10 ∷ after) is ∙ sym (append_assoc (raw_line l) (10 ∷ []) after))
+      ∙ sym (append_assoc (lines_text h.done) (raw_line l ++ 10 ∷ []) after)
       ∙ ap (λ t. (lines_text h.done ++ t) ++ after) (sym (last_line l)) ∙ ap (λ t. t ++ after) (sym (lines_text-append h.done (l ∷ [])));
   fits = lines_append h.done (l ∷ []) h.fits (fits, tt);
   holds = holds_more h.done d e l h.holds fits s;

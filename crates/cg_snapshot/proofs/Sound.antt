@@ -72,7 +72,8 @@ some_untold : (words : List ℕ) → 0 < length words → untold_lines words ≡
 some_untold [] h = absurd (omega (arith, h))
 some_untold (n ∷ ns) h = refl
 
-added_one : (m : Member) (told words : List ℕ) (new : List Member) → m.untold ≡ told → 0 < length words → AreSmall words → option_map (λ k. k ∷ []) (told_more m told words) ≡ Some new → Adds (m ∷ []) words new
+added_one : (m : Member) (told words : List ℕ) (new : List Member) → m.untold ≡ told → 0 < length words → AreSmall words → option_map (λ k. k ∷ [])
+    (told_more m told words) ≡ Some new → Adds (m ∷ []) words new
 added_one m (n ∷ ns) words new is some small e = absurd (cc)
 added_one m [] words new is some small e = subst (λ (ks : List Member). Adds (m ∷ []) words ks) (same_some (member m.degree m.size m.tracked m.legacy m.refs words ∷ []) new e) (record {
   says = append-nil (lines.Tells m.degree m.size m.tracked m.legacy m.refs ∷ untold_lines words) ∙ ap (λ t. lines.Tells m.degree m.size m.tracked m.legacy m.refs ∷ t) (some_untold words some)
@@ -80,7 +81,8 @@ added_one m [] words new is some small e = subst (λ (ks : List Member). Adds (m
   fit = λ h. (record { degree = h.0.degree; size = h.0.size; refs = h.0.refs; untold = small }, tt);
 })
 
-added_more : (m : Member) (old : List Member) (words : List ℕ) (o : Option (List Member)) (new : List Member) → ((rest : List Member) → o ≡ Some rest → Adds old words rest) → option_map (λ rest. m ∷ rest) o ≡ Some new → Adds (m ∷ old) words new
+added_more : (m : Member) (old : List Member) (words : List ℕ) (o : Option (List Member)) (new : List Member) → ((rest : List Member) → o ≡ Some rest
+    → Adds old words rest) → option_map (λ rest. m ∷ rest) o ≡ Some new → Adds (m ∷ old) words new
 added_more m old words None new ih e = absurd (cc)
 added_more m old words (Some rest) new ih e =
     let h = ih rest refl in
@@ -94,7 +96,8 @@ added [] words new some small e = absurd (cc)
 added (m ∷ []) words new some small e = added_one m m.untold words new refl some small e
 added (m ∷ k ∷ ms) words new some small e = added_more m (k ∷ ms) words (with_untold (k ∷ ms) words) new (λ rest is. added (k ∷ ms) words rest some small is) e
 
-inside_adds : (done : List Line) (ms : List Member) (qs : List Question) (words : List ℕ) (e : Draft) (o : Option (List Member)) → done ≡ lines.Opens ∷ flat_map member_lines ms → AllByRecursion IsSmallMember ms → qs ≡ []
+inside_adds : (done : List Line) (ms : List Member) (qs : List Question) (words : List ℕ) (e : Draft) (o : Option (List Member)) → done ≡ lines.Opens
+    ∷ flat_map member_lines ms → AllByRecursion IsSmallMember ms → qs ≡ []
     → ((new : List Member) → o ≡ Some new → Adds ms words new) → option_map (λ ks. draft ks qs Inside) o ≡ Some e → Grows done (lines.Adds words) e
 inside_adds done ms qs words e None says fit none h is = absurd (cc)
 inside_adds done ms qs words e (Some new) says fit none h is =
@@ -114,9 +117,11 @@ numbers_of Untold h = tt
 
 asks_more : (ms : List Member) (qs : List Question) (q : Question) → lines_of (snapshot ms qs) ++ lines.Asks q ∷ [] ≡ lines_of (snapshot ms (qs ++ q ∷ []))
 asks_more ms qs q =
-    ap (λ t. lines.Opens ∷ t) (append_assoc (flat_map member_lines ms) (lines.Closes ∷ map lines.Asks qs) (lines.Asks q ∷ []) ∙ ap (λ t. flat_map member_lines ms ++ lines.Closes ∷ t) (sym (map_push lines.Asks qs q)))
+    ap (λ t. lines.Opens ∷ t) (append_assoc (flat_map member_lines ms) (lines.Closes ∷ map lines.Asks qs) (lines.Asks q ∷ [])
+    ∙ ap (λ t. flat_map member_lines ms ++ lines.Closes ∷ t) (sym (map_push lines.Asks qs q)))
 
-behind_asks : (done : List Line) (ms : List Member) (qs : List Question) (q : Question) (e : Draft) (b : Bool) → is_asked (length ms) q ≡ b → done ≡ lines_of (snapshot ms qs) → AllByRecursion IsSmallMember ms → AllByRecursion (IsAsked (length ms)) qs → IsSmallQuestion q
+behind_asks : (done : List Line) (ms : List Member) (qs : List Question) (q : Question) (e : Draft) (b : Bool) → is_asked (length ms) q ≡ b → done
+    ≡ lines_of (snapshot ms qs) → AllByRecursion IsSmallMember ms → AllByRecursion (IsAsked (length ms)) qs → IsSmallQuestion q
     → cond b (Some (draft ms (qs ++ q ∷ []) Behind)) None ≡ Some e → Grows done (lines.Asks q) e
 behind_asks done ms qs q e false asked says fit all small is = absurd (cc)
 behind_asks done ms qs q e true asked says fit all small is =
@@ -125,7 +130,8 @@ behind_asks done ms qs q e true asked says fit all small is =
       fit = (fit, all_push (IsAsked (length ms)) qs q all (of_asked (length ms) q (numbers_of q small) asked));
     })
 
-grows : (done : List Line) (ms : List Member) (qs : List Question) (s : Stage) (l : Line) (e : Draft) → done ≡ lines_in s ms qs → IsFit s ms qs → IsLine l → step (draft ms qs s) l ≡ Some e → Grows done l e
+grows : (done : List Line) (ms : List Member) (qs : List Question) (s : Stage) (l : Line) (e : Draft) → done ≡ lines_in s ms qs → IsFit s ms qs → IsLine l
+    → step (draft ms qs s) l ≡ Some e → Grows done l e
 grows done ms qs Before lines.Opens e says fit line is = grown done lines.Opens (draft ms qs Inside) e is (record {
   says = ap (λ t. t ++ lines.Opens ∷ []) says ∙ ap (λ (ks : List Member). lines.Opens ∷ flat_map member_lines ks) (sym fit.0);
   fit = (subst (λ (ks : List Member). AllByRecursion IsSmallMember ks) (sym fit.0) tt, fit.1);
@@ -161,7 +167,13 @@ holds_more done d e l h line is =
 -- every draft can be completed to a text
 pub completes : (done : List Line) (ms : List Member) (qs : List Question) (s : Stage) → done ≡ lines_in s ms qs → IsFit s ms qs
     → (rs : List Question) × (more : List Line) × (lines_of (snapshot ms rs) ≡ done ++ more) × AllByRecursion IsSmallMember ms × AllByRecursion (IsAsked (length ms)) rs
-completes done ms qs Before says fit = ([], lines_of (snapshot ms []), ap (λ t. t ++ lines_of (snapshot ms [])) (sym says), subst (λ (ks : List Member). AllByRecursion IsSmallMember ks) (sym fit.0) tt, tt)
+completes done ms qs Before says fit = (
+  [],
+  lines_of (snapshot ms []),
+  ap (λ t. t ++ lines_of (snapshot ms [])) (sym says),
+  subst (λ (ks : List Member). AllByRecursion IsSmallMember ks) (sym fit.0) tt,
+  tt,
+)
 completes done ms qs Inside says fit = ([], lines.Closes ∷ [], ap (λ t. t ++ lines.Closes ∷ []) (sym says), fit.0, tt)
 completes done ms qs Behind says fit = (qs, [], sym says ∙ sym (append-nil done), fit.0, fit.1)
 

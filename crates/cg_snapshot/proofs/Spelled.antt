@@ -11,9 +11,9 @@ use Rattle.cg_snapshot.specs.declared.line.Line.TheVariants as lines
 use Rattle.cg_snapshot.specs.Rows.{spaced, all_spaced, but_text, AreSmall}
 use Rattle.cg_snapshot.specs.Text.{member_numbers, untold_text, member_text, question_text, text, IsSmallMember, AreMembers, IsAsked, IsWritable, HasNoFeed, ended}
 use Rattle.cg_snapshot.specs.Lines.{row_of, raw_line, IsLine, IsSmallQuestion, untold_lines, member_lines, lines_of}
-use Rattle.cg_snapshot.proofs.Cuts.{cut_once}
-use Rattle.cg_snapshot.proofs.Rowed.{row_lacks}
-use Rattle.cg_snapshot.proofs.Meaning.{line_row, one_line}
+use Rattle.cg_snapshot.proofs.CutBytes.{cut_once}
+use Rattle.cg_snapshot.proofs.DistinctRows.{row_lacks}
+use Rattle.cg_snapshot.proofs.MeaningOfLines.{line_row, one_line}
 
 -- the text of lines
 abbrev pub lines_text : List Line → List ℕ
@@ -96,7 +96,11 @@ members_fit [] h = tt
 members_fit (m ∷ ms) h = lines_append (member_lines m) (flat_map member_lines ms) ((h.0.degree, h.0.size, h.0.refs), untold_fits m.untold h.0.untold) (members_fit ms h.1)
 
 pub lines_fit : (s : Snapshot) → IsWritable s → AreLines (lines_of s)
-lines_fit s w = (tt, lines_append (flat_map member_lines s.members) (lines.Closes ∷ map lines.Asks s.questions) (members_fit s.members w.members) (tt, questions_fit (length s.members) s.questions w.few w.questions))
+lines_fit s w = (
+  tt,
+  lines_append (flat_map member_lines s.members) (lines.Closes ∷ map lines.Asks s.questions) (members_fit s.members w.members)
+      (tt, questions_fit (length s.members) s.questions w.few w.questions),
+)
 
 -- a line contains no line feed
 pub line_lacks : (l : Line) → IsLine l → HasNoFeed (raw_line l)
@@ -119,7 +123,8 @@ pub one_more : (l : Line) (ls : List Line) → lines_text (l ∷ ls) ≡ raw_lin
 one_more l ls = append_assoc (raw_line l) (10 ∷ []) (lines_text ls)
 
 -- if the text of lines starts with that of others, they continue after those
-pub follows : (front ls : List Line) (rest : List ℕ) → AreLines front → AreLines ls → lines_text ls ≡ lines_text front ++ rest → (more : List Line) × (ls ≡ front ++ more) × (lines_text more ≡ rest) × AreLines more
+pub follows : (front ls : List Line) (rest : List ℕ) → AreLines front → AreLines ls → lines_text ls ≡ lines_text front ++ rest → (more : List Line)
+    × (ls ≡ front ++ more) × (lines_text more ≡ rest) × AreLines more
 follows [] ls rest p q e = (ls, refl, e, q)
 follows (a ∷ front) [] rest p q e = absurd (nothing (raw_line a) (lines_text front ++ rest) (e ∙ ap (λ t. t ++ rest) (one_more a front) ∙ append_assoc (raw_line a) (10 ∷ lines_text front) rest))
   where
@@ -127,7 +132,8 @@ follows (a ∷ front) [] rest p q e = absurd (nothing (raw_line a) (lines_text f
     nothing [] ys f = absurd (cc)
     nothing (x ∷ xs) ys f = absurd (cc)
 follows (a ∷ front) (b ∷ ls) rest p q e =
-    let one = first_line (raw_line b) (lines_text ls) (lines_text front ++ rest) a (line_lacks b q.0) p.0 (sym (one_more b ls) ∙ e ∙ ap (λ t. t ++ rest) (one_more a front) ∙ append_assoc (raw_line a) (10 ∷ lines_text front) rest) in
+    let one = first_line (raw_line b) (lines_text ls) (lines_text front ++ rest) a (line_lacks b q.0) p.0 (sym (one_more b ls) ∙ e
+    ∙ ap (λ t. t ++ rest) (one_more a front) ∙ append_assoc (raw_line a) (10 ∷ lines_text front) rest) in
     let same : b ≡ a = one_line b a q.0 p.0 one.0 in
     let more = follows front ls rest p.1 q.1 one.1 in
     (more.0, ap (λ l. l ∷ ls) same ∙ ap (λ t. a ∷ t) more.1, more.2, more.3)

@@ -35,7 +35,8 @@ fn all_below(count: usize, places: &[usize]) -> bool
     places.iter().all(|place| *place < count)
 }
 
-/// Whether a question is about members, given how many there are, and no path question excludes its own end.
+/// Whether a question is about members, given how many there are, and no path question excludes its
+/// own end.
 fn is_asked_of(count: usize, question: &Question) -> bool
     ensures { result ≡ is_asked count question.now }
 {

@@ -89,7 +89,8 @@ impl Members {
 
     /// Gives the last member its untold words; returns whether there is a last member without any.
     pub(crate) fn add_untold(&mut self, untold: Places) -> Result<bool, AllocError>
-        ensures { IfOk result (λ there. with_untold self.old untold ≡ cond there (Some self.new) None) }
+        ensures { IfOk result (λ there. with_untold self.old untold ≡ cond there (Some self.new)
+            None) }
     {
         match self.members.pop() {
             None => Ok(false),

@@ -17,7 +17,8 @@ const TOO_MANY_BYTES: u64 = 68_719_476_736;
 pub(crate) enum Line {
     /// The heap begins.
     Opens,
-    /// A member: in-degree, bytes, whether it is tracked, whether its class has a legacy finalizer, references.
+    /// A member: in-degree, bytes, whether it is tracked, whether its class has a legacy finalizer,
+    /// references.
     Tells(u64, u64, bool, bool, Places),
     /// The untold words of the last member.
     Adds(Places),
@@ -140,7 +141,8 @@ fn line_of(alloc: Global, row: Row) -> Result<Option<Line>, AllocError>
 pub(crate) fn read_line(alloc: Global, raw: &[u8]) -> Result<Option<Line>, AllocError>
     ensures found { IfOk result (λ read. IfSome read (λ line. raw.now ≡ raw_line line)) }
     ensures fits { IfOk result (λ read. IfSome read (λ line. IsLine line)) }
-    ensures none { IfOk result (λ read. IfNone read ((line : Line) → IsLine line → raw.now ≢ raw_line line)) }
+    ensures none { IfOk result (λ read. IfNone read ((line : Line) → IsLine line
+        → raw.now ≢ raw_line line)) }
 {
     match read_row(alloc, raw)? {
         Some(row) => line_of(alloc, row),

@@ -16,7 +16,8 @@ pub(crate) fn cut_word(bytes: &[u8]) -> (&[u8], &[u8])
 
 /// The bytes after a prefix.
 pub(crate) fn after<'a>(prefix: &[u8], bytes: &'a [u8]) -> Option<&'a [u8]>
-    ensures { MatchOption result ((rest : List ℕ) → bytes.now ≢ prefix.now ++ rest) (λ rest. bytes.now ≡ prefix.now ++ rest.now) }
+    ensures { MatchOption result ((rest : List ℕ) → bytes.now ≢ prefix.now ++ rest)
+        (λ rest. bytes.now ≡ prefix.now ++ rest.now) }
 {
     bytes.strip_prefix(prefix)
 }
@@ -26,7 +27,8 @@ pub(crate) fn read_spaced(bytes: &[u8]) -> Option<(u64, &[u8])>
     ensures found { IfSome result (λ read. bytes.now ≡ spaced read.0 ++ read.1.now) }
     ensures tail { IfSome result (λ read. IsTail read.1.now) }
     ensures fits { IfSome result (λ read. read.0 < 2 ^ 64) }
-    ensures none { IfNone result ((number : ℕ) (rest : List ℕ) → number < 2 ^ 64 → IsTail rest → bytes.now ≢ spaced number ++ rest) }
+    ensures none { IfNone result ((number : ℕ) (rest : List ℕ) → number < 2 ^ 64 → IsTail rest
+        → bytes.now ≢ spaced number ++ rest) }
 {
     let behind = after(b" ", bytes)?;
     let (word, rest) = cut_word(behind);

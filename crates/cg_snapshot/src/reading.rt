@@ -43,7 +43,8 @@ fn snapshot_of(draft: Draft) -> Option<Snapshot>
     }
 }
 
-/// Reads the snapshot whose text the bytes are, or reports the first line with which no text continues.
+/// Reads the snapshot whose text the bytes are, or reports the first line with which no text
+/// continues.
 ///
 /// Takes time and memory linear in the bytes. `AllocError` means memory ran out.
 pub fn read_snapshot(alloc: Global, bytes: &[u8]) -> Result<Reading, AllocError>

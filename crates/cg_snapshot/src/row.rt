@@ -76,7 +76,8 @@ fn read_numbers(alloc: Global, bytes: &[u8]) -> Result<(Places, &[u8]), AllocErr
     ensures found { IfOk result (λ read. bytes.now ≡ all_spaced read.0 ++ read.1.now) }
     ensures small { IfOk result (λ read. AreSmall read.0) }
     ensures tail { IfOk result (λ read. IsTail read.1.now) }
-    ensures stops { IfOk result (λ read. (number : ℕ) (rest : List ℕ) → number < 2 ^ 64 → IsTail rest → read.1.now ≢ spaced number ++ rest) }
+    ensures stops { IfOk result (λ read. (number : ℕ) (rest : List ℕ) → number < 2 ^ 64
+        → IsTail rest → read.1.now ≢ spaced number ++ rest) }
 {
     let mut numbers = Places::new(Vec::new(alloc));
     let mut rest = bytes;
@@ -91,7 +92,8 @@ fn read_numbers(alloc: Global, bytes: &[u8]) -> Result<(Places, &[u8]), AllocErr
 fn read_but(alloc: Global, bytes: &[u8]) -> Result<Option<Places>, AllocError>
     ensures found { IfOk result (λ read. IfSome read (λ but. bytes.now ≡ but_text but)) }
     ensures small { IfOk result (λ read. IfSome read (λ but. AreSmall but)) }
-    ensures none { IfOk result (λ read. IfNone read ((but : List ℕ) → AreSmall but → bytes.now ≢ but_text but)) }
+    ensures none { IfOk result (λ read. IfNone read ((but : List ℕ) → AreSmall but
+        → bytes.now ≢ but_text but)) }
 {
     if bytes.is_empty() {
         return Ok(Some(Places::new(Vec::new(alloc))));
@@ -115,7 +117,8 @@ fn read_but(alloc: Global, bytes: &[u8]) -> Result<Option<Places>, AllocError>
 pub(crate) fn read_row(alloc: Global, raw: &[u8]) -> Result<Option<Row>, AllocError>
     ensures found { IfOk result (λ read. IfSome read (λ row. raw.now ≡ raw_of row)) }
     ensures fits { IfOk result (λ read. IfSome read (λ row. IsRow row)) }
-    ensures none { IfOk result (λ read. IfNone read ((row : Row) → IsRow row → raw.now ≢ raw_of row)) }
+    ensures none { IfOk result (λ read. IfNone read ((row : Row) → IsRow row
+        → raw.now ≢ raw_of row)) }
 {
     let (word, tail) = cut_word(raw);
     let Some(kind) = read_kind(word) else {

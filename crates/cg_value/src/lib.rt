@@ -1,7 +1,7 @@
 //! The basic types of the object graph: values, entries, kinds, places and interned texts.
 //!
-//! The layers above rest on one contract: an interned text has one number, its first position, and `Names::text`
-//! returns it.
+//! The layers above rest on one contract: an interned text has one number, its first position, and
+//! `Names::text` returns it.
 #![tactic(auto)]
 
 mod names;
@@ -23,8 +23,8 @@ pub enum Val {
 
 /// An entry of an object: an item, a key with its value, an attribute, a cell, or a callback.
 ///
-/// Items of lists and tuples, cells of functions and the callback of a weak reference have the key `None`; an
-/// attribute has its name as key.
+/// Items of lists and tuples, cells of functions and the callback of a weak reference have the key
+/// `None`; an attribute has its name as key.
 #[derive(Clone, Copy, Debug, PartialEq, Eq, Drop)]
 pub struct Entry {
     pub key: Val,
@@ -47,8 +47,9 @@ pub enum KindCode {
 
 /// Where the collector keeps an object. Each object is in exactly one place.
 ///
-/// The generations and the permanent generation are CPython's (`gc` manual). The sets of a running collection are this
-/// project's names for what the developer guide calls the unreachable list, and for its parts.
+/// The generations and the permanent generation are CPython's (`gc` manual). The sets of a running
+/// collection are this project's names for what the developer guide calls the unreachable list, and
+/// for its parts.
 #[derive(Clone, Copy, Debug, PartialEq, Eq, Drop)]
 pub enum Place {
     /// Not tracked by the collector.

@@ -11,7 +11,8 @@ use std::marker::Model;
 /// The number of guesses.
 const GUESSES: usize = 64;
 
-/// The index of a text's guess. Texts may share a guess; it then holds the number of the last one interned.
+/// The index of a text's guess. Texts may share a guess; it then holds the number of the last one
+/// interned.
 ///
 /// Most names differ in their last byte, as numbered names do, so all its bits count.
 #[inline(always)]
@@ -33,8 +34,8 @@ fn guess_place(text: &str) -> usize
 pub struct Names {
     alloc: Global,
     texts: IndexSet<String>,
-    // A text's likely number, by its `guess_place`. A wrong guess is harmless: the text is looked up. It saves time,
-    // since most texts were read a moment ago.
+    // A text's likely number, by its `guess_place`. A wrong guess is harmless: the text is looked
+    // up. It saves time, since most texts were read a moment ago.
     guesses: [u32; GUESSES],
 }
 

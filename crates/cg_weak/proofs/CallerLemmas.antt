@@ -37,12 +37,14 @@ module _ (rows : List Row) (rise : IsRising rows) where
   -- the newest weak reference to an object refers to it
   pub newest_refers : (o w : ℕ) → slice_get (weak_references_in rows o) 0 ≡ Some w → referent_in rows w ≡ Some o
   newest_refers o w is =
-      refers o w (last_passes (PassesBoth (refers_to o) (λ v. true) rows) (find (λ v. true) (weak_references_in rows o)) w (find_first (weak_references_in rows o) ∙ is) (last_found (refers_to o) (λ v. true) rows rise)).0
+      refers o w (last_passes (PassesBoth (refers_to o) (λ v. true) rows) (find (λ v. true) (weak_references_in rows o)) w
+      (find_first (weak_references_in rows o) ∙ is) (last_found (refers_to o) (λ v. true) rows rise)).0
 
   -- the newest that waits with an object waits with it
   pub newest_waits : (o w : ℕ) → slice_get (waiting_in rows o) 0 ≡ Some w → waited_in rows w ≡ Some o
   newest_waits o w is =
-      waits o w (last_passes (PassesBoth (waits_with o) (λ v. true) rows) (find (λ v. true) (waiting_in rows o)) w (find_first (waiting_in rows o) ∙ is) (last_found (waits_with o) (λ v. true) rows rise)).0
+      waits o w (last_passes (PassesBoth (waits_with o) (λ v. true) rows) (find (λ v. true) (waiting_in rows o)) w (find_first (waiting_in rows o) ∙ is)
+      (last_found (waits_with o) (λ v. true) rows rise)).0
 
   -- the next older weak reference has the same referent and is older
   pub older_refers : (o w v : ℕ) → referent_in rows w ≡ Some o → next_older_in rows w ≡ Some v → (referent_in rows v ≡ Some o) × (v < w)
@@ -72,7 +74,8 @@ above_all test low [] above = All-nil (λ v. low < v)
 above_all test low (r ∷ rows) above = go (test r) refl (above_all test low rows (All-tail (λ x. low < x.weak) r rows above))
   where
     go : (b : Bool) → test r ≡ b → All (λ v. low < v) (newest_first test rows) → All (λ v. low < v) (newest_first test (r ∷ rows))
-    go true is rest = subst (All (λ v. low < v)) (sym (newest_first-cons test r rows true is)) (All-push (λ v. low < v) (newest_first test rows) r.weak rest (All-head (λ x. low < x.weak) r rows above))
+    go true is rest = subst (All (λ v. low < v)) (sym (newest_first-cons test r rows true is)) (All-push (λ v. low < v) (newest_first test rows) r.weak rest
+        (All-head (λ x. low < x.weak) r rows above))
     go false is rest = subst (All (λ v. low < v)) (sym (newest_first-cons test r rows false is)) rest
 
 falling-newest_first : (test : Row → Bool) (rows : List Row) → IsRising rows → IsFalling (newest_first test rows)
@@ -110,7 +113,8 @@ find-there (x ∷ front) w back = go (x == w) refl (find-there front w back)
 -- each weak reference of the list refers to the object
 pub each_refers : (rows : List Row) (o w : ℕ) (front back : List ℕ) → IsRising rows → weak_references_in rows o ≡ front ++ w ∷ back → referent_in rows w ≡ Some o
 each_refers rows o w front back rise is =
-    refers rows rise o w (last_passes (PassesBoth (refers_to o) (λ v. v == w) rows) (find (λ v. v == w) (weak_references_in rows o)) w (ap (find (λ v. v == w)) is ∙ find-there front w back) (last_found (refers_to o) (λ v. v == w) rows rise)).0
+    refers rows rise o w (last_passes (PassesBoth (refers_to o) (λ v. v == w) rows) (find (λ v. v == w) (weak_references_in rows o)) w
+    (ap (find (λ v. v == w)) is ∙ find-there front w back) (last_found (refers_to o) (λ v. v == w) rows rise)).0
 
 -- a walk steps from each element to the next
 pub walk_goes_on : (rows : List Row) (o w : ℕ) (front back : List ℕ) → IsRising rows → weak_references_in rows o ≡ front ++ w ∷ back → next_older_in rows w ≡ slice_get back 0
@@ -120,6 +124,7 @@ walk_goes_on rows o w front back rise is =
     ∙ find-below front w back (subst IsFalling is (falling-newest_first (refers_to o) rows rise))
 
 -- a property of each row that does not depend on waiting survives `clear`
-pub each-cleared : (P : Row → Type 0) → ((r : Row) → P r → P (waiting_row r)) → (weak : ℕ) (wait : Bool) (rows : List Row) → All P rows → All P (if wait then with_row_waiting weak rows else without_row weak rows)
+pub each-cleared : (P : Row → Type 0) → ((r : Row) → P r → P (waiting_row r)) → (weak : ℕ) (wait : Bool) (rows : List Row) → All P rows
+    → All P (if wait then with_row_waiting weak rows else without_row weak rows)
 each-cleared P kept weak true rows each = each-waiting P kept weak rows each
 each-cleared P kept weak false rows each = each-without P weak rows each

@@ -87,7 +87,8 @@ the_node None k is = absurd (cc)
 the_node (Some n) k is = (n, refl)
 
 -- a neighbour has a node
-neighbour : (node : ℕ → Option Node) (before : ℕ → ℕ → Type 0) (w : ℕ) (k : Chain) (after : Option ℕ) (v : ℕ) → IsLast before (λ u. (chain_in (node u) ≡ Some k) × before u w) after → after ≡ Some v → (n : Node) × (node v ≡ Some n)
+neighbour : (node : ℕ → Option Node) (before : ℕ → ℕ → Type 0) (w : ℕ) (k : Chain) (after : Option ℕ) (v : ℕ) → IsLast before (λ u. (chain_in (node u) ≡ Some k)
+    × before u w) after → after ≡ Some v → (n : Node) × (node v ≡ Some n)
 neighbour node before w k None v last is = absurd (cc)
 neighbour node before w k (Some x) v (here, others) is =
     let found = the_node (node x) k here.0 in
@@ -133,11 +134,13 @@ module _ (node new : ℕ → Option Node) (ends new_ends : Chain → Ends) (w : 
             ap newer_in (other_node v differs) ∙ newer-tied_here n.newer n.older n.older n.newer v (node v) next_to found.0 found.1 ∙ sym (ap newer_in is))
             (λ v differs elsewhere. ap newer_in (other_node v differs) ∙ newer-tied_elsewhere n.newer n.older n.older n.newer v (node v) elsewhere)
             sound.newer;
-        newest = λ j. left_ended below down (λ v. chain_in (node v)) (λ v. chain_in (new v)) w (n.referent, n.waits) has_left (λ v. older_in (node v)) (λ i. (ends i).newest) (λ i. (new_ends i).newest) n.newer newer_last
+        newest = λ j. left_ended below down (λ v. chain_in (node v)) (λ v. chain_in (new v)) w (n.referent, n.waits) has_left (λ v. older_in (node v))
+            (λ i. (ends i).newest) (λ i. (new_ends i).newest) n.newer newer_last
             (ap (λ (e : Ends). e.newest) here_are ∙ ap (λ x. at_end n.newer x (ends (n.referent, n.waits)).newest) (sym (ap older_in is)))
             (λ i differs. ap (λ (e : Ends). e.newest) (others_are i differs))
             sound.older sound.newest j (same_chain j (n.referent, n.waits));
-        oldest = λ j. left_ended above up (λ v. chain_in (node v)) (λ v. chain_in (new v)) w (n.referent, n.waits) has_left (λ v. newer_in (node v)) (λ i. (ends i).oldest) (λ i. (new_ends i).oldest) n.older older_last
+        oldest = λ j. left_ended above up (λ v. chain_in (node v)) (λ v. chain_in (new v)) w (n.referent, n.waits) has_left (λ v. newer_in (node v))
+            (λ i. (ends i).oldest) (λ i. (new_ends i).oldest) n.older older_last
             (ap (λ (e : Ends). e.oldest) here_are ∙ ap (λ x. at_end n.older x (ends (n.referent, n.waits)).oldest) (sym (ap newer_in is)))
             (λ i differs. ap (λ (e : Ends). e.oldest) (others_are i differs))
             sound.newer sound.oldest j (same_chain j (n.referent, n.waits));
@@ -177,14 +180,16 @@ module _ (node new : ℕ → Option Node) (ends new_ends : Chain → Ends) (w : 
   pub come_sound : IsSound new new_ends
   come_sound =
       record {
-        older = come_linked below down (λ v. chain_in (node v)) (λ v. chain_in (new v)) w (n.referent, n.waits) has_come (λ v. older_in (node v)) (λ v. older_in (new v)) n.newer n.older newer_last older_last
+        older = come_linked below down (λ v. chain_in (node v)) (λ v. chain_in (new v)) w (n.referent, n.waits) has_come (λ v. older_in (node v))
+            (λ v. older_in (new v)) n.newer n.older newer_last older_last
             (ap older_in here_is ∙ older-tied_elsewhere n.newer (Some w) n.older (Some w) w (Some n) newer_apart)
             (λ v differs next_to.
             let found = neighbour node above w (n.referent, n.waits) n.newer v newer_last next_to in
             ap older_in (other_is v differs) ∙ older-tied_here n.newer (Some w) n.older (Some w) v (node v) next_to found.0 found.1)
             (λ v differs elsewhere. ap older_in (other_is v differs) ∙ older-tied_elsewhere n.newer (Some w) n.older (Some w) v (node v) elsewhere)
             sound.older;
-        newer = come_linked above up (λ v. chain_in (node v)) (λ v. chain_in (new v)) w (n.referent, n.waits) has_come (λ v. newer_in (node v)) (λ v. newer_in (new v)) n.older n.newer older_last newer_last
+        newer = come_linked above up (λ v. chain_in (node v)) (λ v. chain_in (new v)) w (n.referent, n.waits) has_come (λ v. newer_in (node v))
+            (λ v. newer_in (new v)) n.older n.newer older_last newer_last
             (ap newer_in here_is ∙ newer-tied_elsewhere n.newer (Some w) n.older (Some w) w (Some n) older_apart)
             (λ v differs next_to.
             let found = neighbour node below w (n.referent, n.waits) n.older v older_last next_to in

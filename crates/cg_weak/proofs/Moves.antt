@@ -100,7 +100,8 @@ module _ (before : ℕ → ℕ → Type 0) (way : IsWay before) (chain new : ℕ
         let x_before : before x v = beyond.1 v (is, first) (λ same. differs (ap Some (sym same))) in
         way.never w (way.along w x w beyond.0.1 (rest x (beyond.0.0, x_before) (λ same. apart w x beyond.0.1 (sym same))))
 
-    kept : (v : ℕ) (j : Chain) (after at : Option ℕ) → Beyond after → after ≢ Some v → chain v ≡ Some j → IsLast before (λ u. (chain u ≡ Some j) × before u v) at → IsLast before (λ u. (new u ≡ Some j) × before u v) at
+    kept : (v : ℕ) (j : Chain) (after at : Option ℕ) → Beyond after → after ≢ Some v → chain v ≡ Some j → IsLast before (λ u. (chain u ≡ Some j) × before u v)
+        at → IsLast before (λ u. (new u ≡ Some j) × before u v) at
     kept v j after None beyond differs is none = λ u in_new. none u ((was u j in_new.0).1, in_new.1)
     kept v j after (Some y) beyond differs is (here, others) =
         let not_gone : y ≢ w = λ same.
@@ -135,7 +136,8 @@ module _ (before : ℕ → ℕ → Type 0) (way : IsWay before) (chain new : ℕ
             (kept v j (Some x) (next v) beyond other old.1 (linked v j old.1))
 
     -- the end of the chain that w left
-    end_left : (after at end : Option ℕ) → Beyond after → IsLast before (λ u. (chain u ≡ Some k) × before u w) at → IsLast before (λ u. chain u ≡ Some k) end → IsLast before (λ u. new u ≡ Some k) (at_end after at end)
+    end_left : (after at end : Option ℕ) → Beyond after → IsLast before (λ u. (chain u ≡ Some k) × before u w) at → IsLast before (λ u. chain u ≡ Some k) end
+        → IsLast before (λ u. new u ≡ Some k) (at_end after at end)
     end_left None None end beyond none last = λ u is. let old = was u k is in elim (way.either u w old.0) [
       | inl lower ↦ none u (old.1, lower)
       | inr higher ↦ beyond u (old.1, higher)
@@ -212,7 +214,8 @@ module _ (before : ℕ → ℕ → Type 0) (way : IsWay before) (chain new : ℕ
     between v (Some x) beyond differs is first =
         (x, beyond.0.0, beyond.0.1, beyond.1 v (is, first) (λ same. differs (ap Some (sym same))))
 
-    unmoved : (v : ℕ) (j : Chain) (after at : Option ℕ) → Beyond after → after ≢ Some v → chain v ≡ Some j → IsLast before (λ u. (chain u ≡ Some j) × before u v) at → IsLast before (λ u. (new u ≡ Some j) × before u v) at
+    unmoved : (v : ℕ) (j : Chain) (after at : Option ℕ) → Beyond after → after ≢ Some v → chain v ≡ Some j → IsLast before (λ u. (chain u ≡ Some j)
+        × before u v) at → IsLast before (λ u. (new u ≡ Some j) × before u v) at
     unmoved v j after None beyond differs is none = λ u in_new. elim (since u j in_new.0) [
       | inl same ↦
           let found = between v after beyond differs (is ∙ ap Some (sym same.1)) (subst (λ x. before x v) same.0 in_new.1) in

@@ -90,7 +90,8 @@ last_found test p (x ∷ rows) rise = go (test x) refl (p x.weak) refl (last_fou
     weaks : List ℕ
     weaks = map (λ r. r.weak) (filter test rows)
 
-    go : (b : Bool) → test x ≡ b → (d : Bool) → p x.weak ≡ d → IsLast below (PassesBoth test p rows) (find p (newest_first test rows)) → IsLast below (PassesBoth test p (x ∷ rows)) (find p (newest_first test (x ∷ rows)))
+    go : (b : Bool) → test x ≡ b → (d : Bool) → p x.weak ≡ d → IsLast below (PassesBoth test p rows) (find p (newest_first test rows))
+        → IsLast below (PassesBoth test p (x ∷ rows)) (find p (newest_first test (x ∷ rows)))
     go false fails d is rest =
         subst (λ b. IsLast below (PassesBoth test p (x ∷ rows)) (find p (reverse (map (λ r. r.weak) (cond b (x ∷ filter test rows) (filter test rows)))))) (sym fails)
         (skips test p x rows rise.0 (find p (reverse weaks)) (λ yes also. absurd (cc)) rest)
@@ -102,7 +103,8 @@ last_found test p (x ∷ rows) rise = go (test x) refl (p x.weak) refl (last_fou
     go true passed false not_too rest =
         subst (λ b. IsLast below (PassesBoth test p (x ∷ rows)) (find p (reverse (map (λ r. r.weak) (cond b (x ∷ filter test rows) (filter test rows)))))) (sym passed)
         (subst (IsLast below (PassesBoth test p (x ∷ rows)))
-        (sym (ap (find p) (reverse-append (x.weak ∷ []) weaks) ∙ find-append p (reverse weaks) (x.weak ∷ []) ∙ ap (λ b. option_or (find p (reverse weaks)) (cond b (Some x.weak) None)) not_too ∙ or_none (find p (reverse weaks))))
+        (sym (ap (find p) (reverse-append (x.weak ∷ []) weaks) ∙ find-append p (reverse weaks) (x.weak ∷ [])
+        ∙ ap (λ b. option_or (find p (reverse weaks)) (cond b (Some x.weak) None)) not_too ∙ or_none (find p (reverse weaks))))
         (skips test p x rows rise.0 (find p (reverse weaks)) (λ yes also. absurd (cc)) rest))
 
 pub find_first : (xs : List ℕ) → find (λ v. true) xs ≡ slice_get xs 0
@@ -161,7 +163,8 @@ module _ (nodes : List (ℕ × Node)) (rows : List Row) (rows_are : rows_of node
   pub older_is : (k : Chain) (w : ℕ) (a : Option ℕ) → IsLast below (λ v. (chain_at nodes v ≡ Some k) × below v w) a → a ≡ find (λ v. nat_lt v w) (newest_first (among k) rows)
   older_is k w a last =
       one_last (PassesBoth (among k) (λ v. nat_lt v w) rows) a (find (λ v. nat_lt v w) (newest_first (among k) rows))
-      (last_same below (λ v. (chain_at nodes v ≡ Some k) × below v w) (PassesBoth (among k) (λ v. nat_lt v w) rows) a (λ v is. (in_chain k v is.0, lt-ltb v w is.1)) (λ v is. (of_chain k v is.0, ltb-true v w is.1)) last)
+      (last_same below (λ v. (chain_at nodes v ≡ Some k) × below v w) (PassesBoth (among k) (λ v. nat_lt v w) rows) a
+      (λ v is. (in_chain k v is.0, lt-ltb v w is.1)) (λ v is. (of_chain k v is.0, ltb-true v w is.1)) last)
       (last_found (among k) (λ v. nat_lt v w) rows rows_rise)
 
   -- the referent of a weak reference, by its node

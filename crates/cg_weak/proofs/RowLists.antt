@@ -148,7 +148,8 @@ row_at-append (x ∷ rows) r weak lower =
         → row_at (x ∷ rows ++ r ∷ []) weak ≡ cond (r.weak == weak) (Some r) (row_at (x ∷ rows) weak)
     go (inl same) here rest =
         ap (λ b. cond b (Some x) (row_at (rows ++ r ∷ []) weak)) (eq-eqb x.weak weak same)
-        ∙ sym (ap (λ b. cond b (Some r) (row_at (x ∷ rows) weak)) (ne_eqb r.weak weak (λ e. absurd (omega (arith, e, same, here)))) ∙ ap (λ b. cond b (Some x) (row_at rows weak)) (eq-eqb x.weak weak same))
+        ∙ sym (ap (λ b. cond b (Some r) (row_at (x ∷ rows) weak)) (ne_eqb r.weak weak (λ e. absurd (omega (arith, e, same, here))))
+        ∙ ap (λ b. cond b (Some x) (row_at rows weak)) (eq-eqb x.weak weak same))
     go (inr differs) here rest =
         row_at-tail x (rows ++ r ∷ []) weak differs ∙ rest ∙ ap (cond (r.weak == weak) (Some r)) (sym (row_at-tail x rows weak differs))
 

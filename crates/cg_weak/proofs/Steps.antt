@@ -65,7 +65,8 @@ module _ (nodes new : List (ℕ × Node)) (w : ℕ) (n : Node) (is : node_in nod
   left_fields chains now with sound with_is chains_are =
       left_sound (node_in nodes) (node_in new) (ends_at chains) (ends_at now) w n is sound nodes_are
       (ap (λ x. ends_of x n.waits) (chains_are n.referent) ∙ ends_here (chains_of chains) n.referent n.waits (ends_without n.newer n.older (ends_at chains (n.referent, n.waits))) with with_is)
-      (λ j differs. ap (λ x. ends_of x j.1) (chains_are j.0) ∙ ends_elsewhere (chains_of chains) n.referent n.waits (ends_without n.newer n.older (ends_at chains (n.referent, n.waits))) with with_is j differs)
+      (λ j differs. ap (λ x. ends_of x j.1) (chains_are j.0) ∙ ends_elsewhere (chains_of chains) n.referent n.waits
+      (ends_without n.newer n.older (ends_at chains (n.referent, n.waits))) with with_is j differs)
 
 -- all rows are below w
 none_at : (w : ℕ) (rows : List Row) → AllBelow w rows → row_at rows w ≡ None
@@ -134,7 +135,8 @@ pub come_fields : (nodes new : List (ℕ × Node)) (w : ℕ) (n : Node) (chains 
 come_fields nodes new w n chains now with nowhere sound newer_last older_last nodes_are with_is chains_are =
     come_sound (node_in nodes) (node_in new) (ends_at chains) (ends_at now) w n nowhere sound newer_last older_last nodes_are
     (ap (λ x. ends_of x n.waits) (chains_are n.referent) ∙ ends_here (chains_of chains) n.referent n.waits (ends_joined n.newer w n.older (ends_at chains (n.referent, n.waits))) with with_is)
-    (λ j differs. ap (λ x. ends_of x j.1) (chains_are j.0) ∙ ends_elsewhere (chains_of chains) n.referent n.waits (ends_joined n.newer w n.older (ends_at chains (n.referent, n.waits))) with with_is j differs)
+    (λ j differs. ap (λ x. ends_of x j.1) (chains_are j.0) ∙ ends_elsewhere (chains_of chains) n.referent n.waits
+    (ends_joined n.newer w n.older (ends_at chains (n.referent, n.waits))) with with_is j differs)
 
 -- A row moves from the chain of those not waiting to the waiting chain.
 module _ (nodes new : List (ℕ × Node)) (w o : ℕ) (was_newer was_older newer older : Option ℕ) where
@@ -148,7 +150,9 @@ module _ (nodes new : List (ℕ × Node)) (w o : ℕ) (was_newer was_older newer
   mid v = if nat_eq w v then None else tied was_newer was_older was_older was_newer v (node_in nodes v)
 
   module _ (is : node_in nodes w ≡ Some (record { referent = o; waits = false; newer = was_newer; older = was_older }))
-      (nodes_are : (v : ℕ) → node_in new v ≡ tied newer (Some w) older (Some w) v (if nat_eq w v then Some (record { referent = o; waits = true; newer = newer; older = older }) else tied was_newer was_older was_older was_newer v (node_in nodes v))) where
+      (nodes_are : (v : ℕ) → node_in new v ≡ tied newer (Some w) older (Some w) v (if nat_eq w v
+      then Some (record { referent = o; waits = true; newer = newer; older = older }) else tied was_newer was_older was_older was_newer v
+      (node_in nodes v))) where
     pub moved_rows : (rows : List Row) → rows_of nodes ≡ rows → rows_of new ≡ with_row_waiting w rows
     moved_rows rows rows_are =
         same_as new (with_row_waiting w rows) (rising-waiting w rows (rows_rise nodes rows rows_are)) (λ v.
@@ -163,7 +167,8 @@ module _ (nodes new : List (ℕ × Node)) (w o : ℕ) (was_newer was_older newer
         unmoved v (Some m) = refl
 
         go : (v : ℕ) → (w ≡ v) ⊎ (w ≢ v)
-            → option_map (row_of v) (if nat_eq w v then Some now_node else tied was_newer was_older was_older was_newer v (node_in nodes v)) ≡ option_map (λ r. if nat_eq w v then waiting_row r else r) (option_map (row_of v) (node_in nodes v))
+            → option_map (row_of v) (if nat_eq w v then Some now_node else tied was_newer was_older was_older was_newer v (node_in nodes v))
+            ≡ option_map (λ r. if nat_eq w v then waiting_row r else r) (option_map (row_of v) (node_in nodes v))
         go v (inl same) =
             ap (λ b. option_map (row_of v) (if b then Some now_node else tied was_newer was_older was_older was_newer v (node_in nodes v))) (eq-eqb w v same)
             ∙ sym ((λ i. option_map (λ r. if eq-eqb w v same i then waiting_row r else r) (option_map (row_of v) (node_in nodes v)))
@@ -196,7 +201,8 @@ module _ (nodes new : List (ℕ × Node)) (w o : ℕ) (was_newer was_older newer
           (ends_elsewhere (chains_of chains) o false (ends_without was_newer was_older (chains_of chains o).current) mid_chains refl)
 
       -- the future neighbours are the same after the row leaves
-      mid_last : (before : ℕ → ℕ → Type 0) → ((v : ℕ) → before v w → v ≢ w) → (a : Option ℕ) → IsLast before (λ v. (chain_at nodes v ≡ Some (o, true)) × before v w) a → IsLast before (λ v. (chain_in (mid v) ≡ Some (o, true)) × before v w) a
+      mid_last : (before : ℕ → ℕ → Type 0) → ((v : ℕ) → before v w → v ≢ w) → (a : Option ℕ) → IsLast before (λ v. (chain_at nodes v ≡ Some (o, true))
+          × before v w) a → IsLast before (λ v. (chain_in (mid v) ≡ Some (o, true)) × before v w) a
       mid_last before apart a last =
           last_same before (λ v. (chain_at nodes v ≡ Some (o, true)) × before v w) (λ v. (chain_in (mid v) ≡ Some (o, true)) × before v w) a
           (λ v in_k. (left.others v (apart v in_k.1) ∙ in_k.0, in_k.1))
@@ -206,7 +212,8 @@ module _ (nodes new : List (ℕ × Node)) (w o : ℕ) (was_newer was_older newer
       mid_nodes : (v : ℕ) → node_in new v ≡ tied newer (Some w) older (Some w) v (if nat_eq w v then Some now_node else mid v)
       mid_nodes v = nodes_are v ∙ ap (tied newer (Some w) older (Some w) v) (go (nat_eq w v))
         where
-          go : (b : Bool) → (if b then Some now_node else tied was_newer was_older was_older was_newer v (node_in nodes v)) ≡ (if b then Some now_node else (if b then None else tied was_newer was_older was_older was_newer v (node_in nodes v)))
+          go : (b : Bool) → (if b then Some now_node else tied was_newer was_older was_older was_newer v (node_in nodes v))
+              ≡ (if b then Some now_node else (if b then None else tied was_newer was_older was_older was_newer v (node_in nodes v)))
           go true = refl
           go false = refl
 

@@ -112,7 +112,8 @@ pub fn chains_at(chains: &IndexMap<u64, Chains, SerialHashing>, referent: u64) -
 /// Writes the chains of an object; there is room for them.
 pub fn add_chains(chains: &mut IndexMap<u64, Chains, SerialHashing>, referent: u64, with: Chains)
     requires { 0 < spare chains.old }
-    ensures chains { (o : ℕ) → chains_in (lookup (nat_eq o) chains.new.entries) ≡ (if nat_eq referent o then with else chains_in (lookup (nat_eq o) chains.old.entries)) }
+    ensures chains { (o : ℕ) → chains_in (lookup (nat_eq o) chains.new.entries)
+        ≡ (if nat_eq referent o then with else chains_in (lookup (nat_eq o) chains.old.entries)) }
     ensures room { spare chains.old ≤ spare chains.new + 1 }
 {
     match chains.insert(referent, with) {
@@ -124,7 +125,8 @@ pub fn add_chains(chains: &mut IndexMap<u64, Chains, SerialHashing>, referent: u
 /// Writes the chains of an object that has some, and removes them if both are empty.
 pub fn write_chains(chains: &mut IndexMap<u64, Chains, SerialHashing>, referent: u64, with: Chains)
     requires { IsSome (lookup (nat_eq referent) chains.old.entries) }
-    ensures chains { (o : ℕ) → chains_in (lookup (nat_eq o) chains.new.entries) ≡ (if nat_eq referent o then with else chains_in (lookup (nat_eq o) chains.old.entries)) }
+    ensures chains { (o : ℕ) → chains_in (lookup (nat_eq o) chains.new.entries)
+        ≡ (if nat_eq referent o then with else chains_in (lookup (nat_eq o) chains.old.entries)) }
     ensures room { spare chains.old ≤ spare chains.new }
 {
     if with.is_empty() {

@@ -1,7 +1,7 @@
 //! The table of weak references: each one's referent, and which wait for their callback.
 //!
-//! The layers above rest on one value: the list of the rows in ascending order of weak reference. They never see the
-//! two chains of neighbours of each object, one for the rows that wait.
+//! The layers above rest on one value: the list of the rows in ascending order of weak reference.
+//! They never see the two chains of neighbours of each object, one for the rows that wait.
 #![tactic(auto)]
 
 mod chains;

@@ -1,6 +1,7 @@
 //! The stored rows: each with its neighbours, under its weak reference.
 //!
-//! A chain has the rows of one referent that wait, or those that do not, in descending order of weak reference.
+//! A chain has the rows of one referent that wait, or those that do not, in descending order of
+//! weak reference.
 ghost use Rattle.std.specs.Prelude.{◌≡◌, ℕ, ◌+◌, ◌<◌, ◌≤◌, nat_eq, if◌then◌else◌, IsSome, Some, None};
 ghost use Rattle.std.specs.Map.{lookup};
 ghost use Rattle.indexmap.specs.IndexMap.{spare};
@@ -32,7 +33,8 @@ pub fn node_at(nodes: &IndexMap<u64, Node, SerialHashing>, weak: u64) -> Node
 /// Adds a row; there is room for it.
 pub fn add_node(nodes: &mut IndexMap<u64, Node, SerialHashing>, weak: u64, node: Node)
     requires { 0 < spare nodes.old }
-    ensures nodes { (v : ℕ) → lookup (nat_eq v) nodes.new.entries ≡ (if nat_eq weak v then Some node else lookup (nat_eq v) nodes.old.entries) }
+    ensures nodes { (v : ℕ) → lookup (nat_eq v) nodes.new.entries
+        ≡ (if nat_eq weak v then Some node else lookup (nat_eq v) nodes.old.entries) }
     ensures room { spare nodes.old ≤ spare nodes.new + 1 }
 {
     match nodes.insert(weak, node) {
@@ -44,7 +46,8 @@ pub fn add_node(nodes: &mut IndexMap<u64, Node, SerialHashing>, weak: u64, node:
 /// Writes another row for a weak reference that has one.
 pub fn write_node(nodes: &mut IndexMap<u64, Node, SerialHashing>, weak: u64, node: Node)
     requires { IsSome (lookup (nat_eq weak) nodes.old.entries) }
-    ensures nodes { (v : ℕ) → lookup (nat_eq v) nodes.new.entries ≡ (if nat_eq weak v then Some node else lookup (nat_eq v) nodes.old.entries) }
+    ensures nodes { (v : ℕ) → lookup (nat_eq v) nodes.new.entries
+        ≡ (if nat_eq weak v then Some node else lookup (nat_eq v) nodes.old.entries) }
     ensures room { spare nodes.new ≡ spare nodes.old }
 {
     if let Some(place) = nodes.get_mut(&weak) {
@@ -54,7 +57,8 @@ pub fn write_node(nodes: &mut IndexMap<u64, Node, SerialHashing>, weak: u64, nod
 
 /// Removes the row of a weak reference.
 pub fn remove_node(nodes: &mut IndexMap<u64, Node, SerialHashing>, weak: u64)
-    ensures nodes { (v : ℕ) → lookup (nat_eq v) nodes.new.entries ≡ (if nat_eq weak v then None else lookup (nat_eq v) nodes.old.entries) }
+    ensures nodes { (v : ℕ) → lookup (nat_eq v) nodes.new.entries
+        ≡ (if nat_eq weak v then None else lookup (nat_eq v) nodes.old.entries) }
     ensures room { spare nodes.old ≤ spare nodes.new }
 {
     nodes.swap_remove(&weak);
@@ -62,7 +66,8 @@ pub fn remove_node(nodes: &mut IndexMap<u64, Node, SerialHashing>, weak: u64)
 
 /// Sets the next older row of a weak reference, if there is one.
 fn set_older(nodes: &mut IndexMap<u64, Node, SerialHashing>, at: Option<u64>, older: Option<u64>)
-    ensures nodes { (v : ℕ) → lookup (nat_eq v) nodes.new.entries ≡ older_set at older v (lookup (nat_eq v) nodes.old.entries) }
+    ensures nodes { (v : ℕ) → lookup (nat_eq v) nodes.new.entries
+        ≡ older_set at older v (lookup (nat_eq v) nodes.old.entries) }
     ensures room { spare nodes.new ≡ spare nodes.old }
 {
     if let Some(at) = at {
@@ -74,7 +79,8 @@ fn set_older(nodes: &mut IndexMap<u64, Node, SerialHashing>, at: Option<u64>, ol
 
 /// Sets the next newer row of a weak reference, if there is one.
 fn set_newer(nodes: &mut IndexMap<u64, Node, SerialHashing>, at: Option<u64>, newer: Option<u64>)
-    ensures nodes { (v : ℕ) → lookup (nat_eq v) nodes.new.entries ≡ newer_set at newer v (lookup (nat_eq v) nodes.old.entries) }
+    ensures nodes { (v : ℕ) → lookup (nat_eq v) nodes.new.entries
+        ≡ newer_set at newer v (lookup (nat_eq v) nodes.old.entries) }
     ensures room { spare nodes.new ≡ spare nodes.old }
 {
     if let Some(at) = at {
@@ -86,7 +92,8 @@ fn set_newer(nodes: &mut IndexMap<u64, Node, SerialHashing>, at: Option<u64>, ne
 
 /// Makes two rows neighbours when the row between them leaves. Either may be missing.
 pub fn tie(nodes: &mut IndexMap<u64, Node, SerialHashing>, newer: Option<u64>, older: Option<u64>)
-    ensures nodes { (v : ℕ) → lookup (nat_eq v) nodes.new.entries ≡ newer_set older newer v (older_set newer older v (lookup (nat_eq v) nodes.old.entries)) }
+    ensures nodes { (v : ℕ) → lookup (nat_eq v) nodes.new.entries ≡ newer_set older newer v
+        (older_set newer older v (lookup (nat_eq v) nodes.old.entries)) }
     ensures room { spare nodes.new ≡ spare nodes.old }
 {
     set_older(nodes, newer, older);
@@ -100,7 +107,8 @@ pub fn join(
     weak: u64,
     older: Option<u64>,
 )
-    ensures nodes { (v : ℕ) → lookup (nat_eq v) nodes.new.entries ≡ newer_set older (Some weak) v (older_set newer (Some weak) v (lookup (nat_eq v) nodes.old.entries)) }
+    ensures nodes { (v : ℕ) → lookup (nat_eq v) nodes.new.entries ≡ newer_set older (Some weak) v
+        (older_set newer (Some weak) v (lookup (nat_eq v) nodes.old.entries)) }
     ensures room { spare nodes.new ≡ spare nodes.old }
 {
     set_older(nodes, newer, Some(weak));

@@ -11,13 +11,16 @@ use indexmap::IndexMap;
 use std::alloc::{AllocError, Global};
 use std::marker::Model;
 
-/// Which weak reference has which referent, and which wait for their callback with their former referent.
+/// Which weak reference has which referent, and which wait for their callback with their former
+/// referent.
 ///
-/// A weak reference with a greater number is newer. (`weakref` manual: the callbacks of an object are called from the
-/// most recently registered on. Clearing its weak references in this order too is ours.)
+/// A weak reference with a greater number is newer. (`weakref` manual: the callbacks of an object
+/// are called from the most recently registered on. Clearing its weak references in this order too
+/// is ours.)
 ///
-/// Only `reserve` and `attach` allocate. Every call takes constant time, except `clear` with `wait` of a weak
-/// reference that is neither older nor newer than all that wait with its referent: it walks over the older ones.
+/// Only `reserve` and `attach` allocate. Every call takes constant time, except `clear` with `wait`
+/// of a weak reference that is neither older nor newer than all that wait with its referent: it
+/// walks over the older ones.
 #[derive(Drop)]
 pub struct WeakTable {
     nodes: IndexMap<u64, Node, SerialHashing>,
@@ -33,7 +36,11 @@ impl Model for WeakTable {
     ghost use Rattle.indexmap.specs.IndexMap.{spare};
     ghost use Rattle.cg_weak.specs.Table.{rows_of, node_in, ends_at, IsSound};
 
-    ghost view = { λ t. record { rows = rows_of t.nodes.entries; room = min (spare t.nodes) (spare t.chains) } };
+    ghost view = { λ t. record {
+      rows = rows_of t.nodes.entries;
+      room = min (spare t.nodes)
+          (spare t.chains);
+    } };
 
     ghost invariant = { λ t. IsSound (node_in t.nodes.entries) (ends_at t.chains.entries) };
 }
@@ -70,7 +77,8 @@ impl WeakTable {
         self.chains.reserve(1)
     }
 
-    /// Gives a referent to a weak reference that is above every other one. Its row goes last, not waiting. (Ours.)
+    /// Gives a referent to a weak reference that is above every other one. Its row goes last, not
+    /// waiting. (Ours.)
     ///
     /// Returns `AllocError` only if memory runs out; then the rows are unchanged.
     pub fn attach(&mut self, weak: u64, referent: u64) -> Result<(), AllocError>
@@ -106,8 +114,8 @@ impl WeakTable {
         add_chains(&mut self.chains, referent, chains.with(false, ends));
     }
 
-    /// The referent of a weak reference, or `None` if it has no row or waits. (`weakref` manual: calling a reference
-    /// object gives its referent, or None if that is no longer alive.)
+    /// The referent of a weak reference, or `None` if it has no row or waits. (`weakref` manual:
+    /// calling a reference object gives its referent, or None if that is no longer alive.)
     pub fn referent_of(&self, weak: u64) -> Option<u64>
         ensures referent { result ≡ referent_in self.now.rows weak }
         ensures rising { IsRising self.now.rows }
@@ -120,8 +128,8 @@ impl WeakTable {
         }
     }
 
-    /// The newest weak reference to an object that is not waiting, or `None`. (`weakref` manual: the most recently
-    /// registered callback is called first.)
+    /// The newest weak reference to an object that is not waiting, or `None`. (`weakref` manual:
+    /// the most recently registered callback is called first.)
     pub fn newest_of(&self, referent: u64) -> Option<u64>
         ensures { result ≡ slice_get (weak_references_in self.now.rows referent) 0 }
     {
@@ -143,12 +151,13 @@ impl WeakTable {
         node_at(&self.nodes, weak).older
     }
 
-    /// Clears a weak reference's referent: its row now waits with the referent, or is removed. (`weakref` manual: an
-    /// object about to be finalized is no longer available to its weak references when their callbacks run. The
-    /// waiting is ours.)
+    /// Clears a weak reference's referent: its row now waits with the referent, or is removed.
+    /// (`weakref` manual: an object about to be finalized is no longer available to its weak
+    /// references when their callbacks run. The waiting is ours.)
     pub fn clear(&mut self, weak: u64, wait: bool)
         requires { IsSome (referent_in self.old.rows weak) }
-        ensures rows { self.new.rows ≡ (if wait then with_row_waiting weak self.old.rows else without_row weak self.old.rows) }
+        ensures rows { self.new.rows ≡ (if wait then with_row_waiting weak self.old.rows else
+            without_row weak self.old.rows) }
         ensures room { self.old.room ≤ self.new.room }
     {
         if wait {

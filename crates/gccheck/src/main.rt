@@ -1,5 +1,5 @@
-//! `gccheck < RECORDS`: checks records of collections and writes one line, the verdict; the exit status is the top
-//! call's status.
+//! `gccheck < RECORDS`: checks records of collections and writes one line, the verdict; the exit
+//! status is the top call's status.
 #![tactic(auto)]
 
 mod remarks;

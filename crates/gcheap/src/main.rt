@@ -1,4 +1,5 @@
-//! `gcheap < HEAP`: answers questions about a recorded heap; the exit status is the top call's status.
+//! `gcheap < HEAP`: answers questions about a recorded heap; the exit status is the top call's
+//! status.
 #![tactic(auto)]
 
 mod remarks;

@@ -3,7 +3,8 @@ use cg_ask::AskStatus;
 use cg_front::{number_at, remark, remark_line};
 
 const USAGE: &str = "usage: gcheap < HEAP
-docs/HEAPS.md has the text of a heap with its questions; python/README.md says how the heap of a process is taken.";
+docs/HEAPS.md has the text of a heap with its questions; python/README.md says how the heap of a
+    process is taken.";
 
 /// Shows the bad line, or explains the code of a fault. (docs/HEAPS.md.)
 pub fn remark_bad_heap(rt: &HostRuntime, input: &[u8], text: &[u8]) {

@@ -13,20 +13,23 @@ use cg_value::Val;
 impl<B: Kind> Heap<B> {
     /// Binds a name to a value, and returns the old value, `None` if it was unbound.
     ///
-    /// The old value's reference becomes an outside hold, so that it can be released after the new one is bound.
+    /// The old value's reference becomes an outside hold, so that it can be released after the new
+    /// one is bound.
     #[inline(always)]
     pub fn bind(&mut self, name: u32, val: Val) -> Option<Val>
         requires name { name < length self.old.names }
         requires live { IsLiveValue self.old val }
         requires few { HasFewHolds self.old }
         ensures old { slice_get self.old.names name ≡ Some result }
-        ensures rest { self.new ≡ held (references_of_value result) (named name (Some val) self.old) }
+        ensures rest { self.new ≡ held (references_of_value result)
+            (named name (Some val) self.old) }
     {
         let near = count_in_located(&mut self.arena, val);
         self.names.replace(name as usize, Some(val), near)
     }
 
-    /// Unbinds a name and returns its value, `None` if it was unbound. Its reference becomes an outside hold.
+    /// Unbinds a name and returns its value, `None` if it was unbound. Its reference becomes an
+    /// outside hold.
     #[inline(always)]
     pub fn unbind(&mut self, name: u32) -> Option<Val>
         requires name { name < length self.old.names }
@@ -37,8 +40,8 @@ impl<B: Kind> Heap<B> {
         self.names.replace(name as usize, None, Near::default())
     }
 
-    /// The bound name with the greatest number, `None` exactly if no name is bound. It skips each unbound name once,
-    /// unless a name above it is bound again.
+    /// The bound name with the greatest number, `None` exactly if no name is bound. It skips each
+    /// unbound name once, unless a name above it is bound again.
     pub fn greatest_name(&mut self) -> Option<u32>
         ensures same { self.new ≡ self.old }
         ensures greatest { IsGreatestBound self.old.names result }

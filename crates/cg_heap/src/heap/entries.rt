@@ -22,8 +22,8 @@ use cg_kind::Kind;
 use cg_value::{Entry, KindCode, Place, Val};
 
 impl<B: Kind> Heap<B> {
-    /// Removes the entry at a position below the length from a list, dictionary or instance; later ones move down. The
-    /// entry's references become outside holds.
+    /// Removes the entry at a position below the length from a list, dictionary or instance; later
+    /// ones move down. The entry's references become outside holds.
     #[inline(always)]
     pub fn take(&mut self, object: u64, i: usize) -> Entry
         requires can { CanTake self.old object }
@@ -52,8 +52,8 @@ impl<B: Kind> Heap<B> {
         entry
     }
 
-    /// Removes the entry under a key from a list, dictionary or instance; later ones move down. `None` exactly if no
-    /// entry has the key. The entry's references become outside holds.
+    /// Removes the entry under a key from a list, dictionary or instance; later ones move down.
+    /// `None` exactly if no entry has the key. The entry's references become outside holds.
     #[inline(always)]
     pub fn take_key(&mut self, object: u64, key: Val) -> Option<Entry>
         requires can { CanTake self.old object }
@@ -69,8 +69,8 @@ impl<B: Kind> Heap<B> {
         }
     }
 
-    /// `take_key`, with a hint of the object's slot, if the object is of this kind. `None` exactly if it is of
-    /// another; then nothing has changed.
+    /// `take_key`, with a hint of the object's slot, if the object is of this kind. `None` exactly
+    /// if it is of another; then nothing has changed.
     #[inline(always)]
     pub fn take_key_if(
         &mut self,
@@ -85,7 +85,8 @@ impl<B: Kind> Heap<B> {
         ensures kind { OnSome result (HasCode self.old object code) }
         ensures other { IfNone result (¬ (HasCode self.old object code) × (self.new ≡ self.old)) }
         ensures entry { IfSome result (λ taken. taken ≡ entry_at (entries_of self.old object) key) }
-        ensures rest { IfSome result (λ taken. IfSome taken (λ e. self.new ≡ held (entry_references e)
+        ensures rest { IfSome result (λ taken. IfSome taken (λ e. self.new
+            ≡ held (entry_references e)
             (rewritten object (without_key (entries_of self.old object) key) self.old))) }
         ensures none { IfSome result (λ taken. IfNone taken (self.new ≡ self.old)) }
     {
@@ -100,8 +101,8 @@ impl<B: Kind> Heap<B> {
         Some(taken)
     }
 
-    /// Removes the last entry, whatever the kind. `None` exactly if there is none. The entry's references become
-    /// outside holds.
+    /// Removes the last entry, whatever the kind. `None` exactly if there is none. The entry's
+    /// references become outside holds.
     pub fn detach(&mut self, object: u64) -> Option<Entry>
         requires live { IsLive self.old object }
         requires few { HasFewHolds self.old }
@@ -124,8 +125,8 @@ impl<B: Kind> Heap<B> {
 
     /// Appends an item to a list other than the garbage list.
     ///
-    /// `EntryLimit` comes exactly if there are 4,000,000 entries, and `OutOfMemory` only if memory runs out. An error
-    /// changes nothing.
+    /// `EntryLimit` comes exactly if there are 4,000,000 entries, and `OutOfMemory` only if memory
+    /// runs out. An error changes nothing.
     #[inline(always)]
     pub fn append(&mut self, list: u64, val: Val) -> Result<(), HeapFault>
         requires list { HasCode self.old list code.List }
@@ -166,15 +167,15 @@ impl<B: Kind> Heap<B> {
         }
     }
 
-    /// Puts a value at an index of a list, or under a key of a dictionary or instance, and returns the value that it
-    /// replaces, whose reference becomes an outside hold. The object is not the garbage list. `Ok(None)` means exactly
-    /// a new key.
+    /// Puts a value at an index of a list, or under a key of a dictionary or instance, and returns
+    /// the value that it replaces, whose reference becomes an outside hold. The object is not the
+    /// garbage list. `Ok(None)` means exactly a new key.
     ///
-    /// An untracked dictionary that gets a key or value that may be tracked moves to the end of generation 0. (`gc`
-    /// manual, `gc.is_tracked`.)
+    /// An untracked dictionary that gets a key or value that may be tracked moves to the end of
+    /// generation 0. (`gc` manual, `gc.is_tracked`.)
     ///
-    /// An existing key and a list never fail. For a new key `EntryLimit` comes exactly if there are 4,000,000 entries,
-    /// and `OutOfMemory` only if memory runs out. An error changes nothing.
+    /// An existing key and a list never fail. For a new key `EntryLimit` comes exactly if there are
+    /// 4,000,000 entries, and `OutOfMemory` only if memory runs out. An error changes nothing.
     #[inline(always)]
     pub fn put(&mut self, object: u64, key: Val, val: Val) -> Result<Option<Val>, HeapFault>
         requires other { object ≢ 1 }
@@ -183,7 +184,8 @@ impl<B: Kind> Heap<B> {
         requires live_val { IsLiveValue self.old val }
         requires few { HasFewHolds self.old }
         ensures ok { OnOk result (self.new ≡
-            tracked_if (becomes_tracked self.old object key val) object (with_put self.old object key val)) }
+            tracked_if (becomes_tracked self.old object key val) object
+            (with_put self.old object key val)) }
         ensures replaced { IfOk result (λ was. was ≡ value_in self.old object key) }
         ensures present { IsSome (value_in self.old object key) → IsOk result }
         ensures limit { (result ≡ Err fault.EntryLimit)
@@ -198,9 +200,9 @@ impl<B: Kind> Heap<B> {
         }
     }
 
-    /// `put`, with hints of the slots of the object and of the value's object, if the object is of this kind. `None`
-    /// exactly if it is of another; then nothing has changed. Below the entry limit the key is searched once, and the
-    /// object's node is read once.
+    /// `put`, with hints of the slots of the object and of the value's object, if the object is of
+    /// this kind. `None` exactly if it is of another; then nothing has changed. Below the entry
+    /// limit the key is searched once, and the object's node is read once.
     #[inline(always)]
     pub fn put_if(
         &mut self,
@@ -220,7 +222,8 @@ impl<B: Kind> Heap<B> {
         ensures kind { OnSome result (HasCode self.old object code) }
         ensures other { IfNone result (¬ (HasCode self.old object code) × (self.new ≡ self.old)) }
         ensures ok { IfSome result (λ put. OnOk put (self.new ≡
-            tracked_if (becomes_tracked self.old object key val) object (with_put self.old object key val))) }
+            tracked_if (becomes_tracked self.old object key val) object
+            (with_put self.old object key val))) }
         ensures replaced { IfSome result (λ put. IfOk put (λ was. was ≡ value_in self.old object key)) }
         ensures present { IfSome result (λ put. IsSome (value_in self.old object key) → IsOk put) }
         ensures limit { IfSome result (λ put. (put ≡ Err fault.EntryLimit)
@@ -258,7 +261,8 @@ impl<B: Kind> Heap<B> {
     fn makes_tracked(&self, code: KindCode, place: Place, key: Val, val: Val) -> bool
         requires live_key { IsLiveValue self.now key }
         requires live_val { IsLiveValue self.now val }
-        ensures { result ≡ (is_dict_at code place && (may_be_tracked self.now key || may_be_tracked self.now val)) }
+        ensures { result ≡ (is_dict_at code place && (may_be_tracked self.now key
+            || may_be_tracked self.now val)) }
     {
         is_untracked_dict(code, place) && (self.may_be_tracked(key) || self.may_be_tracked(val))
     }
@@ -290,14 +294,15 @@ impl<B: Kind> Heap<B> {
     }
 }
 
-/// Whether a put under a key would exceed the entry limit. The key is only searched at the limit, so it is passed by
-/// reference: by value each put would copy it.
+/// Whether a put under a key would exceed the entry limit. The key is only searched at the limit,
+/// so it is passed by reference: by value each put would copy it.
 #[inline(always)]
 fn is_past_limit<B: Kind>(boxes: &Boxes<B>, entries: u64, seat: Seat, key: &Val) -> bool
     requires held { HasBody boxes.now seat.code seat.body }
     requires can { CanPut seat.code (entries_in_box boxes.now seat.code seat.body) key.now }
     requires mutable { IsMutable seat.code }
-    ensures { IsTrue result ↔ ((value_under seat.code (entries_in_box boxes.now seat.code seat.body) key.now ≡ None)
+    ensures { IsTrue result ↔ ((value_under seat.code (entries_in_box boxes.now seat.code seat.body)
+        key.now ≡ None)
         × (MOST_ENTRIES ≤ entries)) }
 {
     entries >= MOST_ENTRIES && !boxes.has_value(seat, *key)

@@ -18,8 +18,8 @@ impl<B: Kind> Heap<B> {
         self.arena.inc(object);
     }
 
-    /// Releases one of at least one outside holds. Returns whether the in-degree is now 0. (Developer guide: an object
-    /// whose count reaches 0 is deallocated.)
+    /// Releases one of at least one outside holds. Returns whether the in-degree is now 0.
+    /// (Developer guide: an object whose count reaches 0 is deallocated.)
     #[inline(always)]
     pub fn unhold(&mut self, object: u64) -> bool
         requires { 0 < outside_of self.old object }

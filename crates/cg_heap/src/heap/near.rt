@@ -26,7 +26,8 @@ impl<B: Kind> Heap<B> {
         self.arena.first_near(place, near)
     }
 
-    /// `next`, with a hint of the object's slot, and the slot of the result. So a walk over a list needs no look-ups.
+    /// `next`, with a hint of the object's slot, and the slot of the result. So a walk over a list
+    /// needs no look-ups.
     #[inline(always)]
     pub fn next_near(&self, object: u64, near: &mut Near) -> Option<u64>
         requires { IsLive self.now object }
@@ -103,7 +104,8 @@ impl<B: Kind> Heap<B> {
         self.entry_near(object, i, near)
     }
 
-    /// The entry at a position, `None` exactly if that is the length or more; with a hint of the object's slot.
+    /// The entry at a position, `None` exactly if that is the length or more; with a hint of the
+    /// object's slot.
     #[inline(always)]
     pub fn get_near(&self, object: u64, i: usize, near: Near) -> Option<Entry>
         requires { IsLive self.now object }
@@ -113,9 +115,10 @@ impl<B: Kind> Heap<B> {
         self.boxes.get(seat, i)
     }
 
-    /// Looks at the entries from a position on, at most `cg_kind::AT_ONCE`, and writes their references to the front
-    /// of `found`, which has length `cg_kind::ROOM` or more: for each entry its value's, then its key's. Takes a hint
-    /// of the object's slot. The counter rises by the number of these entries.
+    /// Looks at the entries from a position on, at most `cg_kind::AT_ONCE`, and writes their
+    /// references to the front of `found`, which has length `cg_kind::ROOM` or more: for each entry
+    /// its value's, then its key's. Takes a hint of the object's slot. The counter rises by the
+    /// number of these entries.
     #[inline(always)]
     pub fn note_near<L: Ledger>(
         &self,
@@ -128,12 +131,14 @@ impl<B: Kind> Heap<B> {
         requires live { IsLive self.now object }
         requires within { from ≤ length (entries_of self.now object) }
         requires room { ROOM ≤ length found.old }
-        ensures next { result.next ≡ from + length (next_entries (entries_of self.now object) from) }
+        ensures next { result.next ≡ from + length (next_entries (entries_of self.now object)
+            from) }
         ensures references { take result.references found.new ≡
             references (next_entries (entries_of self.now object) from) }
         ensures few { result.references ≤ ROOM }
         ensures room { length found.new ≡ length found.old }
-        ensures steps { steps.new ≡ steps.old + length (next_entries (entries_of self.now object) from) }
+        ensures steps { steps.new ≡ steps.old + length (next_entries (entries_of self.now object)
+            from) }
     {
         let seat = seat_near(&self.arena, object, near);
         let noted = self.boxes.note_from(seat, from, found);
@@ -141,8 +146,9 @@ impl<B: Kind> Heap<B> {
         noted
     }
 
-    /// Sets the collector's number of an object in a generation or among the candidates to its in-degree; takes a hint
-    /// of its slot. (Developer guide, "Identifying reference cycles": `gc_refs` is set to the reference count.)
+    /// Sets the collector's number of an object in a generation or among the candidates to its
+    /// in-degree; takes a hint of its slot. (Developer guide, "Identifying reference cycles":
+    /// `gc_refs` is set to the reference count.)
     #[inline(always)]
     pub fn set_gc_to_refs(&mut self, object: u64, near: Near)
         requires live { IsLive self.old object }

@@ -23,15 +23,17 @@ use cg_weak::WeakTable;
 use std::alloc::AllocError;
 
 impl<B: Kind> Heap<B> {
-    /// Makes an object from these entries, held once from outside, and returns its serial, which is one above the
-    /// last.
+    /// Makes an object from these entries, held once from outside, and returns its serial, which is
+    /// one above the last.
     ///
-    /// `class` is the class of an instance or the procedure of a function; other objects have none. `referent` is that
-    /// of a weak reference, whose row goes last; other objects have none. The object goes to the end of generation 0,
-    /// except a dictionary, which starts untracked. (`gc` manual, `gc.is_tracked`.)
+    /// `class` is the class of an instance or the procedure of a function; other objects have none.
+    /// `referent` is that of a weak reference, whose row goes last; other objects have none. The
+    /// object goes to the end of generation 0, except a dictionary, which starts untracked. (`gc`
+    /// manual, `gc.is_tracked`.)
     ///
-    /// `ObjectLimit` comes exactly if 1,000,000 objects are live, else `EntryLimit` exactly if entries and parts
-    /// exceed 4,000,000, and `OutOfMemory` only if memory runs out. An error changes nothing.
+    /// `ObjectLimit` comes exactly if 1,000,000 objects are live, else `EntryLimit` exactly if
+    /// entries and parts exceed 4,000,000, and `OutOfMemory` only if memory runs out. An error
+    /// changes nothing.
     pub fn make(
         &mut self,
         code: KindCode,
@@ -49,9 +51,11 @@ impl<B: Kind> Heap<B> {
         ensures serial { IfOk result (λ s. s ≡ self.old.last + 1) }
         ensures ok { OnOk result (self.new ≡
             attached (self.old.last + 1) referent (made code class parts.now self.old)) }
-        ensures object_limit { (result ≡ Err fault.ObjectLimit) ↔ (MOST_OBJECTS ≤ object_number self.old) }
+        ensures object_limit { (result ≡ Err fault.ObjectLimit) ↔ (MOST_OBJECTS ≤ object_number
+            self.old) }
         ensures entry_limit { (result ≡ Err fault.EntryLimit)
-            ↔ ((object_number self.old < MOST_OBJECTS) × (MOST_ENTRIES < entry_number self.old + length parts.now)) }
+            ↔ ((object_number self.old < MOST_OBJECTS)
+            × (MOST_ENTRIES < entry_number self.old + length parts.now)) }
         ensures err { OnErr result (self.new ≡ self.old) }
     {
         if self.objects >= MOST_OBJECTS {
@@ -104,13 +108,14 @@ impl<B: Kind> Heap<B> {
         Ok(serial)
     }
 
-    /// Appends an object to the garbage list, which does not name it yet. It does not allocate. (`gc` manual,
-    /// `gc.garbage`.)
+    /// Appends an object to the garbage list, which does not name it yet. It does not allocate.
+    /// (`gc` manual, `gc.garbage`.)
     pub fn save(&mut self, object: u64)
         requires live { IsLive self.old object }
         requires other { object ≢ 1 }
         requires new { occurrences object (references (entries_of self.old 1)) ≡ 0 }
-        ensures { self.new ≡ rewritten 1 (entries_of self.old 1 ++ item (val_of.Ref object) ∷ []) self.old }
+        ensures { self.new ≡ rewritten 1 (entries_of self.old 1 ++ item (val_of.Ref object) ∷ [])
+            self.old }
     {
         let garbage = self.arena.body_of(1);
         self.boxes.append_reserved(garbage, Val::Ref(object));

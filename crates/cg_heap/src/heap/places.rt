@@ -11,7 +11,8 @@ use cg_kind::Kind;
 use cg_value::Place;
 
 impl<B: Kind> Heap<B> {
-    /// Moves the object to the end of the list of a place, which may be its own. (Ours; CPython's `gc_list_move`.)
+    /// Moves the object to the end of the list of a place, which may be its own. (Ours; CPython's
+    /// `gc_list_move`.)
     pub fn move_to(&mut self, object: u64, place: Place)
         requires live { IsLive self.old object }
         requires place { IsPlace place }
@@ -20,8 +21,8 @@ impl<B: Kind> Heap<B> {
         self.arena.move_to(object, place);
     }
 
-    /// Moves all objects of one place to the end of the list of another, in order. (Developer guide, "Optimization:
-    /// generations": the survivors are merged into the next generation.)
+    /// Moves all objects of one place to the end of the list of another, in order. (Developer
+    /// guide, "Optimization: generations": the survivors are merged into the next generation.)
     pub fn merge(&mut self, from: Place, to: Place)
         requires from { IsPlace from }
         requires to { IsPlace to }
@@ -49,7 +50,8 @@ impl<B: Kind> Heap<B> {
         self.arena.set_gc(object, number);
     }
 
-    /// Lowers the collector's number of a candidate by 1, if it is above 0; any other object is unchanged.
+    /// Lowers the collector's number of a candidate by 1, if it is above 0; any other object is
+    /// unchanged.
     #[inline(always)]
     pub fn lower(&mut self, object: u64)
         requires { IsLive self.old object }

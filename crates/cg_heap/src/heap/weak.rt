@@ -1,4 +1,5 @@
-//! Weak references: each one's referent, and which wait for their callback with their former referent.
+//! Weak references: each one's referent, and which wait for their callback with their former
+//! referent.
 ghost use Rattle.std.specs.Prelude.{◌≡◌, ◌↔◌, [], IsTrue, IsSome, slice_get};
 ghost use Rattle.cg_graph.specs.Rows.{referent_in, waited_in, weak_references_in, waiting_in, next_older_in};
 ghost use Rattle.cg_graph.specs.Store.{IsLive};
@@ -16,8 +17,9 @@ impl<B: Kind> Heap<B> {
         self.weak.is_empty()
     }
 
-    /// The referent of a weak reference. `None` exactly if the object has no row or waits. (`weakref` manual: calling
-    /// a reference object gives its referent, or None if that is no longer alive.)
+    /// The referent of a weak reference. `None` exactly if the object has no row or waits.
+    /// (`weakref` manual: calling a reference object gives its referent, or None if that is no
+    /// longer alive.)
     pub fn referent_of(&self, weak: u64) -> Option<u64>
         requires { IsLive self.now weak }
         ensures { result ≡ referent_in self.now.rows weak }
@@ -25,8 +27,8 @@ impl<B: Kind> Heap<B> {
         self.weak.referent_of(weak)
     }
 
-    /// The newest weak reference to an object that is not waiting, `None` exactly if there is none. (`weakref` manual:
-    /// the most recently registered callback is called first.)
+    /// The newest weak reference to an object that is not waiting, `None` exactly if there is none.
+    /// (`weakref` manual: the most recently registered callback is called first.)
     pub fn newest_of(&self, object: u64) -> Option<u64>
         requires { IsLive self.now object }
         ensures { result ≡ slice_get (weak_references_in self.now.rows object) 0 }
@@ -42,7 +44,8 @@ impl<B: Kind> Heap<B> {
         self.weak.newest_waiting(object)
     }
 
-    /// The next older weak reference to the same object that is not waiting, `None` exactly if there is none. (Ours.)
+    /// The next older weak reference to the same object that is not waiting, `None` exactly if
+    /// there is none. (Ours.)
     pub fn older_of(&self, weak: u64) -> Option<u64>
         requires live { IsLive self.now weak }
         requires refers { IsSome (referent_in self.now.rows weak) }
@@ -51,7 +54,8 @@ impl<B: Kind> Heap<B> {
         self.weak.older_of(weak)
     }
 
-    /// Clears a weak reference's referent: its row now waits with the referent, or is removed. It does not allocate.
+    /// Clears a weak reference's referent: its row now waits with the referent, or is removed. It
+    /// does not allocate.
     pub fn clear_weak(&mut self, weak: u64, wait: bool)
         requires live { IsLive self.old weak }
         requires refers { IsSome (referent_in self.old.rows weak) }

@@ -10,7 +10,8 @@ nodes-init c =
 
 pub nodes-preserved : goal.nodes-preserved
 nodes-preserved c =
-    placed_turn c.args.place c.nodes.slots c.place_one-at.new.slots c.args.size c.nodes._done c.nodes.at c.place_one-at.result c.nodes-test.true c.place_one-at.ensures.slots c.place_one-at.ensures.after
+    placed_turn c.args.place c.nodes.slots c.place_one-at.new.slots c.args.size c.nodes._done c.nodes.at c.place_one-at.result c.nodes-test.true
+    c.place_one-at.ensures.slots c.place_one-at.ensures.after
     ∙ c.nodes.invariant
 
 pub returns : goal.returns

@@ -12,7 +12,14 @@ count_targets-requires-clause-marked c = candidates_long c.args.members.now c.ar
 
 pub below-requires : goal.below-requires
 below-requires c =
-    omega (arith, ap (λ (ns : List ℕ). length ns) c.deref.ensures.value, ap (λ (ns : List ℕ). length ns) c.deref-2.ensures.value, c.in_ok-counts.ensures.len, ap (λ (ns : List ℕ). length ns) c.in_ok-degrees.ensures, length-map c.args.members.now (λ (m : Member). m.degree))
+    omega (
+      arith,
+      ap (λ (ns : List ℕ). length ns) c.deref.ensures.value,
+      ap (λ (ns : List ℕ). length ns) c.deref-2.ensures.value,
+      c.in_ok-counts.ensures.len,
+      ap (λ (ns : List ℕ). length ns) c.in_ok-degrees.ensures,
+      length-map c.args.members.now (λ (m : Member). m.degree),
+    )
 
 pub returns : goal.returns
 returns c =

@@ -1,6 +1,6 @@
 use Rattle.std.proofs.Common.{◌+◌, not, length}
 use Rattle.std.specs.Prelude.{count_by}
-use Rattle.cg_ask.proofs.Dead.{HasDied}
+use Rattle.cg_ask.proofs.DiesByCount.{HasDied}
 use Rattle.cg_ask.proofs.dying.dying.Given as goal
 
 abbrev pub invariant-turns : goal.invariant-turns

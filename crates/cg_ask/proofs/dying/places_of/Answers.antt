@@ -7,7 +7,8 @@ places-init c = wait_first c.args.marks.now c.new-places.result.items c.new-plac
 
 pub places-preserved : goal.places-preserved
 places-preserved c = elim c.if-marks-at.branch [
-  | then-marks-at+in_ok-push w ↦ rw (w.places-is) (wait_pushed c.args.marks.now c.places.at c.places.places.items w.push.new.self.items w.if-marks-at.true w.in_ok-push.ensures.items c.places.invariant)
+  | then-marks-at+in_ok-push w ↦ rw (w.places-is) (wait_pushed c.args.marks.now c.places.at c.places.places.items w.push.new.self.items w.if-marks-at.true
+      w.in_ok-push.ensures.items c.places.invariant)
   | else-marks-at w ↦ rw (w.places-is) (wait_skip c.args.marks.now c.places.at c.places.places.items w.if-marks-at.false c.places.invariant)
 ]
 

@@ -16,11 +16,15 @@ release-requires-clause-long c = omega (arith, c.requires.long, c.targets.invari
 
 pub release-requires-clause-some : goal.release-requires-clause-some
 release-requires-clause-some c =
-    one_left c.args.row.now c.args.left.now.items c.targets.left.items c.targets.target-index c.targets-test.true (c.requires.some (get_or c.args.row.now c.targets.target-index 0)) (c.targets.invariant.leaves (get_or c.args.row.now c.targets.target-index 0))
+    one_left c.args.row.now c.args.left.now.items c.targets.left.items c.targets.target-index c.targets-test.true
+    (c.requires.some (get_or c.args.row.now c.targets.target-index 0)) (c.targets.invariant.leaves (get_or c.args.row.now c.targets.target-index 0))
 
 pub targets-preserved : goal.targets-preserved
 targets-preserved c =
-    releases_next c.args.row.now c.args.left.now.items c.targets.left.items c.release.new.left.items c.args.dead.now.items c.targets.dead.items c.release.new.dead.items c.args.waits.now.items c.targets.waits.items c.release.new.waits.items c.targets.target-index c.targets-test.true c.targets.invariant c.in_ok-release.ensures
+    releases_next c.args.row.now c.args.left.now.items c.targets.left.items c.release.new.left.items c.args.dead.now.items c.targets.dead.items
+    c.release.new.dead.items c.args.waits.now.items c.targets.waits.items c.release.new.waits.items c.targets.target-index c.targets-test.true
+    c.targets.invariant c.in_ok-release.ensures
 
 pub returns : goal.returns
-returns c = releases_all c.args.row.now c.args.left.now.items c.targets.left.items c.args.dead.now.items c.targets.dead.items c.args.waits.now.items c.targets.waits.items c.targets.target-index c.targets-test.false c.targets.invariant
+returns c = releases_all c.args.row.now c.args.left.now.items c.targets.left.items c.args.dead.now.items c.targets.dead.items c.args.waits.now.items
+    c.targets.waits.items c.targets.target-index c.targets-test.false c.targets.invariant

@@ -1,5 +1,5 @@
 use Rattle.std.proofs.Common.{length}
-use Rattle.cg_ask.proofs.Gone.{dead_not_reached}
+use Rattle.cg_ask.proofs.WouldGo.{dead_not_reached}
 use Rattle.cg_ask.proofs.Marking.{member_of}
 use Rattle.cg_ask.proofs.laws.dead_is_let_go.Goals as goal
 

@@ -11,7 +11,8 @@ places-init c = rows_first (λ m ns. Marks c.args.marks.now m × (ns ≡ flags_o
 pub places-preserved : goal.places-preserved
 places-preserved c = elim c.if-marks-at.branch [
   | then-marks-at+in_ok-put_line w ↦ rw (w.out-is)
-      (flagged_row_push c.args.marks.now c.args.others.now c.args.word.now c.places.at w.flag.result c.args.out.now.items c.places.out.items w.put_line.new.out.items w.if-marks-at.true w.flag.ensures w.in_ok-put_line.ensures c.places.invariant)
+      (flagged_row_push c.args.marks.now c.args.others.now c.args.word.now c.places.at w.flag.result c.args.out.now.items c.places.out.items
+      w.put_line.new.out.items w.if-marks-at.true w.flag.ensures w.in_ok-put_line.ensures c.places.invariant)
   | else-marks-at w ↦ rw (w.out-is) (flagged_row_skip c.args.marks.now c.args.others.now c.args.word.now c.places.at c.args.out.now.items c.places.out.items w.if-marks-at.false c.places.invariant)
 ]
 

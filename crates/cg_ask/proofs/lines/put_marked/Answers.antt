@@ -9,7 +9,8 @@ places-init c = rows_first (λ m ns. Marks c.args.marks.now m × (ns ≡ [])) c.
 
 pub places-preserved : goal.places-preserved
 places-preserved c = elim c.if-marks-at.branch [
-  | then-marks-at+in_ok-put_line w ↦ rw (w.out-is) (marked_push c.args.marks.now c.args.word.now c.places.at c.args.out.now.items c.places.out.items w.put_line.new.out.items w.if-marks-at.true w.in_ok-put_line.ensures c.places.invariant)
+  | then-marks-at+in_ok-put_line w ↦ rw (w.out-is) (marked_push c.args.marks.now c.args.word.now c.places.at c.args.out.now.items c.places.out.items
+      w.put_line.new.out.items w.if-marks-at.true w.in_ok-put_line.ensures c.places.invariant)
   | else-marks-at w ↦ rw (w.out-is) (marked_skip c.args.marks.now c.args.word.now c.places.at c.args.out.now.items c.places.out.items w.if-marks-at.false c.places.invariant)
 ]
 

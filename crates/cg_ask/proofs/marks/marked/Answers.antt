@@ -12,7 +12,8 @@ index_mut-requires c =
 
 pub places-preserved : goal.places-preserved
 places-preserved c =
-    just_next c.args.count c.args.places.now c.places.marks.items c.places.place-index c.places-test.true (next_member c.args.count c.args.places.now c.places.place-index c.requires c.places-test.true) c.places.invariant
+    just_next c.args.count c.args.places.now c.places.marks.items c.places.place-index c.places-test.true (next_member c.args.count c.args.places.now
+    c.places.place-index c.requires c.places-test.true) c.places.invariant
 
 pub returns : goal.returns
 returns c = just_places c.args.count c.args.places.now c.places.marks.items c.places.place-index c.places-test.false c.places.invariant

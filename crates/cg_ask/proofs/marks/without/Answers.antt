@@ -9,4 +9,5 @@ places-preserved c =
     ∙ ap (λ b. zipped only (take c.places.at c.args.marks.now) (take c.places.at c.args.others.now) ++ b ∷ []) c.is_only.ensures ∙ sym next
 
 pub returns : goal.returns
-returns c = just_only c.args.marks.now c.args.others.now c.places.left.items c.requires (zipped_all only c.args.marks.now c.args.others.now c.places.left.items c.places.at c.places-test.false c.requires c.places.invariant)
+returns c = just_only c.args.marks.now c.args.others.now c.places.left.items c.requires (zipped_all only c.args.marks.now c.args.others.now c.places.left.items
+    c.places.at c.places-test.false c.requires c.places.invariant)

@@ -6,7 +6,13 @@ pub marked-requires : goal.marked-requires
 marked-requires c = c.requires
 
 pub without-requires : goal.without-requires
-without-requires c = omega (arith, ap (λ (bs : List Bool). length bs) c.deref.ensures.value, ap (λ (bs : List Bool). length bs) c.deref-2.ensures.value, c.in_ok-all.ensures.len, c.in_ok-these.ensures.len)
+without-requires c = omega (
+  arith,
+  ap (λ (bs : List Bool). length bs) c.deref.ensures.value,
+  ap (λ (bs : List Bool). length bs) c.deref-2.ensures.value,
+  c.in_ok-all.ensures.len,
+  c.in_ok-these.ensures.len,
+)
 
 pub returns : goal.returns
 returns c =

@@ -1,11 +1,18 @@
 use Rattle.std.proofs.Common.{refl, ◌∙◌, ap, length, Bool, List, arith, false}
 use Rattle.cg_ask.specs.Asked.{IsHeld, IsMember, edges, rows_of}
-use Rattle.cg_ask.proofs.Faulty.{refs_within}
+use Rattle.cg_ask.proofs.Faults.{refs_within}
 use Rattle.cg_ask.proofs.Reaching.{found_just}
 use Rattle.cg_ask.proofs.reach.reached_of.Goals as goal
 
 pub reached-requires-clause-as_many : goal.reached-requires-clause-as_many
-reached-requires-clause-as_many c = omega (arith, ap (λ (bs : List Bool). length bs) c.deref.ensures.value, ap (λ (bs : List Bool). length bs) c.deref-2.ensures.value, c.in_ok-held.ensures.len, c.in_ok-all.ensures.len)
+reached-requires-clause-as_many c = omega (
+  arith,
+  ap (λ (bs : List Bool). length bs) c.deref.ensures.value,
+  ap (λ (bs : List Bool). length bs)
+      c.deref-2.ensures.value,
+  c.in_ok-held.ensures.len,
+  c.in_ok-all.ensures.len,
+)
 
 pub reached-requires-clause-long : goal.reached-requires-clause-long
 reached-requires-clause-long c = omega (arith, ap (λ (bs : List Bool). length bs) c.deref-2.ensures.value, c.in_ok-all.ensures.len)

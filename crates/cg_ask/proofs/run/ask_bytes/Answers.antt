@@ -35,7 +35,9 @@ pub returns-in-Ok-Read-clause-told : goal.returns-in-Ok-Read-clause-told
 returns-in-Ok-Read-clause-told g c =
     let short : length c.args.bytes.items < 268435457 = grind (arith, c.if-len-ge-LIMIT.false, c.len.ensures, c.args.bytes.ok) in
     let spells = rw (c.as_slice.ensures.value, c.in-Ok-Read.field-0-is) at c.in-Ok-Read.ensures in
-    λ e. bytes_told c.args.bytes.items c.in-Ok-Read.snapshot short spells (g.K.Sink.written c.args.sink.now) (g.K.Sink.written c.ask_snapshot.new.sink) c.ask_snapshot.result (c.ask_snapshot.ensures.told (not_large c.args.bytes.items (g.K.Sink.written c.args.sink.now) (g.K.Sink.written c.ask_snapshot.new.sink) c.ask_snapshot.result c.ask_snapshot.ensures.only e))
+    λ e. bytes_told c.args.bytes.items c.in-Ok-Read.snapshot short spells (g.K.Sink.written c.args.sink.now) (g.K.Sink.written c.ask_snapshot.new.sink)
+    c.ask_snapshot.result (c.ask_snapshot.ensures.told (not_large c.args.bytes.items (g.K.Sink.written c.args.sink.now)
+    (g.K.Sink.written c.ask_snapshot.new.sink) c.ask_snapshot.result c.ask_snapshot.ensures.only e))
 
 pub returns-in-Ok-Read-clause-cut : goal.returns-in-Ok-Read-clause-cut
 returns-in-Ok-Read-clause-cut g c =
@@ -47,13 +49,15 @@ pub returns-in-Ok-BadLine-clause-told : goal.returns-in-Ok-BadLine-clause-told
 returns-in-Ok-BadLine-clause-told g c =
     let short : length c.args.bytes.items < 268435457 = grind (arith, c.if-len-ge-LIMIT.false, c.len.ensures, c.args.bytes.ok) in
     let bad = rw (c.as_slice.ensures.value, c.in-Ok-BadLine.field-0-is) at c.in-Ok-BadLine.ensures in
-    line_told c.args.bytes.items (g.K.Sink.written c.args.sink.now) (g.K.Sink.written c.tell_bad_line.new.sink) c.tell_bad_line.result c.in-Ok-BadLine.number short bad c.tell_bad_line.ensures.told c.tell_bad_line.ensures.only
+    line_told c.args.bytes.items (g.K.Sink.written c.args.sink.now) (g.K.Sink.written c.tell_bad_line.new.sink) c.tell_bad_line.result c.in-Ok-BadLine.number
+    short bad c.tell_bad_line.ensures.told c.tell_bad_line.ensures.only
 
 pub returns-in-Ok-BadLine-clause-cut : goal.returns-in-Ok-BadLine-clause-cut
 returns-in-Ok-BadLine-clause-cut g c =
     let short : length c.args.bytes.items < 268435457 = grind (arith, c.if-len-ge-LIMIT.false, c.len.ensures, c.args.bytes.ok) in
     let bad = rw (c.as_slice.ensures.value, c.in-Ok-BadLine.field-0-is) at c.in-Ok-BadLine.ensures in
-    line_cut c.args.bytes.items (g.K.Sink.written c.args.sink.now) (g.K.Sink.written c.tell_bad_line.new.sink) c.tell_bad_line.result c.in-Ok-BadLine.number short bad c.tell_bad_line.ensures.write c.tell_bad_line.ensures.memory
+    line_cut c.args.bytes.items (g.K.Sink.written c.args.sink.now) (g.K.Sink.written c.tell_bad_line.new.sink) c.tell_bad_line.result c.in-Ok-BadLine.number
+    short bad c.tell_bad_line.ensures.write c.tell_bad_line.ensures.memory
 
 pub returns-in-Err-clause-cut : goal.returns-in-Err-clause-cut
 returns-in-Err-clause-cut g c =

@@ -1,5 +1,5 @@
 use Rattle.std.proofs.Common.{ap, length, List, ℕ, arith}
-use Rattle.cg_ask.proofs.Kept.{held_with_just}
+use Rattle.cg_ask.proofs.KeptByUntoldWords.{held_with_just}
 use Rattle.cg_ask.proofs.sets.held_with_words.Goals as goal
 
 pub below-requires : goal.below-requires

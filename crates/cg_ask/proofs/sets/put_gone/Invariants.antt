@@ -1,4 +1,4 @@
-use Rattle.cg_ask.proofs.Gone.{CountsGone}
+use Rattle.cg_ask.proofs.WouldGo.{CountsGone}
 use Rattle.cg_ask.proofs.sets.put_gone.Given as goal
 
 abbrev pub invariant-members : goal.invariant-members

@@ -1,10 +1,17 @@
 use Rattle.std.proofs.Common.{ap, length, Bool, List, arith, false}
-use Rattle.cg_ask.proofs.Faulty.{refs_within}
+use Rattle.cg_ask.proofs.Faults.{refs_within}
 use Rattle.cg_ask.proofs.Reaching.{found_way, found_none}
 use Rattle.cg_ask.proofs.why.path_to.Goals as goal
 
 pub shortest_way-requires-clause-as_many : goal.shortest_way-requires-clause-as_many
-shortest_way-requires-clause-as_many c = omega (arith, ap (λ (bs : List Bool). length bs) c.deref.ensures.value, ap (λ (bs : List Bool). length bs) c.deref-2.ensures.value, c.in_ok-held.ensures.len, c.in_ok-others.ensures.len)
+shortest_way-requires-clause-as_many c = omega (
+  arith,
+  ap (λ (bs : List Bool). length bs) c.deref.ensures.value,
+  ap (λ (bs : List Bool). length bs)
+      c.deref-2.ensures.value,
+  c.in_ok-held.ensures.len,
+  c.in_ok-others.ensures.len,
+)
 
 pub shortest_way-requires-clause-long : goal.shortest_way-requires-clause-long
 shortest_way-requires-clause-long c = omega (arith, ap (λ (bs : List Bool). length bs) c.deref-2.ensures.value, c.in_ok-others.ensures.len)

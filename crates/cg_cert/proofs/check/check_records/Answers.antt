@@ -3,7 +3,7 @@ use Rattle.std.proofs.lemmas.Result.{IfOk-weaker}
 use Rattle.cg_records.specs.declared.graph.Rec.{Rec}
 use Rattle.cg_cert.specs.Judged.{unreadable}
 use Rattle.cg_cert.specs.Positions.{JudgesRecords}
-use Rattle.cg_cert.proofs.Named.{if_none, if_some}
+use Rattle.cg_cert.proofs.NamesAndPositions.{if_none, if_some}
 use Rattle.cg_cert.proofs.Verdicts.{judged}
 use Rattle.cg_cert.proofs.check.check_records.Goals as goal
 

@@ -2,7 +2,7 @@ use Rattle.std.proofs.Common.{ap, List, ℕ, length, arith, take_all}
 use Rattle.std.specs.List.{concat}
 use Rattle.std.specs.Global.{Vec}
 use Rattle.cg_cert.specs.Positions.{rows_in}
-use Rattle.cg_cert.proofs.Counted.{rows_next}
+use Rattle.cg_cert.proofs.CountsOfMembers.{rows_next}
 use Rattle.cg_cert.proofs.counts.are_few.Goals as goal
 
 pub rows-preserved : goal.rows-preserved

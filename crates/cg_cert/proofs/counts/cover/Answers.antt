@@ -1,7 +1,7 @@
 use Rattle.std.proofs.Common.{◌<◌, ◌≤◌, refl, ap, arith, get_or}
 use Rattle.cg_records.specs.declared.graph.Member.{Member}
-use Rattle.cg_cert.proofs.Counted.{cover_more, cover_not, cover_all}
-use Rattle.cg_cert.proofs.Locating.{differs}
+use Rattle.cg_cert.proofs.CountsOfMembers.{cover_more, cover_not, cover_all}
+use Rattle.cg_cert.proofs.GraphsByPositions.{differs}
 use Rattle.cg_cert.proofs.counts.cover.Goals as goal
 
 pub returns-then-members-at : goal.returns-then-members-at

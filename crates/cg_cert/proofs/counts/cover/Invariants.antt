@@ -1,4 +1,4 @@
-use Rattle.cg_cert.proofs.Counted.{CoverFirst}
+use Rattle.cg_cert.proofs.CountsOfMembers.{CoverFirst}
 use Rattle.cg_cert.proofs.counts.cover.Given as goal
 
 abbrev pub invariant-members : goal.invariant-members

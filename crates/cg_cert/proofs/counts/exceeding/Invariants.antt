@@ -1,4 +1,4 @@
-use Rattle.cg_cert.proofs.Counted.{ExceedFirst}
+use Rattle.cg_cert.proofs.CountsOfMembers.{ExceedFirst}
 use Rattle.cg_cert.proofs.counts.exceeding.Given as goal
 
 abbrev pub invariant-members : goal.invariant-members

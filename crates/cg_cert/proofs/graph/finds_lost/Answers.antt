@@ -16,7 +16,8 @@ reached-requires-clause-within c =
 pub returns : goal.returns
 returns c =
     lost_answer c.args.graph.now c.args.located.now c.requires.located c.in_ok-held.held.items
-    (subst (λ (ms : List Member). ExceedEach ms c.in_ok-held.held.items) c.as_slice-members.ensures c.in_ok-held.ensures) c.in_ok-found.found.items c.deref.result.now c.deref-2.result.now c.deref-5.result.now c.deref-6.result.now c.deref-3.result.now c.are_same.result
+    (subst (λ (ms : List Member). ExceedEach ms c.in_ok-held.held.items) c.as_slice-members.ensures c.in_ok-held.ensures) c.in_ok-found.found.items
+    c.deref.result.now c.deref-2.result.now c.deref-5.result.now c.deref-6.result.now c.deref-3.result.now c.are_same.result
     c.deref.ensures.value
     (c.deref-2.ensures.value ∙ c.in_ok-all.ensures.items_if_clones_equal (λ y e. e) ∙ ap (λ n. replicate n true) (ap length c.as_slice-members.ensures))
     c.deref-3.ensures.value c.in_ok-found.ensures.len c.in_ok-found.ensures.led

@@ -11,7 +11,8 @@ reached-requires-clause-within c =
 
 pub returns : goal.returns
 returns c =
-    legacy_answer c.args.graph.now c.args.located.now c.requires.located c.requires.lost c.in_ok-found.found.items c.deref.result.now c.deref-2.result.now c.deref-4.result.now c.deref-5.result.now c.deref-3.result.now c.are_same.result
+    legacy_answer c.args.graph.now c.args.located.now c.requires.located c.requires.lost c.in_ok-found.found.items c.deref.result.now c.deref-2.result.now
+    c.deref-4.result.now c.deref-5.result.now c.deref-3.result.now c.are_same.result
     (c.deref.ensures.value ∙ c.in_ok-marked.ensures ∙ ap (map (λ (m : Member). m.legacy)) c.as_slice.ensures)
     c.deref-2.ensures.value
     c.deref-3.ensures.value c.in_ok-found.ensures.len c.in_ok-found.ensures.led

@@ -2,8 +2,8 @@ use Rattle.std.proofs.Common.{sym, subst, List, ℕ}
 use Rattle.cg_records.specs.declared.graph.Member.{Member}
 use Rattle.cg_cert.specs.Judged.{IsOnceEach, serials_of, references_of}
 use Rattle.cg_cert.specs.Positions.{Tells, AreNames, IsSetOf, AreRowsOf, MarksAll, rows_in}
-use Rattle.cg_cert.proofs.Named.{if_none, if_some}
-use Rattle.cg_cert.proofs.Locating.{lost_set, legacy_set, located_all}
+use Rattle.cg_cert.proofs.NamesAndPositions.{if_none, if_some}
+use Rattle.cg_cert.proofs.GraphsByPositions.{lost_set, legacy_set, located_all}
 use Rattle.cg_cert.proofs.graph.locate.Goals as goal
 
 pub returns-in_default-clause-none : goal.returns-in_default-clause-none
@@ -35,7 +35,9 @@ returns-clause-found c =
     (subst (λ (ms : List Member). AreRowsOf (serials_of ms) ms (rows_in c.in-Some-2.rows.items)) same (if_some _ _ _ c.in-Some-2.is c.in_ok-rows.ensures.found))
     (subst (λ (xs : List ℕ). MarksAll names xs c.in-Some-3.lost.items) c.as_slice.ensures
     (subst (λ (ms : List Member). MarksAll (serials_of ms) c.as_slice.result.now c.in-Some-3.lost.items) same (if_some _ _ _ c.in-Some-3.is c.in_ok-lost.ensures.found)))
-    (subst (λ (xs : List ℕ). IsSetOf names xs) c.as_slice.ensures (subst (λ (ms : List Member). IsSetOf (serials_of ms) c.as_slice.result.now) same (if_some _ _ _ c.in-Some-3.is c.in_ok-lost.ensures.sets)))
+    (subst (λ (xs : List ℕ). IsSetOf names xs) c.as_slice.ensures (subst (λ (ms : List Member). IsSetOf (serials_of ms) c.as_slice.result.now) same
+    (if_some _ _ _ c.in-Some-3.is c.in_ok-lost.ensures.sets)))
     (subst (λ (xs : List ℕ). MarksAll names xs c.in-Some-4.legacy.items) c.as_slice-2.ensures
     (subst (λ (ms : List Member). MarksAll (serials_of ms) c.as_slice-2.result.now c.in-Some-4.legacy.items) same (if_some _ _ _ c.in-Some-4.is c.in_ok-legacy.ensures.found)))
-    (subst (λ (xs : List ℕ). IsSetOf names xs) c.as_slice-2.ensures (subst (λ (ms : List Member). IsSetOf (serials_of ms) c.as_slice-2.result.now) same (if_some _ _ _ c.in-Some-4.is c.in_ok-legacy.ensures.sets)))
+    (subst (λ (xs : List ℕ). IsSetOf names xs) c.as_slice-2.ensures (subst (λ (ms : List Member). IsSetOf (serials_of ms) c.as_slice-2.result.now) same
+    (if_some _ _ _ c.in-Some-4.is c.in_ok-legacy.ensures.sets)))

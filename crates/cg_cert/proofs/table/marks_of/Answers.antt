@@ -1,6 +1,6 @@
 use Rattle.std.proofs.Common.{true, false, arith}
 use Rattle.cg_cert.specs.Judged.{serials_of}
-use Rattle.cg_cert.proofs.Named.{position_some, no_name, marked_before, marks_more, mark_there, at_place}
+use Rattle.cg_cert.proofs.NamesAndPositions.{position_some, no_name, marked_before, marks_more, mark_there, at_place}
 use Rattle.cg_search.proofs.Places.{includes_next}
 use Rattle.cg_cert.proofs.table.marks_of.Goals as goal
 

@@ -1,6 +1,6 @@
 use Rattle.std.proofs.Common.{take}
 use Rattle.cg_cert.specs.Judged.{serials_of}
-use Rattle.cg_cert.proofs.Named.{MarksFirst}
+use Rattle.cg_cert.proofs.NamesAndPositions.{MarksFirst}
 use Rattle.cg_cert.proofs.table.marks_of.Given as goal
 
 abbrev pub invariant-serials : goal.invariant-serials

@@ -1,5 +1,5 @@
 use Rattle.cg_cert.specs.Judged.{serials_of}
-use Rattle.cg_cert.proofs.Named.{named_by_more, if_none}
+use Rattle.cg_cert.proofs.NamesAndPositions.{named_by_more, if_none}
 use Rattle.cg_search.proofs.Places.{includes_next}
 use Rattle.cg_cert.proofs.table.rows_of.Goals as goal
 

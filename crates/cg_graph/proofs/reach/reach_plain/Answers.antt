@@ -16,6 +16,7 @@ turns-preserved c =
 pub returns-clause-members : goal.returns-clause-members
 returns-clause-members c =
     IfOk-weaker c.rising.result _ _
-    (λ list same. spreads_all _ _ _ c.turns.found.items c.turns.rest.items c.deref.result.now c.deref-in-turns.result.now list.items _ c.turns.invariant c.deref.ensures.value c.deref-in-turns.ensures.value c.next_of.ensures c.in_default.is
+    (λ list same. spreads_all _ _ _ c.turns.found.items c.turns.rest.items c.deref.result.now c.deref-in-turns.result.now list.items _ c.turns.invariant
+    c.deref.ensures.value c.deref-in-turns.ensures.value c.next_of.ensures c.in_default.is
     (λ o. subst (λ (xs : List ℕ). Includes list.items o ↔ Includes xs o) c.deref-2.ensures.value (same o)))
     c.rising.ensures.same

@@ -11,7 +11,8 @@ use Rattle.cg_graph.proofs.reach.rising.Goals as goal
 
 pub loop-object-preserved : goal.loop-object-preserved
 loop-object-preserved c = let put : c.insert.new.self.keys ≡ insert_key nat_cmp c.loop-object.set.keys (get_or c.args.objects.now c.loop-object.object-index 0) = c.in_ok-insert.ensures.keys in
-    subst (λ (ks : List ℕ). (p : ℕ) → Includes ks p ↔ Includes (take (c.loop-object.object-index + 1) c.args.objects.now) p) (sym put) (one_more c.args.objects.now c.loop-object.set.keys c.loop-object.object-index _ c.loop-object.invariant (omega arith) refl)
+    subst (λ (ks : List ℕ). (p : ℕ) → Includes ks p ↔ Includes (take (c.loop-object.object-index + 1) c.args.objects.now) p) (sym put)
+    (one_more c.args.objects.now c.loop-object.set.keys c.loop-object.object-index _ c.loop-object.invariant (omega arith) refl)
 
 pub returns-clause-same : goal.returns-clause-same
 returns-clause-same c = IfOk-weaker c.listed.result _ _ (λ list same. all_in _ _ _ _ c.loop-object.invariant (omega arith) same) c.listed.ensures.same

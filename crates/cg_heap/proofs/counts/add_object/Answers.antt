@@ -15,13 +15,17 @@ pub inc-requires-clause-room : goal.inc-requires-clause-room
 inc-requires-clause-room c = added_room c.args.arena.now c.add_reserved.new.self c.add_reserved.new.self c.args.serial _ _ c.requires.fresh refl c.add_reserved.ensures.adds
 
 pub count_all-requires-clause-live : goal.count_all-requires-clause-live
-count_all-requires-clause-live c = λ s there. others_live c.args.arena.now c.add_reserved.new.self c.inc.new.self c.args.serial _ _ c.requires.fresh refl c.add_reserved.ensures.adds c.inc.ensures s (c.requires.live s there)
+count_all-requires-clause-live c = λ s there. others_live c.args.arena.now c.add_reserved.new.self c.inc.new.self c.args.serial _ _ c.requires.fresh refl
+    c.add_reserved.ensures.adds c.inc.ensures s (c.requires.live s there)
 
 pub count_all-requires-clause-room : goal.count_all-requires-clause-room
-count_all-requires-clause-room c = λ s. others_room c.args.arena.now c.add_reserved.new.self c.inc.new.self c.args.serial _ _ c.requires.fresh refl c.add_reserved.ensures.adds c.inc.ensures s (occurrences s (references c.args.parts.now)) (c.requires.room s)
+count_all-requires-clause-room c = λ s. others_room c.args.arena.now c.add_reserved.new.self c.inc.new.self c.args.serial _ _ c.requires.fresh refl
+    c.add_reserved.ensures.adds c.inc.ensures s (occurrences s (references c.args.parts.now)) (c.requires.room s)
 
 pub returns : goal.returns
 returns c = (
   c.add_reserved.new.self.room,
-  c.count_all.ensures ∙ ap (counted_up (references c.args.parts.now)) (c.inc.ensures ∙ ap (counted_up (c.args.serial ∷ [])) (c.add_reserved.ensures.adds ∙ ap (λ p. with_node c.args.serial (new_node c.args.code c.args.class c.args.body p) (with_room c.add_reserved.new.self.room c.args.arena.now)) c.first_place.ensures)),
+  c.count_all.ensures ∙ ap (counted_up (references c.args.parts.now)) (c.inc.ensures ∙ ap (counted_up (c.args.serial ∷ [])) (c.add_reserved.ensures.adds
+      ∙ ap (λ p. with_node c.args.serial (new_node c.args.code c.args.class c.args.body p) (with_room c.add_reserved.new.self.room c.args.arena.now))
+      c.first_place.ensures)),
 )

@@ -9,5 +9,6 @@ returns-in_err-degree-clause-none c =
 pub returns-in_err-mark-clause-none : goal.returns-in_err-mark-clause-none
 returns-in_err-mark-clause-none c =
     if_none _ _
-    (no_mark c.args.bytes.now c.in_ok-serial.rest.now c.in_ok-serial.serial c.in_ok-serial.ensures.fits c.in_ok-serial.ensures.found c.in_ok-degree.rest.now c.in_ok-degree.degree c.in_ok-degree.ensures.fits
+    (no_mark c.args.bytes.now c.in_ok-serial.rest.now c.in_ok-serial.serial c.in_ok-serial.ensures.fits c.in_ok-serial.ensures.found c.in_ok-degree.rest.now
+    c.in_ok-degree.degree c.in_ok-degree.ensures.fits
     c.in_ok-degree.ensures.found c.in_err-mark.ensures.none)

@@ -10,11 +10,13 @@ returns-in_default-clause-none c = λ records small is.
 
 pub returns-in_default-2-clause-none : goal.returns-in_default-2-clause-none
 returns-in_default-2-clause-none c = λ records small is.
-    no_step c.args.bytes.now c.lines.rest.now c.lines.draft c.lines.invariant records small is c.in-Some.line c.in-Some.after.now c.in-Some.ensures.fits c.in-Some.ensures.found (sym c.in_ok-next.ensures ∙ c.in_default-2.is)
+    no_step c.args.bytes.now c.lines.rest.now c.lines.draft c.lines.invariant records small is c.in-Some.line c.in-Some.after.now c.in-Some.ensures.fits
+    c.in-Some.ensures.found (sym c.in_ok-next.ensures ∙ c.in_default-2.is)
 
 pub lines-preserved : goal.lines-preserved
 lines-preserved c =
-    read_more c.args.bytes.now c.lines.rest.now c.in-Some.after.now c.lines.draft c.in-Some-2.next c.in-Some.line c.lines.invariant c.in-Some.ensures.fits c.in-Some.ensures.found (sym c.in_ok-next.ensures ∙ c.in-Some-2.is)
+    read_more c.args.bytes.now c.lines.rest.now c.in-Some.after.now c.lines.draft c.in-Some-2.next c.in-Some.line c.lines.invariant c.in-Some.ensures.fits
+    c.in-Some.ensures.found (sym c.in_ok-next.ensures ∙ c.in-Some-2.is)
 
 pub returns-clause-found : goal.returns-clause-found
 returns-clause-found c =

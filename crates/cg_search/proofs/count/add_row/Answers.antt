@@ -13,5 +13,6 @@ overflow_add-index_mut c =
     let now = c.targets.invariant.adds at within in
     let few = few_occurrences at done in
     let short : length done ≡ c.targets.target-index = length-take-le c.targets.target-index c.args.row.now (omega (arith, c.targets-test.true)) in
-    let value : c.index_mut.result.now ≡ get_or c.targets.counts.items at 0 = get_or_read_under c.targets.counts.items at (length c.targets.counts.items) c.index_mut.result.now 0 c.index_mut.ensures.value here refl in
+    let value : c.index_mut.result.now ≡ get_or c.targets.counts.items at 0 = get_or_read_under c.targets.counts.items at (length c.targets.counts.items)
+    c.index_mut.result.now 0 c.index_mut.ensures.value here refl in
     omega (arith, room, now, few, short, value, c.targets-test.true)

@@ -7,4 +7,5 @@ visit-requires-clause-within c = c.requires.within _ (includes_next c.args.row.n
 
 pub targets-preserved : goal.targets-preserved
 targets-preserved c =
-    visits_next c.args.allowed.now c.args.row.now c.targets.target-index 0 c.args.marks.now.items c.targets.marks.items c.visit.new.marks.items c.args.waits.now.items c.targets.waits.items c.visit.new.waits.items c.targets-test.true c.targets.invariant c.in_ok-visit.ensures
+    visits_next c.args.allowed.now c.args.row.now c.targets.target-index 0 c.args.marks.now.items c.targets.marks.items c.visit.new.marks.items
+    c.args.waits.now.items c.targets.waits.items c.visit.new.waits.items c.targets-test.true c.targets.invariant c.in_ok-visit.ensures

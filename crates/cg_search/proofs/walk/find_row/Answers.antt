@@ -9,5 +9,6 @@ find-requires-clause-within c = c.requires.within _ (includes_next c.args.row.no
 pub targets-preserved : goal.targets-preserved
 targets-preserved c = record {
   agree = c.in_ok-find.ensures.agree;
-  finds = finds_next c.args.allowed.now c.args.found.now.items c.targets.found.items c.find.new.found.items c.args.row.now c.targets.target-index (Some c.args.holder) c.targets-test.true c.targets.invariant.finds c.in_ok-find.ensures.finds;
+  finds = finds_next c.args.allowed.now c.args.found.now.items c.targets.found.items c.find.new.found.items c.args.row.now c.targets.target-index
+      (Some c.args.holder) c.targets-test.true c.targets.invariant.finds c.in_ok-find.ensures.finds;
 }

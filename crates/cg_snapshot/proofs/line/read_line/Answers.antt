@@ -2,8 +2,8 @@ use Rattle.std.proofs.Common.{◌≡◌, ◌≢◌}
 use Rattle.std.proofs.lemmas.Result.{IfOk-weaker}
 use Rattle.cg_snapshot.specs.declared.row.Row.{Row}
 use Rattle.cg_snapshot.specs.Rows.{raw_of, IsRow}
-use Rattle.cg_snapshot.proofs.Meaning.{read_found, read_fits, read_none, no_row}
-use Rattle.cg_snapshot.proofs.Rowed.{if_some, if_none}
+use Rattle.cg_snapshot.proofs.MeaningOfLines.{read_found, read_fits, read_none, no_row}
+use Rattle.cg_snapshot.proofs.DistinctRows.{if_some, if_none}
 use Rattle.cg_snapshot.proofs.line.read_line.Goals as goal
 
 pub returns-in-Some-clause-found : goal.returns-in-Some-clause-found

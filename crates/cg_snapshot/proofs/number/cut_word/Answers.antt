@@ -1,5 +1,5 @@
 use Rattle.std.proofs.Common.{◌-◌, sym, subst, take, drop, length, List, ℕ}
-use Rattle.cg_snapshot.proofs.Cuts.{IsAt, lacks_before, at_place, at_is_tail, all_taken}
+use Rattle.cg_snapshot.proofs.CutBytes.{IsAt, lacks_before, at_place, at_is_tail, all_taken}
 use Rattle.cg_snapshot.proofs.number.cut_word.Goals as goal
 
 pub returns-clause-word : goal.returns-clause-word

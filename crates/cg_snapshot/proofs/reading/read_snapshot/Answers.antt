@@ -3,8 +3,8 @@ use Rattle.std.proofs.lemmas.Bool.{eqb-true, eqb-false}
 use Rattle.cg_snapshot.specs.declared.line.Line.{Line}
 use Rattle.cg_snapshot.specs.Lines.{raw_line, IsLine}
 use Rattle.cg_snapshot.specs.Text.{HasNoFeed}
-use Rattle.cg_snapshot.proofs.Cuts.{lacks_before, cut_there}
-use Rattle.cg_snapshot.proofs.Rowed.{if_some, if_none}
+use Rattle.cg_snapshot.proofs.CutBytes.{lacks_before, cut_there}
+use Rattle.cg_snapshot.proofs.DistinctRows.{if_some, if_none}
 use Rattle.cg_snapshot.proofs.Read.{no_feed, no_line, no_step, read_more, read_end, no_end}
 use Rattle.cg_snapshot.proofs.reading.read_snapshot.Goals as goal
 
@@ -23,7 +23,8 @@ returns-in_default c =
     let end = c.place_of-end.result in
     let small : c.lines.number < 2 ^ 64 = omega arith in
     let within : c.place_of-end.result < length c.lines.rest.now = omega (arith, c.place_of-end.ensures.within, c.if-end-rest.false) in
-    no_line c.args.bytes.now rest c.lines.draft c.lines.number c.lines.invariant small (take end rest) (take (length rest - (end + 1)) (drop (end + 1) rest)) (cut_there 10 rest end within (c.place_of-end.ensures.found within)) (lacks_before 10 rest end c.place_of-end.ensures.before)
+    no_line c.args.bytes.now rest c.lines.draft c.lines.number c.lines.invariant small (take end rest) (take (length rest - (end + 1)) (drop (end + 1) rest))
+    (cut_there 10 rest end within (c.place_of-end.ensures.found within)) (lacks_before 10 rest end c.place_of-end.ensures.before)
     (if_none _ _ c.in_default.is c.in_ok-line.ensures.none)
 
 pub returns-in_default-2 : goal.returns-in_default-2
@@ -32,8 +33,10 @@ returns-in_default-2 c =
     let end = c.place_of-end.result in
     let small : c.lines.number < 2 ^ 64 = omega arith in
     let within : c.place_of-end.result < length c.lines.rest.now = omega (arith, c.place_of-end.ensures.within, c.if-end-rest.false) in
-    no_step c.args.bytes.now rest c.lines.draft c.lines.number c.lines.invariant small (take end rest) (take (length rest - (end + 1)) (drop (end + 1) rest)) c.in-Some.line (cut_there 10 rest end within (c.place_of-end.ensures.found within)) (lacks_before 10 rest end c.place_of-end.ensures.before)
-    (if_some _ _ (λ (l : Line). IsLine l) c.in-Some.is c.in_ok-line.ensures.fits) (if_some _ _ (λ (l : Line). take end rest ≡ raw_line l) c.in-Some.is c.in_ok-line.ensures.found) (sym c.in_ok-next.ensures ∙ c.in_default-2.is)
+    no_step c.args.bytes.now rest c.lines.draft c.lines.number c.lines.invariant small (take end rest) (take (length rest - (end + 1)) (drop (end + 1) rest))
+    c.in-Some.line (cut_there 10 rest end within (c.place_of-end.ensures.found within)) (lacks_before 10 rest end c.place_of-end.ensures.before)
+    (if_some _ _ (λ (l : Line). IsLine l) c.in-Some.is c.in_ok-line.ensures.fits) (if_some _ _ (λ (l : Line). take end rest ≡ raw_line l) c.in-Some.is
+    c.in_ok-line.ensures.found) (sym c.in_ok-next.ensures ∙ c.in_default-2.is)
 
 pub lines-preserved : goal.lines-preserved
 lines-preserved c =
@@ -41,7 +44,8 @@ lines-preserved c =
     let end = c.place_of-end.result in
     let within : c.place_of-end.result < length c.lines.rest.now = omega (arith, c.place_of-end.ensures.within, c.if-end-rest.false) in
     read_more c.args.bytes.now rest (take end rest) (take (length rest - (end + 1)) (drop (end + 1) rest)) c.lines.draft c.in-Some-2.next c.lines.number c.in-Some.line c.lines.invariant
-    (if_some _ _ (λ (l : Line). IsLine l) c.in-Some.is c.in_ok-line.ensures.fits) (cut_there 10 rest end within (c.place_of-end.ensures.found within)) (if_some _ _ (λ (l : Line). take end rest ≡ raw_line l) c.in-Some.is c.in_ok-line.ensures.found) (sym c.in_ok-next.ensures ∙ c.in-Some-2.is)
+    (if_some _ _ (λ (l : Line). IsLine l) c.in-Some.is c.in_ok-line.ensures.fits) (cut_there 10 rest end within (c.place_of-end.ensures.found within))
+    (if_some _ _ (λ (l : Line). take end rest ≡ raw_line l) c.in-Some.is c.in_ok-line.ensures.found) (sym c.in_ok-next.ensures ∙ c.in-Some-2.is)
 
 pub returns-in-Some-snapshot_of : goal.returns-in-Some-snapshot_of
 returns-in-Some-snapshot_of c =

@@ -10,7 +10,8 @@ pub places-preserved : goal.places-preserved
 places-preserved c =
     let done = all_spaced (take c.places.place-index c.args.places.now) in
     let next = spaced (get_or c.args.places.now c.places.place-index 0) in
-    c.in_ok-put_spaced.ensures ∙ ap (λ t. t ++ next) c.places.invariant ∙ append_assoc c.args.out.now.items done next ∙ ap (λ t. c.args.out.now.items ++ t) (sym (spaced_next c.args.places.now c.places.place-index c.places-test.true))
+    c.in_ok-put_spaced.ensures ∙ ap (λ t. t ++ next) c.places.invariant ∙ append_assoc c.args.out.now.items done next ∙ ap (λ t. c.args.out.now.items ++ t)
+    (sym (spaced_next c.args.places.now c.places.place-index c.places-test.true))
 
 pub returns : goal.returns
 returns c = c.places.invariant ∙ ap (λ ns. c.args.out.now.items ++ all_spaced ns) (take_all c.places.place-index c.args.places.now c.places-test.false)

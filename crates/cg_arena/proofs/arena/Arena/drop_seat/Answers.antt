@@ -13,21 +13,28 @@ pub slot_of-at-requires : goal.slot_of-at-requires
 slot_of-at-requires c = found c.self.inside.slots c.self.inside.ends c.self.inside.index c.self.invariant (spare c.self.inside.index.rows) c.args.self.now c.self.view_is c.args.serial c.requires.has
 
 pub number_of-from-requires : goal.number_of-from-requires
-number_of-from-requires c = slot_placed c.self.inside.slots c.self.inside.ends (rows_of c.self.inside.slots) c.self.invariant.sound c.slot_of-at.result.0 c.slot_of-at.result.1 c.slot_of-at.ensures.slot
+number_of-from-requires c = slot_placed c.self.inside.slots c.self.inside.ends (rows_of c.self.inside.slots) c.self.invariant.sound c.slot_of-at.result.0
+    c.slot_of-at.result.1 c.slot_of-at.ensures.slot
 
 pub unlink-requires : goal.unlink-requires
 unlink-requires c =
-    size_there c.self.inside.slots (tied c.slot_of-at.result.1.word.before (after_of c.slot_of-at.result.1) c.self.inside.slots) c.self.inside.ends (rows_of c.self.inside.slots) c.self.invariant.sound c.args.serial c.slot_of-at.result.0 c.slot_of-at.result.1 c.slot_of-at.ensures.at c.slot_of-at.ensures.slot
+    size_there c.self.inside.slots (tied c.slot_of-at.result.1.word.before (after_of c.slot_of-at.result.1) c.self.inside.slots) c.self.inside.ends
+    (rows_of c.self.inside.slots) c.self.invariant.sound c.args.serial c.slot_of-at.result.0 c.slot_of-at.result.1 c.slot_of-at.ensures.at
+    c.slot_of-at.ensures.slot
     c.number_of-from.result c.number_of-from.ensures.number c.number_of-from.ensures.below refl
 
 pub remove-requires-2 : goal.remove-requires-2
 remove-requires-2 c =
-    left_there c.self.inside.slots c.unlink.new.slots c.self.inside.ends (rows_of c.self.inside.slots) c.self.invariant.sound c.args.serial c.slot_of-at.result.0 c.slot_of-at.result.1 c.slot_of-at.ensures.at c.slot_of-at.ensures.slot
+    left_there c.self.inside.slots c.unlink.new.slots c.self.inside.ends (rows_of c.self.inside.slots) c.self.invariant.sound c.args.serial
+    c.slot_of-at.result.0 c.slot_of-at.result.1 c.slot_of-at.ensures.at c.slot_of-at.ensures.slot
     c.number_of-from.result c.number_of-from.ensures.number c.number_of-from.ensures.below c.unlink.ensures.slots
 
-done : (c : goal.After-remove-2) → StandsFor c.remove-2.new.self (slice_set c.self.inside.ends c.number_of-from.result c.unlink.new.ends) c.remove.new.self (spare c.remove.new.self.rows) (without_node c.args.serial (record c.args.self.now { room = room_of (spare c.remove.new.self.rows) c.remove-2.new.self })) × (c.args.self.now.room ≤ room_of (spare c.remove.new.self.rows) c.remove-2.new.self)
+done : (c : goal.After-remove-2) → StandsFor c.remove-2.new.self (slice_set c.self.inside.ends c.number_of-from.result c.unlink.new.ends) c.remove.new.self
+    (spare c.remove.new.self.rows) (without_node c.args.serial (record c.args.self.now { room = room_of (spare c.remove.new.self.rows) c.remove-2.new.self }))
+    × (c.args.self.now.room ≤ room_of (spare c.remove.new.self.rows) c.remove-2.new.self)
 done c =
-    dropped c.self.inside.slots c.unlink.new.slots c.remove-2.new.self c.self.inside.ends c.self.inside.index c.remove.new.self c.self.invariant (spare c.self.inside.index.rows) c.args.self.now c.self.view_is
+    dropped c.self.inside.slots c.unlink.new.slots c.remove-2.new.self c.self.inside.ends c.self.inside.index c.remove.new.self c.self.invariant
+    (spare c.self.inside.index.rows) c.args.self.now c.self.view_is
     c.args.serial c.slot_of-at.result.0 c.slot_of-at.result.1 c.slot_of-at.ensures.at c.slot_of-at.ensures.slot
     c.number_of-from.result c.number_of-from.ensures.number c.number_of-from.ensures.below c.unlink.ensures.slots c.unlink.new.ends c.unlink.ensures.ends
     c.remove-2.ensures.updates c.remove-2.ensures.len c.remove.ensures.index
@@ -43,7 +50,11 @@ pub returns-clause-room : goal.returns-clause-room
 returns-clause-room c = (done c).1
 
 pub returns-clause-code : goal.returns-clause-code
-returns-clause-code c = subst (λ o. IfSome o (λ (n : ArenaNode). c.slot_of-at.result.1.code ≡ n.code)) (sym (node_here c.self.inside.slots c.self.inside.ends (rows_of c.self.inside.slots) (spare c.self.inside.index.rows) c.args.self.now c.self.view_is c.args.serial c.slot_of-at.result.0 c.slot_of-at.result.1 c.slot_of-at.ensures.at c.slot_of-at.ensures.slot)) refl
+returns-clause-code c = subst (λ o. IfSome o (λ (n : ArenaNode). c.slot_of-at.result.1.code ≡ n.code))
+    (sym (node_here c.self.inside.slots c.self.inside.ends (rows_of c.self.inside.slots) (spare c.self.inside.index.rows) c.args.self.now c.self.view_is
+    c.args.serial c.slot_of-at.result.0 c.slot_of-at.result.1 c.slot_of-at.ensures.at c.slot_of-at.ensures.slot)) refl
 
 pub returns-clause-body : goal.returns-clause-body
-returns-clause-body c = subst (λ o. IfSome o (λ (n : ArenaNode). c.slot_of-at.result.1.body ≡ n.body)) (sym (node_here c.self.inside.slots c.self.inside.ends (rows_of c.self.inside.slots) (spare c.self.inside.index.rows) c.args.self.now c.self.view_is c.args.serial c.slot_of-at.result.0 c.slot_of-at.result.1 c.slot_of-at.ensures.at c.slot_of-at.ensures.slot)) refl
+returns-clause-body c = subst (λ o. IfSome o (λ (n : ArenaNode). c.slot_of-at.result.1.body ≡ n.body))
+    (sym (node_here c.self.inside.slots c.self.inside.ends (rows_of c.self.inside.slots) (spare c.self.inside.index.rows) c.args.self.now c.self.view_is
+    c.args.serial c.slot_of-at.result.0 c.slot_of-at.result.1 c.slot_of-at.ensures.at c.slot_of-at.ensures.slot)) refl

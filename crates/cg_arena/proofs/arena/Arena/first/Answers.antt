@@ -9,5 +9,6 @@ use Rattle.cg_arena.proofs.arena.Arena.first.Goals as goal
 pub returns : goal.returns
 returns c =
     c.serial_at.ensures
-    ∙ first_is c.self.inside.slots c.self.inside.ends (rows_of c.self.inside.slots) (spare c.self.inside.index.rows) c.args.self.now c.self.view_is c.self.invariant.sound c.number_of.result c.number_of.ensures.below
+    ∙ first_is c.self.inside.slots c.self.inside.ends (rows_of c.self.inside.slots) (spare c.self.inside.index.rows) c.args.self.now c.self.view_is
+    c.self.invariant.sound c.number_of.result c.number_of.ensures.below
     ∙ ap (λ p. slice_get (list_of c.args.self.now.lists p) 0) c.number_of.ensures.number

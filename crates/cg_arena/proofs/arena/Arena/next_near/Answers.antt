@@ -12,4 +12,5 @@ pub returns : goal.returns
 returns c =
     c.serial_at.ensures
     ∙ ap (serial_of_slot c.self.inside.slots) c.after-after.ensures
-    ∙ next_is c.self.inside.slots c.self.inside.ends (rows_of c.self.inside.slots) (spare c.self.inside.index.rows) c.args.self.now c.self.view_is c.self.invariant.sound c.args.serial c.slot_near-slot.result.0 c.slot_near-slot.result.1 c.slot_near-slot.ensures.at c.slot_near-slot.ensures.slot
+    ∙ next_is c.self.inside.slots c.self.inside.ends (rows_of c.self.inside.slots) (spare c.self.inside.index.rows) c.args.self.now c.self.view_is
+    c.self.invariant.sound c.args.serial c.slot_near-slot.result.0 c.slot_near-slot.result.1 c.slot_near-slot.ensures.at c.slot_near-slot.ensures.slot

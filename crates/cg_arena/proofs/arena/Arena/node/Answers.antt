@@ -7,4 +7,5 @@ pub slot_of-requires : goal.slot_of-requires
 slot_of-requires c = found c.self.inside.slots c.self.inside.ends c.self.inside.index c.self.invariant (spare c.self.inside.index.rows) c.args.self.now c.self.view_is c.args.serial c.requires
 
 pub returns : goal.returns
-returns c = node_here c.self.inside.slots c.self.inside.ends (rows_of c.self.inside.slots) (spare c.self.inside.index.rows) c.args.self.now c.self.view_is c.args.serial c.slot_of.result.0 c.slot_of.result.1 c.slot_of.ensures.at c.slot_of.ensures.slot
+returns c = node_here c.self.inside.slots c.self.inside.ends (rows_of c.self.inside.slots) (spare c.self.inside.index.rows) c.args.self.now c.self.view_is
+    c.args.serial c.slot_of.result.0 c.slot_of.result.1 c.slot_of.ensures.at c.slot_of.ensures.slot

@@ -7,4 +7,5 @@ pub slot_near-requires : goal.slot_near-requires
 slot_near-requires c = found c.self.inside.slots c.self.inside.ends c.self.inside.index c.self.invariant (spare c.self.inside.index.rows) c.args.self.now c.self.view_is c.args.serial c.requires
 
 pub returns : goal.returns
-returns c = node_here c.self.inside.slots c.self.inside.ends (rows_of c.self.inside.slots) (spare c.self.inside.index.rows) c.args.self.now c.self.view_is c.args.serial c.slot_near.result.0 c.slot_near.result.1 c.slot_near.ensures.at c.slot_near.ensures.slot
+returns c = node_here c.self.inside.slots c.self.inside.ends (rows_of c.self.inside.slots) (spare c.self.inside.index.rows) c.args.self.now c.self.view_is
+    c.args.serial c.slot_near.result.0 c.slot_near.result.1 c.slot_near.ensures.at c.slot_near.ensures.slot

@@ -7,7 +7,8 @@ use Rattle.cg_arena.proofs.arena.Arena.size.Goals as goal
 
 pub returns-clause-size : goal.returns-clause-size
 returns-clause-size c =
-    size_is c.self.inside.slots c.self.inside.ends (rows_of c.self.inside.slots) (spare c.self.inside.index.rows) c.args.self.now c.self.view_is c.self.invariant.sound c.number_of.result c.number_of.ensures.below
+    size_is c.self.inside.slots c.self.inside.ends (rows_of c.self.inside.slots) (spare c.self.inside.index.rows) c.args.self.now c.self.view_is
+    c.self.invariant.sound c.number_of.result c.number_of.ensures.below
     ∙ ap (λ p. length (list_of c.args.self.now.lists p)) c.number_of.ensures.number
 
 pub returns-clause-listed : goal.returns-clause-listed

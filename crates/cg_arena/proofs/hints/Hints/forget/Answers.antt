@@ -12,4 +12,6 @@ pub returns-then-guess-slot-clause-forgotten : goal.returns-then-guess-slot-clau
 returns-then-guess-slot-clause-forgotten c = λ is. sym is ∙ guess-same c.args.self.now c.index_of-index.result 0 c.args.serial c.index_of-index.ensures c.in-Some.ensures.item.3.0
 
 pub returns-else-guess-slot-clause-forgotten : goal.returns-else-guess-slot-clause-forgotten
-returns-else-guess-slot-clause-forgotten c = λ is. absurd (c.if-guess-slot.false (sym (guess-same c.args.self.now c.index_of-index.result c.in-Some.guess.now c.args.serial c.index_of-index.ensures c.in-Some.ensures.item.3.0) ∙ is))
+returns-else-guess-slot-clause-forgotten c =
+    λ is. absurd (c.if-guess-slot.false (sym (guess-same c.args.self.now c.index_of-index.result c.in-Some.guess.now c.args.serial c.index_of-index.ensures
+    c.in-Some.ensures.item.3.0) ∙ is))

@@ -4,7 +4,8 @@ use Rattle.cg_heap.specs.Calls.{IsGreatestBound}
 use Rattle.cg_heap.proofs.heap.Heap.greatest_name.Goals as goal
 
 pub returns-in_err-name-clause-greatest : goal.returns-in_err-name-clause-greatest
-returns-in_err-name-clause-greatest g c = subst (λ s. IsGreatestBound s.names c.from_residual.result) c.self.view_is (subst (λ r. IsGreatestBound c.self.inside.names r) (sym c.from_residual.ensures) c.in_err-name.ensures.greatest)
+returns-in_err-name-clause-greatest g c = subst (λ s. IsGreatestBound s.names c.from_residual.result) c.self.view_is
+    (subst (λ r. IsGreatestBound c.self.inside.names r) (sym c.from_residual.ensures) c.in_err-name.ensures.greatest)
 
 pub overflow_cast-result : goal.overflow_cast-result
 overflow_cast-result g c =

@@ -23,7 +23,8 @@ invariant_of-self c =
     c.self.invariant
     (nothing_above c.self.inside.nodes.entries c.args.self.now.rows (ap (λ t. t.rows) c.self.view_is) c.args.weak c.requires.newest (c.args.referent, false))
     (newest_below c.self.inside.nodes.entries c.args.self.now.rows (ap (λ t. t.rows) c.self.view_is) c.args.weak c.requires.newest (c.args.referent, false) older
-    (subst (λ (k : Chains). IsLast below (λ v. chain_at c.self.inside.nodes.entries v ≡ Some (c.args.referent, false)) k.current.newest) (sym c.chains_at-chains.ensures) (c.self.invariant.newest (c.args.referent, false))))
+    (subst (λ (k : Chains). IsLast below (λ v. chain_at c.self.inside.nodes.entries v ≡ Some (c.args.referent, false)) k.current.newest)
+    (sym c.chains_at-chains.ensures) (c.self.invariant.newest (c.args.referent, false))))
     (λ v. c.join.ensures.nodes v ∙ ap (tied None (Some c.args.weak) older (Some c.args.weak) v) (c.add_node.ensures.nodes v))
     (c.with.ensures
     ∙ (λ i. record {

@@ -48,7 +48,8 @@ invariant_of-self c =
     let moved : Chains = record { current = c.without.result; waiting = c.joined.result } in
     moved_fields c.self.inside.nodes.entries c.join.new.nodes.entries c.args.weak n.referent n.newer n.older newer older
     (c.node_at-node.ensures ∙ (λ i. Some (record n { waits = stays i })))
-    (λ v. c.join.ensures.nodes v ∙ ap (tied newer (Some c.args.weak) older (Some c.args.weak) v) (c.write_node.ensures.nodes v ∙ ap (λ o. if nat_eq c.args.weak v then Some m else o) (c.tie.ensures.nodes v)))
+    (λ v. c.join.ensures.nodes v ∙ ap (tied newer (Some c.args.weak) older (Some c.args.weak) v) (c.write_node.ensures.nodes v
+    ∙ ap (λ o. if nat_eq c.args.weak v then Some m else o) (c.tie.ensures.nodes v)))
     c.self.inside.chains.entries c.write_chains.new.chains.entries moved c.self.invariant
     c.neighbours-newer.ensures.above c.neighbours-newer.ensures.below
     (λ i. record {
@@ -66,5 +67,6 @@ returns-clause-rows c =
     let stays = not_waiting c.self.inside.nodes.entries c.args.self.now.rows (ap (λ t. t.rows) c.self.view_is) c.args.weak n c.node_at-node.ensures c.requires in
     moved_rows c.self.inside.nodes.entries c.join.new.nodes.entries c.args.weak n.referent n.newer n.older newer older
     (c.node_at-node.ensures ∙ (λ i. Some (record n { waits = stays i })))
-    (λ v. c.join.ensures.nodes v ∙ ap (tied newer (Some c.args.weak) older (Some c.args.weak) v) (c.write_node.ensures.nodes v ∙ ap (λ o. if nat_eq c.args.weak v then Some m else o) (c.tie.ensures.nodes v)))
+    (λ v. c.join.ensures.nodes v ∙ ap (tied newer (Some c.args.weak) older (Some c.args.weak) v) (c.write_node.ensures.nodes v
+    ∙ ap (λ o. if nat_eq c.args.weak v then Some m else o) (c.tie.ensures.nodes v)))
     c.args.self.now.rows (ap (λ t. t.rows) c.self.view_is)

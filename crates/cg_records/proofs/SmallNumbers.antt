@@ -56,7 +56,8 @@ members_back [] h = tt
 members_back (m ∷ ms) h = let parts = lines_split (member_lines m) (flat_map member_lines ms) h in (member_back m parts.0, members_back ms parts.1)
 
 graph_fits : (g : Graph) → IsSmallGraph g → AreLines (graph_lines g)
-graph_fits g h = lines_append (flat_map member_lines g.members) (map lines.Lost g.lost) (members_fit g.members (recursion_from_All IsSmallMember g.members h.members)) (all_fit lines.Lost (λ n k. k) g.lost h.lost)
+graph_fits g h = lines_append (flat_map member_lines g.members) (map lines.Lost g.lost)
+    (members_fit g.members (recursion_from_All IsSmallMember g.members h.members)) (all_fit lines.Lost (λ n k. k) g.lost h.lost)
 
 graph_back : (g : Graph) → AreLines (graph_lines g) → AreNumbers g.legacy → IsSmallGraph g
 graph_back g h legacy =

@@ -48,7 +48,8 @@ names_of_rows g rows are o h =
     includes_at (serials_of g.members) j o at
 
 -- the graph by positions
-pub located_all : (g : Graph) (places : Places) (l : Located) → Tells (serials_of g.members) places → AreRowsOf (serials_of g.members) g.members (rows_in l.rows.items) → MarksAll (serials_of g.members) g.lost l.lost.items
+pub located_all : (g : Graph) (places : Places) (l : Located) → Tells (serials_of g.members) places → AreRowsOf (serials_of g.members) g.members
+    (rows_in l.rows.items) → MarksAll (serials_of g.members) g.lost l.lost.items
     → IsSetOf (serials_of g.members) g.lost → MarksAll (serials_of g.members) g.legacy l.legacy.items → IsSetOf (serials_of g.members) g.legacy → IsLocated g l
 located_all g places l tells rows lost lost_is legacy legacy_is =
     let once = told_once (serials_of g.members) places tells in

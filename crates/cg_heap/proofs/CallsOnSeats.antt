@@ -22,9 +22,9 @@ use Rattle.cg_heap.proofs.ReferenceLemmas.{occurrences-append, references-remove
 use Rattle.cg_heap.specs.Boxes.{HasBody, entries_in_box, boxes_with_body, boxes_without, spare_in_box}
 use Rattle.cg_heap.specs.Keeps.{store_of, seat_in, IsWellMade, IsWellMadeAt, IsSaved}
 use Rattle.cg_heap.specs.Calls.{HasFewHolds, number_less, code_in, code_of, IsMutable, CanTake, CanPutIn, IsLiveValue, value_in, with_put, is_dict_at, may_be_tracked, becomes_tracked}
-use Rattle.cg_heap.proofs.Stands.{Closed, closed}
+use Rattle.cg_heap.proofs.HeapIsStore.{Closed, closed}
 use Rattle.cg_heap.proofs.Rewrites.{object-of, node_seated}
-use Rattle.cg_heap.proofs.Takes.{keeps-taken, enough}
+use Rattle.cg_heap.proofs.TakenEntries.{keeps-taken, enough}
 use Rattle.cg_heap.proofs.Puts.{keeps-put, replaced-balance, replaced-were, replaced-length, added-put, added-balance, well-put, well-append, well-remove, well-last, All-remove}
 use Rattle.cg_heap.proofs.Moves.{same-place, keeps-gone, others}
 use Rattle.cg_heap.proofs.CountAll.{counted_twice}
@@ -34,7 +34,7 @@ use Rattle.cg_heap.proofs.CallerLemmas.{KeepsKinds, kinds-held, kinds-rewritten,
 use Rattle.cg_heap.proofs.RowsAndHolds.{kept, kept-gone}
 use Rattle.std.proofs.lemmas.List.Elements.{All-take}
 use Rattle.cg_heap.proofs.Calls.{has_node, total_is, holds_fit, keeps-aside, held-none, takes, place_told}
-use Rattle.cg_heap.proofs.Tracks.{dict_here}
+use Rattle.cg_heap.proofs.TrackedDictionaries.{dict_here}
 use Rattle.cg_value.specs.declared.Place.{Place}
 
 module _ {all : List Bodies} {v : Nodes} {names : List (Option Val)} {last : ℕ} {rows : List Row} {objects number : ℕ} {old : Store} (h : Closed all v names last rows objects number old) where
@@ -86,8 +86,12 @@ module _ {all : List Bodies} {v : Nodes} {names : List (Option Val)} {last : ℕ
     kinds-put refs es s c has = kinds-held refs (rewritten o es was) s c (kinds-rewritten o es was s c has)
 
     -- after changing entries
-    after_entries : (es : List Entry) (spare : ℕ) (all' : List Bodies) → all' ≡ boxes_with_body all code body es spare → (ups outs : List ℕ) → ((s : ℕ) → occurrences s (references es) + occurrences s outs ≡ occurrences s (references (entries_of old o)) + occurrences s ups) → ((s : ℕ) → occurrences s outs ≤ occurrences s (references (entries_of old o))) → ((s : ℕ) → 0 < occurrences s ups → IsLive old s) → outside_total old + length outs < 2147483648 → o ≢ 1
-        → ((x : Node) → fin.get old.nodes o ≡ Some x → IsWellMade x → IsWellMade (with_entries es x)) → (number' : ℕ) → number' + length (entries_of old o) ≡ number + length es → number' ≤ 4000000 → (v' : Nodes) → v' ≡ counted_up ups v
+    after_entries : (es : List Entry) (spare : ℕ) (all' : List Bodies) → all' ≡ boxes_with_body all code body es spare → (ups outs : List ℕ)
+        → ((s : ℕ) → occurrences s (references es) + occurrences s outs ≡ occurrences s (references (entries_of old o)) + occurrences s ups)
+        → ((s : ℕ) → occurrences s outs ≤ occurrences s (references (entries_of old o))) → ((s : ℕ) → 0 < occurrences s ups → IsLive old s)
+        → outside_total old + length outs < 2147483648 → o ≢ 1
+        → ((x : Node) → fin.get old.nodes o ≡ Some x → IsWellMade x → IsWellMade (with_entries es x)) → (number' : ℕ) → number' + length (entries_of old o)
+        ≡ number + length es → number' ≤ 4000000 → (v' : Nodes) → v' ≡ counted_up ups v
         → Closed all' v' names last rows objects number' (held outs (rewritten o es old))
     after_entries es spare all' is ups outs balance were live fits other well number' sizes limit v' counts =
         subst (λ s. Closed all' v' names last rows objects number' (held outs (rewritten o es s))) h.is
@@ -107,8 +111,12 @@ module _ {all : List Bodies} {v : Nodes} {names : List (Option Val)} {last : ℕ
         refl)))
 
     -- after taking an entry
-    after_leave : (es : List Entry) (spare : ℕ) (all' : List Bodies) → all' ≡ boxes_with_body all code body es spare → (refs : List ℕ) → ((s : ℕ) → occurrences s (references (entries_of old o)) ≡ occurrences s (references es) + occurrences s refs) → length (entries_of old o) ≡ suc (length es)
-        → ((x : Node) → fin.get old.nodes o ≡ Some x → IsWellMade x → IsWellMade (with_entries es x)) → (o ≡ 1 → spare_in_box all code body + 1 ≤ spare) → (o ≡ 1 → All IsSaved (entries_of old o) → All IsSaved es) → (number' : ℕ) → number' ≡ number_less o number → outside_total old + length refs < 2147483648
+    after_leave : (es : List Entry) (spare : ℕ) (all' : List Bodies) → all' ≡ boxes_with_body all code body es spare → (refs : List ℕ)
+        → ((s : ℕ) → occurrences s (references (entries_of old o)) ≡ occurrences s (references es) + occurrences s refs) → length (entries_of old o)
+        ≡ suc (length es)
+        → ((x : Node) → fin.get old.nodes o ≡ Some x → IsWellMade x → IsWellMade (with_entries es x)) → (o ≡ 1 → spare_in_box all code body + 1 ≤ spare)
+        → (o ≡ 1 → All IsSaved (entries_of old o) → All IsSaved es) → (number' : ℕ) → number' ≡ number_less o number → outside_total old + length refs <
+        2147483648
         → Closed all' v names last rows objects number' (held refs (rewritten o es old))
     after_leave es spare all' is refs split shorter well room saved number' less fits =
         subst (λ k. Closed all' v names last rows objects k (held refs (rewritten o es old))) (sym less)
@@ -127,7 +135,9 @@ module _ {all : List Bodies} {v : Nodes} {names : List (Option Val)} {last : ℕ
     entries_of_object : (x : Node) → fin.get old.nodes o ≡ Some x → x.entries ≡ entries_of old o
     entries_of_object x at = sym (ap entries_in at)
 
-    after_removal : (i : ℕ) (e : Entry) → slice_get (entries_of old o) i ≡ Some e → (spare : ℕ) (all' : List Bodies) → all' ≡ boxes_with_body all code body (remove (entries_of old o) i) spare → (o ≡ 1 → spare_in_box all code body + 1 ≤ spare) → (number' : ℕ) → number' ≡ number_less o number → HasFewHolds old
+    after_removal : (i : ℕ) (e : Entry) → slice_get (entries_of old o) i ≡ Some e → (spare : ℕ) (all' : List Bodies) → all' ≡ boxes_with_body all code body
+        (remove (entries_of old o) i) spare → (o ≡ 1 → spare_in_box all code body + 1 ≤ spare) → (number' : ℕ) → number' ≡ number_less o number
+        → HasFewHolds old
         → Closed all' v names last rows objects number' (held (entry_references e) (rewritten o (remove (entries_of old o) i) old))
     after_removal i e at spare all' is room number' less few =
         after_leave (remove (entries_of old o) i) spare all' is (entry_references e)
@@ -138,7 +148,9 @@ module _ {all : List Bodies} {v : Nodes} {names : List (Option Val)} {last : ℕ
         room (λ same saved. All-remove IsSaved (entries_of old o) i saved)
         number' less (holds_fit h few (entry_references e) (entry-le e))
 
-    pub after_detach : (e : Entry) → entries_of old o ≡ without_last (entries_of old o) ++ e ∷ [] → (spare : ℕ) (all' : List Bodies) → all' ≡ boxes_with_body all code body (without_last (entries_of old o)) spare → (o ≡ 1 → spare_in_box all code body + 1 ≤ spare) → (number' : ℕ) → number' ≡ number_less o number → HasFewHolds old
+    pub after_detach : (e : Entry) → entries_of old o ≡ without_last (entries_of old o) ++ e ∷ [] → (spare : ℕ) (all' : List Bodies) → all'
+        ≡ boxes_with_body all code body (without_last (entries_of old o)) spare → (o ≡ 1 → spare_in_box all code body + 1 ≤ spare) → (number' : ℕ) → number'
+        ≡ number_less o number → HasFewHolds old
         → Closed all' v names last rows objects number' (held (entry_references e) (rewritten o (without_last (entries_of old o)) old))
     after_detach e at spare all' is room number' less few =
         let rest = last-remove (entries_of old o) (without_last (entries_of old o)) e at in
@@ -148,7 +160,8 @@ module _ {all : List Bodies} {v : Nodes} {names : List (Option Val)} {last : ℕ
         room (λ same saved. All-take IsSaved (length (entries_of old o) - 1) (entries_of old o) saved)
         number' less (holds_fit h few (entry_references e) (entry-le e))
 
-    pub after_append : (x : Val) (spare : ℕ) (all' : List Bodies) → all' ≡ boxes_with_body all code body (entries_of old o ++ item x ∷ []) spare → code ≡ ListKind → o ≢ 1 → IsLiveValue old x → number < 4000000 → (v' : Nodes) → v' ≡ counted_up (references_of_value (Some x)) v
+    pub after_append : (x : Val) (spare : ℕ) (all' : List Bodies) → all' ≡ boxes_with_body all code body (entries_of old o ++ item x ∷ []) spare → code
+        ≡ ListKind → o ≢ 1 → IsLiveValue old x → number < 4000000 → (v' : Nodes) → v' ≡ counted_up (references_of_value (Some x)) v
         → Closed all' v' names last rows objects (number + 1) (rewritten o (entries_of old o ++ item x ∷ []) old)
     after_append x spare all' is list other live fits v' counts =
         subst (λ s. Closed all' v' names last rows objects (number + 1) s) (held-none (rewritten o (entries_of old o ++ item x ∷ []) old))
@@ -162,17 +175,21 @@ module _ {all : List Bodies} {v : Nodes} {names : List (Option Val)} {last : ℕ
         (number + 1) (omega (arith, length-append (entries_of old o) (item x ∷ []))) (omega (arith, fits)) v' counts)
 
     -- after replacing the value under a key
-    pub after_replace : (key x was_val : Val) → IsMutable (code_of old o) → value_in old o key ≡ Some was_val → (spare : ℕ) (all' : List Bodies) → all' ≡ boxes_with_body all code body (after_put (code_of old o) (entries_of old o) key x) spare → o ≢ 1 → IsLiveValue old x → HasFewHolds old → (v' : Nodes) → v' ≡ counted_up (references_of_value (Some x)) v
+    pub after_replace : (key x was_val : Val) → IsMutable (code_of old o) → value_in old o key ≡ Some was_val → (spare : ℕ) (all' : List Bodies) → all'
+        ≡ boxes_with_body all code body (after_put (code_of old o) (entries_of old o) key x) spare → o ≢ 1 → IsLiveValue old x → HasFewHolds old → (v' : Nodes)
+        → v' ≡ counted_up (references_of_value (Some x)) v
         → Closed all' v' names last rows objects number (held (references_of_value (Some was_val)) (rewritten o (after_put (code_of old o) (entries_of old o) key x) old))
     after_replace key x was_val mutable at spare all' is other live few v' counts =
-        let same : length (after_put (code_of old o) (entries_of old o) key x) ≡ length (entries_of old o) = replaced-length (code_of old o) (entries_of old o) key x mutable (subst IsSome (sym at) refl) in
+        let same : length (after_put (code_of old o) (entries_of old o) key x) ≡ length (entries_of old o) = replaced-length (code_of old o) (entries_of old o)
+        key x mutable (subst IsSome (sym at) refl) in
         after_entries (after_put (code_of old o) (entries_of old o) key x) spare all' is (references_of_value (Some x)) (references_of_value (Some was_val))
         (replaced-balance (code_of old o) (entries_of old o) key x was_val items_here mutable at)
         (replaced-were (code_of old o) (entries_of old o) key was_val items_here mutable at)
         (λ s there. live s (refs-are x s there))
         (holds_fit h few (references_of_value (Some was_val)) (let one = reference-le was_val in omega (arith, one)))
         other
-        (λ y found good. subst (λ (q : KindCode × List Entry). IsWellMade (with_entries (after_put q.0 q.1 key x) y)) (λ i. (ap code_in (sym found) i, entries_of_object y found i)) (well-put y key x (subst IsMutable (sym (ap code_in (sym found))) mutable) good))
+        (λ y found good. subst (λ (q : KindCode × List Entry). IsWellMade (with_entries (after_put q.0 q.1 key x) y))
+        (λ i. (ap code_in (sym found) i, entries_of_object y found i)) (well-put y key x (subst IsMutable (sym (ap code_in (sym found))) mutable) good))
         number (omega (arith, same)) h.keeps.0.entry_limit v' counts
       where
         items_here : code_of old o ≡ ListKind → AreItems (entries_of old o)
@@ -181,7 +198,10 @@ module _ {all : List Bodies} {v : Nodes} {names : List (Option Val)} {last : ℕ
             subst AreItems (entries_of_object x at) ((well_there x at).items (ap code_in (sym at) ∙ list))
 
     -- after adding a key
-    pub after_add : (key x : Val) → IsMutable (code_of old o) → CanPut (code_of old o) (entries_of old o) key → value_in old o key ≡ None → (spare : ℕ) (all' : List Bodies) → all' ≡ boxes_with_body all code body (after_put (code_of old o) (entries_of old o) key x) spare → o ≢ 1 → IsLiveValue old key → IsLiveValue old x → number < 4000000 → (v1 v' : Nodes) → v1 ≡ counted_up (references_of_value (Some x)) v → v' ≡ counted_up (references_of_value (Some key)) v1
+    pub after_add : (key x : Val) → IsMutable (code_of old o) → CanPut (code_of old o) (entries_of old o) key → value_in old o key ≡ None
+        → (spare : ℕ) (all' : List Bodies) → all' ≡ boxes_with_body all code body (after_put (code_of old o) (entries_of old o) key x) spare → o ≢ 1
+        → IsLiveValue old key → IsLiveValue old x → number < 4000000 → (v1 v' : Nodes) → v1 ≡ counted_up (references_of_value (Some x)) v → v'
+        ≡ counted_up (references_of_value (Some key)) v1
         → Closed all' v' names last rows objects (number + 1) (held [] (rewritten o (after_put (code_of old o) (entries_of old o) key x) old))
     after_add key x mutable can none spare all' is other live_key live_val fits v1 v' first second =
         let added = added-put (code_of old o) (entries_of old o) key x mutable can none in
@@ -194,12 +214,16 @@ module _ {all : List Bodies} {v : Nodes} {names : List (Option Val)} {last : ℕ
         ])
         (omega (arith, total_is h, h.keeps.1.holds))
         other
-        (λ y found good. subst (λ (q : KindCode × List Entry). IsWellMade (with_entries (after_put q.0 q.1 key x) y)) (λ i. (ap code_in (sym found) i, entries_of_object y found i)) (well-put y key x (subst IsMutable (sym (ap code_in (sym found))) mutable) good))
+        (λ y found good. subst (λ (q : KindCode × List Entry). IsWellMade (with_entries (after_put q.0 q.1 key x) y))
+        (λ i. (ap code_in (sym found) i, entries_of_object y found i)) (well-put y key x (subst IsMutable (sym (ap code_in (sym found))) mutable) good))
         (number + 1) (let len = ap length added in omega (arith, len, length-append (entries_of old o) (record { key = key; val = x } ∷ []))) (omega (arith, fits)) v'
-        (second ∙ ap (counted_up (references_of_value (Some key))) first ∙ counted_twice (references_of_value (Some x)) (references_of_value (Some key)) (references_of_value (Some x) ++ references_of_value (Some key)) v (λ s. occurrences-append s (references_of_value (Some x)) (references_of_value (Some key))))
+        (second ∙ ap (counted_up (references_of_value (Some key))) first ∙ counted_twice (references_of_value (Some x)) (references_of_value (Some key))
+        (references_of_value (Some x) ++ references_of_value (Some key)) v (λ s. occurrences-append s (references_of_value (Some x))
+        (references_of_value (Some key))))
 
     -- after freeing the body and the node
-    pub after_free : count_of old o ≡ 0 → entries_of old o ≡ [] → IsInNoRow o old.rows → (all' : List Bodies) → all' ≡ boxes_without all code body → (room : ℕ) (v' : Nodes) → v' ≡ without_node o (with_room room v) → Closed all' v' names last rows (objects - 1) number (gone o old)
+    pub after_free : count_of old o ≡ 0 → entries_of old o ≡ [] → IsInNoRow o old.rows → (all' : List Bodies) → all' ≡ boxes_without all code body
+        → (room : ℕ) (v' : Nodes) → v' ≡ without_node o (with_room room v) → Closed all' v' names last rows (objects - 1) number (gone o old)
     after_free none empty no_row all' is room v' e =
         subst (λ s. Closed all' v' names last rows (objects - 1) number (gone o s)) h.is
         (subst (λ bs. Closed bs v' names last rows (objects - 1) number (gone o was)) (sym (is ∙ (λ i. boxes_without all (sym there.2 i) (sym there.3 i))))
@@ -244,11 +268,14 @@ module _ {all : List Bodies} {v : Nodes} {names : List (Option Val)} {last : ℕ
         let is : spare_after_leave code (spare_in_box all code body) ≡ spare_in_box all code body + 1 = ap (λ c. spare_after_leave c (spare_in_box all code body)) parts.0 in
         omega (arith, is)
 
-    pub after_taking : CanTake old o → (i : ℕ) (e : Entry) → slice_get (entries_in_box all code body) i ≡ Some e → (all' : List Bodies) → all' ≡ boxes_with_body all code body (after_take code (entries_in_box all code body) i) (spare_after_leave code (spare_in_box all code body)) → (number' : ℕ) → number' ≡ number_less o number → HasFewHolds old
+    pub after_taking : CanTake old o → (i : ℕ) (e : Entry) → slice_get (entries_in_box all code body) i ≡ Some e → (all' : List Bodies) → all'
+        ≡ boxes_with_body all code body (after_take code (entries_in_box all code body) i) (spare_after_leave code (spare_in_box all code body)) → (number' : ℕ)
+        → number' ≡ number_less o number → HasFewHolds old
         → Closed all' v names last rows objects number' (held (entry_references e) (rewritten o (remove (entries_of old o) i) old))
     after_taking can i e at all' is number' less few =
         after_removal i e (entry_here i e at) (spare_after_leave code (spare_in_box all code body)) all'
-        (is ∙ ap (λ es. boxes_with_body all code body es (spare_after_leave code (spare_in_box all code body))) ((λ j. after_take (code_is j) (entries_are j) i) ∙ takes (code_of old o) can.1 (entries_of old o) i))
+        (is ∙ ap (λ es. boxes_with_body all code body es (spare_after_leave code (spare_in_box all code body))) ((λ j. after_take (code_is j) (entries_are j) i)
+        ∙ takes (code_of old o) can.1 (entries_of old o) i))
         room_left
         number' less few
 
@@ -258,7 +285,9 @@ module _ {all : List Bodies} {v : Nodes} {names : List (Option Val)} {last : ℕ
         let (i, there) = stands_somewhere key (entries_in_box all code body) e (sym under) in
         omega (arith, slice_get_within (entries_of old o) i e (entry_here i e there.here))
 
-    pub after_taking_key : CanTake old o → (key : Val) (e : Entry) → Some e ≡ entry_under (entries_in_box all code body) key → (all' : List Bodies) → all' ≡ boxes_with_body all code body (after_take_key code (entries_in_box all code body) key) (spare_after_leave code (spare_in_box all code body)) → (number' : ℕ) → number' ≡ number_less o number → HasFewHolds old
+    pub after_taking_key : CanTake old o → (key : Val) (e : Entry) → Some e ≡ entry_under (entries_in_box all code body) key → (all' : List Bodies) → all'
+        ≡ boxes_with_body all code body (after_take_key code (entries_in_box all code body) key) (spare_after_leave code (spare_in_box all code body))
+        → (number' : ℕ) → number' ≡ number_less o number → HasFewHolds old
         → Closed all' v names last rows objects number' (held (entry_references e) (rewritten o (without_key (entries_of old o) key) old))
     after_taking_key can key e under all' is number' less few =
         let (i, there) = stands_somewhere key (entries_in_box all code body) e (sym under) in
@@ -268,7 +297,9 @@ module _ {all : List Bodies} {v : Nodes} {names : List (Option Val)} {last : ℕ
         (is ∙ ap (λ es. boxes_with_body all code body es (spare_after_leave code (spare_in_box all code body))) (sym (after_take-key code (entries_in_box all code body) key i e there)))
         number' less few)
 
-    pub after_detaching : (e : Entry) → entries_in_box all code body ≡ without_last (entries_in_box all code body) ++ e ∷ [] → (all' : List Bodies) → all' ≡ boxes_with_body all code body (without_last (entries_in_box all code body)) (spare_after_leave code (spare_in_box all code body)) → (number' : ℕ) → number' ≡ number_less o number → HasFewHolds old
+    pub after_detaching : (e : Entry) → entries_in_box all code body ≡ without_last (entries_in_box all code body) ++ e ∷ [] → (all' : List Bodies) → all'
+        ≡ boxes_with_body all code body (without_last (entries_in_box all code body)) (spare_after_leave code (spare_in_box all code body)) → (number' : ℕ)
+        → number' ≡ number_less o number → HasFewHolds old
         → Closed all' v names last rows objects number' (held (entry_references e) (rewritten o (without_last (entries_of old o)) old))
     after_detaching e at all' is number' less few =
         after_detach e (subst (λ es. es ≡ without_last es ++ e ∷ []) entries_are at) (spare_after_leave code (spare_in_box all code body)) all'
@@ -279,29 +310,38 @@ module _ {all : List Bodies} {v : Nodes} {names : List (Option Val)} {last : ℕ
         let len = ap length (subst (λ es. es ≡ without_last es ++ e ∷ []) entries_are at) in
         omega (arith, len, length-append (without_last (entries_of old o)) (e ∷ []))
 
-    pub after_appending : (list : HasCode old o ListKind) (x : Val) (spare : ℕ) (all' : List Bodies) → all' ≡ boxes_with_body all ListKind body (entries_in_box all ListKind body ++ item x ∷ []) spare → o ≢ 1 → IsLiveValue old x → number < 4000000 → (v' : Nodes) → v' ≡ counted_up (references_of_value (Some x)) v
+    pub after_appending : (list : HasCode old o ListKind) (x : Val) (spare : ℕ) (all' : List Bodies) → all' ≡ boxes_with_body all ListKind body
+        (entries_in_box all ListKind body ++ item x ∷ []) spare → o ≢ 1 → IsLiveValue old x → number < 4000000 → (v' : Nodes) → v'
+        ≡ counted_up (references_of_value (Some x)) v
         → Closed all' v' names last rows objects (number + 1) (rewritten o (entries_of old o ++ item x ∷ []) old)
     after_appending list x spare all' is other live fits v' counts =
         after_append x spare all'
-        (is ∙ ap (λ c. boxes_with_body all c body (entries_in_box all c body ++ item x ∷ []) spare) (sym (is_list list)) ∙ ap (λ es. boxes_with_body all code body (es ++ item x ∷ []) spare) entries_are)
+        (is ∙ ap (λ c. boxes_with_body all c body (entries_in_box all c body ++ item x ∷ []) spare) (sym (is_list list))
+        ∙ ap (λ es. boxes_with_body all code body (es ++ item x ∷ []) spare) entries_are)
         (is_list list) other live fits v' counts
 
-    put_here : (key x : Val) (spare : ℕ) → boxes_with_body all code body (after_put code (entries_in_box all code body) key x) spare ≡ boxes_with_body all code body (after_put (code_of old o) (entries_of old o) key x) spare
+    put_here : (key x : Val) (spare : ℕ) → boxes_with_body all code body (after_put code (entries_in_box all code body) key x) spare ≡ boxes_with_body all code
+        body (after_put (code_of old o) (entries_of old o) key x) spare
     put_here key x spare = ap (λ es. boxes_with_body all code body es spare) (λ i. after_put (code_is i) (entries_are i) key x)
 
-    pub after_replacing : (key x was_val : Val) → CanPutIn old o key → value_under code (entries_in_box all code body) key ≡ Some was_val → (spare : ℕ) (all' : List Bodies) → all' ≡ boxes_with_body all code body (after_put code (entries_in_box all code body) key x) spare → o ≢ 1 → IsLiveValue old x → HasFewHolds old → (v' : Nodes) → v' ≡ counted_up (references_of_value (Some x)) v
+    pub after_replacing : (key x was_val : Val) → CanPutIn old o key → value_under code (entries_in_box all code body) key ≡ Some was_val
+        → (spare : ℕ) (all' : List Bodies) → all' ≡ boxes_with_body all code body (after_put code (entries_in_box all code body) key x) spare → o ≢ 1
+        → IsLiveValue old x → HasFewHolds old → (v' : Nodes) → v' ≡ counted_up (references_of_value (Some x)) v
         → Closed all' v' names last rows objects number (with_put old o key x)
     after_replacing key x was_val can at spare all' is other live few v' counts =
         let here : value_in old o key ≡ Some was_val = sym (value_here key) ∙ at in
         subst (λ w. Closed all' v' names last rows objects number (held (references_of_value w) (rewritten o (after_put (code_of old o) (entries_of old o) key x) old))) (sym here)
         (after_replace key x was_val can.1 here spare all' (is ∙ put_here key x spare) other live few v' counts)
 
-    pub after_adding : (key x : Val) → CanPutIn old o key → value_in old o key ≡ None → (spare : ℕ) (all' : List Bodies) → all' ≡ boxes_with_body all code body (after_put code (entries_in_box all code body) key x) spare → o ≢ 1 → IsLiveValue old key → IsLiveValue old x → number < 4000000 → (v1 v' : Nodes) → v1 ≡ counted_up (references_of_value (Some x)) v → v' ≡ counted_up (references_of_value (Some key)) v1
+    pub after_adding : (key x : Val) → CanPutIn old o key → value_in old o key ≡ None → (spare : ℕ) (all' : List Bodies) → all' ≡ boxes_with_body all code body
+        (after_put code (entries_in_box all code body) key x) spare → o ≢ 1 → IsLiveValue old key → IsLiveValue old x → number < 4000000 → (v1 v' : Nodes) → v1
+        ≡ counted_up (references_of_value (Some x)) v → v' ≡ counted_up (references_of_value (Some key)) v1
         → Closed all' v' names last rows objects (number + 1) (with_put old o key x)
     after_adding key x can none spare all' is other live_key live_val fits v1 v' first second =
         subst (λ w. Closed all' v' names last rows objects (number + 1) (held (references_of_value w) (rewritten o (after_put (code_of old o) (entries_of old o) key x) old))) (sym none)
         (after_add key x can.1 can.2 none spare all' (is ∙ put_here key x spare) other live_key live_val fits v1 v' first second)
 
     -- whether a put makes the object tracked, by its kind and place
-    pub tracks_put : (key x : Val) (place : Place) → IsLive old o → IfSome (fin.get v.nodes o) (λ n. place ≡ n.place) → (is_dict_at code place && (may_be_tracked old key || may_be_tracked old x)) ≡ becomes_tracked old o key x
+    pub tracks_put : (key x : Val) (place : Place) → IsLive old o → IfSome (fin.get v.nodes o) (λ n. place ≡ n.place)
+        → (is_dict_at code place && (may_be_tracked old key || may_be_tracked old x)) ≡ becomes_tracked old o key x
     tracks_put key x place live told = ap (λ b. b && (may_be_tracked old key || may_be_tracked old x)) (dict_here (fin.get old.nodes o) code place live code_is (place_told h o live place told))

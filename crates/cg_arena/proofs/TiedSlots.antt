@@ -47,16 +47,19 @@ module _ {X : Type 0} (part : Option Slot → X) where
   part-after_set keeps None after s j = refl
   part-after_set keeps (Some k) after s j = part-rewritten part (with_after after) (keeps after) k s j
 
-  part-before_set : ((o : Option ℕ) (x : Slot) → part (Some (with_before o x)) ≡ part (Some x)) → (at before : Option ℕ) (s : Slab Slot) (j : ℕ) → part (get (before_set at before s) j) ≡ part (get s j)
+  part-before_set : ((o : Option ℕ) (x : Slot) → part (Some (with_before o x)) ≡ part (Some x)) → (at before : Option ℕ) (s : Slab Slot) (j : ℕ)
+      → part (get (before_set at before s) j) ≡ part (get s j)
   part-before_set keeps None before s j = refl
   part-before_set keeps (Some k) before s j = part-rewritten part (with_before before) (keeps before) k s j
 
-  pub part-tied : ((o : Option ℕ) (x : Slot) → part (Some (with_after o x)) ≡ part (Some x)) → ((o : Option ℕ) (x : Slot) → part (Some (with_before o x)) ≡ part (Some x)) → (before after : Option ℕ) (s : Slab Slot) (j : ℕ) → part (get (tied before after s) j) ≡ part (get s j)
+  pub part-tied : ((o : Option ℕ) (x : Slot) → part (Some (with_after o x)) ≡ part (Some x)) → ((o : Option ℕ) (x : Slot) → part (Some (with_before o x))
+      ≡ part (Some x)) → (before after : Option ℕ) (s : Slab Slot) (j : ℕ) → part (get (tied before after s) j) ≡ part (get s j)
   part-tied keeps_after keeps_before before after s j =
       part-before_set keeps_before after before (after_set before after s) j
       ∙ part-after_set keeps_after before after s j
 
-pub get-tied : (before after : Option ℕ) (s : Slab Slot) → ((j : ℕ) → before ≡ Some j → is_some (get s j) ≡ true) → ((j : ℕ) → after ≡ Some j → is_some (get s j) ≡ true) → IsTied (get s) (get (tied before after s)) before after
+pub get-tied : (before after : Option ℕ) (s : Slab Slot) → ((j : ℕ) → before ≡ Some j → is_some (get s j) ≡ true)
+    → ((j : ℕ) → after ≡ Some j → is_some (get s j) ≡ true) → IsTied (get s) (get (tied before after s)) before after
 get-tied before after s there_before there_after =
     record {
       befores = λ j differs.

@@ -14,7 +14,7 @@ use Rattle.cg_snapshot.specs.Rows.{raw_of, AreSmall, IsRow}
 use Rattle.cg_snapshot.specs.Text.{flag}
 use Rattle.cg_snapshot.specs.Lines.{row, row_of, raw_line, IsLine, IsSmallQuestion}
 use Rattle.cg_snapshot.specs.Meant.{mark_in, only, bare_line, told, meant_member, meant_plain, meant_but, meant}
-use Rattle.cg_snapshot.proofs.Rowed.{one_row}
+use Rattle.cg_snapshot.proofs.DistinctRows.{one_row}
 
 flag_back : (b : Bool) → mark_in (flag b) ≡ Some b
 flag_back true = refl
@@ -110,11 +110,13 @@ bare_says : (k : Kind) (a : Line) → Reads k [] [] a → (ns : List ℕ) (line 
 bare_says k a h [] line e = moved k [] [] a line e h
 bare_says k a h (n ∷ ns) line e = absurd (cc)
 
-some_says : (k : Kind) (f : List ℕ → Line) → ((ns : List ℕ) → 0 < length ns → AreSmall ns → Reads k ns [] (f ns)) → (ns : List ℕ) (line : Line) → AreSmall ns → cond (none_in ns) None (Some (f ns)) ≡ Some line → Reads k ns [] line
+some_says : (k : Kind) (f : List ℕ → Line) → ((ns : List ℕ) → 0 < length ns → AreSmall ns → Reads k ns [] (f ns)) → (ns : List ℕ) (line : Line) → AreSmall ns
+    → cond (none_in ns) None (Some (f ns)) ≡ Some line → Reads k ns [] line
 some_says k f h [] line small e = absurd (cc)
 some_says k f h (n ∷ ns) line small e = moved k (n ∷ ns) [] (f (n ∷ ns)) line e (h (n ∷ ns) (omega arith) small)
 
-one_says : (k : Kind) (but : List ℕ) (f : ℕ → Line) → ((n : ℕ) → n < 2 ^ 64 → Reads k (n ∷ []) but (f n)) → (ns : List ℕ) (line : Line) → AreSmall ns → option_map f (only ns) ≡ Some line → Reads k ns but line
+one_says : (k : Kind) (but : List ℕ) (f : ℕ → Line) → ((n : ℕ) → n < 2 ^ 64 → Reads k (n ∷ []) but (f n)) → (ns : List ℕ) (line : Line) → AreSmall ns
+    → option_map f (only ns) ≡ Some line → Reads k ns but line
 one_says k but f h [] line small e = absurd (cc)
 one_says k but f h (n ∷ []) line small e = moved k (n ∷ []) but (f n) line e (h n small.0)
 one_says k but f h (n ∷ m ∷ ns) line small e = absurd (cc)

@@ -21,7 +21,8 @@ use Rattle.cg_value.specs.declared.Entry.{Entry}
 use Rattle.cg_value.specs.declared.KindCode.TheVariants.{List as ListKind}
 
 -- what is held depends only on the entries
-pub within-mapped : (g : ℕ → Node → Node) → ((s : ℕ) (x : Node) → (g s x).entries ≡ x.entries) → (names : List (Option Val)) (m : fin.FinMap nat_cmp Node) (s : ℕ) → held_within names (mapped g m) s ≡ held_within names m s
+pub within-mapped : (g : ℕ → Node → Node) → ((s : ℕ) (x : Node) → (g s x).entries ≡ x.entries) → (names : List (Option Val)) (m : fin.FinMap nat_cmp Node)
+    (s : ℕ) → held_within names (mapped g m) s ≡ held_within names m s
 unfolding held_within
 within-mapped g same names m s =
     ap (λ k. occurrences s (name_holdings names) + occurrences s (1 ∷ []) + k)
@@ -42,7 +43,9 @@ bare-mapped all nodes m alike =
     same q (Some n) (Some x) h = sym (ap (λ y. Some (emptied q y)) h.0)
 
 -- nodes that agree with the counts of a map are that map
-pub nodes-are : (all : List Bodies) (names : List (Option Val)) (nodes : fin.FinMap nat_cmp ArenaNode) (m : fin.FinMap nat_cmp Node) → ((s : ℕ) → Alike all (fin.get nodes s) (fin.get m s)) → ((s : ℕ) → count_in (fin.get nodes s) ≡ held_within names m s + outside_in (fin.get m s)) → nodes_from all names nodes ≡ m
+pub nodes-are : (all : List Bodies) (names : List (Option Val)) (nodes : fin.FinMap nat_cmp ArenaNode) (m : fin.FinMap nat_cmp Node)
+    → ((s : ℕ) → Alike all (fin.get nodes s) (fin.get m s)) → ((s : ℕ) → count_in (fin.get nodes s) ≡ held_within names m s + outside_in (fin.get m s))
+    → nodes_from all names nodes ≡ m
 unfolding nodes_from
 nodes-are all names nodes m alike counted =
     same_map _ _
@@ -53,7 +56,8 @@ nodes-are all names nodes m alike counted =
     within-bare : (q : ℕ) → held_within names (bare_nodes all nodes) q ≡ held_within names m q
     within-bare q = ap (λ b. held_within names b q) (bare-mapped all nodes m alike) ∙ within-mapped emptied (λ s x. refl) names m q
 
-    same : (q : ℕ) (a : Option ArenaNode) (x : Option Node) → Alike all a x → count_in a ≡ held_within names m q + outside_in x → option_map (λ n. node_from all n (n.count - held_within names (bare_nodes all nodes) q)) a ≡ x
+    same : (q : ℕ) (a : Option ArenaNode) (x : Option Node) → Alike all a x → count_in a ≡ held_within names m q + outside_in x
+        → option_map (λ n. node_from all n (n.count - held_within names (bare_nodes all nodes) q)) a ≡ x
     same q None None h c = refl
     same q None (Some x) h c = absurd h
     same q (Some n) None h c = absurd h
@@ -66,7 +70,8 @@ pub record Closed (all : List Bodies) (v : Nodes) (names : List (Option Val)) (l
   pub keeps : HeapKeeps all v.nodes objects number (store_of all v names last rows) × RowsAndHolds (store_of all v names last rows)
   pub is : store_of all v names last rows ≡ store
 
-pub closed : (all : List Bodies) (v : Nodes) (objects number : ℕ) (store : Store) → HeapKeeps all v.nodes objects number store → RowsAndHolds store → v.lists ≡ store.lists → Closed all v store.names store.last store.rows objects number store
+pub closed : (all : List Bodies) (v : Nodes) (objects number : ℕ) (store : Store) → HeapKeeps all v.nodes objects number store → RowsAndHolds store → v.lists
+    ≡ store.lists → Closed all v store.names store.last store.rows objects number store
 closed all v objects number store ok rest lists =
     record {
       keeps = subst (λ s. HeapKeeps all v.nodes objects number s × RowsAndHolds s) (sym is) (ok, rest);
@@ -85,13 +90,15 @@ abbrev with_outside : Node → ℕ → Node
 with_outside y k = record y { outside = k }
 
 -- look-ups in mapped maps
-alike-counted : (all : List Bodies) (f : ArenaNode → ArenaNode) → ((n : ArenaNode) (k : ℕ) → node_from all (f n) k ≡ node_from all n k) → ((n : ArenaNode) → seat_in (Some (f n)) ≡ seat_in (Some n)) → (a : Option ArenaNode) (x : Option Node) → Alike all a x → Alike all (option_map f a) x
+alike-counted : (all : List Bodies) (f : ArenaNode → ArenaNode) → ((n : ArenaNode) (k : ℕ) → node_from all (f n) k ≡ node_from all n k)
+    → ((n : ArenaNode) → seat_in (Some (f n)) ≡ seat_in (Some n)) → (a : Option ArenaNode) (x : Option Node) → Alike all a x → Alike all (option_map f a) x
 alike-counted all f same at None None h = tt
 alike-counted all f same at None (Some x) h = absurd h
 alike-counted all f same at (Some n) None h = absurd h
 alike-counted all f same at (Some n) (Some x) h = (h.0 ∙ sym (same n x.outside), subst (HeldAt all) (sym (at n)) h.1)
 
-alike-outside : (all : List Bodies) (g : Node → Node) → ((x : Node) (n : ArenaNode) (k : ℕ) → x ≡ node_from all n k → g x ≡ node_from all n (g x).outside) → (a : Option ArenaNode) (x : Option Node) → Alike all a x → Alike all a (option_map g x)
+alike-outside : (all : List Bodies) (g : Node → Node) → ((x : Node) (n : ArenaNode) (k : ℕ) → x ≡ node_from all n k → g x ≡ node_from all n (g x).outside)
+    → (a : Option ArenaNode) (x : Option Node) → Alike all a x → Alike all a (option_map g x)
 alike-outside all g same None None h = tt
 alike-outside all g same None (Some x) h = absurd h
 alike-outside all g same (Some n) None h = absurd h
@@ -111,21 +118,26 @@ live-mapped {X} g m s h = subst IsSome (sym (get-mapped g m s)) (known (fin.get 
     known None h = h
     known (Some x) h = refl
 
-pub entries-mapped_nodes : (g : ℕ → Node → Node) → ((s : ℕ) (x : Node) → (g s x).entries ≡ x.entries) → (m : fin.FinMap nat_cmp Node) (s : ℕ) → entries_in (fin.get (mapped g m) s) ≡ entries_in (fin.get m s)
+pub entries-mapped_nodes : (g : ℕ → Node → Node) → ((s : ℕ) (x : Node) → (g s x).entries ≡ x.entries) → (m : fin.FinMap nat_cmp Node) (s : ℕ)
+    → entries_in (fin.get (mapped g m) s) ≡ entries_in (fin.get m s)
 entries-mapped_nodes g same m s = ap entries_in (get-mapped g m s) ∙ known (fin.get m s)
   where
     known : (x : Option Node) → entries_in (option_map (g s) x) ≡ entries_in x
     known None = refl
     known (Some x) = same s x
 
-alike-both : (all : List Bodies) (f : ArenaNode → ArenaNode) (g : Node → Node) → ((n : ArenaNode) → seat_in (Some (f n)) ≡ seat_in (Some n)) → ((x : Node) (n : ArenaNode) (k : ℕ) → x ≡ node_from all n k → g x ≡ node_from all (f n) (g x).outside) → (a : Option ArenaNode) (x : Option Node) → Alike all a x → Alike all (option_map f a) (option_map g x)
+alike-both : (all : List Bodies) (f : ArenaNode → ArenaNode) (g : Node → Node) → ((n : ArenaNode) → seat_in (Some (f n)) ≡ seat_in (Some n))
+    → ((x : Node) (n : ArenaNode) (k : ℕ) → x ≡ node_from all n k → g x ≡ node_from all (f n) (g x).outside) → (a : Option ArenaNode) (x : Option Node)
+    → Alike all a x → Alike all (option_map f a) (option_map g x)
 alike-both all f g at pair None None h = tt
 alike-both all f g at pair None (Some x) h = absurd h
 alike-both all f g at pair (Some n) None h = absurd h
 alike-both all f g at pair (Some n) (Some x) h = (pair x n x.outside h.0, subst (HeldAt all) (sym (at n)) h.1)
 
 -- nodes and objects changed in the same way
-module _ (f : ℕ → ArenaNode → ArenaNode) (g : ℕ → Node → Node) (all : List Bodies) (nodes : fin.FinMap nat_cmp ArenaNode) (store : Store) (ok : Shape all nodes store) (at : (s : ℕ) (n : ArenaNode) → seat_in (Some (f s n)) ≡ seat_in (Some n)) (pair : (s : ℕ) (x : Node) (n : ArenaNode) (k : ℕ) → x ≡ node_from all n k → g s x ≡ node_from all (f s n) (g s x).outside) where
+module _ (f : ℕ → ArenaNode → ArenaNode) (g : ℕ → Node → Node) (all : List Bodies) (nodes : fin.FinMap nat_cmp ArenaNode) (store : Store)
+    (ok : Shape all nodes store) (at : (s : ℕ) (n : ArenaNode) → seat_in (Some (f s n)) ≡ seat_in (Some n)) (pair : (s : ℕ) (x : Node) (n : ArenaNode) (k : ℕ)
+    → x ≡ node_from all n k → g s x ≡ node_from all (f s n) (g s x).outside) where
   alike-after : (s : ℕ) → Alike all (fin.get (mapped f nodes) s) (fin.get (mapped g store.nodes) s)
   alike-after s =
       rw (get-mapped f nodes s, get-mapped g store.nodes s)
@@ -167,13 +179,15 @@ module _ (all : List Bodies) (nodes : fin.FinMap nat_cmp ArenaNode) (store : Sto
   pub shape-held : Shape all nodes (held refs store)
   shape-held = record {
     six = ok.six;
-    alike = λ s. rw (get-mapped (λ s x. more (occurrences s refs) x) store.nodes s) (alike-outside all (more (occurrences s refs)) (λ x n k e. ap (λ y. with_outside y (x.outside + occurrences s refs)) e) _ _ (ok.alike s));
+    alike = λ s. rw (get-mapped (λ s x. more (occurrences s refs) x) store.nodes s) (alike-outside all (more (occurrences s refs))
+        (λ x n k e. ap (λ y. with_outside y (x.outside + occurrences s refs)) e) _ _ (ok.alike s));
     apart = ok.apart;
     below = λ s h. ok.below s (is_live-mapped (λ s x. more (occurrences s refs) x) store.nodes s h);
   }
 
 -- a held object is live
-pub up-counts : (refs : List ℕ) (nodes : fin.FinMap nat_cmp ArenaNode) (s : ℕ) → (0 < occurrences s refs → IsSome (fin.get nodes s)) → count_in (fin.get (mapped (λ s n. node_counted_up (occurrences s refs) n) nodes) s) ≡ count_in (fin.get nodes s) + occurrences s refs
+pub up-counts : (refs : List ℕ) (nodes : fin.FinMap nat_cmp ArenaNode) (s : ℕ) → (0 < occurrences s refs → IsSome (fin.get nodes s))
+    → count_in (fin.get (mapped (λ s n. node_counted_up (occurrences s refs) n) nodes) s) ≡ count_in (fin.get nodes s) + occurrences s refs
 up-counts refs nodes s live = ap count_in (get-mapped (λ s n. node_counted_up (occurrences s refs) n) nodes s) ∙ known (fin.get nodes s) live
   where
     known : (a : Option ArenaNode) → (0 < occurrences s refs → IsSome a) → count_in (option_map (node_counted_up (occurrences s refs)) a) ≡ count_in a + occurrences s refs
@@ -196,7 +210,8 @@ pub held-entries : (refs : List ℕ) (store : Store) (s : ℕ) → entries_of (h
 held-entries refs store s = entries-mapped_nodes (λ s n. more (occurrences s refs) n) (λ s x. refl) store.nodes s
 
 -- a property of each object is kept
-pub well-mapped : (g : ℕ → Node → Node) (m : fin.FinMap nat_cmp Node) → ((s : ℕ) (x : Node) → IsWellMade x → IsWellMade (g s x)) → ((s : ℕ) → IsWellMadeAt (fin.get m s)) → (s : ℕ) → IsWellMadeAt (fin.get (mapped g m) s)
+pub well-mapped : (g : ℕ → Node → Node) (m : fin.FinMap nat_cmp Node) → ((s : ℕ) (x : Node) → IsWellMade x → IsWellMade (g s x))
+    → ((s : ℕ) → IsWellMadeAt (fin.get m s)) → (s : ℕ) → IsWellMadeAt (fin.get (mapped g m) s)
 well-mapped g m well was s = subst IsWellMadeAt (sym (get-mapped g m s)) (known (fin.get m s) (was s))
   where
     known : (x : Option Node) → IsWellMadeAt x → IsWellMadeAt (option_map (g s) x)
@@ -208,7 +223,10 @@ held-well refs store = well-mapped (λ s n. more (occurrences s refs) n) store.n
 
 module _ (all : List Bodies) (v : Nodes) (objects number : ℕ) (store : Store) (ok : HeapKeeps all v.nodes objects number store) where
   -- counts and holds changed in the same way
-  module _ (f : ℕ → ArenaNode → ArenaNode) (g : ℕ → Node → Node) (at : (s : ℕ) (n : ArenaNode) → seat_in (Some (f s n)) ≡ seat_in (Some n)) (pair : (s : ℕ) (x : Node) (n : ArenaNode) (k : ℕ) → x ≡ node_from all n k → g s x ≡ node_from all (f s n) (g s x).outside) (es : (s : ℕ) (x : Node) → (g s x).entries ≡ x.entries) (counts : (s : ℕ) (n : ArenaNode) (x : Node) (within : ℕ) → fin.get store.nodes s ≡ Some x → n.count ≡ within + x.outside → (f s n).count ≡ within + (g s x).outside) (well : (s : ℕ) (x : Node) → IsWellMade x → IsWellMade (g s x)) where
+  module _ (f : ℕ → ArenaNode → ArenaNode) (g : ℕ → Node → Node) (at : (s : ℕ) (n : ArenaNode) → seat_in (Some (f s n)) ≡ seat_in (Some n))
+      (pair : (s : ℕ) (x : Node) (n : ArenaNode) (k : ℕ) → x ≡ node_from all n k → g s x ≡ node_from all (f s n) (g s x).outside) (es : (s : ℕ) (x : Node)
+      → (g s x).entries ≡ x.entries) (counts : (s : ℕ) (n : ArenaNode) (x : Node) (within : ℕ) → fin.get store.nodes s ≡ Some x → n.count ≡ within + x.outside
+      → (f s n).count ≡ within + (g s x).outside) (well : (s : ℕ) (x : Node) → IsWellMade x → IsWellMade (g s x)) where
     abbrev after : Store
     after = record store { nodes = mapped g store.nodes }
 
@@ -222,7 +240,8 @@ module _ (all : List Bodies) (v : Nodes) (objects number : ℕ) (store : Store) 
         ∙ ap (λ k. k + outside_in (option_map (g s) (fin.get store.nodes s))) (sym (inner-after s))
         ∙ ap (λ x. inner after s + outside_in x) (sym (get-mapped g store.nodes s))
       where
-        known : (a : Option ArenaNode) (x : Option Node) (within : ℕ) → fin.get store.nodes s ≡ x → Alike all a x → count_in a ≡ within + outside_in x → count_in (option_map (f s) a) ≡ within + outside_in (option_map (g s) x)
+        known : (a : Option ArenaNode) (x : Option Node) (within : ℕ) → fin.get store.nodes s ≡ x → Alike all a x → count_in a ≡ within + outside_in x
+            → count_in (option_map (f s) a) ≡ within + outside_in (option_map (g s) x)
         known None None within e h c = c
         known None (Some x) within e h c = absurd h
         known (Some n) None within e h c = absurd h

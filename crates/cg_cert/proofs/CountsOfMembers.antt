@@ -18,7 +18,8 @@ use Rattle.cg_cert.specs.Judged.{references_of, CoversReferences}
 use Rattle.cg_cert.specs.Positions.{rows_in, CountTargets, CountReferences}
 
 -- the rows so far, and the next
-pub rows_next : (rows : List (Vec ℕ)) (k : ℕ) (v : Vec ℕ) → k < length rows → v ≡ get_or rows k v → length (concat (rows_in (take (k + 1) rows))) ≡ length (concat (rows_in (take k rows))) + length v.items
+pub rows_next : (rows : List (Vec ℕ)) (k : ℕ) (v : Vec ℕ) → k < length rows → v ≡ get_or rows k v → length (concat (rows_in (take (k + 1) rows)))
+    ≡ length (concat (rows_in (take k rows))) + length v.items
 rows_next rows k v within read =
     ap (λ (rs : List (Vec ℕ)). length (concat (rows_in rs))) (take_more rows k v within ∙ ap (λ (w : Vec ℕ). take k rows ++ w ∷ []) (sym read))
     ∙ ap (λ (rs : List (List ℕ)). length (concat rs)) (map-append (λ (w : Vec ℕ). w.items) (take k rows) (v ∷ []))

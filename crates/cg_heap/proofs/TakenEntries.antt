@@ -16,14 +16,15 @@ use Rattle.cg_heap.proofs.HoldLemmas.{outside-held, outside-rewritten}
 use Rattle.cg_heap.proofs.ReferenceLemmas.{occurrences-append}
 use Rattle.cg_heap.specs.Keeps.{HeapKeeps, Alike, size, IsWellMade, IsGarbage, IsSaved, seat_in}
 use Rattle.cg_heap.specs.Calls.{number_less}
-use Rattle.cg_heap.proofs.Stands.{shape-held, held-inner, held-ones, held-well, held-sizes, held-entries, live-mapped}
+use Rattle.cg_heap.proofs.HeapIsStore.{shape-held, held-inner, held-ones, held-well, held-sizes, held-entries, live-mapped}
 use Rattle.cg_heap.proofs.Rewrites.{all_after, object-of, shape-written, inner-written, ones-written, well-written, sizes-written, entries-written, entries-written_other, two-sizes, spare-kept, spare-written}
 use Rattle.cg_heap.specs.Boxes.{spare_in_box}
 use Rattle.std.proofs.lemmas.Option.{some_pair_parts}
 use Rattle.cg_value.specs.declared.KindCode.TheVariants.{List as ListKind}
 
 -- a held object is live
-pub held-live : (all : List Bodies) (nodes : fin.FinMap nat_cmp ArenaNode) (objects number : ℕ) (store : Store) → HeapKeeps all nodes objects number store → (s : ℕ) → 0 < inner store s → IsLive store s
+pub held-live : (all : List Bodies) (nodes : fin.FinMap nat_cmp ArenaNode) (objects number : ℕ) (store : Store) → HeapKeeps all nodes objects number store
+    → (s : ℕ) → 0 < inner store s → IsLive store s
 held-live all nodes objects number store ok s held = known (fin.get nodes s) (fin.get store.nodes s) (ok.shape.alike s) (omega (arith, ok.counted s, held))
   where
     known : (a : Option ArenaNode) (x : Option Node) → Alike all a x → 0 < count_in a → IsSome x
@@ -37,7 +38,8 @@ number_less-other o number differs = ap (λ b. if b then number else number - 1)
 number_less-same : (o number : ℕ) → o ≡ 1 → number_less o number ≡ number
 number_less-same o number same = ap (λ b. if b then number else number - 1) (eq-eqb o 1 same)
 
-module _ (all : List Bodies) (v : Nodes) (objects number : ℕ) (store : Store) (ok : HeapKeeps all v.nodes objects number store) (o : ℕ) (n : ArenaNode) (found : fin.get v.nodes o ≡ Some n) (es : List Entry) (spare : ℕ) where
+module _ (all : List Bodies) (v : Nodes) (objects number : ℕ) (store : Store) (ok : HeapKeeps all v.nodes objects number store) (o : ℕ) (n : ArenaNode)
+    (found : fin.get v.nodes o ≡ Some n) (es : List Entry) (spare : ℕ) where
   abbrev after : List Bodies
   after = all_after all v.nodes store ok.shape o n found es spare
 
@@ -50,7 +52,10 @@ module _ (all : List Bodies) (v : Nodes) (objects number : ℕ) (store : Store) 
       let len : length x.entries ≡ length (entries_of store o) = ap length (entries-now x at) in
       omega (arith, len, some, two-sizes store o x at es 1 (λ e. other (sym e)), ok.sized)
 
-  module _ (refs : List ℕ) (split : (s : ℕ) → occurrences s (references (entries_of store o)) ≡ occurrences s (references es) + occurrences s refs) (shorter : length (entries_of store o) ≡ suc (length es)) (well : (x : Node) → fin.get store.nodes o ≡ Some x → IsWellMade x → IsWellMade (with_entries es x)) (room : o ≡ 1 → spare_in_box all n.code n.body + 1 ≤ spare) (saved : o ≡ 1 → All IsSaved (entries_of store o) → All IsSaved es) where
+  module _ (refs : List ℕ) (split : (s : ℕ) → occurrences s (references (entries_of store o)) ≡ occurrences s (references es) + occurrences s refs)
+      (shorter : length (entries_of store o) ≡ suc (length es)) (well : (x : Node) → fin.get store.nodes o ≡ Some x → IsWellMade x
+      → IsWellMade (with_entries es x)) (room : o ≡ 1 → spare_in_box all n.code n.body + 1 ≤ spare) (saved : o ≡ 1 → All IsSaved (entries_of store o)
+      → All IsSaved es) where
     abbrev pub taken : Store
     taken = held refs (rewritten o es store)
 
@@ -80,7 +85,16 @@ module _ (all : List Bodies) (v : Nodes) (objects number : ℕ) (store : Store) 
         counted : (x : Node) → fin.get store.nodes o ≡ Some x → (s : ℕ) → count_in (fin.get v.nodes s) ≡ count_of taken s
         counted x at s =
             let was : occurrences s (references x.entries) ≡ occurrences s (references (entries_of store o)) = ap (λ l. occurrences s (references l)) (entries-now x at) in
-            omega (arith, ok.counted s, inner-written store o x at es s, was, split s, outside-rewritten o es store s, held-inner refs (rewritten o es store) s, outside-held refs (rewritten o es store) s (refs_live x at s))
+            omega (
+              arith,
+              ok.counted s,
+              inner-written store o x at es s,
+              was,
+              split s,
+              outside-rewritten o es store s,
+              held-inner refs (rewritten o es store) s,
+              outside-held refs (rewritten o es store) s (refs_live x at s),
+            )
 
         -- the entries of the garbage list too
         entries_root : (x : Node) → fin.get store.nodes o ≡ Some x → o ≡ 1 → entries_of taken 1 ≡ es
@@ -108,24 +122,28 @@ module _ (all : List Bodies) (v : Nodes) (objects number : ℕ) (store : Store) 
             elim (cases_eq o 1) [
               | inl same ↦
                   let parts = some_pair_parts n.code ListKind n.body ok.root.body (sym (ap seat_in found) ∙ ap (λ k. seat_in (fin.get v.nodes k)) same ∙ ok.root.seat) in
-                  let now : spare_in_box after ListKind ok.root.body ≡ spare = (λ i. spare_in_box after (sym parts.0 i) (sym parts.1 i)) ∙ spare-written all v.nodes store ok.shape o n found es spare in
+                  let now : spare_in_box after ListKind ok.root.body ≡ spare = (λ i. spare_in_box after (sym parts.0 i) (sym parts.1 i))
+                  ∙ spare-written all v.nodes store ok.shape o n found es spare in
                   let old : spare_in_box all n.code n.body ≡ spare_in_box all ListKind ok.root.body = (λ i. spare_in_box all (parts.0 i) (parts.1 i)) in
                   let len : length (entries_of taken 1) ≡ length es = ap length (entries_root x at same) in
                   let was : length (entries_of store 1) ≡ length (entries_of store o) = ap (λ k. length (entries_of store k)) (sym same) in
                   omega (arith, now, old, len, was, shorter, room same, ok.root.ready)
               | inr differs ↦
-                  let now : spare_in_box after ListKind ok.root.body ≡ spare_in_box all ListKind ok.root.body = spare-kept all v.nodes store ok.shape o n found es spare 1 ListKind ok.root.body (λ e. differs (sym e)) ok.root.seat in
+                  let now : spare_in_box after ListKind ok.root.body ≡ spare_in_box all ListKind ok.root.body = spare-kept all v.nodes store ok.shape o n found
+                  es spare 1 ListKind ok.root.body (λ e. differs (sym e)) ok.root.seat in
                   let len : length (entries_of taken 1) ≡ length (entries_of store 1) = ap length (entries_other x at differs) in
                   omega (arith, now, len, ok.root.ready)
             ]
 
-        sizes : (x : Node) → fin.get store.nodes o ≡ Some x → (total size taken.nodes ≡ number_less o number + length (entries_of taken 1)) × (number_less o number ≤ 4000000) × (length (entries_of taken 1) ≤ 1000000)
+        sizes : (x : Node) → fin.get store.nodes o ≡ Some x → (total size taken.nodes ≡ number_less o number + length (entries_of taken 1))
+            × (number_less o number ≤ 4000000) × (length (entries_of taken 1) ≤ 1000000)
         sizes x at =
             let len : length x.entries ≡ length (entries_of store o) = ap length (entries-now x at) in
             let here : length (entries_of taken 1) ≡ length (entries_of (rewritten o es store) 1) = ap length (held-entries refs (rewritten o es store) 1) in
             elim (cases_eq o 1) [
               | inl same ↦
-                  let now : length (entries_of (rewritten o es store) 1) ≡ length es = ap (λ k. length (entries_of (rewritten o es store) k)) (sym same) ∙ ap length (entries-written store o x at es) in
+                  let now : length (entries_of (rewritten o es store) 1) ≡ length es = ap (λ k. length (entries_of (rewritten o es store) k)) (sym same)
+                  ∙ ap length (entries-written store o x at es) in
                   let old : length (entries_of store o) ≡ length (entries_of store 1) = ap (λ k. length (entries_of store k)) same in
                   let less = number_less-same o number same in (
                     omega (arith, held-sizes refs (rewritten o es store), sizes-written store o x at es, len, here, now, old, less, ok.sized, shorter),

@@ -63,7 +63,8 @@ located_before members at d table j within locates found once =
     let s = (get_or members at d).serial in
     let here : get_or (serials_of members) at s ≡ s = get_or-map (λ m. m.serial) members at d s within in
     twice (serials_of members) at s (omega (arith, within, length-map members (λ (m : Member). m.serial)))
-    (subst (λ o. Includes (take at (serials_of members)) o) (sym here) (subst (λ (ns : List ℕ). Includes ns s) (sym (take-map (λ m. m.serial) at members)) (includes_at (serials_of (take at members)) j s ((locates s j).0 found)))) once
+    (subst (λ o. Includes (take at (serials_of members)) o) (sym here) (subst (λ (ns : List ℕ). Includes ns s) (sym (take-map (λ m. m.serial) at members))
+    (includes_at (serials_of (take at members)) j s ((locates s j).0 found)))) once
 
 -- a known position
 pub position_some : (names : List ℕ) (o : ℕ) (told : Option ℕ) (i : ℕ) → told ≡ Some i → IsPositionOf names o told → IsPositionOf names o (Some i)
@@ -74,7 +75,8 @@ pub no_name : (names : List ℕ) (o : ℕ) (told : Option ℕ) → IsPositionOf 
 no_name names o told is none h = let found = place_in names o h in none-some found.0 (sym none ∙ (is found.0).1 found.1)
 
 -- one more position in a row
-pub row_more : (names serials row : List ℕ) (k at d : ℕ) → k < length serials → slice_get names at ≡ Some (get_or serials k d) → IsRowOf names (take k serials) row → IsRowOf names (take (k + 1) serials) (row ++ at ∷ [])
+pub row_more : (names serials row : List ℕ) (k at d : ℕ) → k < length serials → slice_get names at ≡ Some (get_or serials k d) → IsRowOf names (take k serials)
+    row → IsRowOf names (take (k + 1) serials) (row ++ at ∷ [])
 row_more names serials row k at d within found so =
     map-append (slice_get names) row (at ∷ [])
     ∙ ap (λ (os : List (Option ℕ)). os ++ slice_get names at ∷ []) so
@@ -83,7 +85,8 @@ row_more names serials row k at d within found so =
     ∙ sym (ap (map Some) (take_more serials k d within))
 
 -- one more row
-pub rows_more : (names : List ℕ) (members : List Member) (rows : List (List ℕ)) (k : ℕ) (d : Member) (row : List ℕ) → k < length members → IsRowOf names (get_or members k d).refs row → AreRowsOf names (take k members) rows
+pub rows_more : (names : List ℕ) (members : List Member) (rows : List (List ℕ)) (k : ℕ) (d : Member) (row : List ℕ) → k < length members
+    → IsRowOf names (get_or members k d).refs row → AreRowsOf names (take k members) rows
     → AreRowsOf names (take (k + 1) members) (rows ++ row ∷ [])
 rows_more names members rows k d row within is so =
     map-append (names_in names) rows (row ∷ [])
@@ -96,10 +99,12 @@ rows_more names members rows k d row within is so =
     refs_named m = map Some m.refs
 
 -- the same of vectors
-pub rows_pushed : (names : List ℕ) (members : List Member) (rows now : List (Vec ℕ)) (row : Vec ℕ) (k : ℕ) (d : Member) → k < length members → IsRowOf names (get_or members k d).refs row.items → AreRowsOf names (take k members) (rows_in rows)
+pub rows_pushed : (names : List ℕ) (members : List Member) (rows now : List (Vec ℕ)) (row : Vec ℕ) (k : ℕ) (d : Member) → k < length members
+    → IsRowOf names (get_or members k d).refs row.items → AreRowsOf names (take k members) (rows_in rows)
     → now ≡ rows ++ row ∷ [] → AreRowsOf names (take (k + 1) members) (rows_in now)
 rows_pushed names members rows now row k d within is so pushed =
-    subst (λ (rs : List (List ℕ)). AreRowsOf names (take (k + 1) members) rs) (sym (ap rows_in pushed ∙ map-append (λ (v : Vec ℕ). v.items) rows (row ∷ []))) (rows_more names members (rows_in rows) k d row.items within is so)
+    subst (λ (rs : List (List ℕ)). AreRowsOf names (take (k + 1) members) rs) (sym (ap rows_in pushed ∙ map-append (λ (v : Vec ℕ). v.items) rows (row ∷ [])))
+    (rows_more names members (rows_in rows) k d row.items within is so)
 
 -- the references of one member are among those of all
 pub references_among : (members : List Member) (m : Member) (o : ℕ) → Includes members m → Includes m.refs o → Includes (references_of members) o
@@ -123,7 +128,8 @@ marks_none names members marks long is = record {
 }
 
 -- a serial whose mark is set has occurred before
-pub marked_before : (names serials : List ℕ) (k d at : ℕ) (marks : List Bool) → k < length serials → MarksFirst names (take k serials) marks → IsPositionOf names (get_or serials k d) (Some at) → slice_get marks at ≡ Some true → IsSetOf names serials → ⊥
+pub marked_before : (names serials : List ℕ) (k d at : ℕ) (marks : List Bool) → k < length serials → MarksFirst names (take k serials) marks
+    → IsPositionOf names (get_or serials k d) (Some at) → slice_get marks at ≡ Some true → IsSetOf names serials → ⊥
 marked_before names serials k d at marks within so is mark set = twice serials k d within (((so.marked.marked at (get_or serials k d) ((is at).0 refl)).0 mark)) set.once
 
 -- the position of a name has a mark
@@ -135,7 +141,8 @@ pub at_place : (marks : List Bool) (at : ℕ) (b x : Bool) → at < length marks
 at_place marks at b x within read is = slice_get_read marks (length marks) at x refl within read ∙ ap Some is
 
 -- one more mark is set
-pub marks_more : (names serials : List ℕ) (k d at : ℕ) (marks : List Bool) → k < length serials → MarksFirst names (take k serials) marks → IsPositionOf names (get_or serials k d) (Some at) → slice_get marks at ≡ Some false
+pub marks_more : (names serials : List ℕ) (k d at : ℕ) (marks : List Bool) → k < length serials → MarksFirst names (take k serials) marks
+    → IsPositionOf names (get_or serials k d) (Some at) → slice_get marks at ≡ Some false
     → MarksFirst names (take (k + 1) serials) (set marks at true)
 marks_more names serials k d at marks within so is mark = record {
   marked = record { len = omega (arith, so.marked.len, length-set marks at true); marked = λ i o at_i. (there i o at_i, back i o at_i) };
@@ -171,12 +178,14 @@ marks_more names serials k d at marks within so is mark = record {
 
     once : IsOnceEach (take (k + 1) serials)
     once o =
-        let sum : occurrences o (take (k + 1) serials) ≡ occurrences o (take k serials) + occurrences o (s ∷ []) = ap (occurrences o) (take_more serials k d within) ∙ occurrences-append o (take k serials) (s ∷ []) in
+        let sum : occurrences o (take (k + 1) serials) ≡ occurrences o (take k serials) + occurrences o (s ∷ []) =
+        ap (occurrences o) (take_more serials k d within) ∙ occurrences-append o (take k serials) (s ∷ []) in
         either (cases_eq s o)
         (λ same. go (occurrences o (take k serials)) refl same sum)
         (λ differs. omega (arith, sum, so.set.once o, occurrences-other o s [] differs))
       where
-        go : (n : ℕ) → occurrences o (take k serials) ≡ n → s ≡ o → occurrences o (take (k + 1) serials) ≡ occurrences o (take k serials) + occurrences o (s ∷ []) → occurrences o (take (k + 1) serials) < 2
+        go : (n : ℕ) → occurrences o (take k serials) ≡ n → s ≡ o → occurrences o (take (k + 1) serials) ≡ occurrences o (take k serials) + occurrences o
+            (s ∷ []) → occurrences o (take (k + 1) serials) < 2
         go zero none same sum = omega (arith, none, sum, occurrences-same o s [] same)
         go (suc n) some same sum = absurd (fresh (subst (λ p. Includes (take k serials) p) (sym same) (occurs_in (take k serials) o (omega (arith, some)))))
 

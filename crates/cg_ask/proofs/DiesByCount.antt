@@ -15,7 +15,7 @@ use Rattle.cg_ask.specs.Faults.{AreRight}
 use Rattle.cg_ask.specs.Marked.{MarkJust}
 use Rattle.cg_ask.specs.Released.{Releases, WaitOnce, mark_at}
 use Rattle.cg_ask.proofs.Counting.{targets_few, targets_mono, targets_none, targets_set, row_few}
-use Rattle.cg_ask.proofs.Faulty.{covered_all, refs_within}
+use Rattle.cg_ask.proofs.Faults.{covered_all, refs_within}
 use Rattle.cg_ask.proofs.Released.{mark_on, mark_off, on_mark, mark_few, mark_set}
 
 -- How far dying has come: which members' references were released, the rest of the in-degrees, and which members wait.
@@ -77,7 +77,12 @@ module _ (ms : List Member) (given : List Bool) (right : AreRight ms false) (sam
 
     pub row_at_within : (i : ℕ) → Includes (get_or (rows_of ms) at []) i → i < length ms
     row_at_within i m =
-        refs_within ms false right i (occurs_in (references_of ms) i (omega (arith, occurs (get_or (rows_of ms) at []) i m, row_few i (rows_of ms) at (get_or (rows_of ms) at []) (slice_get-get_or (rows_of ms) at [] (omega (arith, at_within, rows_long))))))
+        refs_within ms false right i (occurs_in (references_of ms) i (omega (
+          arith,
+          occurs (get_or (rows_of ms) at []) i m,
+          row_few i (rows_of ms) at
+              (get_or (rows_of ms) at []) (slice_get-get_or (rows_of ms) at [] (omega (arith, at_within, rows_long))),
+        )))
 
     -- each in-degree has enough left
     pub row_some : (i : ℕ) → occurrences i (get_or (rows_of ms) at []) ≤ get_or left i 0
@@ -96,7 +101,8 @@ module _ (ms : List Member) (given : List Bool) (right : AreRight ms false) (sam
       waiting = λ i. omega (arith, r.waiting i, h.waiting i, occurs_at i, done_mark i);
       given_dead = λ i m. r.stay i (h.given_dead i m);
       fallen = λ i some none. either (stands (get_or (rows_of ms) at []) i) (λ k. r.falls i k none) (λ k. r.stay i (h.fallen i some (omega (arith, none, r.leaves i, k))));
-      least = λ closed c i m. either (r.only i m) (λ d. h.least closed c i d) (λ d. c.dies i (omega (arith, occurs (get_or (rows_of ms) at []) i d.0, row_some i, h.leaves i)) (reaches closed c i d.1));
+      least = λ closed c i m. either (r.only i m) (λ d. h.least closed c i d)
+          (λ d. c.dies i (omega (arith, occurs (get_or (rows_of ms) at []) i d.0, row_some i, h.leaves i)) (reaches closed c i d.1));
     }
       where
         stands : (xs : List ℕ) (i : ℕ) → Includes xs i ⊎ (occurrences i xs ≡ 0)
@@ -138,7 +144,8 @@ module _ (ms : List Member) (given : List Bool) (right : AreRight ms false) (sam
 pub dies_same : (ms : List Member) (Given Other : ℕ → Type 0) → ((i : ℕ) → Other i → Given i) → (o : ℕ) → Dies ms Other o → Dies ms Given o
 dies_same ms Given Other f o d closed c = d closed (record { len = c.len; given = λ i g. c.given i (f i g); dies = c.dies })
 
-pub dead_just : (ms : List Member) (given dead : List Bool) (Given : ℕ → Type 0) → MarkJust (length ms) Given given → MarkJust (length ms) (Dies ms (Marks given)) dead → MarkJust (length ms) (Dies ms Given) dead
+pub dead_just : (ms : List Member) (given dead : List Bool) (Given : ℕ → Type 0) → MarkJust (length ms) Given given
+    → MarkJust (length ms) (Dies ms (Marks given)) dead → MarkJust (length ms) (Dies ms Given) dead
 dead_just ms given dead Given g d = record {
   len = d.len;
   just = λ i. (λ m. dies_same ms Given (Marks given) (λ j k. (g.just j).0 k) i ((d.just i).0 m), λ k. (d.just i).1 (dies_same ms (Marks given) Given (λ j p. (g.just j).1 p) i k));

@@ -24,7 +24,7 @@ use Rattle.cg_graph.proofs.Maps.{total-insert, get-insert_same, get-insert_other
 use Rattle.cg_arena.specs.Nodes.{ArenaNode, Nodes, count_in, counted_up, with_node, with_room, new_node, no_nodes}
 use Rattle.cg_heap.specs.Boxes.{bodies_at, boxes_with_body, spare_in_box}
 use Rattle.cg_heap.specs.Keeps.{HeapKeeps, Shape, size, one, seat_in, IsWellMadeAt, IsGarbage, IsSaved}
-use Rattle.cg_heap.proofs.Stands.{Closed, closed, shape-up, up-counts, seat-up}
+use Rattle.cg_heap.proofs.HeapIsStore.{Closed, closed, shape-up, up-counts, seat-up}
 
 abbrev empties : List Bodies
 empties = replicate 6 fin.empty
@@ -114,7 +114,15 @@ module _ (n body spare room : ℕ) where
     shape = shape-up boxes first_nodes.nodes (opening_store n) shape-opening (1 ∷ []);
     counted = counted-opening;
     well = λ s. elim (cases_eq s 1) [
-      | inl same ↦ subst IsWellMadeAt (sym (get-insert_same fin.empty 1 s garbage_node same)) (record { items = λ list. All-nil (λ (e : Entry). e.key ≡ val.None); classed = refl; single = λ weak. (All-nil (λ (e : Entry). e.key ≡ val.None), omega arith) })
+      | inl same ↦ subst IsWellMadeAt (sym (get-insert_same fin.empty 1 s garbage_node same))
+          (record {
+            items = λ list. All-nil (λ (e : Entry). e.key ≡ val.None);
+            classed = refl;
+            single = λ weak. (
+              All-nil (λ (e : Entry). e.key ≡ val.None),
+              omega arith,
+            );
+          })
       | inr differs ↦ subst IsWellMadeAt (sym (none-other_object s differs)) tt
     ];
     numbered =
@@ -145,14 +153,18 @@ kept-opening n = record {
 
 -- the fields of a new heap
 pub opened : (n body room : ℕ) → n < 1073741824 → (all : List Bodies) → all ≡ boxes_with_body empties ListKind body [] (spare_in_box all ListKind body)
-    → (v w x : Nodes) → v ≡ no_nodes v.room → w ≡ with_node 1 (new_node ListKind None body Untracked) (with_room room v) → x ≡ counted_up (1 ∷ []) w → (names : List (Option Val)) → names ≡ replicate n None → (rows : List Row) → rows ≡ []
+    → (v w x : Nodes) → v ≡ no_nodes v.room → w ≡ with_node 1 (new_node ListKind None body Untracked) (with_room room v) → x ≡ counted_up (1 ∷ []) w
+    → (names : List (Option Val)) → names ≡ replicate n None → (rows : List Row) → rows ≡ []
     → Closed all x names 1 rows 0 0 (opening_store n)
 opened n body room few all made v w x none added counted names unbound rows empty =
     subst (λ rs. Closed all x names 1 rs 0 0 (opening_store n)) (sym empty)
     (subst (λ bs. Closed bs x names 1 [] 0 0 (opening_store n)) (sym made)
-    (subst (λ z. Closed (boxes n body (spare_in_box all ListKind body) room) z names 1 [] 0 0 (opening_store n)) (sym (counted ∙ ap (counted_up (1 ∷ [])) (added ∙ ap (λ u. with_node 1 (new_node ListKind None body Untracked) (with_room room u)) none)))
-    (subst (λ ns. Closed (boxes n body (spare_in_box all ListKind body) room) (counted_up (1 ∷ []) (first_nodes n body (spare_in_box all ListKind body) room)) ns 1 [] 0 0 (opening_store n)) (sym unbound)
-    (closed (boxes n body (spare_in_box all ListKind body) room) (counted_up (1 ∷ []) (first_nodes n body (spare_in_box all ListKind body) room)) 0 0 (opening_store n) (keeps-opening n body (spare_in_box all ListKind body) room few) (kept-opening n) refl))))
+    (subst (λ z. Closed (boxes n body (spare_in_box all ListKind body) room) z names 1 [] 0 0 (opening_store n))
+    (sym (counted ∙ ap (counted_up (1 ∷ [])) (added ∙ ap (λ u. with_node 1 (new_node ListKind None body Untracked) (with_room room u)) none)))
+    (subst (λ ns. Closed (boxes n body (spare_in_box all ListKind body) room) (counted_up (1 ∷ []) (first_nodes n body (spare_in_box all ListKind body) room))
+    ns 1 [] 0 0 (opening_store n)) (sym unbound)
+    (closed (boxes n body (spare_in_box all ListKind body) room) (counted_up (1 ∷ []) (first_nodes n body (spare_in_box all ListKind body) room)) 0 0
+    (opening_store n) (keeps-opening n body (spare_in_box all ListKind body) room few) (kept-opening n) refl))))
 
 pub first-added : (body room : ℕ) (v w : Nodes) → w ≡ with_node 1 (new_node ListKind None body Untracked) (with_room room v) → fin.get w.nodes 1 ≡ Some (new_node ListKind None body Untracked)
 first-added body room v w e = ap (λ (u : Nodes). fin.get u.nodes 1) e ∙ get-insert_same v.nodes 1 1 (new_node ListKind None body Untracked) refl

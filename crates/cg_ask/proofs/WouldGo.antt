@@ -26,7 +26,7 @@ use Rattle.cg_ask.specs.Totals.{AppendsGone, totals_from}
 use Rattle.cg_ask.specs.declared.sets.Totals.{Totals}
 use Rattle.cg_ask.proofs.Rows.{RowsBelow, rows_first, rows_push, rows_skip, rows_all}
 use Rattle.cg_ask.proofs.Counting.{targets_few, targets_set, no_degree}
-use Rattle.cg_ask.proofs.Faulty.{covered_all}
+use Rattle.cg_ask.proofs.Faults.{covered_all}
 use Rattle.cg_ask.proofs.Marking.{is_or_not}
 
 -- The members that no path from outside passes through; they are closed if the path avoids the given ones.
@@ -65,7 +65,8 @@ module _ (ms : List Member) (dropped : List ℕ) where
     len = length-set (replicate (length ms) true) x false ∙ length-replicate (length ms) true;
     given = λ y d m. slice_get-set_other (replicate (length ms) true) x y false (λ e. other.1 (subst (λ z. Includes dropped z) e d)) ∙ all_marks (length ms) y m;
     out = set_not (replicate (length ms) true) x;
-    keeps = λ y within not_in. either (cases_eq y x) (λ e. inl (subst (λ z. IsHeld ms z) (sym e) held)) (λ n. absurd (not_in (slice_get-set_other (replicate (length ms) true) x y false n ∙ all_marks (length ms) y within)));
+    keeps = λ y within not_in. either (cases_eq y x) (λ e. inl (subst (λ z. IsHeld ms z) (sym e) held))
+        (λ n. absurd (not_in (slice_get-set_other (replicate (length ms) true) x y false n ∙ all_marks (length ms) y within)));
   }
 
   stays_next : (x y : ℕ) (row : List ℕ) → Stays ms dropped x → slice_get (rows_of ms) x ≡ Some row → Includes row y → IsOther ms dropped y → Stays ms dropped y
@@ -84,7 +85,8 @@ module _ (ms : List Member) (dropped : List ℕ) where
   stays o (next {o = x} r e m) = let found = edge_out (rows_of ms) x o e in stays_next x o found.0 (stays x r) found.1 found.2 m
 
 -- an unmarked node adds to the targets of all
-targets_miss : (x : ℕ) (marks : List Bool) (rows : List (List ℕ)) (p : ℕ) (row : List ℕ) → slice_get rows p ≡ Some row → ¬ Marks marks p → length marks ≡ length rows → occurrences x (targets_from marks rows) + occurrences x row ≤ occurrences x (concat rows)
+targets_miss : (x : ℕ) (marks : List Bool) (rows : List (List ℕ)) (p : ℕ) (row : List ℕ) → slice_get rows p ≡ Some row → ¬ Marks marks p → length marks
+    ≡ length rows → occurrences x (targets_from marks rows) + occurrences x row ≤ occurrences x (concat rows)
 targets_miss x marks rows p row at not_in long =
     let within = slice_get_within rows p row at in
     let off : is_marked marks p ≡ false = by (is_marked marks p) refl in
@@ -97,7 +99,8 @@ targets_miss x marks rows p row at not_in long =
     by false e = e
 
 -- What dies by count is not reached by paths that avoid the dropped members.
-pub dead_not_reached : (ms : List Member) (dropped : List ℕ) (o : ℕ) → AreRight ms false → ((x : ℕ) → Includes dropped x → IsMember ms x) → Dies ms (Includes dropped) o → Reach (IsHeld ms) (IsOther ms dropped) (edges ms) o → ⊥
+pub dead_not_reached : (ms : List Member) (dropped : List ℕ) (o : ℕ) → AreRight ms false → ((x : ℕ) → Includes dropped x → IsMember ms x)
+    → Dies ms (Includes dropped) o → Reach (IsHeld ms) (IsOther ms dropped) (edges ms) o → ⊥
 dead_not_reached ms dropped o right members dies r =
     let s = stays ms dropped o r in
     s.out (dies s.closed (record {
@@ -109,13 +112,15 @@ dead_not_reached ms dropped o right members dies r =
     clash : (s : Stays ms dropped o) (x : ℕ) → 0 < degree_at ms x → occurrences x (targets_from s.closed (rows_of ms)) ≡ degree_at ms x → ¬ Marks s.closed x → ⊥
     clash s x some all n = either (s.keeps x (within x some) n)
         (λ held. omega (arith, held, all, targets_few x s.closed (rows_of ms)))
-        (λ k. let miss = targets_miss x s.closed (rows_of ms) k.0 k.2 k.3 k.1 (s.len ∙ sym (length-map ms (λ (m : Member). m.refs))) in omega (arith, miss, all, occurs k.2 x k.4, covered_all ms false right x))
+        (λ k. let miss = targets_miss x s.closed (rows_of ms) k.0 k.2 k.3 k.1 (s.len ∙ sym (length-map ms (λ (m : Member). m.refs)))
+        in omega (arith, miss, all, occurs k.2 x k.4, covered_all ms false right x))
       where
         within : (y : ℕ) → 0 < degree_at ms y → y < length ms
         within y h = either (cases_lt y (length ms)) (λ l. l) (λ g. absurd (omega (arith, h, no_degree ms y g)))
 
 -- the members that would go, by marks
-pub gone_just : (ms : List Member) (places : List ℕ) (dead before after let_go gone : List Bool) → MarkJust (length ms) (Dies ms (Includes places)) dead → MarkJust (length ms) (IsReached ms) before → MarkJust (length ms) (Reach (IsHeld ms) (IsOther ms places) (edges ms)) after
+pub gone_just : (ms : List Member) (places : List ℕ) (dead before after let_go gone : List Bool) → MarkJust (length ms) (Dies ms (Includes places)) dead
+    → MarkJust (length ms) (IsReached ms) before → MarkJust (length ms) (Reach (IsHeld ms) (IsOther ms places) (edges ms)) after
     → MarkJust (length before) (λ i. Marks before i × ¬ Marks after i) let_go → MarkJust (length dead) (λ i. Marks dead i ⊎ Marks let_go i) gone → MarkJust (length ms) (IsGone ms places) gone
 gone_just ms places dead before after let_go gone d b a l g = record {
   len = g.len ∙ d.len;
@@ -190,7 +195,8 @@ module _ (ms : List Member) (gone dead : List Bool) where
       clash : {c : Bool} → c ≡ false → c ≡ true → ⊥
       clash p q = absurd (cc)
 
-  pub gone_push : (at : ℕ) (old mid new : List ℕ) (t : Totals) (by_count : Bool) (size : ℕ) → get_or gone at false ≡ true → get_or dead at false ≡ by_count → get_or (map (λ (m : Member). m.size) ms) at 0 ≡ size → size < 2 ^ 36
+  pub gone_push : (at : ℕ) (old mid new : List ℕ) (t : Totals) (by_count : Bool) (size : ℕ) → get_or gone at false ≡ true → get_or dead at false ≡ by_count
+      → get_or (map (λ (m : Member). m.size) ms) at 0 ≡ size → size < 2 ^ 36
       → new ≡ mid ++ line (codes "gone") (at ∷ cond by_count 1 0 ∷ []) → CountsGone ms gone dead at old mid t
       → CountsGone ms gone dead (at + 1) old new (totals_from (t.members + 1) (t.bytes + size) (t.dead + cond by_count 1 0) (t.dead_bytes + cond by_count size 0))
   unfolding rows_push

@@ -6,7 +6,7 @@ use Rattle.cg_snapshot.specs.declared.row.Kind.TheVariants as kinds
 use Rattle.cg_snapshot.specs.declared.row.Row.{Row}
 use Rattle.cg_snapshot.specs.Rows.{kind_text, all_spaced, but_text, raw_of, AreSmall, IsRow, Lacks, IsTail}
 use Rattle.cg_snapshot.specs.Lines.{row}
-use Rattle.cg_snapshot.proofs.Cuts.{IsAt, cut_once, tail_is_at, lacks_of, lacks_append}
+use Rattle.cg_snapshot.proofs.CutBytes.{IsAt, cut_once, tail_is_at, lacks_of, lacks_append}
 use Rattle.cg_snapshot.proofs.Numbers.{Stops, one_numbers, one_but, but_stops, but_tail, tail_all, numbers_lack, but_lacks}
 
 -- the kind of word that a text is
@@ -65,7 +65,8 @@ kind_no_feed kinds.Untold = lacks_of 10 (kind_text kinds.Untold) refl
 
 -- a line contains no line feed
 pub row_lacks : (r : Row) → IsRow r → Lacks 10 (raw_of r)
-row_lacks r h = lacks_append 10 (kind_text r.kind) (all_spaced r.numbers ++ but_text r.but) (kind_no_feed r.kind) (lacks_append 10 (all_spaced r.numbers) (but_text r.but) (numbers_lack r.numbers h.numbers) (but_lacks r.but h.but))
+row_lacks r h = lacks_append 10 (kind_text r.kind) (all_spaced r.numbers ++ but_text r.but) (kind_no_feed r.kind) (lacks_append 10 (all_spaced r.numbers)
+    (but_text r.but) (numbers_lack r.numbers h.numbers) (but_lacks r.but h.but))
 
 rest_tail : (r : Row) → IsAt 32 (all_spaced r.numbers ++ but_text r.but)
 rest_tail r = tail_is_at (all_spaced r.numbers ++ but_text r.but) (tail_all r.numbers (but_text r.but) (but_tail r.but))
@@ -86,7 +87,8 @@ same_row k l ns ms b c p q r = cc
 
 pub one_row : (a b : Row) → IsRow a → IsRow b → raw_of a ≡ raw_of b → a ≡ b
 one_row a b p q e =
-    let cut = cut_once 32 (kind_text a.kind) (kind_text b.kind) (all_spaced a.numbers ++ but_text a.but) (all_spaced b.numbers ++ but_text b.but) (kind_lacks a.kind) (kind_lacks b.kind) (rest_tail a) (rest_tail b) e in
+    let cut = cut_once 32 (kind_text a.kind) (kind_text b.kind) (all_spaced a.numbers ++ but_text a.but) (all_spaced b.numbers ++ but_text b.but)
+    (kind_lacks a.kind) (kind_lacks b.kind) (rest_tail a) (rest_tail b) e in
     let ns = one_numbers a.numbers b.numbers (but_text a.but) (but_text b.but) p.numbers q.numbers (but_tail a.but) (but_tail b.but) (but_stops a.but) (but_stops b.but) cut.1 in
     same_row a.kind b.kind a.numbers b.numbers a.but b.but (one_kind a.kind b.kind cut.0) ns.0 (one_but a.but b.but p.but q.but ns.1)
 

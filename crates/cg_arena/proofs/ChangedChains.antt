@@ -11,7 +11,7 @@ use Rattle.cg_arena.specs.Nodes.{count_in_list}
 use Rattle.cg_arena.specs.Slots.{before_in, after_in, place_in_slot}
 use Rattle.cg_arena.specs.Links.{IsLinked, first_or, last_or, ends_of, ends_without, ends_joined, one_end}
 use Rattle.cg_arena.specs.Table.{stands_at, IsSpelled}
-use Rattle.cg_arena.proofs.Standing.{last_of-stands, first-stands, one, one-same, one-apart, occurrences-cons, occurrences-append, occurrences-single, IsBetween, stands_between, without-absent, without-between, occurrences-without_same, occurrences-without_other}
+use Rattle.cg_arena.proofs.Occurrences.{last_of-stands, first-stands, one, one-same, one-apart, occurrences-cons, occurrences-append, occurrences-single, IsBetween, stands_between, without-absent, without-between, occurrences-without_same, occurrences-without_other}
 use Rattle.cg_arena.proofs.Chains.{HasLinks, linked_still, linked_front, linked_back, IsTied, tied_chain, tied_elsewhere}
 use Rattle.cg_arena.proofs.EndsLemmas.{ends-without, ends-joined}
 
@@ -71,7 +71,8 @@ module _ (cell : ℕ → Option Slot) (ends : ℕ → Ends) (chain : ℕ → Lis
   stands_placed p j below stands = omega (arith, stands, spelled.standing p j below, once_at loose p j (place_in_slot (cell j)), numbered_once p (place_in_slot (cell j)))
 
 -- the neighbours of a slot are in its chain
-module _ (cell : ℕ → Option Slot) (ends : ℕ → Ends) (chain : ℕ → List ℕ) (loose : Option ℕ) (spelled : IsSpelled cell ends chain loose) (k p : ℕ) (below : p < 10) (stood : 0 < occurrences k (chain p)) where
+module _ (cell : ℕ → Option Slot) (ends : ℕ → Ends) (chain : ℕ → List ℕ) (loose : Option ℕ) (spelled : IsSpelled cell ends chain loose) (k p : ℕ)
+    (below : p < 10) (stood : 0 < occurrences k (chain p)) where
   parts : IsBetween k (chain p)
   parts = stands_between k (chain p) stood
 
@@ -88,7 +89,10 @@ module _ (cell : ℕ → Option Slot) (ends : ℕ → Ends) (chain : ℕ → Lis
   after_stands j is = omega (arith, in_parts j, first-stands parts.back j (sym around.1 ∙ is))
 
 -- a slot leaves its chain
-module _ (cell new : ℕ → Option Slot) (ends later : ℕ → Ends) (chain : ℕ → List ℕ) (spelled : IsSpelled cell ends chain None) (k p : ℕ) (place : Place) (below : p < 10) (place_is : place_in_slot (cell k) ≡ Some place) (number_is : place_number place ≡ p) (tie : IsTied cell new (before_in (cell k)) (after_in (cell k))) (places : (j : ℕ) → place_in_slot (new j) ≡ place_in_slot (cell j)) (there : later p ≡ ends_without (before_in (cell k)) (after_in (cell k)) (ends p)) (elsewhere : (r : ℕ) → r ≢ p → later r ≡ ends r) where
+module _ (cell new : ℕ → Option Slot) (ends later : ℕ → Ends) (chain : ℕ → List ℕ) (spelled : IsSpelled cell ends chain None) (k p : ℕ) (place : Place)
+    (below : p < 10) (place_is : place_in_slot (cell k) ≡ Some place) (number_is : place_number place ≡ p) (tie : IsTied cell new (before_in (cell k))
+    (after_in (cell k))) (places : (j : ℕ) → place_in_slot (new j) ≡ place_in_slot (cell j)) (there : later p ≡ ends_without (before_in (cell k))
+    (after_in (cell k)) (ends p)) (elsewhere : (r : ℕ) → r ≢ p → later r ≡ ends r) where
   stood : occurrences k (chain p) ≡ 1
   stood = spelled.standing p k below ∙ ap (count_in_list p) place_is ∙ count_in_list-same p place number_is
 
@@ -173,7 +177,8 @@ module _ (cell new : ℕ → Option Slot) (ends later : ℕ → Ends) (chain : �
       }
 
 -- a loose slot may change freely
-pub loose_spelled : (cell new : ℕ → Option Slot) (ends : ℕ → Ends) (chain : ℕ → List ℕ) (k : ℕ) → IsSpelled cell ends chain (Some k) → ((j : ℕ) → j ≢ k → HasLinks cell new j) → ((j : ℕ) → j ≢ k → place_in_slot (new j) ≡ place_in_slot (cell j))
+pub loose_spelled : (cell new : ℕ → Option Slot) (ends : ℕ → Ends) (chain : ℕ → List ℕ) (k : ℕ) → IsSpelled cell ends chain (Some k)
+    → ((j : ℕ) → j ≢ k → HasLinks cell new j) → ((j : ℕ) → j ≢ k → place_in_slot (new j) ≡ place_in_slot (cell j))
     → IsSpelled new ends chain (Some k)
 loose_spelled cell new ends chain k spelled links places =
     let nowhere = λ (p : ℕ) (below : p < 10). let e : occurrences k (chain p) ≡ 0 = spelled.standing p k below ∙ stands-loose p k (place_in_slot (cell k)) in e in
@@ -235,7 +240,10 @@ pub appended-there : (q : ℕ) (ks : List ℕ) (chain : ℕ → List ℕ) (r : �
 appended-there q ks chain r differs = ap (λ b. if b then chain r ++ ks else chain r) (ne_eqb r q differs)
 
 -- a loose slot joins the end of a chain
-module _ (cell new : ℕ → Option Slot) (ends later : ℕ → Ends) (chain : ℕ → List ℕ) (k q : ℕ) (spelled : IsSpelled cell ends chain (Some k)) (place : Place) (below : q < 10) (place_is : place_in_slot (cell k) ≡ Some place) (number_is : place_number place ≡ q) (ends_it : after_in (cell k) ≡ None) (last : Option ℕ) (last_is : last ≡ (ends q).last) (tie : IsTied cell new last (Some k)) (places : (j : ℕ) → place_in_slot (new j) ≡ place_in_slot (cell j)) (there : later q ≡ ends_joined (ends q) (one_end k)) (elsewhere : (r : ℕ) → r ≢ q → later r ≡ ends r) where
+module _ (cell new : ℕ → Option Slot) (ends later : ℕ → Ends) (chain : ℕ → List ℕ) (k q : ℕ) (spelled : IsSpelled cell ends chain (Some k)) (place : Place)
+    (below : q < 10) (place_is : place_in_slot (cell k) ≡ Some place) (number_is : place_number place ≡ q) (ends_it : after_in (cell k) ≡ None)
+    (last : Option ℕ) (last_is : last ≡ (ends q).last) (tie : IsTied cell new last (Some k)) (places : (j : ℕ) → place_in_slot (new j) ≡ place_in_slot (cell j))
+    (there : later q ≡ ends_joined (ends q) (one_end k)) (elsewhere : (r : ℕ) → r ≢ q → later r ≡ ends r) where
   absent : (r : ℕ) → r < 10 → occurrences k (chain r) ≡ 0
   absent r r_below = spelled.standing r k r_below ∙ stands-loose r k (place_in_slot (cell k))
 
@@ -272,10 +280,12 @@ module _ (cell new : ℕ → Option Slot) (ends later : ℕ → Ends) (chain : �
         ∙ elim (cases_eq j k) [
           | inl here ↦
               let none : occurrences j (chain r) ≡ 0 = ap (λ i. occurrences i (chain r)) here ∙ absent r r_below in
-              let is : count_in_list r (place_in_slot (new j)) ≡ 1 = ap (count_in_list r) (places j ∙ ap (λ i. place_in_slot (cell i)) here ∙ place_is) ∙ count_in_list-same r place (number_is ∙ sym same) in
+              let is : count_in_list r (place_in_slot (new j)) ≡ 1 = ap (count_in_list r) (places j ∙ ap (λ i. place_in_slot (cell i)) here ∙ place_is)
+              ∙ count_in_list-same r place (number_is ∙ sym same) in
               omega (arith, none, is, one-same j k (sym here))
           | inr differs ↦
-              let other : occurrences j (chain r) ≡ count_in_list r (place_in_slot (new j)) = spelled.standing r j r_below ∙ stands-other r j k (place_in_slot (cell j)) differs ∙ ap (count_in_list r) (sym (places j)) in
+              let other : occurrences j (chain r) ≡ count_in_list r (place_in_slot (new j)) = spelled.standing r j r_below
+              ∙ stands-other r j k (place_in_slot (cell j)) differs ∙ ap (count_in_list r) (sym (places j)) in
               omega (arith, other, one-apart j k (λ e. differs (sym e)))
         ]
     | inr differs ↦
@@ -283,7 +293,8 @@ module _ (cell new : ℕ → Option Slot) (ends later : ℕ → Ends) (chain : �
         ∙ elim (cases_eq j k) [
           | inl here ↦
               let none : occurrences j (chain r) ≡ 0 = ap (λ i. occurrences i (chain r)) here ∙ absent r r_below in
-              let is : count_in_list r (place_in_slot (new j)) ≡ 0 = ap (count_in_list r) (places j ∙ ap (λ i. place_in_slot (cell i)) here ∙ place_is) ∙ count_in_list-other r place (λ e. differs (sym e ∙ number_is)) in
+              let is : count_in_list r (place_in_slot (new j)) ≡ 0 = ap (count_in_list r) (places j ∙ ap (λ i. place_in_slot (cell i)) here ∙ place_is)
+              ∙ count_in_list-other r place (λ e. differs (sym e ∙ number_is)) in
               none ∙ sym is
           | inr other ↦ spelled.standing r j r_below ∙ stands-other r j k (place_in_slot (cell j)) other ∙ ap (count_in_list r) (sym (places j))
         ]

@@ -18,7 +18,7 @@ use Rattle.cg_ask.specs.declared.counts.Counts.{Counts}
 use Rattle.cg_ask.specs.Faults.{AreRight}
 use Rattle.cg_ask.specs.Marked.{MarkJust}
 use Rattle.cg_ask.proofs.Counting.{no_degree, degrees-all_told, occurrences-all_told}
-use Rattle.cg_ask.proofs.Faulty.{refs_within, words_within}
+use Rattle.cg_ask.proofs.Faults.{refs_within, words_within}
 use Rattle.cg_ask.proofs.Marking.{is_or_not}
 use Rattle.cg_ask.proofs.Reaching.{found_just}
 
@@ -28,7 +28,8 @@ length-all_told ms = length-map ms with_words
 degree_with : (ms : List Member) (i : ℕ) → degree_at (all_told ms) i ≡ degree_at ms i
 degree_with ms i = ap (λ (ns : List ℕ). get_or ns i 0) (degrees-all_told ms)
 
-pub held_with_just : (ms : List Member) (c : Counts) (outside : List ℕ) (held : List Bool) → IsCounts ms c → AreOutside ms outside → MarkJust (length c.words.items) (λ i. get_or c.words.items i 0 < get_or outside i 0) held → MarkJust (length ms) (IsHeld (all_told ms)) held
+pub held_with_just : (ms : List Member) (c : Counts) (outside : List ℕ) (held : List Bool) → IsCounts ms c → AreOutside ms outside
+    → MarkJust (length c.words.items) (λ i. get_or c.words.items i 0 < get_or outside i 0) held → MarkJust (length ms) (IsHeld (all_told ms)) held
 held_with_just ms c outside held counts out h = record {
   len = h.len ∙ counts.words.len;
   just = λ i. (
@@ -58,7 +59,9 @@ all_within ms rows right is i m =
     either_some zero b h = inr (omega (arith, h))
     either_some (suc a) b h = inl (omega arith)
 
-pub kept_just : (ms : List Member) (rows : List (List ℕ)) (held all found before kept : List Bool) → rows ≡ rows_of (all_told ms) → MarkJust (length ms) (IsHeld (all_told ms)) held → MarkJust (length ms) (λ i. i < length ms) all → length found ≡ length all → ((i : ℕ) → Marks found i ↔ Leads held all rows i)
+pub kept_just : (ms : List Member) (rows : List (List ℕ)) (held all found before kept : List Bool) → rows ≡ rows_of (all_told ms)
+    → MarkJust (length ms) (IsHeld (all_told ms)) held → MarkJust (length ms) (λ i. i < length ms) all → length found ≡ length all
+    → ((i : ℕ) → Marks found i ↔ Leads held all rows i)
     → MarkJust (length ms) (IsReached ms) before → MarkJust (length before) (λ i. Marks before i × ¬ Marks found i) kept → MarkJust (length ms) (IsKeptByWords ms) kept
 kept_just ms rows held all found before kept is h a len led b k =
     let f = found_just ms rows held all found (IsHeld (all_told ms)) (IsMember ms) h.just a.just (len ∙ a.len) led (edges (all_told ms)) (ap edges_of (sym is)) in
@@ -97,10 +100,13 @@ plain_rows rows i m = subst (λ (rs : List (List ℕ)). Includes (concat rs) i) 
 pub rows_long : (ms : List Member) (rows : List (List ℕ)) → rows ≡ rows_of (all_told ms) → length rows ≡ length ms
 rows_long ms rows is = ap (λ (rs : List (List ℕ)). length rs) is ∙ length-map (all_told ms) (λ (m : Member). m.refs) ∙ length-all_told ms
 
-pub told_next : (ms : List Member) (rows new : List (List ℕ)) (k : ℕ) (m : Member) (words : List ℕ) → k < length ms → m ≡ get_or ms k m → words ≡ m.refs ++ m.untold → rows ≡ rows_of (all_told (take k ms)) → new ≡ rows ++ words ∷ [] → new ≡ rows_of (all_told (take (k + 1) ms))
+pub told_next : (ms : List Member) (rows new : List (List ℕ)) (k : ℕ) (m : Member) (words : List ℕ) → k < length ms → m ≡ get_or ms k m → words ≡ m.refs
+    ++ m.untold → rows ≡ rows_of (all_told (take k ms)) → new ≡ rows ++ words ∷ [] → new ≡ rows_of (all_told (take (k + 1) ms))
 told_next ms rows new k m words within is read so pushed =
     pushed ∙ ap (λ (t : List (List ℕ)). t ++ words ∷ []) so ∙ ap (λ (r : List ℕ). rows_of (all_told (take k ms)) ++ r ∷ []) read
-    ∙ sym (ap (λ (ks : List Member). rows_of (all_told ks)) (take_more ms k m within ∙ ap (λ (n : Member). take k ms ++ n ∷ []) (sym is)) ∙ ap (λ (ks : List Member). rows_of ks) (map-append with_words (take k ms) (m ∷ [])) ∙ map-append (λ (n : Member). n.refs) (all_told (take k ms)) (with_words m ∷ []))
+    ∙ sym (ap (λ (ks : List Member). rows_of (all_told ks)) (take_more ms k m within ∙ ap (λ (n : Member). take k ms ++ n ∷ []) (sym is))
+    ∙ ap (λ (ks : List Member). rows_of ks) (map-append with_words (take k ms) (m ∷ [])) ∙ map-append (λ (n : Member). n.refs) (all_told (take k ms))
+    (with_words m ∷ []))
 
 pub told_all : (ms : List Member) (rows : List (List ℕ)) (k : ℕ) → length ms ≤ k → rows ≡ rows_of (all_told (take k ms)) → rows ≡ rows_of (all_told ms)
 told_all ms rows k end so = so ∙ ap (λ (ks : List Member). rows_of (all_told ks)) (take_all k ms end)

@@ -19,7 +19,8 @@ path_more Held arrows [] o p l step = absurd l
 path_more Held arrows (x ∷ path) o p l step = (l.0, leads_more arrows x path o p l.1 step)
 
 -- along a path from a reached member
-along : (Held Inside : ℕ → Type 0) (arrows : List Edge) (from : ℕ) (path : List ℕ) (o : ℕ) → Reach Held Inside arrows from → LeadsTo arrows from path o → ((x : ℕ) → Includes path x → Inside x) → Reach Held Inside arrows o
+along : (Held Inside : ℕ → Type 0) (arrows : List Edge) (from : ℕ) (path : List ℕ) (o : ℕ) → Reach Held Inside arrows from → LeadsTo arrows from path o
+    → ((x : ℕ) → Includes path x → Inside x) → Reach Held Inside arrows o
 along Held Inside arrows from [] o r e inside = subst (λ x. Reach Held Inside arrows x) e r
 along Held Inside arrows from (x ∷ path) o r l inside = along Held Inside arrows x path o (next r l.0 (inside x (inl refl))) l.1 (λ y m. inside y (inr m))
 
