@@ -36,7 +36,8 @@ order_first refs Held found start rise = record {
     go o p (Some j) g d e less = absurd (cc)
 
 -- One turn: the references of the object at the place are found.
-module _ (refs : ℕ → List ℕ) (found new : Findings) (place o : ℕ) (holder : Option ℕ) (h : AreInOrder refs found place) (at : slice_get found place ≡ Some (o, holder)) (f : FindsInOrder found (refs o) (Some place) new) where
+module _ (refs : ℕ → List ℕ) (found new : Findings) (place o : ℕ) (holder : Option ℕ) (h : AreInOrder refs found place)
+    (at : slice_get found place ≡ Some (o, holder)) (f : FindsInOrder found (refs o) (Some place) new) where
   abbrev more : Findings
   more = f.finds.more
 
@@ -58,7 +59,8 @@ module _ (refs : ℕ → List ℕ) (found new : Findings) (place o : ℕ) (holde
   before_more i p q (Some j) None a e = absurd (cc)
   before_more i p q (Some j) (Some k) a e = let same = same_some k place e in inl (omega (arith, same, h.behind i p j a))
 
-  among_more : (p q : ℕ) (d g : Option ℕ) → d ≡ Some place → g ≡ Some place → position_among (refs o) p < position_among (refs o) q → StandsFirst refs all d p g q
+  among_more : (p q : ℕ) (d g : Option ℕ) → d ≡ Some place → g ≡ Some place → position_among (refs o) p < position_among (refs o) q
+      → StandsFirst refs all d p g q
   among_more p q None g d e less = absurd (cc)
   among_more p q (Some j) None d e less = absurd (cc)
   among_more p q (Some j) (Some k) d e less =
@@ -74,7 +76,9 @@ module _ (refs : ℕ → List ℕ) (found new : Findings) (place o : ℕ) (holde
     ]
     | inr x ↦ elim (get_cases found more k (q, g) b) [
       | inl y ↦ let low = slice_get_within found k (q, g) y in absurd (omega (arith, less, x.1, low))
-      | inr y ↦ among_more p q d g (by_place x.0 p d x.2) (by_place y.0 q g y.2) (f.order x.0 y.0 (p, d) (q, g) (omega (arith, less, x.1, y.1)) x.2 y.2)
+      | inr y ↦
+          among_more p q d g (by_place x.0 p d x.2) (by_place y.0 q g y.2)
+          (f.order x.0 y.0 (p, d) (q, g) (omega (arith, less, x.1, y.1)) x.2 y.2)
     ]
   ]
 
@@ -88,7 +92,8 @@ module _ (refs : ℕ → List ℕ) (found new : Findings) (place o : ℕ) (holde
   no_later i p None j a low = tt
   no_later i p (Some k) j a low = omega (arith, behind i p k a, low)
 
-  first : (j q p : ℕ) (d : Option ℕ) → j < place + 1 → slice_get all j ≡ Some (q, d) → Includes (refs q) p → (i : ℕ) × (g : Option ℕ) × (slice_get all i ≡ Some (p, g)) × IsNoLater g j
+  first : (j q p : ℕ) (d : Option ℕ) → j < place + 1 → slice_get all j ≡ Some (q, d) → Includes (refs q) p
+      → (i : ℕ) × (g : Option ℕ) × (slice_get all i ≡ Some (p, g)) × IsNoLater g j
   first j q p d low a m = elim (cases_lt j place) [
     | inl less ↦ let r = h.first j q p d less before m in (r.0, r.1, get_left found more r.0 (p, r.1) r.2, r.3)
     | inr high ↦
@@ -108,7 +113,9 @@ module _ (refs : ℕ → List ℕ) (found new : Findings) (place o : ℕ) (holde
       ]
 
   pub order_more : AreInOrder refs new (place + 1)
-  order_more = subst (λ (es : Findings). AreInOrder refs es (place + 1)) (sym f.finds.is) (record { in_turn = in_turn; behind = behind; first = first })
+  order_more =
+      subst (λ (es : Findings). AreInOrder refs es (place + 1)) (sym f.finds.is)
+      (record { in_turn = in_turn; behind = behind; first = first })
 
 -- A trail is up to a path: it is shorter, or the path itself from its end, or its path comes before.
 data IsUpTo (refs : ℕ → List ℕ) (t w : List ℕ) : Type 0 where
@@ -118,53 +125,35 @@ data IsUpTo (refs : ℕ → List ℕ) (t w : List ℕ) : Type 0 where
 
 -- Paths in order.
 module _ (refs : ℕ → List ℕ) where
-  parts_longer : (from : ℕ) (xs ys : List ℕ) (a b : ℕ) → PartsBefore refs from xs ys → PartsBefore refs from (xs ++ a ∷ []) (ys ++ b ∷ [])
-  parts_longer from [] ys a b h = absurd h
-  parts_longer from (x ∷ xs) [] a b h = absurd h
-  parts_longer from (x ∷ xs) (y ∷ ys) a b (inl less) = inl less
-  parts_longer from (x ∷ xs) (y ∷ ys) a b (inr h) = inr (h.0, parts_longer x xs ys a b h.1)
+  parts_longer : (number : ℕ → ℕ) (xs ys : List ℕ) (a b : ℕ) → PartsBefore number refs xs ys → PartsBefore number refs (xs ++ a ∷ []) (ys ++ b ∷ [])
+  parts_longer number [] ys a b h = absurd h
+  parts_longer number (x ∷ xs) [] a b h = absurd h
+  parts_longer number (x ∷ xs) (y ∷ ys) a b (inl less) = inl less
+  parts_longer number (x ∷ xs) (y ∷ ys) a b (inr h) = inr (h.0, parts_longer (position_among (refs x)) xs ys a b h.1)
 
-  before_longer : (xs ys : List ℕ) (a b : ℕ) → ComesBefore refs xs ys → ComesBefore refs (xs ++ a ∷ []) (ys ++ b ∷ [])
-  before_longer [] ys a b h = absurd h
-  before_longer (x ∷ xs) [] a b h = absurd h
-  before_longer (x ∷ xs) (y ∷ ys) a b (inl less) = inl less
-  before_longer (x ∷ xs) (y ∷ ys) a b (inr h) = inr (h.0, parts_longer x xs ys a b h.1)
+  parts_last : (number : ℕ → ℕ) (front : List ℕ) (q a b : ℕ) → position_among (refs q) a < position_among (refs q) b
+      → PartsBefore number refs ((front ++ q ∷ []) ++ a ∷ []) ((front ++ q ∷ []) ++ b ∷ [])
+  parts_last number [] q a b less = inr (refl, inl less)
+  parts_last number (x ∷ front) q a b less = inr (refl, parts_last (position_among (refs x)) front q a b less)
 
-  parts_last : (from : ℕ) (front : List ℕ) (q a b : ℕ) → position_among (refs q) a < position_among (refs q) b → PartsBefore refs from ((front ++ q ∷ []) ++ a ∷ []) ((front ++ q ∷ []) ++ b ∷ [])
-  parts_last from [] q a b less = inr (refl, inl less)
-  parts_last from (x ∷ front) q a b less = inr (refl, parts_last x front q a b less)
+  parts_trans : (number : ℕ → ℕ) (xs ys zs : List ℕ) → PartsBefore number refs xs ys → PartsBefore number refs ys zs → PartsBefore number refs xs zs
+  parts_trans number [] ys zs g h = absurd g
+  parts_trans number (x ∷ xs) [] zs g h = absurd g
+  parts_trans number (x ∷ xs) (y ∷ ys) [] g h = absurd h
+  parts_trans number (x ∷ xs) (y ∷ ys) (z ∷ zs) (inl g) (inl h) = inl (omega (arith, g, h))
+  parts_trans number (x ∷ xs) (y ∷ ys) (z ∷ zs) (inl g) (inr h) = inl (subst (λ w. number x < number w) h.0 g)
+  parts_trans number (x ∷ xs) (y ∷ ys) (z ∷ zs) (inr g) (inl h) = inl (subst (λ w. number w < number z) (sym g.0) h)
+  parts_trans number (x ∷ xs) (y ∷ ys) (z ∷ zs) (inr g) (inr h) =
+      inr (
+        g.0 ∙ h.0,
+        parts_trans (position_among (refs x)) xs ys zs g.1
+            (subst (λ w. PartsBefore (position_among (refs w)) refs ys zs) (sym g.0) h.1),
+      )
 
-  before_last : (front : List ℕ) (q a b : ℕ) → position_among (refs q) a < position_among (refs q) b → ComesBefore refs ((front ++ q ∷ []) ++ a ∷ []) ((front ++ q ∷ []) ++ b ∷ [])
-  before_last [] q a b less = inr (refl, inl less)
-  before_last (x ∷ front) q a b less = inr (refl, parts_last x front q a b less)
-
-  parts_trans : (from : ℕ) (xs ys zs : List ℕ) → PartsBefore refs from xs ys → PartsBefore refs from ys zs → PartsBefore refs from xs zs
-  parts_trans from [] ys zs g h = absurd g
-  parts_trans from (x ∷ xs) [] zs g h = absurd g
-  parts_trans from (x ∷ xs) (y ∷ ys) [] g h = absurd h
-  parts_trans from (x ∷ xs) (y ∷ ys) (z ∷ zs) (inl g) (inl h) = inl (omega (arith, g, h))
-  parts_trans from (x ∷ xs) (y ∷ ys) (z ∷ zs) (inl g) (inr h) = inl (subst (λ w. position_among (refs from) x < position_among (refs from) w) h.0 g)
-  parts_trans from (x ∷ xs) (y ∷ ys) (z ∷ zs) (inr g) (inl h) = inl (subst (λ w. position_among (refs from) w < position_among (refs from) z) (sym g.0) h)
-  parts_trans from (x ∷ xs) (y ∷ ys) (z ∷ zs) (inr g) (inr h) = inr (g.0 ∙ h.0, parts_trans x xs ys zs g.1 (subst (λ w. PartsBefore refs w ys zs) (sym g.0) h.1))
-
-  before_trans : (xs ys zs : List ℕ) → ComesBefore refs xs ys → ComesBefore refs ys zs → ComesBefore refs xs zs
-  before_trans [] ys zs g h = absurd g
-  before_trans (x ∷ xs) [] zs g h = absurd g
-  before_trans (x ∷ xs) (y ∷ ys) [] g h = absurd h
-  before_trans (x ∷ xs) (y ∷ ys) (z ∷ zs) (inl g) (inl h) = inl (omega (arith, g, h))
-  before_trans (x ∷ xs) (y ∷ ys) (z ∷ zs) (inl g) (inr h) = inl (subst (λ w. x < w) h.0 g)
-  before_trans (x ∷ xs) (y ∷ ys) (z ∷ zs) (inr g) (inl h) = inl (subst (λ w. w < z) (sym g.0) h)
-  before_trans (x ∷ xs) (y ∷ ys) (z ∷ zs) (inr g) (inr h) = inr (g.0 ∙ h.0, parts_trans x xs ys zs g.1 (subst (λ w. PartsBefore refs w ys zs) (sym g.0) h.1))
-
-  parts_strict : (from : ℕ) (xs : List ℕ) → ¬ PartsBefore refs from xs xs
-  parts_strict from [] h = absurd h
-  parts_strict from (x ∷ xs) (inl less) = absurd (omega (arith, less))
-  parts_strict from (x ∷ xs) (inr h) = parts_strict x xs h.1
-
-  before_strict : (xs : List ℕ) → ¬ ComesBefore refs xs xs
-  before_strict [] h = absurd h
-  before_strict (x ∷ xs) (inl less) = absurd (omega (arith, less))
-  before_strict (x ∷ xs) (inr h) = parts_strict x xs h.1
+  parts_strict : (number : ℕ → ℕ) (xs : List ℕ) → ¬ PartsBefore number refs xs xs
+  parts_strict number [] h = absurd h
+  parts_strict number (x ∷ xs) (inl less) = absurd (omega (arith, less))
+  parts_strict number (x ∷ xs) (inr h) = parts_strict (position_among (refs x)) xs h.1
 
   no_longer : (t w : List ℕ) → IsUpTo refs t w → length t ≤ length w
   no_longer t w (Shorter less) = omega (arith, less)
@@ -176,15 +165,18 @@ module _ (refs : ℕ → List ℕ) where
   up_longer t w p (Same is) = Same (reverse_onto t p [] ∙ ap (λ (l : List ℕ). l ++ p ∷ []) is)
   up_longer t w p (Earlier len b) =
       Earlier (omega (arith, len, length-append w (p ∷ [])))
-      (subst (λ (l : List ℕ). ComesBefore refs l (w ++ p ∷ [])) (sym (reverse_onto t p [])) (before_longer (reverse t) w p p b))
+      (subst (λ (l : List ℕ). ComesBefore refs l (w ++ p ∷ [])) (sym (reverse_onto t p [])) (parts_longer (λ o. o) (reverse t) w p p b))
 
   up_earlier : (s t w : List ℕ) → length s ≡ length t → ComesBefore refs (reverse s) (reverse t) → IsUpTo refs t w → IsUpTo refs s w
   up_earlier s t w len b (Shorter less) = Shorter (omega (arith, len, less))
-  up_earlier s t w len b (Same is) = Earlier (let e = ap length is in omega (arith, len, e, length-reverse t)) (subst (ComesBefore refs (reverse s)) is b)
-  up_earlier s t w len b (Earlier l c) = Earlier (omega (arith, len, l)) (before_trans (reverse s) (reverse t) w b c)
+  up_earlier s t w len b (Same is) =
+      Earlier (let e = ap length is in omega (arith, len, e, length-reverse t))
+      (subst (ComesBefore refs (reverse s)) is b)
+  up_earlier s t w len b (Earlier l c) = Earlier (omega (arith, len, l)) (parts_trans (λ o. o) (reverse s) (reverse t) w b c)
 
   -- At the end no path comes before the trail of an object.
-  module _ (Held : ℕ → Type 0) (arrows : List Edge) (out : (o p : ℕ) → Includes arrows (record { from = o; to = p }) → Includes (refs o) p) (found : Findings) (h : IsOver Held arrows found) (ord : AreInOrder refs found (length found)) where
+  module _ (Held : ℕ → Type 0) (arrows : List Edge) (out : (o p : ℕ) → Includes arrows (record { from = o; to = p }) → Includes (refs o) p)
+      (found : Findings) (h : IsOver Held arrows found) (ord : AreInOrder refs found (length found)) where
     entry_at : (i : ℕ) (t : List ℕ) → slice_get h.trails i ≡ Some t → (e : ℕ × Option ℕ) × (slice_get found i ≡ Some e) × TrailBy h.trails i e.0 e.1 t
     entry_at i t at =
         let low = slice_get_within h.trails i t at in
@@ -193,7 +185,8 @@ module _ (refs : ℕ → List ℕ) where
         let same : r.0 ≡ t = same_some r.0 t (sym r.1 ∙ at) in
         (e.0, e.1, subst (λ (u : List ℕ). TrailBy h.trails i e.0.0 e.0.1 u) same r.2)
 
-    begins_with : (i o : ℕ) (g : Option ℕ) (t : List ℕ) → slice_get found i ≡ Some (o, g) → slice_get h.trails i ≡ Some t → (rest : List ℕ) × (t ≡ o ∷ rest)
+    begins_with : (i o : ℕ) (g : Option ℕ) (t : List ℕ) → slice_get found i ≡ Some (o, g) → slice_get h.trails i ≡ Some t
+        → (rest : List ℕ) × (t ≡ o ∷ rest)
     begins_with i o g t at is = let r = trail_at found h.trails h.have i o g at in (r.0, same_some t (o ∷ r.0) (sym is ∙ r.1))
 
     not_empty : (i : ℕ) (t : List ℕ) → slice_get h.trails i ≡ Some t → 0 < length t
@@ -203,11 +196,14 @@ module _ (refs : ℕ → List ℕ) where
         let len = ap length r.1 in
         omega (arith, len)
 
-    by_holders : (a b : ℕ) (s r : List ℕ) (i k o p : ℕ) (d g : Option ℕ) → length s ≡ length r → TrailBy h.trails i o d (a ∷ s) → TrailBy h.trails k p g (b ∷ r) → StandsFirst refs found d o g p
-        → ((j l : ℕ) → slice_get h.trails j ≡ Some s → slice_get h.trails l ≡ Some r → j < l → length s ≡ length r → ComesBefore refs (reverse s) (reverse r))
+    by_holders : (a b : ℕ) (s r : List ℕ) (i k o p : ℕ) (d g : Option ℕ) → length s ≡ length r → TrailBy h.trails i o d (a ∷ s)
+        → TrailBy h.trails k p g (b ∷ r) → StandsFirst refs found d o g p
+        → ((j l : ℕ) → slice_get h.trails j ≡ Some s → slice_get h.trails l ≡ Some r → j < l → length s ≡ length r
+        → ComesBefore refs (reverse s) (reverse r))
         → ComesBefore refs (reverse (a ∷ s)) (reverse (b ∷ r))
     by_holders a b s r i k o p None None len x y stands rec =
-        subst (λ (l : List ℕ). ComesBefore refs (reverse l) (reverse (b ∷ r))) (sym x) (subst (λ (l : List ℕ). ComesBefore refs (reverse (o ∷ [])) (reverse l)) (sym y) (inl stands))
+        subst (λ (l : List ℕ). ComesBefore refs (reverse l) (reverse (b ∷ r))) (sym x)
+        (subst (λ (l : List ℕ). ComesBefore refs (reverse (o ∷ [])) (reverse l)) (sym y) (inl stands))
     by_holders a b s r i k o p None (Some l) len x y stands rec =
         let one = ap length x in
         let two = ap length y.1.2 in
@@ -221,7 +217,8 @@ module _ (refs : ℕ → List ℕ) where
         let last : slice_get h.trails l ≡ Some r = y.1.1 ∙ ap Some other in
         subst (λ (q : List ℕ). ComesBefore refs q (reverse (b ∷ r))) (sym (reverse_onto s a []))
         (subst (λ (q : List ℕ). ComesBefore refs (reverse s ++ a ∷ []) q) (sym (reverse_onto r b []))
-        (either stands (λ less. before_longer (reverse s) (reverse r) a b (rec j l first last less len)) (λ one. siblings o p (heads x.1.2) (heads y.1.2) first last one.0 one.1)))
+        (either stands (λ less. parts_longer (λ o. o) (reverse s) (reverse r) a b (rec j l first last less len))
+        (λ one. siblings o p (heads x.1.2) (heads y.1.2) first last one.0 one.1)))
       where
         heads : {c q : ℕ} {u v : List ℕ} → c ∷ u ≡ q ∷ v → q ≡ c
         heads e = cc
@@ -229,27 +226,32 @@ module _ (refs : ℕ → List ℕ) where
         tails : {c q : ℕ} {u v : List ℕ} → c ∷ u ≡ q ∷ v → v ≡ u
         tails e = cc
 
-        siblings : (o p : ℕ) → o ≡ a → p ≡ b → slice_get h.trails j ≡ Some s → slice_get h.trails l ≡ Some r → j ≡ l → IsFollowedFirst refs found j o p → ComesBefore refs (reverse s ++ a ∷ []) (reverse r ++ b ∷ [])
+        siblings : (o p : ℕ) → o ≡ a → p ≡ b → slice_get h.trails j ≡ Some s → slice_get h.trails l ≡ Some r → j ≡ l
+            → IsFollowedFirst refs found j o p → ComesBefore refs (reverse s ++ a ∷ []) (reverse r ++ b ∷ [])
         siblings o p oa pb first last same by =
             let one : s ≡ r = same_some s r (sym first ∙ ap (slice_get h.trails) same ∙ last) in
             let q = begins_with j by.0.0 by.0.1 s by.1 first in
             let whole : reverse s ≡ reverse q.0 ++ by.0.0 ∷ [] = ap reverse q.1 ∙ reverse_onto q.0 by.0.0 [] in
             let less : position_among (refs by.0.0) a < position_among (refs by.0.0) b =
-            subst (λ c. position_among (refs by.0.0) c < position_among (refs by.0.0) b) oa (subst (λ c. position_among (refs by.0.0) o < position_among (refs by.0.0) c) pb by.2) in
+            subst (λ c. position_among (refs by.0.0) c < position_among (refs by.0.0) b) oa
+            (subst (λ c. position_among (refs by.0.0) o < position_among (refs by.0.0) c) pb by.2) in
             subst (λ (l : List ℕ). ComesBefore refs (reverse s ++ a ∷ []) (reverse l ++ b ∷ [])) one
-            (subst (λ (l : List ℕ). ComesBefore refs (l ++ a ∷ []) (l ++ b ∷ [])) (sym whole) (before_last (reverse q.0) by.0.0 a b less))
+            (subst (λ (l : List ℕ). ComesBefore refs (l ++ a ∷ []) (l ++ b ∷ [])) (sym whole) (parts_last (λ o. o) (reverse q.0) by.0.0 a b less))
 
     -- Of two trails as long as each other, the one that was found earlier comes before.
-    ranked : (t u : List ℕ) (i k : ℕ) → slice_get h.trails i ≡ Some t → slice_get h.trails k ≡ Some u → i < k → length t ≡ length u → ComesBefore refs (reverse t) (reverse u)
+    ranked : (t u : List ℕ) (i k : ℕ) → slice_get h.trails i ≡ Some t → slice_get h.trails k ≡ Some u → i < k → length t ≡ length u
+        → ComesBefore refs (reverse t) (reverse u)
     ranked [] u i k at then less len = let some = not_empty i [] at in absurd (omega (arith, some))
     ranked (a ∷ s) [] i k at then less len = absurd (omega (arith, len))
     ranked (a ∷ s) (b ∷ r) i k at then less len =
         let e = entry_at i (a ∷ s) at in
         let f = entry_at k (b ∷ r) then in
-        by_holders a b s r i k e.0.0 f.0.0 e.0.1 f.0.1 (omega (arith, len)) e.2 f.2 (ord.in_turn i k e.0.0 f.0.0 e.0.1 f.0.1 less e.1 f.1) (λ j l. ranked s r j l)
+        by_holders a b s r i k e.0.0 f.0.0 e.0.1 f.0.1 (omega (arith, len)) e.2 f.2
+        (ord.in_turn i k e.0.0 f.0.0 e.0.1 f.0.1 less e.1 f.1) (λ j l. ranked s r j l)
 
     -- one step along a path
-    up_step : (o p j : ℕ) (t w : List ℕ) → slice_get h.trails j ≡ Some t → IsTrailOf o t → IsUpTo refs t w → Includes arrows (record { from = o; to = p })
+    up_step : (o p j : ℕ) (t w : List ℕ) → slice_get h.trails j ≡ Some t → IsTrailOf o t → IsUpTo refs t w
+        → Includes arrows (record { from = o; to = p })
         → (i : ℕ) × (u : List ℕ) × (slice_get h.trails i ≡ Some u) × IsTrailOf p u × IsUpTo refs u (w ++ p ∷ [])
     up_step o p j t w at ends up arrow =
         let e = entry_at j t at in
@@ -274,14 +276,21 @@ module _ (refs : ℕ → List ℕ) where
               ]
         ]
 
-        by_holder : (g : Option ℕ) (i : ℕ) (u : List ℕ) → IsNoLater g j → slice_get h.trails i ≡ Some u → TrailBy h.trails i p g u → (i : ℕ) × (u : List ℕ) × (slice_get h.trails i ≡ Some u) × IsTrailOf p u × IsUpTo refs u (w ++ p ∷ [])
+        by_holder : (g : Option ℕ) (i : ℕ) (u : List ℕ) → IsNoLater g j → slice_get h.trails i ≡ Some u → TrailBy h.trails i p g u
+            → (i : ℕ) × (u : List ℕ) × (slice_get h.trails i ≡ Some u) × IsTrailOf p u × IsUpTo refs u (w ++ p ∷ [])
         by_holder None i u low is by =
             let len = ap length by in
             (i, u, is, subst (IsTrailOf p) (sym by) refl, Shorter (omega (arith, len, length-append w (p ∷ []), no_longer t w up, not_empty j t at)))
-        by_holder (Some l) i u low is by =
-            (i, u, is, subst (IsTrailOf p) (sym by.1.2) refl, subst (λ (x : List ℕ). IsUpTo refs x (w ++ p ∷ [])) (sym by.1.2) (up_longer by.1.0 w p (up_holder l by.1.0 by.1.1 low)))
+        by_holder (Some l) i u low is by = (
+          i,
+          u,
+          is,
+          subst (IsTrailOf p) (sym by.1.2) refl,
+          subst (λ (x : List ℕ). IsUpTo refs x (w ++ p ∷ [])) (sym by.1.2) (up_longer by.1.0 w p (up_holder l by.1.0 by.1.1 low)),
+        )
 
-    along : (object : ℕ) (path : List ℕ) (o j : ℕ) (t w : List ℕ) → slice_get h.trails j ≡ Some t → IsTrailOf o t → IsUpTo refs t w → LeadsTo arrows o path object
+    along : (object : ℕ) (path : List ℕ) (o j : ℕ) (t w : List ℕ) → slice_get h.trails j ≡ Some t → IsTrailOf o t → IsUpTo refs t w
+        → LeadsTo arrows o path object
         → (i : ℕ) × (u : List ℕ) × (slice_get h.trails i ≡ Some u) × IsTrailOf object u × IsUpTo refs u (w ++ path)
     along object [] o j t w at ends up leads = (j, t, at, subst (λ p. IsTrailOf p t) leads ends, subst (IsUpTo refs t) (sym (append-nil w)) up)
     along object (next ∷ path) o j t w at ends up leads =
@@ -290,7 +299,8 @@ module _ (refs : ℕ → List ℕ) where
         (s.0, s.1, s.2, s.3, subst (IsUpTo refs s.1) (append_assoc w (next ∷ []) path) s.4)
 
     -- Every other shortest path comes after the one that is told.
-    pub first_path : (object place : ℕ) (path : List ℕ) → slice_get (objects_in found) place ≡ Some object → IsPathBack found place path → (other : List ℕ) → IsShortestPath Held arrows other object
+    pub first_path : (object place : ℕ) (path : List ℕ) → slice_get (objects_in found) place ≡ Some object → IsPathBack found place path
+        → (other : List ℕ) → IsShortestPath Held arrows other object
         → (other ≡ path) ⊎ ComesBefore refs path other
     first_path object place path at back other short = go other refl short.leads
       where
@@ -307,12 +317,15 @@ module _ (refs : ℕ → List ℕ) where
         go (start ∷ rest) e leads =
             let j = in_get h.trails (start ∷ []) (h.starts start leads.0) in
             let r = along object rest start j.0 (start ∷ []) (start ∷ []) j.1 refl (Same refl) leads.1 in
-            let same : place ≡ r.0 = one_place (objects_in found) place r.0 object (h.once object) at (found_of found h.trails h.have r.0 object r.1 r.2 r.3) in
+            let same : place ≡ r.0 =
+            one_place (objects_in found) place r.0 object (h.once object) at (found_of found h.trails h.have r.0 object r.1 r.2 r.3) in
             by_rank r.1 (back h.trails h.have r.1 (ap (slice_get h.trails) same ∙ r.2)) (subst (IsUpTo refs r.1) e r.4)
 
 -- One shortest path comes first.
-pub one_first : (store : Store) (object : ℕ) (path other : List ℕ) → IsShortestPath (HeldElse store object) (arrows_of store) path object → ComesFirst store object path
+pub one_first : (store : Store) (object : ℕ) (path other : List ℕ) → IsShortestPath (HeldElse store object) (arrows_of store) path object
+    → ComesFirst store object path
     → IsShortestPath (HeldElse store object) (arrows_of store) other object → ComesFirst store object other → path ≡ other
 one_first store object path other short first long last =
     either (first other long) (λ e. sym e)
-    (λ b. either (last path short) (λ e. e) (λ c. absurd (before_strict (references_by store) path (before_trans (references_by store) path other path b c))))
+    (λ b. either (last path short) (λ e. e) (λ c. absurd (parts_strict (references_by store) (λ o. o) path
+    (parts_trans (references_by store) (λ o. o) path other path b c))))

@@ -44,7 +44,8 @@ position_past (r ∷ refs) more o none =
 
 -- What is found, one after the other.
 module _ (old : Findings) (holder : Option ℕ) where
-  in_order : (refs : List ℕ) (new more : Findings) → Finds old refs holder new → new ≡ old ++ more → ((e : ℕ × Option ℕ) → Includes more e → ¬ Includes (objects_in old) e.0) → RiseBy (position_among refs) more
+  in_order : (refs : List ℕ) (new more : Findings) → Finds old refs holder new → new ≡ old ++ more
+      → ((e : ℕ × Option ℕ) → Includes more e → ¬ Includes (objects_in old) e.0) → RiseBy (position_among refs) more
       → FindsInOrder old refs holder new
   in_order refs new more finds is fresh order = record {
     finds = finds;
@@ -59,9 +60,12 @@ module _ (old : Findings) (holder : Option ℕ) where
   none_in_order = in_order [] old [] (finds_none old holder) (sym (append-nil old)) (λ e m. absurd m) (λ i k e f less a b. absurd (cc))
 
   pub present_in_order : (object : ℕ) → Includes (objects_in old) object → FindsInOrder old (object ∷ []) holder old
-  present_in_order object there = in_order (object ∷ []) old [] (finds_present old old object holder refl there) (sym (append-nil old)) (λ e m. absurd m) (λ i k e f less a b. absurd (cc))
+  present_in_order object there =
+      in_order (object ∷ []) old [] (finds_present old old object holder refl there) (sym (append-nil old))
+      (λ e m. absurd m) (λ i k e f less a b. absurd (cc))
 
-  pub new_in_order : (new : Findings) (object : ℕ) → new ≡ old ++ (object, holder) ∷ [] → ¬ Includes (objects_in old) object → FindsInOrder old (object ∷ []) holder new
+  pub new_in_order : (new : Findings) (object : ℕ) → new ≡ old ++ (object, holder) ∷ [] → ¬ Includes (objects_in old) object
+      → FindsInOrder old (object ∷ []) holder new
   new_in_order new object is absent =
       in_order (object ∷ []) new ((object, holder) ∷ []) (finds_new old new object holder is absent) is
       (λ e m there. absent (subst (Includes (objects_in old)) (sym (ap (λ (x : ℕ × Option ℕ). x.0) (either m (λ s. s) (λ f. absurd f)))) there)) alone
@@ -72,7 +76,8 @@ module _ (old : Findings) (holder : Option ℕ) where
           let last = slice_get_within ((object, holder) ∷ []) k f b in
           absurd (omega (arith, less, first, last))
 
-  pub more_in_order : (mid new : Findings) (refs : List ℕ) (object : ℕ) → FindsInOrder old refs holder mid → FindsInOrder mid (object ∷ []) holder new → FindsInOrder old (refs ++ object ∷ []) holder new
+  pub more_in_order : (mid new : Findings) (refs : List ℕ) (object : ℕ) → FindsInOrder old refs holder mid → FindsInOrder mid (object ∷ []) holder new
+      → FindsInOrder old (refs ++ object ∷ []) holder new
   more_in_order mid new refs object a b =
       in_order (refs ++ object ∷ []) new (a.finds.more ++ b.finds.more) (finds_more old mid new refs object holder a.finds b.finds)
       (b.finds.is ∙ ap (λ (l : Findings). l ++ b.finds.more) a.finds.is ∙ append_assoc old a.finds.more b.finds.more) fresh order
@@ -80,7 +85,8 @@ module _ (old : Findings) (holder : Option ℕ) where
       stays : (o : ℕ) → Includes (objects_in old) o → Includes (objects_in mid) o
       stays o m =
           subst (λ (es : Findings). Includes (objects_in es) o) (sym a.finds.is)
-          (subst (λ (os : List ℕ). Includes os o) (sym (objects_append old a.finds.more)) (Includes-append_left (objects_in old) (objects_in a.finds.more) o m))
+          (subst (λ (os : List ℕ). Includes os o) (sym (objects_append old a.finds.more))
+          (Includes-append_left (objects_in old) (objects_in a.finds.more) o m))
 
       fresh : (e : ℕ × Option ℕ) → Includes (a.finds.more ++ b.finds.more) e → ¬ Includes (objects_in old) e.0
       fresh e m there = either (Includes-append_cases a.finds.more b.finds.more e m) (λ k. a.fresh e k there) (λ k. b.fresh e k (stays e.0 there))
@@ -101,7 +107,8 @@ module _ (old : Findings) (holder : Option ℕ) where
       order i k e f less at then = elim (get_cases a.finds.more b.finds.more i e at) [
         | inl p ↦ elim (get_cases a.finds.more b.finds.more k f then) [
           | inl q ↦ omega (arith, a.order i k e f less p q, kept e.0 (early i e p), kept f.0 (early k f q))
-          | inr q ↦ omega (arith, kept e.0 (early i e p), position_within refs e.0 (early i e p), position_past refs (object ∷ []) f.0 (late q.0 f q.2))
+          | inr q ↦
+              omega (arith, kept e.0 (early i e p), position_within refs e.0 (early i e p), position_past refs (object ∷ []) f.0 (late q.0 f q.2))
         ]
         | inr p ↦ elim (get_cases a.finds.more b.finds.more k f then) [
           | inl q ↦ let low = slice_get_within a.finds.more k f q in absurd (omega (arith, less, p.1, low))
@@ -120,7 +127,8 @@ below_next (x ∷ xs) rises (suc i) low o m = either m
     (λ e. subst (λ p. p < get_or xs i 0) e (rises.0 (get_or xs i 0) (in_range xs i (omega (arith, low)))))
     (λ k. below_next xs rises.1 i (omega (arith, low)) o k)
 
-pub roots_in_order : (Held : ℕ → Type 0) (xs : List ℕ) (i : ℕ) (old new : Findings) → Ascends xs → i < length xs → IsStart (λ o. Held o × Includes (take i xs) o) old → RiseBy (λ o. o) old
+pub roots_in_order : (Held : ℕ → Type 0) (xs : List ℕ) (i : ℕ) (old new : Findings) → Ascends xs → i < length xs
+    → IsStart (λ o. Held o × Includes (take i xs) o) old → RiseBy (λ o. o) old
     → FindsInOrder old (get_or xs i 0 ∷ []) None new → RiseBy (λ o. o) new
 roots_in_order Held xs i old new ascends low start rise b =
     subst (λ (es : Findings). RiseBy (λ o. o) es) (sym b.finds.is)

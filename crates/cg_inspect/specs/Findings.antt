@@ -16,7 +16,8 @@ pub record FindsInOrder (old : Findings) (refs : List ℕ) (holder : Option ℕ)
 
 -- the holder at this place refers to the one before it refers to the other
 abbrev pub IsFollowedFirst : (ℕ → List ℕ) → Findings → ℕ → ℕ → ℕ → Type 0
-IsFollowedFirst refs found holder o p = (e : ℕ × Option ℕ) × (slice_get found holder ≡ Some e) × (position_among (refs e.0) o < position_among (refs e.0) p)
+IsFollowedFirst refs found holder o p =
+    (e : ℕ × Option ℕ) × (slice_get found holder ≡ Some e) × (position_among (refs e.0) o < position_among (refs e.0) p)
 
 -- Those that roots hold stand first, by rising serial; the others by the place of their holder, and then by its references.
 abbrev pub StandsFirst : (ℕ → List ℕ) → Findings → Option ℕ → ℕ → Option ℕ → ℕ → Type 0
@@ -32,7 +33,8 @@ IsNoLater (Some holder) place = holder ≤ place
 
 -- The search has come to a place: what was found stands in order, and no holder before that place was forgotten.
 pub record AreInOrder (refs : ℕ → List ℕ) (found : Findings) (place : ℕ) : Type 0 where
-  pub in_turn : (i k o p : ℕ) (h g : Option ℕ) → i < k → slice_get found i ≡ Some (o, h) → slice_get found k ≡ Some (p, g) → StandsFirst refs found h o g p
+  pub in_turn : (i k o p : ℕ) (h g : Option ℕ) → i < k → slice_get found i ≡ Some (o, h) → slice_get found k ≡ Some (p, g)
+      → StandsFirst refs found h o g p
   pub behind : (i o j : ℕ) → slice_get found i ≡ Some (o, Some j) → j < place
   pub first : (j o p : ℕ) (h : Option ℕ) → j < place → slice_get found j ≡ Some (o, h) → Includes (refs o) p
       → (i : ℕ) × (g : Option ℕ) × (slice_get found i ≡ Some (p, g)) × IsNoLater g j

@@ -11,27 +11,26 @@ use Rattle.cg_inspect.specs.declared.reason.Why.TheVariants as reason
 abbrev pub references_by : Store → ℕ → List ℕ
 references_by store o = references (entries_of store o)
 
--- the position of the first reference to an object
+-- the position of the first reference to an object, past the last where there is none
 abbrev pub position_among : List ℕ → ℕ → ℕ
 position_among [] o = 0
 position_among (r ∷ refs) o = if r == o then 0 else suc (position_among refs o)
 
--- Two paths go on from an object: where they part, the one follows the earlier reference.
-abbrev pub PartsBefore : (ℕ → List ℕ) → ℕ → List ℕ → List ℕ → Type 0
-PartsBefore refs from [] other = ⊥
-PartsBefore refs from (o ∷ path) [] = ⊥
-PartsBefore refs from (o ∷ path) (p ∷ other) = (position_among (refs from) o < position_among (refs from) p) ⊎ ((o ≡ p) × PartsBefore refs o path other)
+-- Where two paths part, the one has the lower number. The first objects have these numbers; each next has its position among the
+-- references of the object before.
+abbrev pub PartsBefore : (ℕ → ℕ) → (ℕ → List ℕ) → List ℕ → List ℕ → Type 0
+PartsBefore number refs [] other = ⊥
+PartsBefore number refs (o ∷ path) [] = ⊥
+PartsBefore number refs (o ∷ path) (p ∷ other) = (number o < number p) ⊎ ((o ≡ p) × PartsBefore (position_among (refs o)) refs path other)
 
--- One path comes before another: it begins at the object with the lower serial, or at the same, and parts from it by an earlier reference.
+-- One path comes before another: by the serials of their first objects, and then by the references that they follow.
 abbrev pub ComesBefore : (ℕ → List ℕ) → List ℕ → List ℕ → Type 0
-ComesBefore refs [] other = ⊥
-ComesBefore refs (o ∷ path) [] = ⊥
-ComesBefore refs (o ∷ path) (p ∷ other) = (o < p) ⊎ ((o ≡ p) × PartsBefore refs o path other)
+ComesBefore refs path other = PartsBefore (λ serial. serial) refs path other
 
 -- A path comes first: each other shortest path comes after it.
 abbrev pub ComesFirst : Store → ℕ → List ℕ → Type 0
-ComesFirst store object path =
-    (other : List ℕ) → IsShortestPath (HeldElse store object) (arrows_of store) other object → (other ≡ path) ⊎ ComesBefore (references_by store) path other
+ComesFirst store object path = (other : List ℕ) → IsShortestPath (HeldElse store object) (arrows_of store) other object
+    → (other ≡ path) ⊎ ComesBefore (references_by store) path other
 
 -- the path that is told comes first
 abbrev pub IsFirst : Store → ℕ → Why → Type 0
