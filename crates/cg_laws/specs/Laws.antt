@@ -47,12 +47,12 @@ abbrev pub FrontsBeginWholeTexts : Type 0
 FrontsBeginWholeTexts = (script : Script) (budget : ℕ) (steps : List StepTaken) → IsRun script budget steps
     → (printed : List Event) → (printed ≡ []) ⊎ Underway script (world_after script budget steps) printed → BeginsWholeText script budget (events_of steps ++ printed)
 
--- This holds in every world of a run. So only the release of its own hold leaves it at 0.
+-- In every world of a run a dying object is held in its frames alone. So only the release of its own hold leaves it at 0.
 abbrev pub DyingIsUnheld : Type 0
 DyingIsUnheld = (script : Script) (budget : ℕ) (steps : List StepTaken) → IsRun script budget steps
     → (d : Death) → Includes (world_after script budget steps).stack (Dying d) → IsHeldInItsFramesAlone d.object d.phase (holdings (world_after script budget steps))
 
--- Every world of a run is so.
+-- Every world of a run is in order.
 abbrev pub WorldsAreOrderly : Type 0
 WorldsAreOrderly = (script : Script) (budget : ℕ) (steps : List StepTaken) → IsRun script budget steps → IsOrderly (world_after script budget steps)
 
