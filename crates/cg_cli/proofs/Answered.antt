@@ -86,8 +86,10 @@ module _ (s : Status) (was is : Outside) where
         → AnswersReading (reading bytes) s ⊎ (s ≡ WriteFault) ⊎ (s ≡ OutOfMemory) → RunAnswers given s was is
     run_answers given one none done spent bad write cause memory only =
         let reads : ReadsSource s was is = reads_of_bytes (of_reading (reading bytes) s only) cause in
-        let done' : (s ≡ Done → IfSome was.left (λ bs. RanWhole given Ended bs was.written is.written)) = λ e. told was.left bytes all (λ bs. RanWhole given Ended bs was.written is.written) (done e) in
-        let spent' : (s ≡ Budget → IfSome was.left (λ bs. RanWhole given BudgetIsSpent bs was.written is.written)) = λ e. told was.left bytes all (λ bs. RanWhole given BudgetIsSpent bs was.written is.written) (spent e) in
+        let done' : (s ≡ Done → IfSome was.left (λ bs. RanWhole given Ended bs was.written is.written)) = λ e. told was.left bytes all
+        (λ bs. RanWhole given Ended bs was.written is.written) (done e) in
+        let spent' : (s ≡ Budget → IfSome was.left (λ bs. RanWhole given BudgetIsSpent bs was.written is.written)) = λ e. told was.left bytes all
+        (λ bs. RanWhole given BudgetIsSpent bs was.written is.written) (spent e) in
         record {
           done = done';
           spent = spent';

@@ -23,7 +23,8 @@ module _ (one : OneFinalizerEach) (none_dead : NoDeadLines) where
   }
 
   -- where the source reports its bytes
-  pub told_kept : (given : Option ℕ) (outcome : Outcome) (left before now : Option (List ℕ)) → IfSome left (λ bytes. RanWhole given outcome bytes before now) → IfSome left (λ bytes. RanKept bytes before now)
+  pub told_kept : (given : Option ℕ) (outcome : Outcome) (left before now : Option (List ℕ)) → IfSome left (λ bytes. RanWhole given outcome bytes before now)
+      → IfSome left (λ bytes. RanKept bytes before now)
   told_kept given outcome None before now ran = tt
   told_kept given outcome (Some bytes) before now ran = ran_kept given outcome bytes before now ran
 

@@ -14,7 +14,8 @@ use Rattle.cg_cli.specs.Summaries.{HasTally, WroteSummary, WroteSummaryFront}
 use Rattle.cg_cli.proofs.Refusals.{none_refused}
 
 -- the tally of a sink that received a whole run without a refusal
-pub tallied : (blocks : ℕ) (script : Script) (old now : Tallied) (tally : Tally) (refusal : Bool) → script ≡ generated blocks → old ≡ record { text = []; faults = 0 } → WroteRun script 10000 Ended (Some old.text) (Some now.text)
+pub tallied : (blocks : ℕ) (script : Script) (old now : Tallied) (tally : Tally) (refusal : Bool) → script ≡ generated blocks → old
+    ≡ record { text = []; faults = 0 } → WroteRun script 10000 Ended (Some old.text) (Some now.text)
     → tally ≡ tally_of now.text → refusal ≡ has_refusal now.text → refusal ≡ false → HasTally blocks tally
 tallied blocks script old now tally refusal is opens ran counted tells none =
     let text : now.text ≡ text_of script ran.steps = ran.written ∙ ap (λ (s : Tallied). s.text ++ text_of script ran.steps) opens in

@@ -58,7 +58,8 @@ pub record TookTooMany (left after : Option (List ℕ)) : Type 0 where
 
 -- What a run job writes for these bytes: the text of a whole run, or the first bad line, or that they are too many.
 pub data RowText (given : Option ℕ) (bytes : List ℕ) : List ℕ → Type 0 where
-  run_text : (script : Script) (outcome : Outcome) (steps : List StepTaken) → length bytes < LIMIT → Spells bytes script → IsWholeRun script (budget_of given script) outcome steps → RowText given bytes (text_of script steps)
+  run_text : (script : Script) (outcome : Outcome) (steps : List StepTaken) → length bytes < LIMIT → Spells bytes script
+      → IsWholeRun script (budget_of given script) outcome steps → RowText given bytes (text_of script steps)
   bad_text : (number code : ℕ) → length bytes < LIMIT → reading bytes ≡ faulty number code → RowText given bytes (bad_script_text number code)
   large_text : LIMIT ≤ length bytes → RowText given bytes (codes "too large\n")
 

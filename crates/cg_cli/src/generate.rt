@@ -15,8 +15,9 @@ use cg_io::Sink;
 use cg_kind::Kind;
 use std::alloc::Global;
 
-/// The tally of a whole run of the script of `blocks` blocks. `None` if memory was refused to the script, its heap, its run,
-/// or a command of it. The script starts no frame, so its run never ends because the budget is spent.
+/// The tally of a whole run of the script of `blocks` blocks. `None` if memory was refused to the
+/// script, its heap, its run, or a command of it. The script starts no frame, so its run never ends
+/// because the budget is spent.
 fn tally_of_run<B: Kind>(alloc: Global, blocks: u32, kinds: Vec<B>) -> Option<Tally>
     requires few { blocks ≤ 10000 }
     requires kinds { map B.kind kinds.items ≡ six_kinds }
@@ -36,8 +37,8 @@ fn tally_of_run<B: Kind>(alloc: Global, blocks: u32, kinds: Vec<B>) -> Option<Ta
     }
 }
 
-/// Runs the script of `blocks` blocks with the usual budget, and writes the summary of its text. Answers `Done` if no
-/// command of it was refused, else `OutOfMemory` with nothing written.
+/// Runs the script of `blocks` blocks with the usual budget, and writes the summary of its text.
+/// Answers `Done` if no command of it was refused, else `OutOfMemory` with nothing written.
 pub fn generate_job<K: Sink, B: Kind>(
     alloc: Global,
     blocks: u32,
@@ -47,7 +48,8 @@ pub fn generate_job<K: Sink, B: Kind>(
     requires few { blocks ≤ 10000 }
     requires kinds { map B.kind kinds.items ≡ six_kinds }
     requires empty { map B.bodies kinds.items ≡ replicate 6 fin.empty }
-    ensures { GenerateAnswers blocks result (K.written sink.old) (K.written sink.new) (K.faults sink.old) (K.faults sink.new) }
+    ensures { GenerateAnswers blocks result (K.written sink.old) (K.written sink.new)
+        (K.faults sink.old) (K.faults sink.new) }
 {
     match tally_of_run(alloc, blocks, kinds) {
         Some(tally) => tell_summary(&tally, sink),

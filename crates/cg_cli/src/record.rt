@@ -1,4 +1,5 @@
-//! A record job: reads a source as a script, runs it on a heap over the kinds, and writes the records of the run.
+//! A record job: reads a source as a script, runs it on a heap over the kinds, and writes the
+//! records of the run.
 ghost use Rattle.std.specs.Prelude.{◌≡◌, ◌<◌, ◌⊎◌, None, length, map, replicate};
 ghost use Rattle.std.specs.FinMap as fin;
 ghost use Rattle.std.specs.Io.KnownBytes.{Keeps};
@@ -35,13 +36,18 @@ fn record_parsed<K: Sink, B: Kind>(
     requires known { TextsAreKnown script.now }
     requires kinds { map B.kind kinds.items ≡ six_kinds }
     requires empty { map B.bodies kinds.items ≡ replicate 6 fin.empty }
-    ensures done { result ≡ Status.Done → WroteRecords script.now (budget_of None script.now) Ended (K.written sink.old) (K.written sink.new) }
-    ensures spent { result ≡ Status.Budget → WroteRecords script.now (budget_of None script.now) BudgetIsSpent (K.written sink.old) (K.written sink.new) }
-    ensures part { result ≡ Status.WriteFault → WroteRecordsPart script.now (budget_of None script.now) (K.written sink.old) (K.written sink.new) }
+    ensures done { result ≡ Status.Done → WroteRecords script.now (budget_of None script.now) Ended
+        (K.written sink.old) (K.written sink.new) }
+    ensures spent { result ≡ Status.Budget → WroteRecords script.now (budget_of None script.now)
+        BudgetIsSpent (K.written sink.old) (K.written sink.new) }
+    ensures part { result ≡ Status.WriteFault → WroteRecordsPart script.now
+        (budget_of None script.now) (K.written sink.old) (K.written sink.new) }
     ensures cause { result ≡ Status.WriteFault → Rose (K.faults sink.old) (K.faults sink.new) }
     ensures memory { result ≡ Status.OutOfMemory → Keeps (K.written sink.old) (K.written sink.new)
-        ⊎ WroteRecordsPart script.now (budget_of None script.now) (K.written sink.old) (K.written sink.new) }
-    ensures only { (result ≡ Status.Done) ⊎ (result ≡ Status.Budget) ⊎ (result ≡ Status.WriteFault) ⊎ (result ≡ Status.OutOfMemory) }
+        ⊎ WroteRecordsPart script.now (budget_of None script.now) (K.written sink.old)
+        (K.written sink.new) }
+    ensures only { (result ≡ Status.Done) ⊎ (result ≡ Status.Budget) ⊎ (result ≡ Status.WriteFault)
+        ⊎ (result ≡ Status.OutOfMemory) }
 {
     let budget = budget_for(None, script);
     let Ok(heap) = Heap::new(alloc, kinds, script.names.len()) else {
@@ -65,13 +71,19 @@ fn record_in_hand<K: Sink, B: Kind>(
     requires few { length bytes.items < LIMIT }
     requires kinds { map B.kind kinds.items ≡ six_kinds }
     requires empty { map B.bodies kinds.items ≡ replicate 6 fin.empty }
-    ensures done { result ≡ Status.Done → RecordedWhole Ended bytes.items (K.written sink.old) (K.written sink.new) }
-    ensures spent { result ≡ Status.Budget → RecordedWhole BudgetIsSpent bytes.items (K.written sink.old) (K.written sink.new) }
-    ensures bad_script { result ≡ Status.BadScript → RanBad bytes.items (K.written sink.old) (K.written sink.new) }
-    ensures write { result ≡ Status.WriteFault → RecordedFront bytes.items (K.written sink.old) (K.written sink.new) }
+    ensures done { result ≡ Status.Done → RecordedWhole Ended bytes.items (K.written sink.old)
+        (K.written sink.new) }
+    ensures spent { result ≡ Status.Budget → RecordedWhole BudgetIsSpent bytes.items
+        (K.written sink.old) (K.written sink.new) }
+    ensures bad_script { result ≡ Status.BadScript → RanBad bytes.items (K.written sink.old)
+        (K.written sink.new) }
+    ensures write { result ≡ Status.WriteFault → RecordedFront bytes.items (K.written sink.old)
+        (K.written sink.new) }
     ensures cause { result ≡ Status.WriteFault → Rose (K.faults sink.old) (K.faults sink.new) }
-    ensures memory { result ≡ Status.OutOfMemory → RecordedSome bytes.items (K.written sink.old) (K.written sink.new) }
-    ensures only { AnswersReading (reading bytes.items) result ⊎ (result ≡ Status.WriteFault) ⊎ (result ≡ Status.OutOfMemory) }
+    ensures memory { result ≡ Status.OutOfMemory → RecordedSome bytes.items (K.written sink.old)
+        (K.written sink.new) }
+    ensures only { AnswersReading (reading bytes.items) result ⊎ (result ≡ Status.WriteFault)
+        ⊎ (result ≡ Status.OutOfMemory) }
 {
     match script_of(alloc, bytes) {
         Ok(script) => record_parsed(alloc, &script, sink, kinds),
@@ -91,7 +103,8 @@ pub fn record_job<S: Source, K: Sink, B: Kind>(
     requires empty { map B.bodies kinds.items ≡ replicate 6 fin.empty }
     ensures { RecordAnswers result
         (outside (S.left source.old) (S.faults source.old) (K.written sink.old) (K.faults sink.old))
-        (outside (S.left source.new) (S.faults source.new) (K.written sink.new) (K.faults sink.new)) }
+        (outside (S.left source.new) (S.faults source.new) (K.written sink.new)
+        (K.faults sink.new)) }
 {
     match read_whole(alloc, source, sink) {
         Ok(bytes) => record_in_hand(alloc, bytes, sink, kinds),

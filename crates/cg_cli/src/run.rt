@@ -38,12 +38,16 @@ fn run_parsed<K: Sink, B: Kind>(
     requires given { IfSome given (λ n. n ≤ MOST_BUDGET) }
     requires kinds { map B.kind kinds.items ≡ six_kinds }
     requires empty { map B.bodies kinds.items ≡ replicate 6 fin.empty }
-    ensures done { result ≡ Status.Done → WroteRun script.now (budget_of given script.now) Ended (K.written sink.old) (K.written sink.new) }
-    ensures spent { result ≡ Status.Budget → WroteRun script.now (budget_of given script.now) BudgetIsSpent (K.written sink.old) (K.written sink.new) }
-    ensures part { result ≡ Status.WriteFault → WrotePart script.now (budget_of given script.now) (K.written sink.old) (K.written sink.new) }
+    ensures done { result ≡ Status.Done → WroteRun script.now (budget_of given script.now) Ended
+        (K.written sink.old) (K.written sink.new) }
+    ensures spent { result ≡ Status.Budget → WroteRun script.now (budget_of given script.now)
+        BudgetIsSpent (K.written sink.old) (K.written sink.new) }
+    ensures part { result ≡ Status.WriteFault → WrotePart script.now (budget_of given script.now)
+        (K.written sink.old) (K.written sink.new) }
     ensures cause { result ≡ Status.WriteFault → Rose (K.faults sink.old) (K.faults sink.new) }
     ensures memory { result ≡ Status.OutOfMemory → Keeps (K.written sink.old) (K.written sink.new) }
-    ensures only { (result ≡ Status.Done) ⊎ (result ≡ Status.Budget) ⊎ (result ≡ Status.WriteFault) ⊎ (result ≡ Status.OutOfMemory) }
+    ensures only { (result ≡ Status.Done) ⊎ (result ≡ Status.Budget) ⊎ (result ≡ Status.WriteFault)
+        ⊎ (result ≡ Status.OutOfMemory) }
 {
     let budget = budget_for(given, script);
     let Ok(heap) = Heap::new(alloc, kinds, script.names.len()) else {
@@ -69,13 +73,18 @@ fn run_in_hand<K: Sink, B: Kind>(
     requires given { IfSome given (λ n. n ≤ MOST_BUDGET) }
     requires kinds { map B.kind kinds.items ≡ six_kinds }
     requires empty { map B.bodies kinds.items ≡ replicate 6 fin.empty }
-    ensures done { result ≡ Status.Done → RanWhole given Ended bytes.items (K.written sink.old) (K.written sink.new) }
-    ensures spent { result ≡ Status.Budget → RanWhole given BudgetIsSpent bytes.items (K.written sink.old) (K.written sink.new) }
-    ensures bad_script { result ≡ Status.BadScript → RanBad bytes.items (K.written sink.old) (K.written sink.new) }
-    ensures write { result ≡ Status.WriteFault → WroteFront given bytes.items (K.written sink.old) (K.written sink.new) }
+    ensures done { result ≡ Status.Done → RanWhole given Ended bytes.items (K.written sink.old)
+        (K.written sink.new) }
+    ensures spent { result ≡ Status.Budget → RanWhole given BudgetIsSpent bytes.items
+        (K.written sink.old) (K.written sink.new) }
+    ensures bad_script { result ≡ Status.BadScript → RanBad bytes.items (K.written sink.old)
+        (K.written sink.new) }
+    ensures write { result ≡ Status.WriteFault → WroteFront given bytes.items (K.written sink.old)
+        (K.written sink.new) }
     ensures cause { result ≡ Status.WriteFault → Rose (K.faults sink.old) (K.faults sink.new) }
     ensures memory { result ≡ Status.OutOfMemory → Keeps (K.written sink.old) (K.written sink.new) }
-    ensures only { AnswersReading (reading bytes.items) result ⊎ (result ≡ Status.WriteFault) ⊎ (result ≡ Status.OutOfMemory) }
+    ensures only { AnswersReading (reading bytes.items) result ⊎ (result ≡ Status.WriteFault)
+        ⊎ (result ≡ Status.OutOfMemory) }
 {
     match script_of(alloc, bytes) {
         Ok(script) => run_parsed(alloc, given, &script, sink, kinds),
@@ -97,7 +106,8 @@ pub fn run_job<S: Source, K: Sink, B: Kind>(
     requires empty { map B.bodies kinds.items ≡ replicate 6 fin.empty }
     ensures { RunAnswers given result
         (outside (S.left source.old) (S.faults source.old) (K.written sink.old) (K.faults sink.old))
-        (outside (S.left source.new) (S.faults source.new) (K.written sink.new) (K.faults sink.new)) }
+        (outside (S.left source.new) (S.faults source.new) (K.written sink.new)
+        (K.faults sink.new)) }
 {
     one_finalizer_each();
     no_dead_lines();

@@ -13,8 +13,10 @@ use itoa::Buffer;
 
 /// Reports that the arguments ask for nothing.
 pub fn tell_bad_words<K: Sink>(sink: &mut K) -> Status
-    ensures bad_words { result ≡ Status.BadWords → Appends (K.written sink.old) (K.written sink.new) (codes "bad words\n") }
-    ensures write { result ≡ Status.WriteFault → AppendsFront (K.written sink.old) (K.written sink.new) (codes "bad words\n") }
+    ensures bad_words { result ≡ Status.BadWords → Appends (K.written sink.old) (K.written sink.new)
+        (codes "bad words\n") }
+    ensures write { result ≡ Status.WriteFault → AppendsFront (K.written sink.old)
+        (K.written sink.new) (codes "bad words\n") }
     ensures cause { result ≡ Status.WriteFault → Rose (K.faults sink.old) (K.faults sink.new) }
     ensures only { (result ≡ Status.BadWords) ⊎ (result ≡ Status.WriteFault) }
 {
@@ -26,8 +28,10 @@ pub fn tell_bad_words<K: Sink>(sink: &mut K) -> Status
 
 /// Reports that the source has too many bytes.
 pub fn tell_large<K: Sink>(sink: &mut K) -> Status
-    ensures large { result ≡ Status.TooLarge → Appends (K.written sink.old) (K.written sink.new) (codes "too large\n") }
-    ensures write { result ≡ Status.WriteFault → AppendsFront (K.written sink.old) (K.written sink.new) (codes "too large\n") }
+    ensures large { result ≡ Status.TooLarge → Appends (K.written sink.old) (K.written sink.new)
+        (codes "too large\n") }
+    ensures write { result ≡ Status.WriteFault → AppendsFront (K.written sink.old)
+        (K.written sink.new) (codes "too large\n") }
     ensures cause { result ≡ Status.WriteFault → Rose (K.faults sink.old) (K.faults sink.new) }
     ensures only { (result ≡ Status.TooLarge) ⊎ (result ≡ Status.WriteFault) }
 {
@@ -39,8 +43,10 @@ pub fn tell_large<K: Sink>(sink: &mut K) -> Status
 
 /// Reports the first bad line and its code.
 pub fn tell_bad_script<K: Sink>(line: u32, code: u8, sink: &mut K) -> Status
-    ensures bad { result ≡ Status.BadScript → Appends (K.written sink.old) (K.written sink.new) (bad_script_text line code) }
-    ensures write { result ≡ Status.WriteFault → AppendsFront (K.written sink.old) (K.written sink.new) (bad_script_text line code) }
+    ensures bad { result ≡ Status.BadScript → Appends (K.written sink.old) (K.written sink.new)
+        (bad_script_text line code) }
+    ensures write { result ≡ Status.WriteFault → AppendsFront (K.written sink.old)
+        (K.written sink.new) (bad_script_text line code) }
     ensures cause { result ≡ Status.WriteFault → Rose (K.faults sink.old) (K.faults sink.new) }
     ensures only { (result ≡ Status.BadScript) ⊎ (result ≡ Status.WriteFault) }
 {
@@ -52,8 +58,10 @@ pub fn tell_bad_script<K: Sink>(line: u32, code: u8, sink: &mut K) -> Status
 
 /// Writes the summary of a tally.
 pub fn tell_summary<K: Sink>(tally: &Tally, sink: &mut K) -> Status
-    ensures done { result ≡ Status.Done → Appends (K.written sink.old) (K.written sink.new) (summary_of tally.now) }
-    ensures write { result ≡ Status.WriteFault → AppendsFront (K.written sink.old) (K.written sink.new) (summary_of tally.now) }
+    ensures done { result ≡ Status.Done → Appends (K.written sink.old) (K.written sink.new)
+        (summary_of tally.now) }
+    ensures write { result ≡ Status.WriteFault → AppendsFront (K.written sink.old)
+        (K.written sink.new) (summary_of tally.now) }
     ensures cause { result ≡ Status.WriteFault → Rose (K.faults sink.old) (K.faults sink.new) }
     ensures only { (result ≡ Status.Done) ⊎ (result ≡ Status.WriteFault) }
 {

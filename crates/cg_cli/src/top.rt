@@ -28,18 +28,24 @@ pub fn gc_over<S: Source, K: Sink, B: Kind>(
     requires empty { map B.bodies kinds.items ≡ replicate 6 fin.empty }
 
     // Each job, and no job: what each answer means, what a fault leaves, which answer comes.
-    ensures run { (given : Option ℕ) → AsksFor (map string_bytes words.now) (Job.Run given) → RunAnswers given result
+    ensures run { (given : Option ℕ) → AsksFor (map string_bytes words.now) (Job.Run given)
+        → RunAnswers given result
         (outside (S.left source.old) (S.faults source.old) (K.written sink.old) (K.faults sink.old))
-        (outside (S.left source.new) (S.faults source.new) (K.written sink.new) (K.faults sink.new)) }
-    ensures generate { (blocks : ℕ) → AsksFor (map string_bytes words.now) (Job.Generate blocks) → GenerateAnswers blocks result
+        (outside (S.left source.new) (S.faults source.new) (K.written sink.new)
+        (K.faults sink.new)) }
+    ensures generate { (blocks : ℕ) → AsksFor (map string_bytes words.now) (Job.Generate blocks)
+        → GenerateAnswers blocks result
         (K.written sink.old) (K.written sink.new) (K.faults sink.old) (K.faults sink.new) }
     ensures expand { AsksFor (map string_bytes words.now) Job.Expand → ExpandAnswers result
         (outside (S.left source.old) (S.faults source.old) (K.written sink.old) (K.faults sink.old))
-        (outside (S.left source.new) (S.faults source.new) (K.written sink.new) (K.faults sink.new)) }
+        (outside (S.left source.new) (S.faults source.new) (K.written sink.new)
+        (K.faults sink.new)) }
     ensures records { AsksFor (map string_bytes words.now) Job.Record → RecordAnswers result
         (outside (S.left source.old) (S.faults source.old) (K.written sink.old) (K.faults sink.old))
-        (outside (S.left source.new) (S.faults source.new) (K.written sink.new) (K.faults sink.new)) }
-    ensures no_job { ¬ (Ask (map string_bytes words.now)) → NoJobAnswers result (K.written sink.old) (K.written sink.new) (K.faults sink.old) (K.faults sink.new) }
+        (outside (S.left source.new) (S.faults source.new) (K.written sink.new)
+        (K.faults sink.new)) }
+    ensures no_job { ¬ (Ask (map string_bytes words.now)) → NoJobAnswers result (K.written sink.old)
+        (K.written sink.new) (K.faults sink.old) (K.faults sink.new) }
 
     // A job that needs no source leaves it unread.
     ensures unread { ReadNothing (map string_bytes words.now) → source.new ≡ source.old }
@@ -80,18 +86,24 @@ pub fn gc_run<S: Source, K: Sink>(
     requires empty { map (λ b. bodies b) kinds.items ≡ replicate 6 fin.empty }
 
     // Each job, and no job: what each answer means, what a fault leaves, which answer comes.
-    ensures run { (given : Option ℕ) → AsksFor (map string_bytes words.now) (Job.Run given) → RunAnswers given result
+    ensures run { (given : Option ℕ) → AsksFor (map string_bytes words.now) (Job.Run given)
+        → RunAnswers given result
         (outside (S.left source.old) (S.faults source.old) (K.written sink.old) (K.faults sink.old))
-        (outside (S.left source.new) (S.faults source.new) (K.written sink.new) (K.faults sink.new)) }
-    ensures generate { (blocks : ℕ) → AsksFor (map string_bytes words.now) (Job.Generate blocks) → GenerateAnswers blocks result
+        (outside (S.left source.new) (S.faults source.new) (K.written sink.new)
+        (K.faults sink.new)) }
+    ensures generate { (blocks : ℕ) → AsksFor (map string_bytes words.now) (Job.Generate blocks)
+        → GenerateAnswers blocks result
         (K.written sink.old) (K.written sink.new) (K.faults sink.old) (K.faults sink.new) }
     ensures expand { AsksFor (map string_bytes words.now) Job.Expand → ExpandAnswers result
         (outside (S.left source.old) (S.faults source.old) (K.written sink.old) (K.faults sink.old))
-        (outside (S.left source.new) (S.faults source.new) (K.written sink.new) (K.faults sink.new)) }
+        (outside (S.left source.new) (S.faults source.new) (K.written sink.new)
+        (K.faults sink.new)) }
     ensures records { AsksFor (map string_bytes words.now) Job.Record → RecordAnswers result
         (outside (S.left source.old) (S.faults source.old) (K.written sink.old) (K.faults sink.old))
-        (outside (S.left source.new) (S.faults source.new) (K.written sink.new) (K.faults sink.new)) }
-    ensures no_job { ¬ (Ask (map string_bytes words.now)) → NoJobAnswers result (K.written sink.old) (K.written sink.new) (K.faults sink.old) (K.faults sink.new) }
+        (outside (S.left source.new) (S.faults source.new) (K.written sink.new)
+        (K.faults sink.new)) }
+    ensures no_job { ¬ (Ask (map string_bytes words.now)) → NoJobAnswers result (K.written sink.old)
+        (K.written sink.new) (K.faults sink.old) (K.faults sink.new) }
 
     // A job that needs no source leaves it unread.
     ensures unread { ReadNothing (map string_bytes words.now) → source.new ≡ source.old }

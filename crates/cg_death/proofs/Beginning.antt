@@ -55,7 +55,8 @@ rows_after store o ok = known (referent_in store.rows o) refl
     known None e = forgets_none store.rows o e
     known (Some referent) e = forgets_one store o referent ok e
 
-module _ (store : Store) (o : ℕ) (rows : List Row) (forgets : Forgets store.rows rows o) (none : count_of store o ≡ 0) (none_waits : waiting_in store.rows o ≡ []) (w : World) (r : Represents store w) where
+module _ (store : Store) (o : ℕ) (rows : List Row) (forgets : Forgets store.rows rows o) (none : count_of store o ≡ 0) (none_waits : waiting_in store.rows o
+    ≡ []) (w : World) (r : Represents store w) where
   abbrev begun : Store
   begun = record (moved o Untracked store) { rows = rows }
 
@@ -64,7 +65,8 @@ module _ (store : Store) (o : ℕ) (rows : List Row) (forgets : Forgets store.ro
 
   pub begins : Represents begun (begin_death o w)
   begins = represents begun (begin_death o w) (record {
-    objects = objects-cleared (moved o Untracked store) rows o forgets.referents ∙ ap (change (with_referent None) o) untracked.objects ∙ change-change (with_referent None) (with_place Untracked) (λ x. refl) o w.objects;
+    objects = objects-cleared (moved o Untracked store) rows o forgets.referents ∙ ap (change (with_referent None) o) untracked.objects
+        ∙ change-change (with_referent None) (with_place Untracked) (λ x. refl) o w.objects;
     next_serial = r.next_serial;
     names = r.names;
     deaths = λ d i. either i
@@ -74,12 +76,14 @@ module _ (store : Store) (o : ℕ) (rows : List Row) (forgets : Forgets store.ro
     collection = λ c i. untracked.collection c (either i (λ e. cc) (λ k. k));
   }) (λ q. outside-moved o Untracked store q ∙ r.outside q)
 
-pub begins-death : (store mid new : Store) (o : ℕ) → AreRows store → count_of store o ≡ 0 → waiting_in store.rows o ≡ [] → mid ≡ moved o Untracked store → new ≡ (if is_some (referent_in mid.rows o) then cleared_weak o false mid else mid)
+pub begins-death : (store mid new : Store) (o : ℕ) → AreRows store → count_of store o ≡ 0 → waiting_in store.rows o ≡ [] → mid ≡ moved o Untracked store → new
+    ≡ (if is_some (referent_in mid.rows o) then cleared_weak o false mid else mid)
     → (w : World) → Represents store w → Represents new (begin_death o w)
 begins-death store mid new o ok none none_waits is_mid is_new w r =
     subst (λ st. Represents st (begin_death o w)) (sym (is_new ∙ ap (λ m. if is_some (referent_in m.rows o) then cleared_weak o false m else m) is_mid ∙ spelled (is_some (referent_in store.rows o))))
     (begins store o (if is_some (referent_in store.rows o) then cleared_weak o false store else store).rows (rows_after store o ok) none none_waits w r)
   where
-    spelled : (b : Bool) → (if b then cleared_weak o false (moved o Untracked store) else moved o Untracked store) ≡ record (moved o Untracked store) { rows = (if b then cleared_weak o false store else store).rows }
+    spelled : (b : Bool) → (if b then cleared_weak o false (moved o Untracked store) else moved o Untracked store) ≡ record (moved o Untracked store)
+        { rows = (if b then cleared_weak o false store else store).rows }
     spelled true = refl
     spelled false = refl

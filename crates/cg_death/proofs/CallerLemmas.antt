@@ -57,17 +57,20 @@ pub rows_of_world : (store : Store) (w : World) → Represents store w → AreRo
 rows_of_world store w r ok o = ap (λ os. weak_references os o) (sym r.objects) ∙ weak_references-are store ok o
 
 -- a waiting weak reference is newer than the others
-pub newer_in_heap : (store : Store) (w : World) → Represents store w → AreRows store → (o : ℕ) (waiting : List ℕ) → waiting ≡ waiting_for store o → ((v q : ℕ) → Includes waiting v → Includes (weak_references w.objects o) q → q < v) → AreNewer store o
+pub newer_in_heap : (store : Store) (w : World) → Represents store w → AreRows store → (o : ℕ) (waiting : List ℕ) → waiting ≡ waiting_for store o
+    → ((v q : ℕ) → Includes waiting v → Includes (weak_references w.objects o) q → q < v) → AreNewer store o
 newer_in_heap store w r ok o waiting is newer v q waits refers = newer v q (subst (λ l. Includes l v) (sym is) waits) (subst (λ l. Includes l q) (sym (rows_of_world store w r ok o)) refers)
 
 -- each waiting one has its callback
-pub callbacks_in_heap : (store : Store) (w : World) → Represents store w → (o : ℕ) (waiting : List ℕ) → waiting ≡ waiting_for store o → ((q : ℕ) → Includes waiting q → (f : ℕ) × (object_entries_of w.objects q ≡ item (Ref f) ∷ [])) → HaveCallbacks store o
+pub callbacks_in_heap : (store : Store) (w : World) → Represents store w → (o : ℕ) (waiting : List ℕ) → waiting ≡ waiting_for store o
+    → ((q : ℕ) → Includes waiting q → (f : ℕ) × (object_entries_of w.objects q ≡ item (Ref f) ∷ [])) → HaveCallbacks store o
 callbacks_in_heap store w r o waiting is each q waits =
     let has = each q (subst (λ l. Includes l q) (sym is) waits) in
     (has.0, sym (ap (λ os. object_entries_of os q) (sym r.objects) ∙ entries-agree store q) ∙ has.1)
 
 -- no row refers to the object if no weak reference does and none waits
-pub no_referent_in_heap : (store : Store) (w : World) → Represents store w → AreRows store → (o : ℕ) → weak_references w.objects o ≡ [] → waiting_for store o ≡ [] → All (λ r. r.referent ≢ o) store.rows
+pub no_referent_in_heap : (store : Store) (w : World) → Represents store w → AreRows store → (o : ℕ) → weak_references w.objects o ≡ [] → waiting_for store o
+    ≡ [] → All (λ r. r.referent ≢ o) store.rows
 no_referent_in_heap store w r ok o none none_waits =
     no_referent store.rows o (ap (λ l. slice_get l 0) (sym (rows_of_world store w r ok o) ∙ none)) (ap (λ l. slice_get l 0) none_waits)
 

@@ -59,7 +59,8 @@ procedure-at store f = ap (option_and_then (λ (x : Object). x.class)) (object-a
     known (Some n) = refl
 
 -- the heap reports it
-pub procedure-told : (store : Store) (f : ℕ) (class : Option ℕ) → IsLive store f → IfSome (fin.get store.nodes f) (λ n. class ≡ n.class) → class ≡ option_and_then (λ (x : Object). x.class) (object_at (objects_of store) f)
+pub procedure-told : (store : Store) (f : ℕ) (class : Option ℕ) → IsLive store f → IfSome (fin.get store.nodes f) (λ n. class ≡ n.class) → class
+    ≡ option_and_then (λ (x : Object). x.class) (object_at (objects_of store) f)
 procedure-told store f class live is = known (fin.get store.nodes f) live is ∙ sym (procedure-at store f)
   where
     known : (x : Option Node) → IsSome x → IfSome x (λ n. class ≡ n.class) → class ≡ class_in x
@@ -67,7 +68,8 @@ procedure-told store f class live is = known (fin.get store.nodes f) live is ∙
     known (Some n) h e = e
 
 -- it is the same after the callback is removed
-pub procedure-after : (store : Store) (weak f : ℕ) (entries : List Entry) (refs : List ℕ) → option_and_then (λ (x : Object). x.class) (object_at (objects_of (forgotten_weak weak (held refs (rewritten weak entries store)))) f) ≡ class_in (fin.get store.nodes f)
+pub procedure-after : (store : Store) (weak f : ℕ) (entries : List Entry) (refs : List ℕ) → option_and_then (λ (x : Object). x.class)
+    (object_at (objects_of (forgotten_weak weak (held refs (rewritten weak entries store)))) f) ≡ class_in (fin.get store.nodes f)
 procedure-after store weak f entries refs =
     procedure-at (forgotten_weak weak (held refs (rewritten weak entries store))) f
     ∙ ap class_in (get-mapped (λ s n. more (occurrences s refs) n) (rewritten weak entries store).nodes f)
@@ -85,7 +87,8 @@ procedure-after store weak f entries refs =
     changed false (Some n) = refl
 
 -- none waits any more
-pub turn-all_called : (script : Script) (store : Store) (o : ℕ) → slice_get (waiting_in store.rows o) 0 ≡ None → DeathSteps script store (activities o phase_of.Calling None store) store (activities o phase_of.LegacyFinalizer None store) answer_of.Continue
+pub turn-all_called : (script : Script) (store : Store) (o : ℕ) → slice_get (waiting_in store.rows o) 0 ≡ None → DeathSteps script store
+    (activities o phase_of.Calling None store) store (activities o phase_of.LegacyFinalizer None store) answer_of.Continue
 turn-all_called script store o none =
     let ws : List ℕ = waiting_for store o in
     let empty : ws ≡ [] = none_first ws none in
@@ -96,7 +99,8 @@ turn-all_called script store o none =
     (sym empty) (λ q. ap (occurrences q) (sym empty)))
 
 -- the newest waiting one is called, by its row
-module _ (script : Script) (store : Store) (r : Row) (ok : AreRows store) (inside : Includes store.rows r) (waits : waits_with r.referent r ≡ true) (first : slice_get (waiting_in store.rows r.referent) 0 ≡ Some r.weak)
+module _ (script : Script) (store : Store) (r : Row) (ok : AreRows store) (inside : Includes store.rows r) (waits : waits_with r.referent r ≡ true)
+    (first : slice_get (waiting_in store.rows r.referent) 0 ≡ Some r.weak)
     (sound : (q : ℕ) → 0 < inner store q → IsLive store q) (f : ℕ) (callback : entries_of store r.weak ≡ item (Ref f) ∷ []) where
   abbrev o : ℕ
   o = r.referent
@@ -135,7 +139,8 @@ module _ (script : Script) (store : Store) (r : Row) (ok : AreRows store) (insid
     spec = record { sort = Callback; proc = unwrap_or (class_in (fin.get store.nodes f)) 0; subject = r.weak; func = Some f }
 
     spec-is : record { sort = Callback; proc = procedure_of w f; subject = r.weak; func = Some f } ≡ spec
-    spec-is = ap (λ c. record { sort = Callback; proc = unwrap_or c 0; subject = r.weak; func = Some f }) (ap (λ os. option_and_then (λ (x : Object). x.class) (object_at os f)) (sym s.represents.objects) ∙ procedure-at store f)
+    spec-is = ap (λ c. record { sort = Callback; proc = unwrap_or c 0; subject = r.weak; func = Some f })
+        (ap (λ os. option_and_then (λ (x : Object). x.class) (object_at os f)) (sym s.represents.objects) ∙ procedure-at store f)
 
     objects-taken : objects_of taken_out ≡ emptied.objects
     objects-taken =
@@ -196,11 +201,18 @@ module _ (script : Script) (store : Store) (r : Row) (ok : AreRows store) (insid
       keeps = record { numbers = refl; budget = refl; outcome = refl };
     }
 
-  row-called : (new : Store) → new ≡ called → DeathSteps script store (activities o phase_of.Calling None store) new (activities o (phase_of.AfterCall r.weak f) None new) (answer_of.Frame (record { sort = Callback; proc = unwrap_or (class_in (fin.get store.nodes f)) 0; subject = r.weak; func = Some f }))
+  row-called : (new : Store) → new ≡ called → DeathSteps script store (activities o phase_of.Calling None store) new (activities o (phase_of.AfterCall r.weak f)
+      None new) (answer_of.Frame (record { sort = Callback; proc = unwrap_or (class_in (fin.get store.nodes f)) 0; subject = r.weak; func = Some f }))
   row-called new is =
-      steps_at script store (death_of o (Calling ws) ∷ []) new (death_of o (AfterCall r.weak f (waiting_for new o)) ∷ []) (answer_of.Frame (record { sort = Callback; proc = unwrap_or (class_in (fin.get store.nodes f)) 0; subject = r.weak; func = Some f }))
+      steps_at script store (death_of o (Calling ws) ∷ []) new (death_of o (AfterCall r.weak f (waiting_for new o)) ∷ [])
+      (answer_of.Frame (record { sort = Callback; proc = unwrap_or (class_in (fin.get store.nodes f)) 0; subject = r.weak; func = Some f }))
       (λ v below s.
-      subst (λ st. GaveFrame script (here store v o (Calling ws) below) (record { sort = Callback; proc = unwrap_or (class_in (fin.get store.nodes f)) 0; subject = r.weak; func = Some f }) st (death_of o (AfterCall r.weak f (waiting_for st o)) ∷ below)) (sym is)
+      subst (λ st. GaveFrame script (here store v o (Calling ws) below) (record {
+        sort = Callback;
+        proc = unwrap_or (class_in (fin.get store.nodes f)) 0;
+        subject = r.weak;
+        func = Some f;
+      }) st (death_of o (AfterCall r.weak f (waiting_for st o)) ∷ below)) (sym is)
       (calls v below s))
 
 -- the same by its weak reference
@@ -218,9 +230,12 @@ module _ (script : Script) (store new : Store) (o weak f : ℕ) (ok : AreRows st
   both i = (referent-is i, found.3 i)
 
   pub turn-called : ((q : ℕ) → 0 < inner store q → IsLive store q) → entries_of store weak ≡ item (Ref f) ∷ [] → new ≡ forgotten_weak weak (held (f ∷ []) (rewritten weak [] store))
-      → DeathSteps script store (activities o phase_of.Calling None store) new (activities o (phase_of.AfterCall weak f) None new) (answer_of.Frame (record { sort = Callback; proc = unwrap_or (class_in (fin.get store.nodes f)) 0; subject = weak; func = Some f }))
+      → DeathSteps script store (activities o phase_of.Calling None store) new (activities o (phase_of.AfterCall weak f) None new)
+      (answer_of.Frame (record { sort = Callback; proc = unwrap_or (class_in (fin.get store.nodes f)) 0; subject = weak; func = Some f }))
   turn-called sound =
-      subst (λ (q : ℕ × ℕ). slice_get (waiting_in store.rows q.0) 0 ≡ Some q.1 → waits_with q.0 row ≡ true → entries_of store q.1 ≡ item (Ref f) ∷ [] → new ≡ forgotten_weak q.1 (held (f ∷ []) (rewritten q.1 [] store))
-      → DeathSteps script store (activities q.0 phase_of.Calling None store) new (activities q.0 (phase_of.AfterCall q.1 f) None new) (answer_of.Frame (record { sort = Callback; proc = unwrap_or (class_in (fin.get store.nodes f)) 0; subject = q.1; func = Some f }))) both
+      subst (λ (q : ℕ × ℕ). slice_get (waiting_in store.rows q.0) 0 ≡ Some q.1 → waits_with q.0 row ≡ true → entries_of store q.1 ≡ item (Ref f) ∷ [] → new
+      ≡ forgotten_weak q.1 (held (f ∷ []) (rewritten q.1 [] store))
+      → DeathSteps script store (activities q.0 phase_of.Calling None store) new (activities q.0 (phase_of.AfterCall q.1 f) None new)
+      (answer_of.Frame (record { sort = Callback; proc = unwrap_or (class_in (fin.get store.nodes f)) 0; subject = q.1; func = Some f }))) both
       (λ newest waits callback is. row-called script store row ok found.1 waits newest sound f callback new is)
       first found.2

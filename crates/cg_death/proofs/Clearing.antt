@@ -52,7 +52,8 @@ deaths_below o d (a ∷ stack) m e =
 
 pub alone : (o : ℕ) (phase : DyingPhase) (below : List Activity) → count_by (is_death_of o) (death_of o phase ∷ below) ≤ 1 → (d : Death) → Includes below (Dying d) → d.object ≢ o
 alone o phase below once d m e =
-    let split : count_by (is_death_of o) (death_of o phase ∷ below) ≡ cond (o == o) 1 0 + count_by (is_death_of o) below = sum_by-cons (λ (b : Activity). cond {A = ℕ} (is_death_of o b) 1 0) (death_of o phase) below in
+    let split : count_by (is_death_of o) (death_of o phase ∷ below) ≡ cond (o == o) 1 0 + count_by (is_death_of o) below =
+    sum_by-cons (λ (b : Activity). cond {A = ℕ} (is_death_of o b) 1 0) (death_of o phase) below in
     let one : cond {A = ℕ} (o == o) 1 0 ≡ 1 = ap (λ b. cond {A = ℕ} b 1 0) (eq-eqb o o refl) in
     let there = deaths_below o d below m e in
     absurd (omega (arith, once, split, one, there))
@@ -90,7 +91,8 @@ module _ (store : Store) (v : World) (o : ℕ) (phase next : DyingPhase) (below 
 
 -- A weak reference without callback, or in the later phase, is cleared.
 module _ (script : Script) (store : Store) (v : World) (r : Row) (below : List Activity) (ok : AreRows store) (inside : Includes store.rows r) (stays : r.waits ≡ false) (phase next : DyingPhase)
-    (s : DeathStands store (here store v r.referent phase below) (death_of r.referent phase ∷ below)) (same_waits : death_waits next ≡ death_waits phase) (same_holds : dying_holds r.referent next ≡ dying_holds r.referent phase) where
+    (s : DeathStands store (here store v r.referent phase below) (death_of r.referent phase ∷ below)) (same_waits : death_waits next ≡ death_waits phase)
+    (same_holds : dying_holds r.referent next ≡ dying_holds r.referent phase) where
   abbrev w : World
   w = here store v r.referent phase below
 
@@ -116,7 +118,8 @@ module _ (script : Script) (store : Store) (v : World) (r : Row) (below : List A
   represents-lost = represents without (death_at r.referent next below lost) matches-lost (λ q. s.represents.outside q ∙ ap (λ hs. occurrences q (hs ++ flat_map holds below)) (sym same_holds))
 
 -- One with a callback then waits.
-module _ (script : Script) (store : Store) (v : World) (r : Row) (below : List Activity) (ok : AreRows store) (inside : Includes store.rows r) (stays : r.waits ≡ false) (newer : AreNewer store r.referent)
+module _ (script : Script) (store : Store) (v : World) (r : Row) (below : List Activity) (ok : AreRows store) (inside : Includes store.rows r) (stays : r.waits
+    ≡ false) (newer : AreNewer store r.referent)
     (s : DeathStands store (here store v r.referent (Clearing (waiting_for store r.referent)) below) (death_of r.referent (Clearing (waiting_for store r.referent)) ∷ below)) where
   abbrev phase_before : DyingPhase
   phase_before = Clearing (waiting_for store r.referent)
@@ -139,7 +142,8 @@ module _ (script : Script) (store : Store) (v : World) (r : Row) (below : List A
   refers : refers_to r.referent r ≡ true
   refers = λ i. eq-eqb r.referent r.referent refl i && not (stays i)
 
-  from_rows : (x : Row) → Includes (with_row_waiting r.weak store.rows) x → x.waits ≡ true → ((y : Row) × Includes store.rows y × (y.waits ≡ true) × (y.referent ≡ x.referent)) ⊎ (x.referent ≡ r.referent)
+  from_rows : (x : Row) → Includes (with_row_waiting r.weak store.rows) x → x.waits ≡ true → ((y : Row) × Includes store.rows y × (y.waits ≡ true)
+      × (y.referent ≡ x.referent)) ⊎ (x.referent ≡ r.referent)
   from_rows x i waits =
       either (waiting-in r.weak store.rows x i waits)
       (λ before. inl before)
@@ -153,7 +157,8 @@ module _ (script : Script) (store : Store) (v : World) (r : Row) (below : List A
           (λ k. either k (λ i. sym i) (λ n. let high = split.higher y n in absurd (omega (arith, high, e))))
 
   lives : (q : ℕ) → 0 < occurrences q (r.weak ∷ []) → IsLive store q
-  lives q there = subst (IsLive store) (sym (only-one r.weak q there)) (live_of_kind store r.weak Weak (all_in (λ (x : Row). Rattle.cg_graph.specs.Store.HasCode store x.weak Weak) store.rows r ok.weak inside))
+  lives q there = subst (IsLive store) (sym (only-one r.weak q there))
+      (live_of_kind store r.weak Weak (all_in (λ (x : Row). Rattle.cg_graph.specs.Store.HasCode store x.weak Weak) store.rows r ok.weak inside))
 
   matches-waits : Matches waiting_store (with_stack (death_of r.referent phase_after ∷ below) waits_now)
   matches-waits =
@@ -169,4 +174,12 @@ module _ (script : Script) (store : Store) (v : World) (r : Row) (below : List A
 
   pub represents-waits : Represents waiting_store (death_at r.referent phase_after below waits_now)
   represents-waits = represents waiting_store (death_at r.referent phase_after below waits_now) matches-waits
-      (λ q. omega (arith, outside-held (r.weak ∷ []) store q (lives q), s.represents.outside q, occurrences-append q (waiting_for store r.referent) (flat_map holds below), occurrences-append q (waiting_for store r.referent ++ r.weak ∷ []) (flat_map holds below), occurrences-append q (waiting_for store r.referent) (r.weak ∷ [])))
+      (λ q. omega (
+        arith,
+        outside-held (r.weak ∷ []) store q (lives q),
+        s.represents.outside q,
+        occurrences-append q (waiting_for store r.referent)
+            (flat_map holds below),
+        occurrences-append q (waiting_for store r.referent ++ r.weak ∷ []) (flat_map holds below),
+        occurrences-append q (waiting_for store r.referent) (r.weak ∷ []),
+      ))

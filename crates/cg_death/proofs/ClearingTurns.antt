@@ -26,21 +26,25 @@ use Rattle.cg_death.proofs.WeakObjects.{row_there}
 
 module _ (script : Script) (store : Store) (o : ℕ) where
   -- none is left to clear
-  pub turn-all_cleared : slice_get (weak_references_if has_weak_references (objects_of store) o) 0 ≡ None → DeathSteps script store (activities o phase_of.Clearing None store) store (activities o phase_of.Calling None store) answer_of.Continue
+  pub turn-all_cleared : slice_get (weak_references_if has_weak_references (objects_of store) o) 0 ≡ None → DeathSteps script store
+      (activities o phase_of.Clearing None store) store (activities o phase_of.Calling None store) answer_of.Continue
   turn-all_cleared none =
       let ws : List ℕ = waiting_for store o in
       steps_at script store (death_of o (Clearing ws) ∷ []) store (death_of o (Calling ws) ∷ []) answer_of.Continue
       (λ v below s.
       only_phase store v o (Clearing ws) below script s (Calling ws)
-      (ap (λ os. clear_one o ws below (here store v o (Clearing ws) below) (weak_references_if has_weak_references os o)) (sym s.represents.objects) ∙ ap (clear_one o ws below (here store v o (Clearing ws) below)) (none_first (weak_references_if has_weak_references (objects_of store) o) none))
+      (ap (λ os. clear_one o ws below (here store v o (Clearing ws) below) (weak_references_if has_weak_references os o)) (sym s.represents.objects)
+      ∙ ap (clear_one o ws below (here store v o (Clearing ws) below)) (none_first (weak_references_if has_weak_references (objects_of store) o) none))
       refl (λ q. refl))
 
-  pub turn-all_detached : slice_get (weak_references_if (has_finalizers script) (objects_of store) o) 0 ≡ None → DeathSteps script store (activities o phase_of.Detaching None store) store (activities o phase_of.Emptying None store) answer_of.Continue
+  pub turn-all_detached : slice_get (weak_references_if (has_finalizers script) (objects_of store) o) 0 ≡ None → DeathSteps script store
+      (activities o phase_of.Detaching None store) store (activities o phase_of.Emptying None store) answer_of.Continue
   turn-all_detached none =
       steps_at script store (death_of o Detaching ∷ []) store (death_of o Emptying ∷ []) answer_of.Continue
       (λ v below s.
       only_phase store v o Detaching below script s Emptying
-      (ap (λ os. detach_one o below (here store v o Detaching below) (weak_references_if (has_finalizers script) os o)) (sym s.represents.objects) ∙ ap (detach_one o below (here store v o Detaching below)) (none_first (weak_references_if (has_finalizers script) (objects_of store) o) none))
+      (ap (λ os. detach_one o below (here store v o Detaching below) (weak_references_if (has_finalizers script) os o)) (sym s.represents.objects)
+      ∙ ap (detach_one o below (here store v o Detaching below)) (none_first (weak_references_if (has_finalizers script) (objects_of store) o) none))
       (waits_are store v o Detaching below (matches store (here store v o Detaching below) s.represents)) (λ q. refl))
 
 -- One is cleared, by its row.
@@ -54,7 +58,8 @@ module _ (script : Script) (store : Store) (r : Row) (ok : AreRows store) (insid
   abbrev left_now : Bool → Store
   left_now b = if b then cleared_weak r.weak true (held (r.weak ∷ []) store) else cleared_weak r.weak false store
 
-  module _ (v : World) (below : List Activity) (s : DeathStands store (here store v o (Clearing ws) below) (death_of o (Clearing ws) ∷ below)) (newer : AreNewer store o) (newest : slice_get (weak_references_if has_weak_references (objects_of store) o) 0 ≡ Some r.weak) where
+  module _ (v : World) (below : List Activity) (s : DeathStands store (here store v o (Clearing ws) below) (death_of o (Clearing ws) ∷ below))
+      (newer : AreNewer store o) (newest : slice_get (weak_references_if has_weak_references (objects_of store) o) 0 ≡ Some r.weak) where
     abbrev w : World
     w = here store v o (Clearing ws) below
 
@@ -69,7 +74,8 @@ module _ (script : Script) (store : Store) (r : Row) (ok : AreRows store) (insid
         ∙ ap (clear_one o ws below w) first.1
         ∙ ap (λ c. (Cleared r.weak ∷ [], after c)) (ap (λ os. is_some (callback_of os r.weak)) (sym s.represents.objects) ∙ has))
 
-    by_callback : (b : Bool) → is_some (callback_of (objects_of store) r.weak) ≡ b → WentOn script w (Cleared r.weak ∷ []) v.numbers (left_now b) (death_of o (Clearing (waiting_for (left_now b) o)) ∷ below)
+    by_callback : (b : Bool) → is_some (callback_of (objects_of store) r.weak) ≡ b → WentOn script w (Cleared r.weak ∷ []) v.numbers (left_now b)
+        (death_of o (Clearing (waiting_for (left_now b) o)) ∷ below)
     by_callback true has =
         let now = represents-waits script store v r below ok inside stays newer s in
         record {
@@ -93,7 +99,8 @@ module _ (script : Script) (store : Store) (r : Row) (ok : AreRows store) (insid
           keeps = record { numbers = refl; budget = refl; outcome = refl };
         }
 
-  row-cleared : (new : Store) → AreNewer store o → slice_get (weak_references_if has_weak_references (objects_of store) o) 0 ≡ Some r.weak → new ≡ left_now (is_some (callback_of (objects_of store) r.weak))
+  row-cleared : (new : Store) → AreNewer store o → slice_get (weak_references_if has_weak_references (objects_of store) o) 0 ≡ Some r.weak → new
+      ≡ left_now (is_some (callback_of (objects_of store) r.weak))
       → DeathSteps script store (activities o phase_of.Clearing None store) new (activities o phase_of.Clearing None new) (answer_of.Emit (Cleared r.weak))
   row-cleared new newer newest is =
       steps_at script store (death_of o (Clearing ws) ∷ []) new (death_of o (Clearing (waiting_for new o)) ∷ []) (answer_of.Emit (Cleared r.weak))

@@ -35,7 +35,8 @@ inner-placed o p store q = inner-mapped store (λ s n. if s == o then with_place
     known false n = refl
 
 -- entries that hold it no more often
-inner-lower : (store : Store) (o : ℕ) (es : List Entry) (s : ℕ) → IsLive store o → occurrences s (references es) ≤ occurrences s (references (entries_of store o)) → inner (rewritten o es store) s ≤ inner store s
+inner-lower : (store : Store) (o : ℕ) (es : List Entry) (s : ℕ) → IsLive store o → occurrences s (references es) ≤ occurrences s
+    (references (entries_of store o)) → inner (rewritten o es store) s ≤ inner store s
 unfolding held_within
 inner-lower store o es s live fewer = known (fin.get store.nodes o) refl live
   where

@@ -82,7 +82,13 @@ module _ (script : Script) (store : Store) (v : World) (o : ℕ) (below : List A
         (sound q (omega (arith, entries_hold store o q, split, references-append q rest (e ∷ []), occurrences-append q (entry_references e) [], there)))
 
     outside-are : (q : ℕ) → outside_of left q ≡ occurrences q (entry_references e ++ flat_map holds below)
-    outside-are q = omega (arith, outside-held (entry_references e) (rewritten o rest store) q (refs-live q), outside-rewritten o rest store q, was q, occurrences-append q (entry_references e) (flat_map holds below))
+    outside-are q = omega (
+      arith,
+      outside-held (entry_references e) (rewritten o rest store) q (refs-live q),
+      outside-rewritten o rest store q,
+      was q,
+      occurrences-append q (entry_references e) (flat_map holds below),
+    )
 
     matches-rewritten : Matches (rewritten o rest store) (with_stack (death_of o Emptying ∷ below) after)
     matches-rewritten = record {
@@ -100,7 +106,8 @@ module _ (script : Script) (store : Store) (v : World) (o : ℕ) (below : List A
         after = after;
         goes = steps_to store v o Emptying below script s [] after (ap (empty_one o below w) (ap last_entry (entries-are ∙ last) ∙ last-of rest e));
         top = refl;
-        represents = represents left after (matches-held (entry_references e) (rewritten o rest store) after (pushed (rewritten o rest store) after (entry_references e) (death_of o Emptying ∷ below) matches-rewritten)) outside-are;
+        represents = represents left after (matches-held (entry_references e) (rewritten o rest store) after (pushed (rewritten o rest store) after
+            (entry_references e) (death_of o Emptying ∷ below) matches-rewritten)) outside-are;
       };
       keeps = record { numbers = refl; budget = refl; outcome = refl };
     }
@@ -141,7 +148,8 @@ module _ (script : Script) (store : Store) (v : World) (o : ℕ) (below : List A
     }
 
 module _ (script : Script) (store new : Store) (o : ℕ) where
-  pub turn-taken : (e : Entry) (release : Release) → ((q : ℕ) → 0 < inner store q → IsLive store q) → entries_of store o ≡ without_last (entries_of store o) ++ e ∷ [] → new ≡ held (entry_references e) (rewritten o (without_last (entries_of store o)) store) → references_left release ≡ entry_references e
+  pub turn-taken : (e : Entry) (release : Release) → ((q : ℕ) → 0 < inner store q → IsLive store q) → entries_of store o ≡ without_last (entries_of store o)
+      ++ e ∷ [] → new ≡ held (entry_references e) (rewritten o (without_last (entries_of store o)) store) → references_left release ≡ entry_references e
       → DeathSteps script store (activities o phase_of.Emptying None store) new (activities o phase_of.Emptying (Some release) new) answer_of.Continue
   turn-taken e release sound last is refs =
       steps_at script store (death_of o Emptying ∷ []) new (Releasing (references_left release) ∷ death_of o Emptying ∷ []) answer_of.Continue
@@ -150,7 +158,8 @@ module _ (script : Script) (store new : Store) (o : ℕ) where
       (subst (λ st. WentOn script (here store v o Emptying below) [] v.numbers st (Releasing (entry_references e) ∷ death_of o Emptying ∷ below)) (sym is)
       (taken script store v o below s sound e last)))
 
-  pub turn-gone : count_of store o ≡ 0 → entries_of store o ≡ [] → new ≡ gone o store → DeathSteps script store (activities o phase_of.Emptying None store) new (activities o phase_of.Over None new) (answer_of.Emit (Free o))
+  pub turn-gone : count_of store o ≡ 0 → entries_of store o ≡ [] → new ≡ gone o store → DeathSteps script store (activities o phase_of.Emptying None store) new
+      (activities o phase_of.Over None new) (answer_of.Emit (Free o))
   turn-gone none empty is =
       steps_at script store (death_of o Emptying ∷ []) new [] (answer_of.Emit (Free o))
       (λ v below s.

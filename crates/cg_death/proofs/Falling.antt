@@ -39,7 +39,8 @@ entries-rewritten store o entries live = ap entries_in (get-changed_same (with_e
     known (Some n) h = refl
 
 -- an entry was removed, and its references are to be given up
-pub falls-taken : (store : Store) (o : ℕ) (e : Entry) (release : Release) → IsLive store o → entries_of store o ≡ without_last (entries_of store o) ++ e ∷ [] → references_left release ≡ entry_references e
+pub falls-taken : (store : Store) (o : ℕ) (e : Entry) (release : Release) → IsLive store o → entries_of store o ≡ without_last (entries_of store o) ++ e ∷ []
+    → references_left release ≡ entry_references e
     → Falls o store phase_of.Emptying None (held (entry_references e) (rewritten o (without_last (entries_of store o)) store)) phase_of.Emptying (Some release)
 falls-taken store o e release live last refs =
     let new : entries_of (held (entry_references e) (rewritten o (without_last (entries_of store o)) store)) o ≡ without_last (entries_of store o) =
@@ -50,13 +51,15 @@ falls-taken store o e release live last refs =
     inr (refl, omega (arith, fewer, one_more, few, entry-le e, length-append (without_last (entries_of store o)) (e ∷ [])))
 
 -- a callback was given up, and its weak reference comes next
-pub falls-call_ended : (store : Store) (o weak callback : ℕ) (release : Release) → references_left release ≡ weak ∷ [] → Falls o store (phase_of.AfterCall weak callback) None (unheld (callback ∷ []) store) phase_of.Calling (Some release)
+pub falls-call_ended : (store : Store) (o weak callback : ℕ) (release : Release) → references_left release ≡ weak ∷ []
+    → Falls o store (phase_of.AfterCall weak callback) None (unheld (callback ∷ []) store) phase_of.Calling (Some release)
 falls-call_ended store o weak callback release left =
     let one : length (references_left release) ≡ 1 = ap length left in
     let same : length (entries_of (unheld (callback ∷ []) store) o) ≡ length (entries_of store o) = ap length (entries-unheld (callback ∷ []) store o) in
     inr (refl, omega (arith, one, same))
 
-pub falls-given_up : (store : Store) (o : ℕ) (phase : Phase) (q : ℕ) (before after : Release) → references_left before ≡ q ∷ references_left after → Falls o store phase (Some before) (unheld (q ∷ []) store) phase (Some after)
+pub falls-given_up : (store : Store) (o : ℕ) (phase : Phase) (q : ℕ) (before after : Release) → references_left before ≡ q ∷ references_left after
+    → Falls o store phase (Some before) (unheld (q ∷ []) store) phase (Some after)
 falls-given_up store o phase q before after taken =
     let fewer : length (references_left before) ≡ length (q ∷ references_left after) = ap length taken in
     let same : length (entries_of (unheld (q ∷ []) store) o) ≡ length (entries_of store o) = ap length (entries-unheld (q ∷ []) store o) in

@@ -39,15 +39,29 @@ module _ (script : Script) (store : Store) (v : World) (o : ℕ) (below : List A
   tracked = moved o (Gen 0) store
 
   -- held once more than before it was tracked, and marked or not
-  held-once : (phase : DyingPhase) → DeathStands store (here store v o phase below) (death_of o phase ∷ below) → (q : ℕ) → occurrences q (dying_holds o phase) ≡ 0 → (ready : Store) → IsLive ready o → outside_of ready q ≡ outside_of tracked q → outside_of (held (o ∷ []) ready) q ≡ occurrences q (o ∷ flat_map holds below)
+  held-once : (phase : DyingPhase) → DeathStands store (here store v o phase below) (death_of o phase ∷ below) → (q : ℕ) → occurrences q (dying_holds o phase)
+      ≡ 0 → (ready : Store) → IsLive ready o → outside_of ready q ≡ outside_of tracked q → outside_of (held (o ∷ []) ready) q
+      ≡ occurrences q (o ∷ flat_map holds below)
   held-once phase s q nothing ready lives same =
       let more = outside-held (o ∷ []) ready q (λ h. subst (IsLive ready) (sym (only-one o q h)) lives) in
-      omega (arith, more, same, outside-moved o (Gen 0) store q, s.represents.outside q, nothing, occurrences-append q (dying_holds o phase) (flat_map holds below), occurrences-cons q o (flat_map holds below), occurrences-cons q o [])
+      omega (
+        arith,
+        more,
+        same,
+        outside-moved o (Gen 0) store q,
+        s.represents.outside q,
+        nothing,
+        occurrences-append q (dying_holds o phase)
+            (flat_map holds below),
+        occurrences-cons q o (flat_map holds below),
+        occurrences-cons q o [],
+      )
 
   tracked_live : IsLive tracked o
   tracked_live = lives_on store tracked (kinds-moved o (Gen 0) store) o live
 
-  module _ (s : DeathStands store (here store v o Finalizer below) (death_of o Finalizer ∷ below)) (p : ℕ) (due : option_and_then (finalizer_to_run script) (object_at (objects_of store) o) ≡ Some p) where
+  module _ (s : DeathStands store (here store v o Finalizer below) (death_of o Finalizer ∷ below)) (p : ℕ) (due : option_and_then (finalizer_to_run script)
+      (object_at (objects_of store) o) ≡ Some p) where
     abbrev before : World
     before = death_at o AfterFinalizer below (with_change (λ x. object_marked (object_placed (Gen 0) x)) o (here store v o Finalizer below))
 
@@ -75,7 +89,8 @@ module _ (script : Script) (store : Store) (v : World) (o : ℕ) (below : List A
       keeps = record { numbers = refl; budget = refl; outcome = refl };
     }
 
-  module _ (s : DeathStands store (here store v o LegacyFinalizer below) (death_of o LegacyFinalizer ∷ below)) (p : ℕ) (due : option_and_then (legacy_of script) (object_at (objects_of store) o) ≡ Some p) where
+  module _ (s : DeathStands store (here store v o LegacyFinalizer below) (death_of o LegacyFinalizer ∷ below)) (p : ℕ) (due : option_and_then (legacy_of script)
+      (object_at (objects_of store) o) ≡ Some p) where
     abbrev before_legacy : World
     before_legacy = death_at o AfterLegacy below (with_change (object_placed (Gen 0)) o (here store v o LegacyFinalizer below))
 
@@ -101,7 +116,8 @@ module _ (script : Script) (store : Store) (v : World) (o : ℕ) (below : List A
 
 -- The death gives up its own hold.
 module _ (script : Script) (store : Store) (v : World) (o : ℕ) (below : List Activity) (phase next : DyingPhase)
-    (does : dying script o phase below (here store v o phase below) ≡ after_frame o next below (here store v o phase below)) (held_once : dying_holds o phase ≡ o ∷ []) (holds_none : dying_holds o next ≡ [])
+    (does : dying script o phase below (here store v o phase below) ≡ after_frame o next below (here store v o phase below)) (held_once : dying_holds o phase
+    ≡ o ∷ []) (holds_none : dying_holds o next ≡ [])
     (waits : death_waits phase ≡ []) (waits_none : death_waits next ≡ [])
     (s : DeathStands store (here store v o phase below) (death_of o phase ∷ below)) where
   abbrev w : World
@@ -161,41 +177,49 @@ module _ (script : Script) (store : Store) (v : World) (o : ℕ) (below : List A
   }
 
 module _ (script : Script) (store new : Store) (o : ℕ) where
-  pub turn-no_finalizer : option_and_then (finalizer_to_run script) (object_at (objects_of store) o) ≡ None → DeathSteps script store (activities o phase_of.Finalizer None store) store (activities o phase_of.Clearing None store) answer_of.Continue
+  pub turn-no_finalizer : option_and_then (finalizer_to_run script) (object_at (objects_of store) o) ≡ None → DeathSteps script store
+      (activities o phase_of.Finalizer None store) store (activities o phase_of.Clearing None store) answer_of.Continue
   turn-no_finalizer due =
       steps_at script store (death_of o Finalizer ∷ []) store (death_of o (Clearing (waiting_for store o)) ∷ []) answer_of.Continue
       (λ v below s.
       let waits : [] ≡ waiting_for store o = waits_are store v o Finalizer below (matches store (here store v o Finalizer below) s.represents) in
       subst (λ ws. WentOn script (here store v o Finalizer below) [] v.numbers store (death_of o (Clearing ws) ∷ below)) waits
       (only_phase store v o Finalizer below script s (Clearing [])
-      (ap (λ os. run_finalizer script o below (here store v o Finalizer below) (option_and_then (finalizer_to_run script) (object_at os o))) (sym s.represents.objects) ∙ ap (run_finalizer script o below (here store v o Finalizer below)) due)
+      (ap (λ os. run_finalizer script o below (here store v o Finalizer below) (option_and_then (finalizer_to_run script) (object_at os o)))
+      (sym s.represents.objects) ∙ ap (run_finalizer script o below (here store v o Finalizer below)) due)
       waits (λ q. refl)))
 
-  pub turn-finalizer : (p : ℕ) → option_and_then (finalizer_to_run script) (object_at (objects_of store) o) ≡ Some p → IsLive store o → count_of store o ≡ 0 → new ≡ held (o ∷ []) (with_node marked o (moved o (Gen 0) store))
-      → DeathSteps script store (activities o phase_of.Finalizer None store) new (activities o phase_of.AfterFinalizer None new) (answer_of.Frame (record { sort = Del; proc = p; subject = o; func = None }))
+  pub turn-finalizer : (p : ℕ) → option_and_then (finalizer_to_run script) (object_at (objects_of store) o) ≡ Some p → IsLive store o → count_of store o ≡ 0
+      → new ≡ held (o ∷ []) (with_node marked o (moved o (Gen 0) store))
+      → DeathSteps script store (activities o phase_of.Finalizer None store) new (activities o phase_of.AfterFinalizer None new)
+      (answer_of.Frame (record { sort = Del; proc = p; subject = o; func = None }))
   turn-finalizer p due live none is =
       steps_at script store (death_of o Finalizer ∷ []) new (death_of o AfterFinalizer ∷ []) (answer_of.Frame (record { sort = Del; proc = p; subject = o; func = None }))
       (λ v below s.
       subst (λ st. GaveFrame script (here store v o Finalizer below) (record { sort = Del; proc = p; subject = o; func = None }) st (death_of o AfterFinalizer ∷ below)) (sym is)
       (finalizer_runs script store v o below live none s p due))
 
-  pub turn-no_legacy : option_and_then (legacy_of script) (object_at (objects_of store) o) ≡ None → DeathSteps script store (activities o phase_of.LegacyFinalizer None store) store (activities o phase_of.Detaching None store) answer_of.Continue
+  pub turn-no_legacy : option_and_then (legacy_of script) (object_at (objects_of store) o) ≡ None → DeathSteps script store
+      (activities o phase_of.LegacyFinalizer None store) store (activities o phase_of.Detaching None store) answer_of.Continue
   turn-no_legacy due =
       steps_at script store (death_of o LegacyFinalizer ∷ []) store (death_of o Detaching ∷ []) answer_of.Continue
       (λ v below s.
       only_phase store v o LegacyFinalizer below script s Detaching
-      (ap (λ os. run_legacy script o below (here store v o LegacyFinalizer below) (option_and_then (legacy_of script) (object_at os o))) (sym s.represents.objects) ∙ ap (run_legacy script o below (here store v o LegacyFinalizer below)) due)
+      (ap (λ os. run_legacy script o below (here store v o LegacyFinalizer below) (option_and_then (legacy_of script) (object_at os o)))
+      (sym s.represents.objects) ∙ ap (run_legacy script o below (here store v o LegacyFinalizer below)) due)
       (waits_are store v o LegacyFinalizer below (matches store (here store v o LegacyFinalizer below) s.represents)) (λ q. refl))
 
   pub turn-legacy : (p : ℕ) → option_and_then (legacy_of script) (object_at (objects_of store) o) ≡ Some p → IsLive store o → count_of store o ≡ 0 → new ≡ held (o ∷ []) (moved o (Gen 0) store)
-      → DeathSteps script store (activities o phase_of.LegacyFinalizer None store) new (activities o phase_of.AfterLegacy None new) (answer_of.Frame (record { sort = Legacy; proc = p; subject = o; func = None }))
+      → DeathSteps script store (activities o phase_of.LegacyFinalizer None store) new (activities o phase_of.AfterLegacy None new)
+      (answer_of.Frame (record { sort = Legacy; proc = p; subject = o; func = None }))
   turn-legacy p due live none is =
       steps_at script store (death_of o LegacyFinalizer ∷ []) new (death_of o AfterLegacy ∷ []) (answer_of.Frame (record { sort = Legacy; proc = p; subject = o; func = None }))
       (λ v below s.
       subst (λ st. GaveFrame script (here store v o LegacyFinalizer below) (record { sort = Legacy; proc = p; subject = o; func = None }) st (death_of o AfterLegacy ∷ below)) (sym is)
       (legacy_runs script store v o below live none s p due))
 
-  pub turn-unheld_again : count_of (unheld (o ∷ []) store) o ≡ 0 → new ≡ moved o Untracked (unheld (o ∷ []) store) → DeathSteps script store (activities o phase_of.AfterFinalizer None store) new (activities o phase_of.Clearing None new) answer_of.Continue
+  pub turn-unheld_again : count_of (unheld (o ∷ []) store) o ≡ 0 → new ≡ moved o Untracked (unheld (o ∷ []) store) → DeathSteps script store
+      (activities o phase_of.AfterFinalizer None store) new (activities o phase_of.Clearing None new) answer_of.Continue
   turn-unheld_again none is =
       steps_at script store (death_of o AfterFinalizer ∷ []) new (death_of o (Clearing (waiting_for new o)) ∷ []) answer_of.Continue
       (λ v below s.
@@ -204,21 +228,24 @@ module _ (script : Script) (store new : Store) (o : ℕ) where
       (subst (λ ws. WentOn script (here store v o AfterFinalizer below) [] v.numbers (moved o Untracked (unheld (o ∷ []) store)) (death_of o (Clearing ws) ∷ below)) waits
       (unheld_again script store v o below AfterFinalizer (Clearing []) refl refl refl refl refl s none)))
 
-  pub turn-brought_back : count_of (unheld (o ∷ []) store) o ≢ 0 → new ≡ unheld (o ∷ []) store → DeathSteps script store (activities o phase_of.AfterFinalizer None store) new (activities o phase_of.Over None new) (answer_of.Emit (Alive o))
+  pub turn-brought_back : count_of (unheld (o ∷ []) store) o ≢ 0 → new ≡ unheld (o ∷ []) store → DeathSteps script store (activities o phase_of.AfterFinalizer
+      None store) new (activities o phase_of.Over None new) (answer_of.Emit (Alive o))
   turn-brought_back held is =
       steps_at script store (death_of o AfterFinalizer ∷ []) new [] (answer_of.Emit (Alive o))
       (λ v below s.
       subst (λ st. WentOn script (here store v o AfterFinalizer below) (Alive o ∷ []) v.numbers st below) (sym is)
       (brought_back script store v o below AfterFinalizer (Clearing []) refl refl refl refl refl s held))
 
-  pub turn-unheld_after_legacy : count_of (unheld (o ∷ []) store) o ≡ 0 → new ≡ moved o Untracked (unheld (o ∷ []) store) → DeathSteps script store (activities o phase_of.AfterLegacy None store) new (activities o phase_of.Detaching None new) answer_of.Continue
+  pub turn-unheld_after_legacy : count_of (unheld (o ∷ []) store) o ≡ 0 → new ≡ moved o Untracked (unheld (o ∷ []) store) → DeathSteps script store
+      (activities o phase_of.AfterLegacy None store) new (activities o phase_of.Detaching None new) answer_of.Continue
   turn-unheld_after_legacy none is =
       steps_at script store (death_of o AfterLegacy ∷ []) new (death_of o Detaching ∷ []) answer_of.Continue
       (λ v below s.
       subst (λ st. WentOn script (here store v o AfterLegacy below) [] v.numbers st (death_of o Detaching ∷ below)) (sym is)
       (unheld_again script store v o below AfterLegacy Detaching refl refl refl refl refl s none))
 
-  pub turn-brought_back_by_legacy : count_of (unheld (o ∷ []) store) o ≢ 0 → new ≡ unheld (o ∷ []) store → DeathSteps script store (activities o phase_of.AfterLegacy None store) new (activities o phase_of.Over None new) (answer_of.Emit (Alive o))
+  pub turn-brought_back_by_legacy : count_of (unheld (o ∷ []) store) o ≢ 0 → new ≡ unheld (o ∷ []) store → DeathSteps script store
+      (activities o phase_of.AfterLegacy None store) new (activities o phase_of.Over None new) (answer_of.Emit (Alive o))
   turn-brought_back_by_legacy held is =
       steps_at script store (death_of o AfterLegacy ∷ []) new [] (answer_of.Emit (Alive o))
       (λ v below s.

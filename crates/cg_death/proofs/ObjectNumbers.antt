@@ -35,7 +35,8 @@ none-same old new same names =
 
 pub none-mapped : (old new : Store) (g : ℕ → Node → Node) → new.nodes ≡ mapped g old.nodes → new.names ≡ old.names → MakesNone old new
 none-mapped old new g is names =
-    let equal : length (fin.entries new.nodes) ≡ length (fin.entries old.nodes) = ap (λ m. length (fin.entries m)) is ∙ ap (λ (es : List (ℕ × Node)). length es) (entries-mapped g old.nodes) ∙ each (fin.entries old.nodes) in
+    let equal : length (fin.entries new.nodes) ≡ length (fin.entries old.nodes) = ap (λ m. length (fin.entries m)) is ∙ ap (λ (es : List (ℕ × Node)). length es)
+    (entries-mapped g old.nodes) ∙ each (fin.entries old.nodes) in
     none_by_nodes old new (omega (arith, equal)) names
   where
     each : (es : List (ℕ × Node)) → length {A = ℕ × Node} (map (λ (e : ℕ × Node). (e.0, g e.0 e.1)) es) ≡ length es
@@ -70,7 +71,8 @@ fewer_left p (x ∷ xs) = one (p x) (fewer_left p xs)
 
 pub none-gone : (o : ℕ) (store : Store) → MakesNone store (gone o store)
 none-gone o store =
-    let is : length (fin.entries (fin.remove store.nodes o)) ≡ length (filter (λ e. not (e.0 == o)) (fin.entries store.nodes)) = ap (λ (es : List (ℕ × Node)). length es) (entries-remove store.nodes o) in
+    let is : length (fin.entries (fin.remove store.nodes o)) ≡ length (filter (λ e. not (e.0 == o)) (fin.entries store.nodes)) =
+    ap (λ (es : List (ℕ × Node)). length es) (entries-remove store.nodes o) in
     none_by_nodes store (gone o store) (omega (arith, is, fewer_left (λ (e : ℕ × Node). not (e.0 == o)) (fin.entries store.nodes))) refl
 
 -- a weak reference may be cleared, or stop waiting

@@ -49,21 +49,28 @@ module _ (script : Script) (store : Store) (o : ℕ) (p q : DyingPhase) (waits :
       running = s.running;
       unheld = λ d m. subst (IsHeldInItsFramesAlone d.object d.phase) same_holdings
           (either m
-          (λ e. let same : death o q ≡ d = cc in subst (λ (x : Death). IsHeldInItsFramesAlone x.object x.phase (holdings (here store v o p below))) same (alone (holdings (here store v o p below)) (s.unheld (death o p) (inl refl))))
+          (λ e. let same : death o q ≡ d = cc in subst (λ (x : Death). IsHeldInItsFramesAlone x.object x.phase (holdings (here store v o p below))) same
+          (alone (holdings (here store v o p below)) (s.unheld (death o p) (inl refl))))
           (λ k. s.unheld d (inr k)));
       once = λ x.
           let was = s.once x in
-          let old : count_by (is_death_of x) (death_of o p ∷ below) ≡ cond {A = ℕ} (o == x) 1 0 + count_by (is_death_of x) below = sum_by-cons (λ (b : Activity). cond {A = ℕ} (is_death_of x b) 1 0) (death_of o p) below in
-          let now : count_by (is_death_of x) (death_of o q ∷ below) ≡ cond {A = ℕ} (o == x) 1 0 + count_by (is_death_of x) below = sum_by-cons (λ (b : Activity). cond {A = ℕ} (is_death_of x b) 1 0) (death_of o q) below in
+          let old : count_by (is_death_of x) (death_of o p ∷ below) ≡ cond {A = ℕ} (o == x) 1 0 + count_by (is_death_of x) below =
+          sum_by-cons (λ (b : Activity). cond {A = ℕ} (is_death_of x b) 1 0) (death_of o p) below in
+          let now : count_by (is_death_of x) (death_of o q ∷ below) ≡ cond {A = ℕ} (o == x) 1 0 + count_by (is_death_of x) below =
+          sum_by-cons (λ (b : Activity). cond {A = ℕ} (is_death_of x b) 1 0) (death_of o q) below in
           omega (arith, was, old, now);
     }
 
-  passes : ((v : World) (below : List Activity) → DeathStands store (here store v o p below) (death_of o p ∷ below) → dying script o p below (here store v o p below) ≡ ([], death_at o q below (here store v o p below)))
+  passes : ((v : World) (below : List Activity) → DeathStands store (here store v o p below) (death_of o p ∷ below)
+      → dying script o p below (here store v o p below) ≡ ([], death_at o q below (here store v o p below)))
       → (new : Store) (tops : List Activity) (answer : DeathStep) → DeathSteps script store (death_of o q ∷ []) new tops answer → DeathSteps script store (death_of o p ∷ []) new tops answer
   passes does new tops answer steps =
       steps_at script store (death_of o p ∷ []) new tops answer
       (λ v below s.
-      first_then script v (death_of o p ∷ below) (death_of o q ∷ below) (sym (ap (λ (t : Transition). t.0) (does v below s)), sym (ap (λ (t : Transition). t.1) (does v below s))) refl refl new (tops ++ below) answer s.running
+      first_then script v (death_of o p ∷ below) (death_of o q ∷ below) (
+        sym (ap (λ (t : Transition). t.0) (does v below s)),
+        sym (ap (λ (t : Transition). t.1) (does v below s)),
+      ) refl refl new (tops ++ below) answer s.running
       (steps (with_stack (death_of o q ∷ below) v) below (stands_on v below s)))
 
 -- An object of a class without finalizers has none to run, and its own frames made no weak references.
@@ -75,11 +82,13 @@ none_to_run script (Some x) none = go x.finalized
     go true = refl
     go false = none
 
-no_finalizers : (script : Script) (x : Option Object) → option_and_then (finalizer_of script) x ≡ None → option_and_then (legacy_of script) x ≡ None → unwrap_or (option_map (has_finalizers script) x) false ≡ false
+no_finalizers : (script : Script) (x : Option Object) → option_and_then (finalizer_of script) x ≡ None → option_and_then (legacy_of script) x ≡ None
+    → unwrap_or (option_map (has_finalizers script) x) false ≡ false
 no_finalizers script None del legacy = refl
 no_finalizers script (Some x) del legacy = rw (del, legacy) refl
 
-module _ (script : Script) (store : Store) (o : ℕ) (del : option_and_then (finalizer_of script) (object_at (objects_of store) o) ≡ None) (legacy : option_and_then (legacy_of script) (object_at (objects_of store) o) ≡ None)
+module _ (script : Script) (store : Store) (o : ℕ) (del : option_and_then (finalizer_of script) (object_at (objects_of store) o) ≡ None)
+    (legacy : option_and_then (legacy_of script) (object_at (objects_of store) o) ≡ None)
     (weak : slice_get (weak_references_if has_weak_references (objects_of store) o) 0 ≡ None) where
   none_detached : slice_get (weak_references_if (has_finalizers script) (objects_of store) o) 0 ≡ None
   none_detached = ap (λ b. slice_get (if b then weak_references (objects_of store) o else []) 0) (no_finalizers script (object_at (objects_of store) o) del legacy)

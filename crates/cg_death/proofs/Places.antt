@@ -43,7 +43,8 @@ waits-without o (AfterRelease weak waiting) pending none (inl is) = inl (ap (wit
 waits-without o (AfterRelease weak waiting) pending none (inr is) =
     elim (cases_eq o weak) [
       | inl same ↦ inl (ap (without_serial o) is ∙ ap (λ b. cond (not b) (weak ∷ without_serial o waiting) (without_serial o waiting)) (eq-eqb o weak same) ∙ without-absent o waiting none)
-      | inr differs ↦ inr (ap (without_serial o) is ∙ ap (λ b. cond (not b) (weak ∷ without_serial o waiting) (without_serial o waiting)) (ne_eqb o weak differs) ∙ ap (λ l. weak ∷ l) (without-absent o waiting none))
+      | inr differs ↦ inr (ap (without_serial o) is ∙ ap (λ b. cond (not b) (weak ∷ without_serial o waiting) (without_serial o waiting))
+          (ne_eqb o weak differs) ∙ ap (λ l. weak ∷ l) (without-absent o waiting none))
     ]
 waits-without o Start pending none is = ap (without_serial o) is
 waits-without o Finalizing pending none is = ap (without_serial o) is
@@ -60,7 +61,8 @@ left-cases lists o p q =
     either (cases_eq q p)
     (λ same. either (cases_lt q (length lists))
     (λ within. inr (ap (λ k. list_of (leaves_list lists o k) q) (sym same) ∙ get_or-set_same lists q (without_serial o (list_of lists q)) [] within))
-    (λ past. inl (ap (λ k. list_of (leaves_list lists o k) q) (sym same) ∙ get_or_past (set lists q (without_serial o (list_of lists q))) q [] (omega (arith, past, length-set lists q (without_serial o (list_of lists q)))) ∙ sym (get_or_past lists q [] past))))
+    (λ past. inl (ap (λ k. list_of (leaves_list lists o k) q) (sym same) ∙ get_or_past (set lists q (without_serial o (list_of lists q))) q []
+    (omega (arith, past, length-set lists q (without_serial o (list_of lists q)))) ∙ sym (get_or_past lists q [] past))))
     (λ differs. inl (get_or-set_other lists p q (without_serial o (list_of lists p)) [] differs))
 
 -- no collection holds an unheld object
@@ -71,7 +73,8 @@ unheld_by store w r o none c m = let there = held_by_one o w.stack (Collecting c
 abbrev pub StillWaits : Store → Store → World → Type 0
 StillWaits store new w = (c : Collection) → Includes w.stack (Collecting c) → CollectionWaits c.phase (list_at new Pend)
 
-pub still-waits : (store : Store) (w : World) → Represents store w → (o : ℕ) → count_of store o ≡ 0 → (new : Store) → (list_at new Pend ≡ list_at store Pend) ⊎ (list_at new Pend ≡ without_serial o (list_at store Pend)) → StillWaits store new w
+pub still-waits : (store : Store) (w : World) → Represents store w → (o : ℕ) → count_of store o ≡ 0 → (new : Store) → (list_at new Pend ≡ list_at store Pend)
+    ⊎ (list_at new Pend ≡ without_serial o (list_at store Pend)) → StillWaits store new w
 still-waits store w r o none new (inl e) c m = subst (CollectionWaits c.phase) (sym e) (r.collection c m)
 still-waits store w r o none new (inr e) c m = subst (CollectionWaits c.phase) (sym e) (waits-without o c.phase (list_at store Pend) (unheld_by store w r o none c m) (r.collection c m))
 
@@ -86,7 +89,8 @@ matches-held refs store w m = record {
 }
 
 -- What waits in a collection, after an object moved to a place that does not exist.
-pub moved-cases : (store : Store) (o : ℕ) (q : Place) → 6 ≢ place_number q → (list_at (moved o q store) Pend ≡ list_at store Pend) ⊎ (list_at (moved o q store) Pend ≡ without_serial o (list_at store Pend))
+pub moved-cases : (store : Store) (o : ℕ) (q : Place) → 6 ≢ place_number q → (list_at (moved o q store) Pend ≡ list_at store Pend)
+    ⊎ (list_at (moved o q store) Pend ≡ without_serial o (list_at store Pend))
 moved-cases store o q differs =
     let left = leaves_list store.lists o (place_number (place_of store o)) in
     let kept : list_at (moved o q store) Pend ≡ list_of left 6 = get_or-set_other left (place_number q) 6 (list_of left (place_number q) ++ o ∷ []) [] differs in
@@ -113,7 +117,8 @@ matches-moved store w o q differs r none = record {
 }
 
 -- and is marked
-pub matches-marked : (store : Store) (w : World) (o : ℕ) (q : Place) → Matches store (with_change (object_placed q) o w) → Matches (with_node marked o store) (with_change (λ x. object_marked (object_placed q x)) o w)
+pub matches-marked : (store : Store) (w : World) (o : ℕ) (q : Place) → Matches store (with_change (object_placed q) o w) → Matches (with_node marked o store)
+    (with_change (λ x. object_marked (object_placed q x)) o w)
 matches-marked store w o q m = record {
   objects = objects-changed store o marked object_marked (λ s n. refl) ∙ ap (change object_marked o) m.objects ∙ change-change object_marked (object_placed q) (λ x. refl) o w.objects;
   next_serial = m.next_serial;

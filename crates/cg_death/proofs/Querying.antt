@@ -35,17 +35,21 @@ module _ (store : Store) (o : ℕ) (ok : AreRows store) (test : Object → Bool)
   none-if fails = ap (λ b. slice_get (if b then weak_references (objects_of store) o else []) 0) (sym fails)
 
 -- the newest refers to the object, and lives
-pub newest-is : (store : Store) (o : ℕ) → AreRows store → (a : Option ℕ) → a ≡ slice_get (weak_references_in store.rows o) 0 → IfSome a (λ w. referent_in store.rows w ≡ Some o) × IfSome a (λ w. IsLive store w)
+pub newest-is : (store : Store) (o : ℕ) → AreRows store → (a : Option ℕ) → a ≡ slice_get (weak_references_in store.rows o) 0
+    → IfSome a (λ w. referent_in store.rows w ≡ Some o) × IfSome a (λ w. IsLive store w)
 newest-is store o ok None e = (tt, tt)
 newest-is store o ok (Some w) e =
     let found = row_of_one (refers_to o) store.rows w (head_in (weak_references_in store.rows o) w (sym e)) in
     let parts = true_and (found.0.referent == o) (not found.0.waits) found.2 in (
-      subst (λ q. referent_in store.rows q ≡ Some o) found.3 (referent-is store.rows found.0 (split_at store.rows found.0 ok.rise found.1) (not-true found.0.waits parts.1) ∙ ap Some (eqb-true found.0.referent o parts.0)),
+      subst (λ q. referent_in store.rows q ≡ Some o) found.3 (referent-is store.rows found.0 (split_at store.rows found.0 ok.rise found.1)
+          (not-true found.0.waits parts.1) ∙ ap Some (eqb-true found.0.referent o parts.0)),
       subst (IsLive store) found.3 (live_of_kind store found.0.weak Weak (all_in (λ (x : Row). HasCode store x.weak Weak) store.rows found.0 ok.weak found.1)),
     )
 
 -- instances and functions may have weak references
-of_code : (o : Option Node) (rows : List Row) (q : ℕ) (code : KindCode) → IsSome o → IfSome o (λ n. code ≡ n.code) → (test : KindCode → Bool) → ((n : Node) → has_weak_references (object_from rows q n) ≡ test n.code) → unwrap_or (option_map has_weak_references (option_map (object_from rows q) o)) false ≡ test code
+of_code : (o : Option Node) (rows : List Row) (q : ℕ) (code : KindCode) → IsSome o → IfSome o (λ n. code ≡ n.code) → (test : KindCode → Bool)
+    → ((n : Node) → has_weak_references (object_from rows q n) ≡ test n.code) → unwrap_or (option_map has_weak_references (option_map (object_from rows q) o))
+    false ≡ test code
 of_code None rows q code live is test same = cc
 of_code (Some n) rows q code live is test same = same n ∙ ap test (sym is)
 
@@ -80,19 +84,22 @@ unfolding supports
 supports-either code (inl e) = ap supports e
 supports-either code (inr e) = ap supports e
 
-pub supports-at : (store : Store) (o : ℕ) (code : KindCode) → IsLive store o → IfSome (fin.get store.nodes o) (λ n. code ≡ n.code) → (code ≡ Inst) ⊎ (code ≡ Func) → unwrap_or (option_map has_weak_references (object_at (objects_of store) o)) false ≡ true
+pub supports-at : (store : Store) (o : ℕ) (code : KindCode) → IsLive store o → IfSome (fin.get store.nodes o) (λ n. code ≡ n.code) → (code ≡ Inst)
+    ⊎ (code ≡ Func) → unwrap_or (option_map has_weak_references (object_at (objects_of store) o)) false ≡ true
 supports-at store o code live is either' =
     ap (λ x. unwrap_or (option_map has_weak_references x) false) (object-at store o)
     ∙ of_code (fin.get store.nodes o) store.rows o code live is supports (λ n. supports-is store.rows o n n.code refl)
     ∙ supports-either code either'
 
-pub not-supports-at : (store : Store) (o : ℕ) (code : KindCode) → IsLive store o → IfSome (fin.get store.nodes o) (λ n. code ≡ n.code) → code ≢ Inst → code ≢ Func → unwrap_or (option_map has_weak_references (object_at (objects_of store) o)) false ≡ false
+pub not-supports-at : (store : Store) (o : ℕ) (code : KindCode) → IsLive store o → IfSome (fin.get store.nodes o) (λ n. code ≡ n.code) → code ≢ Inst
+    → code ≢ Func → unwrap_or (option_map has_weak_references (object_at (objects_of store) o)) false ≡ false
 not-supports-at store o code live is i f =
     ap (λ x. unwrap_or (option_map has_weak_references x) false) (object-at store o)
     ∙ of_code (fin.get store.nodes o) store.rows o code live is supports (λ n. supports-is store.rows o n n.code refl)
     ∙ supports-not code i f
 
-pub finalizers-test : (script : Script) (x : Option Object) → unwrap_or (option_map (has_finalizers script) x) false ≡ (is_some (option_and_then (finalizer_of script) x) || is_some (option_and_then (legacy_of script) x))
+pub finalizers-test : (script : Script) (x : Option Object) → unwrap_or (option_map (has_finalizers script) x) false
+    ≡ (is_some (option_and_then (finalizer_of script) x) || is_some (option_and_then (legacy_of script) x))
 finalizers-test script None = refl
 finalizers-test script (Some x) = refl
 
@@ -128,13 +135,16 @@ entry-is entries e x is last =
 same_reference : (f g : ℕ) → Some f ≡ Some g → f ≡ g
 same_reference f g e = cc
 
-pub callback-is : (store : Store) (weak f g : ℕ) (x : Entry) → entries_of store weak ≡ item (Ref f) ∷ [] → entries_of store weak ≡ without_last (entries_of store weak) ++ x ∷ [] → reference_in x.val ≡ Some g → entries_of store weak ≡ item (Ref g) ∷ []
+pub callback-is : (store : Store) (weak f g : ℕ) (x : Entry) → entries_of store weak ≡ item (Ref f) ∷ [] → entries_of store weak
+    ≡ without_last (entries_of store weak) ++ x ∷ [] → reference_in x.val ≡ Some g → entries_of store weak ≡ item (Ref g) ∷ []
 callback-is store weak f g x is last refers =
     let entry : x ≡ item (Ref f) = entry-is (entries_of store weak) (item (Ref f)) x is last in
     let same : f ≡ g = same_reference f g (sym (ap (λ (e : Entry). reference_in e.val) entry) ∙ refers) in
     is ∙ ap (λ k. item (Ref k) ∷ []) same
 
-pub taken-is : (store new : Store) (weak g : ℕ) (x : Entry) → entries_of store weak ≡ item (Ref g) ∷ [] → entries_of store weak ≡ without_last (entries_of store weak) ++ x ∷ [] → new ≡ held (entry_references x) (rewritten weak (without_last (entries_of store weak)) store) → new ≡ held (g ∷ []) (rewritten weak [] store)
+pub taken-is : (store new : Store) (weak g : ℕ) (x : Entry) → entries_of store weak ≡ item (Ref g) ∷ [] → entries_of store weak
+    ≡ without_last (entries_of store weak) ++ x ∷ [] → new ≡ held (entry_references x) (rewritten weak (without_last (entries_of store weak)) store) → new
+    ≡ held (g ∷ []) (rewritten weak [] store)
 taken-is store new weak g x is last rest =
     let entry : x ≡ item (Ref g) = entry-is (entries_of store weak) (item (Ref g)) x is last in
     rest ∙ (λ i. held (entry_references (entry i)) (rewritten weak (without_last (is i)) store))

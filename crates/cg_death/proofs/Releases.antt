@@ -69,8 +69,10 @@ module _ (script : Script) (store : Store) (v : World) (o : ℕ) (references : L
       where
         no' : (d : Death) × Includes (Releasing references ∷ below) (Dying d) × (d.object ≡ o) → ⊥
         no' (d, m, e) =
-            let own : occurrences d.object (dying_holds d.object d.phase) ≡ 1 = held_by_death d.object d.phase (holdings before) (s.unheld d (either m (λ i. cc) (λ k. inr k))) (subst (λ q. 0 < occurrences q (holdings before)) (sym e) is_held) in
-            let there : occurrences d.object (dying_holds d.object d.phase) ≤ occurrences d.object (flat_map holds (Releasing references ∷ below)) = held_by_one d.object (Releasing references ∷ below) (Dying d) m in
+            let own : occurrences d.object (dying_holds d.object d.phase) ≡ 1 = held_by_death d.object d.phase (holdings before)
+            (s.unheld d (either m (λ i. cc) (λ k. inr k))) (subst (λ q. 0 < occurrences q (holdings before)) (sym e) is_held) in
+            let there : occurrences d.object (dying_holds d.object d.phase) ≤ occurrences d.object (flat_map holds (Releasing references ∷ below)) =
+            held_by_one d.object (Releasing references ∷ below) (Dying d) m in
             let all : occurrences d.object (flat_map holds (Releasing references ∷ below)) ≤ in_degree after d.object = held_by_stack d.object after in
             let none_there : in_degree after d.object ≡ 0 = ap (in_degree after) e ∙ none in
             omega (arith, own, there, all, none_there)
@@ -118,8 +120,10 @@ module _ (script : Script) (store : Store) (v : World) (o : ℕ) (references : L
         here : ReleaseAnswer script before below (unheld (o ∷ []) store) references (if count_of (unheld (o ∷ []) store) o == 0 then answer_of.Died o else answer_of.Continue)
         here =
             elim (cases_eq (count_of (unheld (o ∷ []) store) o) 0) [
-              | inl none ↦ subst (λ b. ReleaseAnswer script before below (unheld (o ∷ []) store) references (if b then answer_of.Died o else answer_of.Continue)) (sym (eq-eqb _ 0 none)) (died (sym count ∙ none))
-              | inr some ↦ subst (λ b. ReleaseAnswer script before below (unheld (o ∷ []) store) references (if b then answer_of.Died o else answer_of.Continue)) (sym (ne_eqb _ 0 some)) (lives (λ z. some (count ∙ z)))
+              | inl none ↦ subst (λ b. ReleaseAnswer script before below (unheld (o ∷ []) store) references (if b then answer_of.Died o
+                  else answer_of.Continue)) (sym (eq-eqb _ 0 none)) (died (sym count ∙ none))
+              | inr some ↦ subst (λ b. ReleaseAnswer script before below (unheld (o ∷ []) store) references (if b then answer_of.Died o
+                  else answer_of.Continue)) (sym (ne_eqb _ 0 some)) (lives (λ z. some (count ∙ z)))
             ]
 
 -- the step of a release with a reference left

@@ -17,7 +17,8 @@ all_in P (y ∷ xs) x all (inr m) = all_in P xs x (All-tail P y xs all) m
 pub Includes-reverse : (xs : List ℕ) (x : ℕ) → Includes (reverse xs) x → Includes xs x
 Includes-reverse [] x m = m
 Includes-reverse (y ∷ xs) x m =
-    either (Includes-append_cases (reverse xs) (y ∷ []) x (subst (λ ys. Includes ys x) (reverse-append (y ∷ []) xs) m)) (λ k. inr (Includes-reverse xs x k)) (λ k. either k (λ e. inl e) (λ n. absurd n))
+    either (Includes-append_cases (reverse xs) (y ∷ []) x (subst (λ ys. Includes ys x) (reverse-append (y ∷ []) xs) m)) (λ k. inr (Includes-reverse xs x k))
+    (λ k. either k (λ e. inl e) (λ n. absurd n))
 
 pub Includes-reversed : (xs : List ℕ) (x : ℕ) → Includes xs x → Includes (reverse xs) x
 Includes-reversed [] x m = m
@@ -37,7 +38,8 @@ row_of_one test rows weak m =
     (named.0, kept.0, kept.1, named.2)
 
 pub one_of_row : (test : Row → Bool) (rows : List Row) (r : Row) → Includes rows r → test r ≡ true → Includes (newest_first test rows) r.weak
-one_of_row test rows r m passes = Includes-reversed (map (λ (r : Row). r.weak) (filter test rows)) r.weak (Includes-map (λ (r : Row). r.weak) (filter test rows) r (Includes-filter test rows r passes m))
+one_of_row test rows r m passes = Includes-reversed (map (λ (r : Row). r.weak) (filter test rows)) r.weak (Includes-map (λ (r : Row). r.weak) (filter test rows)
+    r (Includes-filter test rows r passes m))
 
 -- rising rows before and after one of them
 pub record Split (rows : List Row) (r : Row) : Type 0 where
@@ -69,7 +71,8 @@ filter-append : (test : Row → Bool) (xs ys : List Row) → filter test (xs ++ 
 filter-append test [] ys = refl
 filter-append test (x ∷ xs) ys = go (test x) (filter-append test xs ys)
   where
-    go : (b : Bool) → filter test (xs ++ ys) ≡ filter test xs ++ filter test ys → cond b (x ∷ filter test (xs ++ ys)) (filter test (xs ++ ys)) ≡ cond b (x ∷ filter test xs) (filter test xs) ++ filter test ys
+    go : (b : Bool) → filter test (xs ++ ys) ≡ filter test xs ++ filter test ys → cond b (x ∷ filter test (xs ++ ys)) (filter test (xs ++ ys))
+        ≡ cond b (x ∷ filter test xs) (filter test xs) ++ filter test ys
     go true e = ap (λ l. x ∷ l) e
     go false e = e
 
@@ -91,7 +94,8 @@ newest_first-skip test front r back fails =
     ∙ sym (newest_first-append test front back)
 
 -- one that passes is between the others
-pub newest_first-pass : (test : Row → Bool) (front : List Row) (r : Row) (back : List Row) → test r ≡ true → newest_first test (front ++ r ∷ back) ≡ newest_first test back ++ r.weak ∷ newest_first test front
+pub newest_first-pass : (test : Row → Bool) (front : List Row) (r : Row) (back : List Row) → test r ≡ true → newest_first test (front ++ r ∷ back)
+    ≡ newest_first test back ++ r.weak ∷ newest_first test front
 newest_first-pass test front r back passes =
     newest_first-append test front (r ∷ back)
     ∙ ap (λ b. reverse (map (λ (x : Row). x.weak) (cond b (r ∷ filter test back) (filter test back))) ++ newest_first test front) passes
@@ -108,7 +112,8 @@ none_first test rows none = ap (λ l. reverse (map (λ (r : Row). r.weak) l)) (n
 -- the rows after that one is gone, or waits
 kept_all : (weak : ℕ) (rows : List Row) → ((x : Row) → Includes rows x → x.weak ≢ weak) → without_row weak rows ≡ rows
 kept_all weak [] h = refl
-kept_all weak (x ∷ rows) h = ap (λ b. cond (not b) (x ∷ without_row weak rows) (without_row weak rows)) (ne_eqb x.weak weak (h x (inl refl))) ∙ ap (λ l. x ∷ l) (kept_all weak rows (λ y m. h y (inr m)))
+kept_all weak (x ∷ rows) h = ap (λ b. cond (not b) (x ∷ without_row weak rows) (without_row weak rows)) (ne_eqb x.weak weak (h x (inl refl)))
+    ∙ ap (λ l. x ∷ l) (kept_all weak rows (λ y m. h y (inr m)))
 
 same_all : (weak : ℕ) (rows : List Row) → ((x : Row) → Includes rows x → x.weak ≢ weak) → with_row_waiting weak rows ≡ rows
 same_all weak [] h = refl
@@ -173,7 +178,8 @@ module _ (rows : List Row) (r : Row) (s : Split rows r) where
   pub waited-is : r.waits ≡ true → waited_in rows r.weak ≡ Some r.referent
   waited-is waits =
       ap (λ l. waited_in l r.weak) s.is
-      ∙ ap (option_map (λ (x : Row). x.referent)) (find-first (λ x. (x.weak == r.weak) && x.waits) s.front r s.back (λ x m. ap (λ b. b && x.waits) (ne_eqb x.weak r.weak (front_apart rows r s x m))) (λ i. eq-eqb r.weak r.weak refl i && waits i))
+      ∙ ap (option_map (λ (x : Row). x.referent)) (find-first (λ x. (x.weak == r.weak) && x.waits) s.front r s.back
+      (λ x m. ap (λ b. b && x.waits) (ne_eqb x.weak r.weak (front_apart rows r s x m))) (λ i. eq-eqb r.weak r.weak refl i && waits i))
 
   -- After it is gone, or waits, it has no referent, and the others keep theirs.
   referent-front : (q : ℕ) → referent_in (s.front ++ s.back) q ≡ (if q == r.weak then None else referent_in rows q)
@@ -218,7 +224,8 @@ module _ (rows : List Row) (r : Row) (s : Split rows r) where
   -- or if it waits with another object
   pub waiting-other : (o : ℕ) → r.referent ≢ o → (waiting_in (without_row r.weak rows) o ≡ waiting_in rows o) × (r.waits ≡ false → waiting_in (with_row_waiting r.weak rows) o ≡ waiting_in rows o)
   waiting-other o differs = (
-    ap (λ l. waiting_in l o) (without-is rows r s) ∙ sym (newest_first-skip (waits_with o) s.front r s.back (ap (λ b. b && r.waits) (ne_eqb r.referent o differs))) ∙ ap (λ l. waiting_in l o) (sym s.is),
+    ap (λ l. waiting_in l o) (without-is rows r s)
+        ∙ sym (newest_first-skip (waits_with o) s.front r s.back (ap (λ b. b && r.waits) (ne_eqb r.referent o differs))) ∙ ap (λ l. waiting_in l o) (sym s.is),
     λ stays.
         ap (λ l. waiting_in l o) (waiting-is rows r s)
         ∙ newest_first-skip (waits_with o) s.front (waiting_row r) s.back (ap (λ b. b && true) (ne_eqb r.referent o differs))
@@ -227,14 +234,17 @@ module _ (rows : List Row) (r : Row) (s : Split rows r) where
   )
 
   -- a new waiting one comes after all newer ones
-  pub waiting-more : r.waits ≡ false → ((v : ℕ) → Includes (waiting_in rows r.referent) v → r.weak < v) → waiting_in (with_row_waiting r.weak rows) r.referent ≡ waiting_in rows r.referent ++ r.weak ∷ []
+  pub waiting-more : r.waits ≡ false → ((v : ℕ) → Includes (waiting_in rows r.referent) v → r.weak < v) → waiting_in (with_row_waiting r.weak rows) r.referent
+      ≡ waiting_in rows r.referent ++ r.weak ∷ []
   waiting-more stays newer =
       let o : ℕ = r.referent in
       let none : newest_first (waits_with o) s.front ≡ [] = none_first (waits_with o) s.front (λ x m. older x m (waits_with o x) refl) in
       ap (λ l. waiting_in l o) (waiting-is rows r s)
       ∙ newest_first-pass (waits_with o) s.front (waiting_row r) s.back (ap (λ b. b && true) (eq-eqb r.referent o refl))
       ∙ ap (λ l. newest_first (waits_with o) s.back ++ r.weak ∷ l) none
-      ∙ ap (λ l. l ++ r.weak ∷ []) (sym (ap (λ l. waiting_in l o) s.is ∙ newest_first-skip (waits_with o) s.front r s.back (ap (λ b. (r.referent == o) && b) stays ∙ no_and (r.referent == o)) ∙ newest_first-append (waits_with o) s.front s.back ∙ ap (λ l. newest_first (waits_with o) s.back ++ l) none ∙ append_nothing (newest_first (waits_with o) s.back)))
+      ∙ ap (λ l. l ++ r.weak ∷ []) (sym (ap (λ l. waiting_in l o) s.is ∙ newest_first-skip (waits_with o) s.front r s.back
+      (ap (λ b. (r.referent == o) && b) stays ∙ no_and (r.referent == o)) ∙ newest_first-append (waits_with o) s.front s.back
+      ∙ ap (λ l. newest_first (waits_with o) s.back ++ l) none ∙ append_nothing (newest_first (waits_with o) s.back)))
     where
       no_and : (b : Bool) → (b && false) ≡ false
       no_and true = refl
@@ -260,9 +270,11 @@ module _ (rows : List Row) (r : Row) (s : Split rows r) where
       let none : newest_first (waits_with r.referent) s.back ≡ [] = nothing (newest_first (waits_with r.referent) s.back) (λ v m. m) (ap (λ l. slice_get l 0) (sym spelled) ∙ first) in
       spelled
       ∙ ap (λ l. l ++ r.weak ∷ newest_first (waits_with r.referent) s.front) none
-      ∙ ap (λ l. r.weak ∷ l) (sym (ap (λ l. waiting_in l r.referent) (without-is rows r s) ∙ newest_first-append (waits_with r.referent) s.front s.back ∙ ap (λ l. l ++ newest_first (waits_with r.referent) s.front) none))
+      ∙ ap (λ l. r.weak ∷ l) (sym (ap (λ l. waiting_in l r.referent) (without-is rows r s) ∙ newest_first-append (waits_with r.referent) s.front s.back
+      ∙ ap (λ l. l ++ newest_first (waits_with r.referent) s.front) none))
     where
-      nothing : (xs : List ℕ) → ((v : ℕ) → Includes xs v → Includes (newest_first (waits_with r.referent) s.back) v) → slice_get (xs ++ r.weak ∷ newest_first (waits_with r.referent) s.front) 0 ≡ Some r.weak → xs ≡ []
+      nothing : (xs : List ℕ) → ((v : ℕ) → Includes xs v → Includes (newest_first (waits_with r.referent) s.back) v)
+          → slice_get (xs ++ r.weak ∷ newest_first (waits_with r.referent) s.front) 0 ≡ Some r.weak → xs ≡ []
       nothing [] inside e = refl
       nothing (x ∷ xs) inside e =
           let same : x ≡ r.weak = cc in
@@ -274,11 +286,14 @@ module _ (rows : List Row) (r : Row) (s : Split rows r) where
 pub left-in : (weak : ℕ) (rows : List Row) (x : Row) → Includes (without_row weak rows) x → Includes rows x
 left-in weak rows x m = (Includes-filter_cases (λ y. not (y.weak == weak)) rows x m).0
 
-pub waiting-in : (weak : ℕ) (rows : List Row) (x : Row) → Includes (with_row_waiting weak rows) x → x.waits ≡ true → ((y : Row) × Includes rows y × (y.waits ≡ true) × (y.referent ≡ x.referent)) ⊎ ((y : Row) × Includes rows y × (y.weak ≡ weak) × (y.referent ≡ x.referent))
+pub waiting-in : (weak : ℕ) (rows : List Row) (x : Row) → Includes (with_row_waiting weak rows) x → x.waits ≡ true
+    → ((y : Row) × Includes rows y × (y.waits ≡ true) × (y.referent ≡ x.referent)) ⊎ ((y : Row) × Includes rows y × (y.weak ≡ weak) × (y.referent ≡ x.referent))
 waiting-in weak rows x m waits =
     let from = Includes-map_cases (λ y. if y.weak == weak then waiting_row y else y) rows x m in go from.0 (from.0.weak == weak) refl from.1 from.2
   where
-    go : (y : Row) (b : Bool) → (y.weak == weak) ≡ b → Includes rows y → (if y.weak == weak then waiting_row y else y) ≡ x → ((y : Row) × Includes rows y × (y.waits ≡ true) × (y.referent ≡ x.referent)) ⊎ ((y : Row) × Includes rows y × (y.weak ≡ weak) × (y.referent ≡ x.referent))
+    go : (y : Row) (b : Bool) → (y.weak == weak) ≡ b → Includes rows y → (if y.weak == weak then waiting_row y else y) ≡ x
+        → ((y : Row) × Includes rows y × (y.waits ≡ true) × (y.referent ≡ x.referent)) ⊎ ((y : Row) × Includes rows y × (y.weak ≡ weak)
+        × (y.referent ≡ x.referent))
     go y true is inside same = inr (y, inside, eqb-true y.weak weak is, ap (λ (z : Row). z.referent) (sym (ap (λ b. if b then waiting_row y else y) is) ∙ same))
     go y false is inside same =
         let e : y ≡ x = sym (ap (λ b. if b then waiting_row y else y) is) ∙ same in

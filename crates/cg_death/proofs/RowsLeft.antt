@@ -33,7 +33,8 @@ all_left P weak rows all = all_of P (without_row weak rows) (λ x m. all_in P ro
 pub others_waiting : (o weak : ℕ) (rows : List Row) → All (λ r. r.weak ≢ o) rows → All (λ r. r.weak ≢ o) (with_row_waiting weak rows)
 others_waiting o weak [] all = All-nil (λ r. r.weak ≢ o)
 others_waiting o weak (x ∷ rows) all =
-    All-cons (λ r. r.weak ≢ o) (if x.weak == weak then waiting_row x else x) (with_row_waiting weak rows) (one (x.weak == weak) (All-head (λ r. r.weak ≢ o) x rows all)) (others_waiting o weak rows (All-tail (λ r. r.weak ≢ o) x rows all))
+    All-cons (λ r. r.weak ≢ o) (if x.weak == weak then waiting_row x else x) (with_row_waiting weak rows)
+    (one (x.weak == weak) (All-head (λ r. r.weak ≢ o) x rows all)) (others_waiting o weak rows (All-tail (λ r. r.weak ≢ o) x rows all))
   where
     one : (b : Bool) → x.weak ≢ o → (if b then waiting_row x else x).weak ≢ o
     one true differs = differs
@@ -56,7 +57,8 @@ newest_is_greatest test rows weak w rise newest m =
     (λ k. either k
     (λ e. let same : top.0.weak ≡ one.0.weak = ap (λ (r : Row). r.weak) e in omega (arith, same, top.3, one.3))
     (λ n.
-    let inside = first_inside (newest_first test s.back) (top.0.weak ∷ newest_first test s.front) one.0.weak weak (one_of_row test s.back one.0 n one.2) (ap (λ l. slice_get l 0) (sym spelled) ∙ newest) in
+    let inside = first_inside (newest_first test s.back) (top.0.weak ∷ newest_first test s.front) one.0.weak weak (one_of_row test s.back one.0 n one.2)
+    (ap (λ l. slice_get l 0) (sym spelled) ∙ newest) in
     let found = row_of_one test s.back weak inside in
     let high = s.higher found.0 found.1 in
     absurd (omega (arith, high, found.3, top.3))))
@@ -69,7 +71,8 @@ refers_before o weak rows w m =
     let from = Includes-map_cases (λ (r : Row). if r.weak == weak then waiting_row r else r) rows found.0 found.1 in
     go from.0 found.0 (from.0.weak == weak) refl from.1 from.2 (not-true found.0.waits parts.1) found.2 found.3
   where
-    go : (y x : Row) (b : Bool) → (y.weak == weak) ≡ b → Includes rows y → (if y.weak == weak then waiting_row y else y) ≡ x → x.waits ≡ false → refers_to o x ≡ true → x.weak ≡ w → Includes (weak_references_in rows o) w × (w ≢ weak)
+    go : (y x : Row) (b : Bool) → (y.weak == weak) ≡ b → Includes rows y → (if y.weak == weak then waiting_row y else y) ≡ x → x.waits ≡ false → refers_to o x
+        ≡ true → x.weak ≡ w → Includes (weak_references_in rows o) w × (w ≢ weak)
     go y x true is inside same stays passes named =
         let waits : true ≡ x.waits = ap (λ (z : Row). z.waits) (sym (ap (λ b. if b then waiting_row y else y) is) ∙ same) in
         absurd (let no : true ≡ false = waits ∙ stays in cc)

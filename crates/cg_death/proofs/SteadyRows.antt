@@ -50,11 +50,13 @@ none_refers : (test : Object → Bool) (store : Store) (o : ℕ) → AreRows sto
 none_refers test store o ok none only = known (passes test store o) refl
   where
     known : (b : Bool) → passes test store o ≡ b → NoneRefers store o
-    known true e = sym (weak_references-are store ok o) ∙ none_first (weak_references (objects_of store) o) (ap (λ b. slice_get (if b then weak_references (objects_of store) o else []) 0) (sym e) ∙ none)
+    known true e = sym (weak_references-are store ok o) ∙ none_first (weak_references (objects_of store) o)
+        (ap (λ b. slice_get (if b then weak_references (objects_of store) o else []) 0) (sym e) ∙ none)
     known false e = only e
 
 -- The newest of them in the rows.
-newest_in_rows : (test : Object → Bool) (store : Store) (o weak : ℕ) → AreRows store → slice_get (weak_references_if test (objects_of store) o) 0 ≡ Some weak → slice_get (weak_references_in store.rows o) 0 ≡ Some weak
+newest_in_rows : (test : Object → Bool) (store : Store) (o weak : ℕ) → AreRows store → slice_get (weak_references_if test (objects_of store) o) 0 ≡ Some weak
+    → slice_get (weak_references_in store.rows o) 0 ≡ Some weak
 newest_in_rows test store o weak ok newest = known (passes test store o) refl
   where
     known : (b : Bool) → passes test store o ≡ b → slice_get (weak_references_in store.rows o) 0 ≡ Some weak
@@ -75,7 +77,8 @@ module _ (store : Store) (o weak : ℕ) (ok : AreRows store) (refers : referent_
   both i = (eqb-true row.referent o (true_and (row.referent == o) (not row.waits) (row_there store.rows weak o refers).2).0 i, (row_there store.rows weak o refers).3 i)
 
   refers_in : Includes (weak_references_in store.rows o) weak
-  refers_in = subst (λ (q : ℕ × ℕ). Includes (weak_references_in store.rows q.0) q.1) both (one_of_row (refers_to row.referent) store.rows row inside (λ i. eq-eqb row.referent row.referent refl i && not (stays i)))
+  refers_in = subst (λ (q : ℕ × ℕ). Includes (weak_references_in store.rows q.0) q.1) both (one_of_row (refers_to row.referent) store.rows row inside
+      (λ i. eq-eqb row.referent row.referent refl i && not (stays i)))
 
   -- it is another object
   is_other : All (λ r. r.weak ≢ o) store.rows → weak ≢ o
@@ -84,10 +87,12 @@ module _ (store : Store) (o weak : ℕ) (ok : AreRows store) (refers : referent_
   -- the waiting ones after it waits, and after it is gone
   waits_now : AreNewer store o → waiting_in (with_row_waiting weak store.rows) o ≡ waiting_in store.rows o ++ weak ∷ []
   waits_now = subst (λ (q : ℕ × ℕ). AreNewer store q.0 → waiting_in (with_row_waiting q.1 store.rows) q.0 ≡ waiting_in store.rows q.0 ++ q.1 ∷ []) both
-      (λ newer. waiting-more store.rows row (split_at store.rows row ok.rise inside) stays (λ v i. newer v row.weak i (subst (λ (q : ℕ × ℕ). Includes (weak_references_in store.rows q.0) q.1) (sym both) refers_in)))
+      (λ newer. waiting-more store.rows row (split_at store.rows row ok.rise inside) stays
+      (λ v i. newer v row.weak i (subst (λ (q : ℕ × ℕ). Includes (weak_references_in store.rows q.0) q.1) (sym both) refers_in)))
 
   pub waits_still : waiting_in (without_row weak store.rows) o ≡ waiting_in store.rows o
-  waits_still = subst (λ (q : ℕ × ℕ). waiting_in (without_row q.1 store.rows) q.0 ≡ waiting_in store.rows q.0) both (waiting-without store.rows row (split_at store.rows row ok.rise inside) stays row.referent)
+  waits_still = subst (λ (q : ℕ × ℕ). waiting_in (without_row q.1 store.rows) q.0 ≡ waiting_in store.rows q.0) both
+      (waiting-without store.rows row (split_at store.rows row ok.rise inside) stays row.referent)
 
   -- an object that it refers to may have weak references
   may_have : (test : Object → Bool) (new : Store) → passes test new o ≡ passes test store o → RefersOnlyIf test store o → RefersOnlyIf test new o
@@ -117,7 +122,8 @@ not_in_one : (o weak : ℕ) → weak ≢ o → occurrences o (weak ∷ []) ≡ 0
 not_in_one o weak differs = let none : cond {A = ℕ} (weak == o) 1 0 ≡ 0 = ap (λ b. cond {A = ℕ} b 1 0) (ne_eqb weak o differs) in omega (arith, occurrences-cons o weak [], none)
 
 -- None is left to clear.
-pub steady-all_cleared : (script : Script) (store : Store) (o : ℕ) → AreRows store → slice_get (weak_references_if has_weak_references (objects_of store) o) 0 ≡ None → IsSteadyAt script store o phase_of.Clearing None → IsSteadyAt script store o phase_of.Calling None
+pub steady-all_cleared : (script : Script) (store : Store) (o : ℕ) → AreRows store → slice_get (weak_references_if has_weak_references (objects_of store) o) 0
+    ≡ None → IsSteadyAt script store o phase_of.Clearing None → IsSteadyAt script store o phase_of.Calling None
 steady-all_cleared script store o ok none s = record {
   ready = (s.ready.0, s.rows.0);
   during = tt;
@@ -137,7 +143,8 @@ module _ (script : Script) (store : Store) (o weak : ℕ) (sound : IsSound store
   lost_unheld : IsUnheld store o → IsUnheld lost_store o
   lost_unheld u = record { live = u.live; none = u.none }
 
-  steady-waits : slice_get (weak_references_if has_weak_references (objects_of store) o) 0 ≡ Some weak → is_some (callback_of (objects_of store) weak) ≡ true → IsSteadyAt script store o phase_of.Clearing None → IsSteadyAt script waiting_store o phase_of.Clearing None
+  steady-waits : slice_get (weak_references_if has_weak_references (objects_of store) o) 0 ≡ Some weak → is_some (callback_of (objects_of store) weak) ≡ true
+      → IsSteadyAt script store o phase_of.Clearing None → IsSteadyAt script waiting_store o phase_of.Clearing None
   steady-waits newest has s =
       let now : waiting_in (with_row_waiting weak store.rows) o ≡ waiting_in store.rows o ++ weak ∷ [] = waits_now store o weak sound.rows refers s.ready.1 in
       let once_held = unheld-held store o s.ready.0 (weak ∷ []) (not_in_one o weak (is_other store o weak sound.rows refers s.no_own_row)) in
@@ -162,7 +169,8 @@ module _ (script : Script) (store : Store) (o weak : ℕ) (sound : IsSound store
               arith,
               is,
               was,
-              outside-held (weak ∷ []) store q (λ h. subst (IsLive store) (sym (Rattle.cg_death.proofs.Places.only-one weak q h)) (Rattle.cg_heap.proofs.CallerLemmas.live_of_kind store weak Weak code.0)),
+              outside-held (weak ∷ []) store q (λ h. subst (IsLive store) (sym (Rattle.cg_death.proofs.Places.only-one weak q h))
+                  (Rattle.cg_heap.proofs.CallerLemmas.live_of_kind store weak Weak code.0)),
               occurrences-append q (waiting_in store.rows o ++ weak ∷ []) [],
               occurrences-append q (waiting_in store.rows o) (weak ∷ []),
               occurrences-append q (waiting_in store.rows o) [],
@@ -173,7 +181,8 @@ module _ (script : Script) (store : Store) (o weak : ℕ) (sound : IsSound store
               (λ k. either k
               (λ e. subst (HasCallback waiting_store) e (let had = has_callback store weak sound.well code.0 has in (had.0, entries-held (weak ∷ []) store weak ∙ had.1)))
               (λ n. absurd n)),
-          may_have store o weak sound.rows refers has_weak_references waiting_store (passes-mapped has_weak_references weak_references_by_kind (λ q n. more (occurrences q (weak ∷ [])) n) (λ q n. refl) (λ q n. refl) store waiting_store refl o) s.rows.1,
+          may_have store o weak sound.rows refers has_weak_references waiting_store (passes-mapped has_weak_references weak_references_by_kind
+              (λ q n. more (occurrences q (weak ∷ [])) n) (λ q n. refl) (λ q n. refl) store waiting_store refl o) s.rows.1,
         );
         no_own_row = others_waiting o weak store.rows s.no_own_row;
       }
@@ -195,7 +204,8 @@ module _ (script : Script) (store : Store) (o weak : ℕ) (sound : IsSound store
         no_own_row = all_left (λ r. r.weak ≢ o) weak store.rows s.no_own_row;
       }
 
-  pub steady-cleared : (b : Bool) → is_some (callback_of (objects_of store) weak) ≡ b → slice_get (weak_references_if has_weak_references (objects_of store) o) 0 ≡ Some weak → IsSteadyAt script store o phase_of.Clearing None
+  pub steady-cleared : (b : Bool) → is_some (callback_of (objects_of store) weak) ≡ b → slice_get (weak_references_if has_weak_references (objects_of store) o)
+      0 ≡ Some weak → IsSteadyAt script store o phase_of.Clearing None
       → IsSteadyAt script (if b then cleared_weak weak true (held (weak ∷ []) store) else cleared_weak weak false store) o phase_of.Clearing None
   steady-cleared true has newest s = steady-waits newest has s
   steady-cleared false has newest s = steady-lost s
@@ -208,14 +218,20 @@ module _ (script : Script) (store : Store) (o weak : ℕ) (sound : IsSound store
     held = no_holds lost_store;
     rows = (
       waits_still store o weak sound.rows refers ∙ s.rows.0,
-      may_have store o weak sound.rows refers (has_finalizers script) lost_store (passes-same (has_finalizers script) (Rattle.cg_death.proofs.Steadying.finalizers_by_kind script) store lost_store refl o) s.rows.1,
+      may_have store o weak sound.rows refers (has_finalizers script) lost_store (passes-same (has_finalizers script)
+          (Rattle.cg_death.proofs.Steadying.finalizers_by_kind script) store lost_store refl o) s.rows.1,
     );
     no_own_row = all_left (λ r. r.weak ≢ o) weak store.rows s.no_own_row;
   }
 
-pub steady-all_detached : (script : Script) (store : Store) (o : ℕ) → AreRows store → slice_get (weak_references_if (has_finalizers script) (objects_of store) o) 0 ≡ None → IsSteadyAt script store o phase_of.Detaching None → IsSteadyAt script store o phase_of.Emptying None
+pub steady-all_detached : (script : Script) (store : Store) (o : ℕ) → AreRows store → slice_get (weak_references_if (has_finalizers script) (objects_of store)
+    o) 0 ≡ None → IsSteadyAt script store o phase_of.Detaching None → IsSteadyAt script store o phase_of.Emptying None
 steady-all_detached script store o ok none s = record {
-  ready = (s.ready, in_no_row store.rows o s.no_own_row (no_referent store.rows o (ap (λ l. slice_get l 0) (none_refers (has_finalizers script) store o ok none s.rows.1)) (ap (λ l. slice_get l 0) s.rows.0)));
+  ready = (
+    s.ready,
+    in_no_row store.rows o s.no_own_row (no_referent store.rows o (ap (λ l. slice_get l 0) (none_refers (has_finalizers script) store o ok none
+        s.rows.1)) (ap (λ l. slice_get l 0) s.rows.0)),
+  );
   during = tt;
   held = no_holds store;
   rows = tt;
@@ -223,7 +239,8 @@ steady-all_detached script store o ok none s = record {
 }
 
 -- No callback is left to call.
-pub steady-all_called : (script : Script) (store : Store) (o : ℕ) → slice_get (waiting_in store.rows o) 0 ≡ None → IsSteadyAt script store o phase_of.Calling None → IsSteadyAt script store o phase_of.LegacyFinalizer None
+pub steady-all_called : (script : Script) (store : Store) (o : ℕ) → slice_get (waiting_in store.rows o) 0 ≡ None → IsSteadyAt script store o phase_of.Calling
+    None → IsSteadyAt script store o phase_of.LegacyFinalizer None
 steady-all_called script store o none s = record {
   ready = s.ready.0;
   during = tt;
@@ -233,7 +250,8 @@ steady-all_called script store o none s = record {
 }
 
 -- The newest waiting one has its callback removed and called.
-module _ (script : Script) (store : Store) (o weak f : ℕ) (sound : IsSound store) (newest : slice_get (waiting_in store.rows o) 0 ≡ Some weak) (entry : entries_of store weak ≡ item (val.Ref f) ∷ []) where
+module _ (script : Script) (store : Store) (o weak f : ℕ) (sound : IsSound store) (newest : slice_get (waiting_in store.rows o) 0 ≡ Some weak)
+    (entry : entries_of store weak ≡ item (val.Ref f) ∷ []) where
   abbrev emptied : Store
   emptied = rewritten weak [] store
 
@@ -295,7 +313,8 @@ module _ (script : Script) (store : Store) (o weak f : ℕ) (sound : IsSound sto
       }
 
 -- A call has ended: the callback was given up, and its weak reference comes next.
-pub steady-call_ended : (script : Script) (store : Store) (o weak f : ℕ) (release : Release) → references_left release ≡ weak ∷ [] → IsSteadyAt script store o (phase_of.AfterCall weak f) None → IsSteadyAt script (unheld (f ∷ []) store) o phase_of.Calling (Some release)
+pub steady-call_ended : (script : Script) (store : Store) (o weak f : ℕ) (release : Release) → references_left release ≡ weak ∷ [] → IsSteadyAt script store o
+    (phase_of.AfterCall weak f) None → IsSteadyAt script (unheld (f ∷ []) store) o phase_of.Calling (Some release)
 steady-call_ended script store o weak f release left s =
     let callbacks : HaveCallbacks (unheld (f ∷ []) store) o = λ w waits. let had = s.rows.0 w waits in (had.0, entries-unheld (f ∷ []) store w ∙ had.1) in
     record {
@@ -303,14 +322,16 @@ steady-call_ended script store o weak f release left s =
       during = unheld-unheld store o s.ready (f ∷ []);
       held = λ q.
           let was = s.held q in
-          let is : occurrences q (references_left release ++ (waiting_in store.rows o ++ [])) ≡ occurrences q (weak ∷ waiting_in store.rows o ++ []) = ap (λ l. occurrences q (l ++ (waiting_in store.rows o ++ []))) left in
+          let is : occurrences q (references_left release ++ (waiting_in store.rows o ++ [])) ≡ occurrences q (weak ∷ waiting_in store.rows o ++ []) =
+          ap (λ l. occurrences q (l ++ (waiting_in store.rows o ++ []))) left in
           omega (arith, was, is, outside-unheld (f ∷ []) store q, occurrences-cons q f (weak ∷ waiting_in store.rows o ++ []), occurrences-cons q f []);
       rows = (callbacks, s.rows.1);
       no_own_row = s.no_own_row;
     }
 
 -- An entry was removed, and its references are to be given up.
-pub steady-taken : (script : Script) (store : Store) (o : ℕ) (e : Entry) (release : Release) → IsSound store → entries_of store o ≡ without_last (entries_of store o) ++ e ∷ [] → references_left release ≡ entry_references e → IsSteadyAt script store o phase_of.Emptying None
+pub steady-taken : (script : Script) (store : Store) (o : ℕ) (e : Entry) (release : Release) → IsSound store → entries_of store o
+    ≡ without_last (entries_of store o) ++ e ∷ [] → references_left release ≡ entry_references e → IsSteadyAt script store o phase_of.Emptying None
     → IsSteadyAt script (held (entry_references e) (rewritten o (without_last (entries_of store o)) store)) o phase_of.Emptying (Some release)
 steady-taken script store o e release sound last left s =
     let rest : List Entry = without_last (entries_of store o) in
@@ -328,7 +349,8 @@ steady-taken script store o e release sound last left s =
             arith,
             is,
             occurrences-append q (entry_references e) [],
-            outside-held (entry_references e) fewer q (λ h. lives_on store fewer (kinds-rewritten o rest store) q (sound.live q (let part = parts q in omega (arith, h, part, entries_hold store o q)))),
+            outside-held (entry_references e) fewer q (λ h. lives_on store fewer (kinds-rewritten o rest store) q
+                (sound.live q (let part = parts q in omega (arith, h, part, entries_hold store o q)))),
           );
       rows = tt;
       no_own_row = s.no_own_row;

@@ -60,7 +60,8 @@ module _ (script : Script) (store : Store) (o : ℕ) (refs : List ℕ) where
   rows_kept phase_of.Emptying r = tt
   rows_kept phase_of.Over r = tt
 
-pub steady-given_up : (script : Script) (store : Store) (o q : ℕ) (phase : Phase) (before after : Option Release) → TakesNext before (Some q) after → IsSteadyAt script store o phase before → IsSteadyAt script (unheld (q ∷ []) store) o phase after
+pub steady-given_up : (script : Script) (store : Store) (o q : ℕ) (phase : Phase) (before after : Option Release) → TakesNext before (Some q) after
+    → IsSteadyAt script store o phase before → IsSteadyAt script (unheld (q ∷ []) store) o phase after
 steady-given_up script store o q phase None after takes s = absurd takes
 steady-given_up script store o q phase (Some release) None takes s = absurd takes
 steady-given_up script store o q phase (Some release) (Some left) takes s = record {
@@ -76,7 +77,8 @@ steady-given_up script store o q phase (Some release) (Some left) takes s = reco
 }
 
 -- none is left to give up
-pub steady-popped : (script : Script) (store : Store) (o : ℕ) (phase : Phase) (before after : Option Release) → TakesNext before None after → IsSteadyAt script store o phase before → IsSteadyAt script store o phase None
+pub steady-popped : (script : Script) (store : Store) (o : ℕ) (phase : Phase) (before after : Option Release) → TakesNext before None after
+    → IsSteadyAt script store o phase before → IsSteadyAt script store o phase None
 steady-popped script store o phase None after takes s = s
 steady-popped script store o phase (Some release) after takes s = record {
   ready = s.ready;
@@ -91,14 +93,16 @@ module _ (script : Script) (store : Store) (o : ℕ) (ok : AreRows store) (u : I
   abbrev placed : Store
   placed = moved o Untracked store
 
-  begun_with : (new : Store) → new.nodes ≡ placed.nodes → IsUnheld new o → ((x : Row) → Includes new.rows x → Includes store.rows x) → All (λ r. r.weak ≢ o) new.rows → IsSteadyAt script new o phase_of.Finalizer None
+  begun_with : (new : Store) → new.nodes ≡ placed.nodes → IsUnheld new o → ((x : Row) → Includes new.rows x → Includes store.rows x)
+      → All (λ r. r.weak ≢ o) new.rows → IsSteadyAt script new o phase_of.Finalizer None
   begun_with new nodes free inside others = record {
     ready = free;
     during = tt;
     held = no_holds new;
     rows = (
       none_of_fewer (waits_with o) store.rows new.rows inside none_waits,
-      λ fails. none_of_fewer (refers_to o) store.rows new.rows inside (only-moved has_weak_references weak_references_by_kind Untracked store o fresh.refers (sym (passes-same has_weak_references weak_references_by_kind placed new nodes o) ∙ fails)),
+      λ fails. none_of_fewer (refers_to o) store.rows new.rows inside (only-moved has_weak_references weak_references_by_kind Untracked store o fresh.refers
+          (sym (passes-same has_weak_references weak_references_by_kind placed new nodes o) ∙ fails)),
     );
     no_own_row = others;
   }

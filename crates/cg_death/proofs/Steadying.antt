@@ -39,7 +39,8 @@ pub finalizers_by_kind : (script : Script) → IsByKind (has_finalizers script)
 finalizers_by_kind script x y code class = λ i. has_finalizers script (record x { code = code i; class = class i })
 
 -- such a test gives the same result where nodes keep both
-pub passes-mapped : (test : Object → Bool) → IsByKind test → (g : ℕ → Node → Node) → ((s : ℕ) (n : Node) → (g s n).code ≡ n.code) → ((s : ℕ) (n : Node) → (g s n).class ≡ n.class) → (old new : Store) → new.nodes ≡ mapped g old.nodes → (o : ℕ) → passes test new o ≡ passes test old o
+pub passes-mapped : (test : Object → Bool) → IsByKind test → (g : ℕ → Node → Node) → ((s : ℕ) (n : Node) → (g s n).code ≡ n.code)
+    → ((s : ℕ) (n : Node) → (g s n).class ≡ n.class) → (old new : Store) → new.nodes ≡ mapped g old.nodes → (o : ℕ) → passes test new o ≡ passes test old o
 passes-mapped test by_kind g codes classes old new is o =
     ap (λ x. unwrap_or (option_map test x) false) (object-at new o ∙ ap (option_map (object_from new.rows o)) (ap (λ m. fin.get m o) is ∙ get-mapped g old.nodes o))
     ∙ known (fin.get old.nodes o)
@@ -88,13 +89,16 @@ steady-no_finalizer script store o s = record {
 
 -- what refers to it after it moved, and after holds are taken or given up
 only-held : (test : Object → Bool) → IsByKind test → (refs : List ℕ) (store : Store) (o : ℕ) → RefersOnlyIf test store o → RefersOnlyIf test (held refs store) o
-only-held test by_kind refs store o = only_if test store (held refs store) o (passes-mapped test by_kind (λ s n. more (occurrences s refs) n) (λ s n. refl) (λ s n. refl) store (held refs store) refl o) refl
+only-held test by_kind refs store o = only_if test store (held refs store) o (passes-mapped test by_kind (λ s n. more (occurrences s refs) n) (λ s n. refl)
+    (λ s n. refl) store (held refs store) refl o) refl
 
 pub only-unheld : (test : Object → Bool) → IsByKind test → (refs : List ℕ) (store : Store) (o : ℕ) → RefersOnlyIf test store o → RefersOnlyIf test (unheld refs store) o
-only-unheld test by_kind refs store o = only_if test store (unheld refs store) o (passes-mapped test by_kind (λ s n. less (occurrences s refs) n) (λ s n. refl) (λ s n. refl) store (unheld refs store) refl o) refl
+only-unheld test by_kind refs store o = only_if test store (unheld refs store) o (passes-mapped test by_kind (λ s n. less (occurrences s refs) n) (λ s n. refl)
+    (λ s n. refl) store (unheld refs store) refl o) refl
 
 pub only-moved : (test : Object → Bool) → IsByKind test → (p : Place) (store : Store) (o : ℕ) → RefersOnlyIf test store o → RefersOnlyIf test (moved o p store) o
-only-moved test by_kind p store o = only_if test store (moved o p store) o (passes-mapped test by_kind (λ s n. if s == o then with_place p n else n) (λ s n. code (s == o) n) (λ s n. class (s == o) n) store (moved o p store) refl o) refl
+only-moved test by_kind p store o = only_if test store (moved o p store) o (passes-mapped test by_kind (λ s n. if s == o then with_place p n else n)
+    (λ s n. code (s == o) n) (λ s n. class (s == o) n) store (moved o p store) refl o) refl
   where
     code : (b : Bool) (n : Node) → (if b then with_place p n else n).code ≡ n.code
     code true n = refl
@@ -105,7 +109,8 @@ only-moved test by_kind p store o = only_if test store (moved o p store) o (pass
     class false n = refl
 
 only-marked : (test : Object → Bool) → IsByKind test → (store : Store) (o : ℕ) → RefersOnlyIf test store o → RefersOnlyIf test (with_node marked o store) o
-only-marked test by_kind store o = only_if test store (with_node marked o store) o (passes-mapped test by_kind (λ s n. if s == o then marked n else n) (λ s n. code (s == o) n) (λ s n. class (s == o) n) store (with_node marked o store) refl o) refl
+only-marked test by_kind store o = only_if test store (with_node marked o store) o (passes-mapped test by_kind (λ s n. if s == o then marked n else n)
+    (λ s n. code (s == o) n) (λ s n. class (s == o) n) store (with_node marked o store) refl o) refl
   where
     code : (b : Bool) (n : Node) → (if b then marked n else n).code ≡ n.code
     code true n = refl
@@ -120,7 +125,8 @@ own_hold : (store : Store) (o : ℕ) → IsLive store o → HasHolds (held (o �
 own_hold store o live s = omega (arith, outside-held (o ∷ []) store s (λ h. subst (IsLive store) (sym (only-one o s h)) live))
 
 -- Its frame comes next.
-pub steady-finalizer : (script : Script) (store : Store) (o : ℕ) → IsSteadyAt script store o phase_of.Finalizer None → IsSteadyAt script (held (o ∷ []) (with_node marked o (moved o (Gen 0) store))) o phase_of.AfterFinalizer None
+pub steady-finalizer : (script : Script) (store : Store) (o : ℕ) → IsSteadyAt script store o phase_of.Finalizer None
+    → IsSteadyAt script (held (o ∷ []) (with_node marked o (moved o (Gen 0) store))) o phase_of.AfterFinalizer None
 steady-finalizer script store o s =
     let placed : Store = moved o (Gen 0) store in
     let ready : Store = with_node marked o placed in
@@ -129,11 +135,16 @@ steady-finalizer script store o s =
       ready = tt;
       during = tt;
       held = own_hold ready o live;
-      rows = (s.rows.0, only-held has_weak_references weak_references_by_kind (o ∷ []) ready o (only-marked has_weak_references weak_references_by_kind placed o (only-moved has_weak_references weak_references_by_kind (Gen 0) store o s.rows.1)));
+      rows = (
+        s.rows.0,
+        only-held has_weak_references weak_references_by_kind (o ∷ []) ready o (only-marked has_weak_references weak_references_by_kind placed o
+            (only-moved has_weak_references weak_references_by_kind (Gen 0) store o s.rows.1)),
+      );
       no_own_row = s.no_own_row;
     }
 
-pub steady-legacy : (script : Script) (store : Store) (o : ℕ) → IsSteadyAt script store o phase_of.LegacyFinalizer None → IsSteadyAt script (held (o ∷ []) (moved o (Gen 0) store)) o phase_of.AfterLegacy None
+pub steady-legacy : (script : Script) (store : Store) (o : ℕ) → IsSteadyAt script store o phase_of.LegacyFinalizer None
+    → IsSteadyAt script (held (o ∷ []) (moved o (Gen 0) store)) o phase_of.AfterLegacy None
 steady-legacy script store o s =
     let placed : Store = moved o (Gen 0) store in
     record {
@@ -160,7 +171,8 @@ ended_ready store o live none = unheld-moved (unheld (o ∷ []) store) o Untrack
 ended_only : (test : Object → Bool) → IsByKind test → (store : Store) (o : ℕ) → RefersOnlyIf test store o → RefersOnlyIf test (moved o Untracked (unheld (o ∷ []) store)) o
 ended_only test by_kind store o was = only-moved test by_kind Untracked (unheld (o ∷ []) store) o (only-unheld test by_kind (o ∷ []) store o was)
 
-pub steady-frame_ended : (script : Script) (store : Store) (o : ℕ) → 0 < outside_of store o → count_of (unheld (o ∷ []) store) o ≡ 0 → IsSteadyAt script store o phase_of.AfterFinalizer None → IsSteadyAt script (moved o Untracked (unheld (o ∷ []) store)) o phase_of.Clearing None
+pub steady-frame_ended : (script : Script) (store : Store) (o : ℕ) → 0 < outside_of store o → count_of (unheld (o ∷ []) store) o ≡ 0 → IsSteadyAt script store o
+    phase_of.AfterFinalizer None → IsSteadyAt script (moved o Untracked (unheld (o ∷ []) store)) o phase_of.Clearing None
 steady-frame_ended script store o has none s =
     let new : Store = moved o Untracked (unheld (o ∷ []) store) in
     record {
@@ -171,7 +183,8 @@ steady-frame_ended script store o has none s =
       no_own_row = s.no_own_row;
     }
 
-pub steady-legacy_ended : (script : Script) (store : Store) (o : ℕ) → 0 < outside_of store o → count_of (unheld (o ∷ []) store) o ≡ 0 → IsSteadyAt script store o phase_of.AfterLegacy None → IsSteadyAt script (moved o Untracked (unheld (o ∷ []) store)) o phase_of.Detaching None
+pub steady-legacy_ended : (script : Script) (store : Store) (o : ℕ) → 0 < outside_of store o → count_of (unheld (o ∷ []) store) o ≡ 0 → IsSteadyAt script store
+    o phase_of.AfterLegacy None → IsSteadyAt script (moved o Untracked (unheld (o ∷ []) store)) o phase_of.Detaching None
 steady-legacy_ended script store o has none s =
     let new : Store = moved o Untracked (unheld (o ∷ []) store) in
     record {

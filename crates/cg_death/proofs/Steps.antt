@@ -26,8 +26,11 @@ use Rattle.cg_death.proofs.Turns.{here, rephased, death}
 
 -- A step that prints nothing and changes only the stack, and then an answer. Neither it nor the next is a reachability pass of a
 -- collection.
-module _ (script : Script) (v : World) (before between : List Activity) (step : StepOf script (with_stack before v) before [] (with_stack between v)) (none : detects before ≡ false) (next : detects between ≡ false) (new : Store) (stack : List Activity) where
-  went : (e : List Rattle.cg_machine.specs.declared.event.Event.Event) (numbers : Rattle.cg_machine.specs.World.Numbers) → (with_stack before v).outcome ≡ Rattle.cg_machine.specs.World.Running → WentOn script (with_stack between v) e numbers new stack → WentOn script (with_stack before v) e numbers new stack
+module _ (script : Script) (v : World) (before between : List Activity) (step : StepOf script (with_stack before v) before [] (with_stack between v))
+    (none : detects before ≡ false) (next : detects between ≡ false) (new : Store) (stack : List Activity) where
+  went : (e : List Rattle.cg_machine.specs.declared.event.Event.Event) (numbers : Rattle.cg_machine.specs.World.Numbers) → (with_stack before v).outcome
+      ≡ Rattle.cg_machine.specs.World.Running → WentOn script (with_stack between v) e numbers new stack → WentOn script (with_stack before v) e numbers new
+      stack
   went e numbers running a = record {
     goes = record {
       after = a.goes.after;
@@ -38,7 +41,8 @@ module _ (script : Script) (v : World) (before between : List Activity) (step : 
     keeps = record { numbers = a.keeps.numbers; budget = a.keeps.budget; outcome = a.keeps.outcome };
   }
 
-  pub first_then : (answer : DeathStep) → v.outcome ≡ Rattle.cg_machine.specs.World.Running → DeathAnswer script (with_stack between v) new stack answer → DeathAnswer script (with_stack before v) new stack answer
+  pub first_then : (answer : DeathStep) → v.outcome ≡ Rattle.cg_machine.specs.World.Running → DeathAnswer script (with_stack between v) new stack answer
+      → DeathAnswer script (with_stack before v) new stack answer
   first_then answer_of.Continue running a = went [] v.numbers running a
   first_then (answer_of.Emit event) running a = went (event ∷ []) _ running a
   first_then (answer_of.Frame spec) running a = record {
@@ -63,7 +67,8 @@ module _ (script : Script) (v : World) (before between : List Activity) (step : 
 
 -- what a release answers, a death answers
 pub of_release : (script : Script) (w : World) (below : List Activity) (new : Store) (left : List ℕ) (o : ℕ) (b : Bool)
-    → ReleaseAnswer script w below new left (if b then answer_of.Died o else answer_of.Continue) → DeathAnswer script w new (Releasing left ∷ below) (if b then answer_of.Died o else answer_of.Continue)
+    → ReleaseAnswer script w below new left (if b then answer_of.Died o else answer_of.Continue) → DeathAnswer script w new (Releasing left ∷ below)
+    (if b then answer_of.Died o else answer_of.Continue)
 of_release script w below new left o true a = a
 of_release script w below new left o false a = a
 
@@ -83,7 +88,9 @@ module _ (store : Store) (v : World) (stack : List Activity) where
   }
 
 -- A death that is not over is not a collection.
-pub after_pop : (script : Script) (store : Store) (tops : List Activity) (new : Store) (tops_after : List Activity) (answer : DeathStep) → ((below : List Activity) → detects (tops ++ below) ≡ false) → DeathSteps script store tops new tops_after answer → DeathSteps script store (Releasing [] ∷ tops) new tops_after answer
+pub after_pop : (script : Script) (store : Store) (tops : List Activity) (new : Store) (tops_after : List Activity) (answer : DeathStep)
+    → ((below : List Activity) → detects (tops ++ below) ≡ false) → DeathSteps script store tops new tops_after answer → DeathSteps script store (Releasing []
+    ∷ tops) new tops_after answer
 after_pop script store tops new tops_after answer none steps =
     steps_at script store (Releasing [] ∷ tops) new tops_after answer
     (λ v below s.
@@ -91,7 +98,8 @@ after_pop script store tops new tops_after answer none steps =
     (steps (with_stack (tops ++ below) v) below (stands-popped store v (tops ++ below) s)))
 
 -- Giving up a reference above a death is a step of the release.
-pub gives_up_above : (script : Script) (store new : Store) (q : ℕ) (left : List ℕ) (tops : List Activity) → new ≡ unheld (q ∷ []) store → DeathSteps script store (Releasing (q ∷ left) ∷ tops) new (Releasing left ∷ tops) (if count_of new q == 0 then answer_of.Died q else answer_of.Continue)
+pub gives_up_above : (script : Script) (store new : Store) (q : ℕ) (left : List ℕ) (tops : List Activity) → new ≡ unheld (q ∷ []) store
+    → DeathSteps script store (Releasing (q ∷ left) ∷ tops) new (Releasing left ∷ tops) (if count_of new q == 0 then answer_of.Died q else answer_of.Continue)
 gives_up_above script store new q left tops is =
     steps_at script store (Releasing (q ∷ left) ∷ tops) new (Releasing left ∷ tops) (if count_of new q == 0 then answer_of.Died q else answer_of.Continue)
     (λ v below s. of_release script (with_stack (Releasing (q ∷ left) ∷ tops ++ below) v) (tops ++ below) new left q (count_of new q == 0) (given_up script store v q left (tops ++ below) s new is))
@@ -105,28 +113,38 @@ module _ (script : Script) (store : Store) (o weak callback : ℕ) where
       → DeathStands store (with_stack (Releasing (callback ∷ weak ∷ []) ∷ death_of o (Calling ws) ∷ below) v) (Releasing (callback ∷ weak ∷ []) ∷ death_of o (Calling ws) ∷ below)
   stands-pushed v below s = record {
     represents = represents store (with_stack (Releasing (callback ∷ weak ∷ []) ∷ death_of o (Calling ws) ∷ below) v)
-        (pushed store v (callback ∷ weak ∷ []) (death_of o (Calling ws) ∷ below) (rephased store v o (AfterCall weak callback ws) below (Calling ws) refl (matches store (here store v o (AfterCall weak callback ws) below) s.represents)))
+        (pushed store v (callback ∷ weak ∷ []) (death_of o (Calling ws) ∷ below) (rephased store v o (AfterCall weak callback ws) below (Calling ws) refl
+        (matches store (here store v o (AfterCall weak callback ws) below) s.represents)))
         s.represents.outside;
     top = refl;
     running = s.running;
     unheld = λ d m. either m (λ e. cc) (λ k. either k
-        (λ e. let same : death o (Calling ws) ≡ d = cc in subst (λ (x : Death). IsHeldInItsFramesAlone x.object x.phase (holdings (here store v o (AfterCall weak callback ws) below))) same (s.unheld (death o (AfterCall weak callback ws)) (inl refl)))
+        (λ e. let same : death o (Calling ws) ≡ d = cc in subst (λ (x : Death). IsHeldInItsFramesAlone x.object x.phase
+        (holdings (here store v o (AfterCall weak callback ws) below))) same (s.unheld (death o (AfterCall weak callback ws)) (inl refl)))
         (λ n. s.unheld d (inr n)));
     once = λ q.
         let was = s.once q in
-        let old : count_by (is_death_of q) (death_of o (AfterCall weak callback ws) ∷ below) ≡ cond {A = ℕ} (o == q) 1 0 + count_by (is_death_of q) below = sum_by-cons (λ (b : Activity). cond {A = ℕ} (is_death_of q b) 1 0) (death_of o (AfterCall weak callback ws)) below in
-        let now : count_by (is_death_of q) (death_of o (Calling ws) ∷ below) ≡ cond {A = ℕ} (o == q) 1 0 + count_by (is_death_of q) below = sum_by-cons (λ (b : Activity). cond {A = ℕ} (is_death_of q b) 1 0) (death_of o (Calling ws)) below in
+        let old : count_by (is_death_of q) (death_of o (AfterCall weak callback ws) ∷ below) ≡ cond {A = ℕ} (o == q) 1 0 + count_by (is_death_of q) below =
+        sum_by-cons (λ (b : Activity). cond {A = ℕ} (is_death_of q b) 1 0) (death_of o (AfterCall weak callback ws)) below in
+        let now : count_by (is_death_of q) (death_of o (Calling ws) ∷ below) ≡ cond {A = ℕ} (o == q) 1 0 + count_by (is_death_of q) below =
+        sum_by-cons (λ (b : Activity). cond {A = ℕ} (is_death_of q b) 1 0) (death_of o (Calling ws)) below in
         omega (arith, was, old, now, count_release q (callback ∷ weak ∷ []) (death_of o (Calling ws) ∷ below));
   }
 
   pub turn-call_ended : (new : Store) (release : Release) → new ≡ unheld (callback ∷ []) store → references_left release ≡ weak ∷ []
-      → DeathSteps script store (activities o (phase_of.AfterCall weak callback) None store) new (activities o phase_of.Calling (Some release) new) (if count_of new callback == 0 then answer_of.Died callback else answer_of.Continue)
+      → DeathSteps script store (activities o (phase_of.AfterCall weak callback) None store) new (activities o phase_of.Calling (Some release) new)
+      (if count_of new callback == 0 then answer_of.Died callback else answer_of.Continue)
   turn-call_ended new release is left =
-      steps_at script store (death_of o (AfterCall weak callback ws) ∷ []) new (Releasing (references_left release) ∷ death_of o (Calling (waiting_for new o)) ∷ []) (if count_of new callback == 0 then answer_of.Died callback else answer_of.Continue)
+      steps_at script store (death_of o (AfterCall weak callback ws) ∷ []) new (Releasing (references_left release) ∷ death_of o (Calling (waiting_for new o))
+      ∷ []) (if count_of new callback == 0 then answer_of.Died callback else answer_of.Continue)
       (λ v below s.
-      subst (λ l. DeathAnswer script (here store v o (AfterCall weak callback ws) below) new (Releasing l ∷ death_of o (Calling (waiting_for new o)) ∷ below) (if count_of new callback == 0 then answer_of.Died callback else answer_of.Continue)) (sym left)
-      (subst (λ us. DeathAnswer script (here store v o (AfterCall weak callback ws) below) new (Releasing (weak ∷ []) ∷ death_of o (Calling us) ∷ below) (if count_of new callback == 0 then answer_of.Died callback else answer_of.Continue)) (ap (λ st. waiting_for st o) (sym is))
-      (first_then script v (death_of o (AfterCall weak callback ws) ∷ below) (Releasing (callback ∷ weak ∷ []) ∷ death_of o (Calling ws) ∷ below) (refl, refl) refl refl new (Releasing (weak ∷ []) ∷ death_of o (Calling ws) ∷ below) (if count_of new callback == 0 then answer_of.Died callback else answer_of.Continue) s.running
+      subst (λ l. DeathAnswer script (here store v o (AfterCall weak callback ws) below) new (Releasing l ∷ death_of o (Calling (waiting_for new o)) ∷ below)
+      (if count_of new callback == 0 then answer_of.Died callback else answer_of.Continue)) (sym left)
+      (subst (λ us. DeathAnswer script (here store v o (AfterCall weak callback ws) below) new (Releasing (weak ∷ []) ∷ death_of o (Calling us) ∷ below)
+      (if count_of new callback == 0 then answer_of.Died callback else answer_of.Continue)) (ap (λ st. waiting_for st o) (sym is))
+      (first_then script v (death_of o (AfterCall weak callback ws) ∷ below) (Releasing (callback ∷ weak ∷ []) ∷ death_of o (Calling ws) ∷ below) (refl, refl)
+      refl refl new (Releasing (weak ∷ []) ∷ death_of o (Calling ws) ∷ below) (if count_of new callback == 0 then answer_of.Died callback
+      else answer_of.Continue) s.running
       (of_release script (with_stack (Releasing (callback ∷ weak ∷ []) ∷ death_of o (Calling ws) ∷ below) v) (death_of o (Calling ws) ∷ below) new (weak ∷ []) callback (count_of new callback == 0)
       (given_up script store v callback (weak ∷ []) (death_of o (Calling ws) ∷ below) (stands-pushed v below s) new is)))))
 
@@ -136,8 +154,11 @@ pub step-given_up : (script : Script) (store new : Store) (o q : ℕ) (phase : P
 step-given_up script store new o q phase None after takes is = absurd takes
 step-given_up script store new o q phase (Some release) None takes is = absurd takes
 step-given_up script store new o q phase (Some release) (Some left) takes is =
-    subst (λ st. DeathSteps script store (Releasing (references_left release) ∷ death_activities o phase (waiting_for store o)) new (Releasing (references_left left) ∷ death_activities o phase (waiting_for st o)) (if count_of new q == 0 then answer_of.Died q else answer_of.Continue)) (sym is)
-    (subst (λ refs. DeathSteps script store (Releasing refs ∷ death_activities o phase (waiting_for store o)) new (Releasing (references_left left) ∷ death_activities o phase (waiting_for store o)) (if count_of new q == 0 then answer_of.Died q else answer_of.Continue)) (sym takes)
+    subst (λ st. DeathSteps script store (Releasing (references_left release) ∷ death_activities o phase (waiting_for store o)) new
+    (Releasing (references_left left) ∷ death_activities o phase (waiting_for st o)) (if count_of new q == 0 then answer_of.Died q else answer_of.Continue))
+    (sym is)
+    (subst (λ refs. DeathSteps script store (Releasing refs ∷ death_activities o phase (waiting_for store o)) new (Releasing (references_left left)
+    ∷ death_activities o phase (waiting_for store o)) (if count_of new q == 0 then answer_of.Died q else answer_of.Continue)) (sym takes)
     (gives_up_above script store new q (references_left left) (death_activities o phase (waiting_for store o)) is))
 
 -- One that is over has at most an empty release left, which ends.
@@ -172,7 +193,8 @@ pub record RestsIfOver (store new : Store) (phase : Phase) (tops : List Activity
   pub nothing : phase ≡ phase_of.Over → tops ≡ []
   pub gone : phase ≡ phase_of.Over → answer ≡ answer_of.Gone
 
-module _ (script : Script) (store new : Store) (o : ℕ) (phase : Phase) (tops : List Activity) (answer : DeathStep) (rests : RestsIfOver store new phase tops answer) (steps : DeathSteps script store (death_activities o phase (waiting_for store o)) new tops answer) where
+module _ (script : Script) (store new : Store) (o : ℕ) (phase : Phase) (tops : List Activity) (answer : DeathStep) (rests : RestsIfOver store new phase tops
+    answer) (steps : DeathSteps script store (death_activities o phase (waiting_for store o)) new tops answer) where
   -- the release above it ends first
   turned_below : DeathSteps script store (Releasing [] ∷ death_activities o phase (waiting_for store o)) new tops answer
   turned_below = either (over_or_there o phase (waiting_for store o))

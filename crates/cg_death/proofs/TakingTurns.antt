@@ -22,7 +22,8 @@ telling event next = record { phase = next; release = None; answer = answer_of.E
 abbrev pub running : Phase → FrameSpec → Turn
 running next spec = record { phase = next; release = None; answer = answer_of.Frame spec }
 
-module _ (script : Script) (old now new : Store) (new_is : new ≡ now) (o : ℕ) (phase next : Phase) (turn : Turn) (rest : LeavesTheRest old now) (steady : IsSteadyAt script old o phase None → IsSteadyAt script now o next None) where
+module _ (script : Script) (old now new : Store) (new_is : new ≡ now) (o : ℕ) (phase next : Phase) (turn : Turn) (rest : LeavesTheRest old now)
+    (steady : IsSteadyAt script old o phase None → IsSteadyAt script now o next None) where
   -- what holds of any turn that leaves nothing to give up
   stays : IsSteadyAt script old o phase None → IsSteadyAt script new o next None
   stays s = subst (λ st. IsSteadyAt script st o next None) (sym new_is) (steady s)
@@ -43,7 +44,19 @@ module _ (script : Script) (old now new : Store) (new_is : new ≡ now) (o : ℕ
       made (telling event next) is
       (record { steps = steps; answers = told; falls = λ e. absurd (cc); going = λ e. absurd (cc); ends = λ e. absurd (cc); framed = tt; died = tt; settled = tt; steady = stays; rest = leaves })
 
-  pub runs : (spec : FrameSpec) → turn ≡ running next spec → TurnSteps script old o phase new (running next spec) → CallsAt phase spec.sort → IsPhaseAfter spec spec.sort next → next ≢ phase_of.Over → TakesTurn script old o phase new turn
+  pub runs : (spec : FrameSpec) → turn ≡ running next spec → TurnSteps script old o phase new (running next spec) → CallsAt phase spec.sort
+      → IsPhaseAfter spec spec.sort next → next ≢ phase_of.Over → TakesTurn script old o phase new turn
   runs spec is steps calls after not_over =
       made (running next spec) is
-      (record { steps = steps; answers = calls; falls = λ e. absurd (cc); going = λ e. not_over; ends = λ e. absurd (cc); framed = (after, refl); died = tt; settled = tt; steady = stays; rest = leaves })
+      (record {
+        steps = steps;
+        answers = calls;
+        falls = λ e. absurd (cc);
+        going = λ e. not_over;
+        ends = λ e. absurd (cc);
+        framed = (after, refl);
+        died = tt;
+        settled = tt;
+        steady = stays;
+        rest = leaves;
+      })

@@ -61,7 +61,12 @@ module _ (store : Store) (v : World) (o : ℕ) (phase : DyingPhase) (below : Lis
     next_serial = m.next_serial;
     names = m.names;
     deaths = λ d i. m.deaths d (inr i);
-    no_others = λ r i waits. let found = m.no_others r i waits in (found.0, either found.1 (λ e. not_waiting (Includes below (Dying found.0)) store o none r i waits (sym (own_object o phase found.0 e ∙ found.2))) (λ k. k), found.2);
+    no_others = λ r i waits. let found = m.no_others r i waits in (
+      found.0,
+      either found.1 (λ e. not_waiting (Includes below (Dying found.0)) store o none r i
+          waits (sym (own_object o phase found.0 e ∙ found.2))) (λ k. k),
+      found.2,
+    );
     collection = λ c i. m.collection c (inr i);
   }
 
@@ -73,7 +78,8 @@ module _ (store : Store) (v : World) (o : ℕ) (phase : DyingPhase) (below : Lis
     steps_to events after e = in_one script here events after s.running (sym (ap (λ (t : Transition). t.0) e), sym (ap (λ (t : Transition). t.1) e))
 
     -- only the phase changes
-    pub only_phase : (next : DyingPhase) → dying script o phase below here ≡ ([], death_at o next below here) → death_waits next ≡ waiting_for store o → ((q : ℕ) → occurrences q (dying_holds o next) ≡ occurrences q (dying_holds o phase))
+    pub only_phase : (next : DyingPhase) → dying script o phase below here ≡ ([], death_at o next below here) → death_waits next ≡ waiting_for store o
+        → ((q : ℕ) → occurrences q (dying_holds o next) ≡ occurrences q (dying_holds o phase))
         → WentOn script here [] here.numbers store (death_of o next ∷ below)
     only_phase next e waits held = record {
       goes = record {

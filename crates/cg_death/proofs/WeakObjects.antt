@@ -85,7 +85,8 @@ module _ (rows : List Row) (test : Object → Bool) where
           let from = Includes-map_cases (λ (f : ℕ × Node). object_from rows f.0 f.1) es named.0 kept.0 in
           subst (λ q. e.0 < q) (ap (λ (x : Object). x.serial) from.2 ∙ named.2) (below_each e.0 es low from.0 from.1)
 
-      go : (b : Bool) → ((y : ℕ) → Includes (serials (filter test (seen es))) y → e.0 < y) → Ascends (serials (filter test (seen es))) → Ascends (serials (cond b (object_from rows e.0 e.1 ∷ filter test (seen es)) (filter test (seen es))))
+      go : (b : Bool) → ((y : ℕ) → Includes (serials (filter test (seen es))) y → e.0 < y) → Ascends (serials (filter test (seen es)))
+          → Ascends (serials (cond b (object_from rows e.0 e.1 ∷ filter test (seen es)) (filter test (seen es))))
       go true low rest = (low, rest)
       go false low rest = rest
 
@@ -105,7 +106,8 @@ pub row_there : (rows : List Row) (q o : ℕ) → referent_in rows q ≡ Some o 
 row_there [] q o found = absurd (cc)
 row_there (r ∷ rows) q o found = go ((r.weak == q) && not r.waits) refl (row_there rows q o)
   where
-    go : (b : Bool) → ((r.weak == q) && not r.waits) ≡ b → (referent_in rows q ≡ Some o → (r : Row) × Includes rows r × (refers_to o r ≡ true) × (r.weak ≡ q)) → (x : Row) × Includes (r ∷ rows) x × (refers_to o x ≡ true) × (x.weak ≡ q)
+    go : (b : Bool) → ((r.weak == q) && not r.waits) ≡ b → (referent_in rows q ≡ Some o → (r : Row) × Includes rows r × (refers_to o r ≡ true) × (r.weak ≡ q))
+        → (x : Row) × Includes (r ∷ rows) x × (refers_to o x ≡ true) × (x.weak ≡ q)
     go true passes rest =
         let parts = true_and (r.weak == q) (not r.waits) passes in
         let here : Some r.referent ≡ Some o = sym (ap (λ b. option_map (λ (x : Row). x.referent) (cond b (Some r) (find (λ x. (x.weak == q) && not x.waits) rows))) passes) ∙ found in
@@ -133,7 +135,8 @@ module _ (store : Store) (rows : AreRows store) (o : ℕ) where
       let from = Includes-map_cases (λ (e : ℕ × Node). object_from store.rows e.0 e.1) (fin.entries store.nodes) named.0 kept.0 in
       let refers : referent_in store.rows from.0.0 ≡ Some o = ap (λ (x : Object). x.referent) from.2 ∙ refers_some o named.0.referent kept.1 in
       let row = row_there store.rows from.0.0 o refers in
-      subst (Includes in_rows) (row.3 ∙ ap (λ (x : Object). x.serial) from.2 ∙ named.2) (Includes-map (λ (r : Row). r.weak) (filter (refers_to o) store.rows) row.0 (Includes-filter (refers_to o) store.rows row.0 row.2 row.1))
+      subst (Includes in_rows) (row.3 ∙ ap (λ (x : Object). x.serial) from.2 ∙ named.2) (Includes-map (λ (r : Row). r.weak) (filter (refers_to o) store.rows)
+      row.0 (Includes-filter (refers_to o) store.rows row.0 row.2 row.1))
 
   back : (q : ℕ) → Includes in_rows q → Includes in_world q
   back q m =
@@ -142,24 +145,29 @@ module _ (store : Store) (rows : AreRows store) (o : ℕ) where
       let row : Row = named.0 in
       let live : HasCode store row.weak Weak = all_in (λ (r : Row). HasCode store r.weak Weak) store.rows row rows.weak kept.0 in
       let parts = true_and (row.referent == o) (not row.waits) kept.1 in
-      let refers : referent_in store.rows row.weak ≡ Some o = referent-is store.rows row (split_at store.rows row rows.rise kept.0) (not-true row.waits parts.1) ∙ ap Some (eqb-true row.referent o parts.0) in
+      let refers : referent_in store.rows row.weak ≡ Some o = referent-is store.rows row (split_at store.rows row rows.rise kept.0) (not-true row.waits parts.1)
+      ∙ ap Some (eqb-true row.referent o parts.0) in
       let there : Includes (fin.entries store.nodes) (row.weak, live.0) = entry_there row.weak live.0 (fin.entries store.nodes) (sym (fin.get-entries store.nodes row.weak) ∙ live.1) in
       let object = Includes-map (λ (e : ℕ × Node). object_from store.rows e.0 e.1) (fin.entries store.nodes) (row.weak, live.0) there in
       subst (Includes in_world) named.2 (Includes-map (λ (x : Object). x.serial) (filter (is_reference_to o) (objects_of store)) (object_from store.rows row.weak live.0)
       (Includes-filter (is_reference_to o) (objects_of store) (object_from store.rows row.weak live.0) (ap (λ r. unwrap_or (option_map (λ p. p == o) r) false) refers ∙ eq-eqb o o refl) object))
 
   pub weak_references-are : weak_references (objects_of store) o ≡ weak_references_in store.rows o
-  weak_references-are = ap reverse (same_ascending in_world in_rows (ascends-objects store.rows (is_reference_to o) (fin.entries store.nodes) (fin.entries_sorted store.nodes)) (ascends-rows (refers_to o) store.rows rows.rise) into back)
+  weak_references-are = ap reverse (same_ascending in_world in_rows (ascends-objects store.rows (is_reference_to o) (fin.entries store.nodes)
+      (fin.entries_sorted store.nodes)) (ascends-rows (refers_to o) store.rows rows.rise) into back)
 
 -- other rows, in which one weak reference is cleared
-pub objects-cleared : (store : Store) (rows : List Row) (weak : ℕ) → ((q : ℕ) → referent_in rows q ≡ (if q == weak then None else referent_in store.rows q)) → objects_of (record store { rows = rows }) ≡ change (with_referent None) weak (objects_of store)
+pub objects-cleared : (store : Store) (rows : List Row) (weak : ℕ) → ((q : ℕ) → referent_in rows q ≡ (if q == weak then None else referent_in store.rows q))
+    → objects_of (record store { rows = rows }) ≡ change (with_referent None) weak (objects_of store)
 objects-cleared store rows weak same = each (fin.entries store.nodes)
   where
-    one : (b : Bool) (q : ℕ) (n : Node) → referent_in rows q ≡ (if b then None else referent_in store.rows q) → object_from rows q n ≡ (if b then with_referent None (object_from store.rows q n) else object_from store.rows q n)
+    one : (b : Bool) (q : ℕ) (n : Node) → referent_in rows q ≡ (if b then None else referent_in store.rows q) → object_from rows q n
+        ≡ (if b then with_referent None (object_from store.rows q n) else object_from store.rows q n)
     one true q n e = λ i. record (object_from rows q n) { referent = e i }
     one false q n e = λ i. record (object_from rows q n) { referent = e i }
 
-    each : (es : List (ℕ × Node)) → map (λ (e : ℕ × Node). object_from rows e.0 e.1) es ≡ map (λ x. if x.serial == weak then with_referent None x else x) (map (λ (e : ℕ × Node). object_from store.rows e.0 e.1) es)
+    each : (es : List (ℕ × Node)) → map (λ (e : ℕ × Node). object_from rows e.0 e.1) es ≡ map (λ x. if x.serial == weak then with_referent None x else x)
+        (map (λ (e : ℕ × Node). object_from store.rows e.0 e.1) es)
     each [] = refl
     each (e ∷ es) = λ i. one (e.0 == weak) e.0 e.1 (same e.0) i ∷ each es i
 

@@ -17,7 +17,8 @@ spelled store w stack s = subst (λ st. DeathStands store (with_stack st w) stac
 pub steps_at : (script : Script) (old : Store) (tops : List Activity) (new : Store) (tops_after : List Activity) (answer : DeathStep)
     → ((v : World) (below : List Activity) → DeathStands old (with_stack (tops ++ below) v) (tops ++ below) → DeathAnswer script (with_stack (tops ++ below) v) new (tops_after ++ below) answer)
     → DeathSteps script old tops new tops_after answer
-steps_at script old tops new tops_after answer each w below s = at_stack (λ u. DeathAnswer script u new (tops_after ++ below) answer) w (tops ++ below) s.top (each w below (spelled old w (tops ++ below) s))
+steps_at script old tops new tops_after answer each w below s = at_stack (λ u. DeathAnswer script u new (tops_after ++ below) answer) w (tops ++ below) s.top
+    (each w below (spelled old w (tops ++ below) s))
 
 pub append_none : {X : Type 0} (xs : List X) → xs ++ [] ≡ xs
 append_none [] = refl

@@ -18,7 +18,8 @@ pub fn empty_one<B: Kind>(object: u64, heap: &mut Heap<B>) -> Turn
     requires few { HasFewHolds heap.old }
     requires unheld { IsUnheld heap.old object }
     requires no_row { IsInNoRow object heap.old.rows }
-    ensures { (script : Script) → TakesTurn script heap.old object phase_of.Emptying heap.new result }
+    ensures { (script : Script) → TakesTurn script heap.old object phase_of.Emptying heap.new
+        result }
 {
     heap.sound();
     match heap.detach(object) {

@@ -28,8 +28,8 @@ use cg_kind::Kind;
 use cg_script::Script;
 use cg_value::Place;
 
-/// The death of an object, phase by phase. (PEP 442, "Disposal of regular objects"; developer guide, "Reference
-/// counting".)
+/// The death of an object, phase by phase. (PEP 442, "Disposal of regular objects"; developer
+/// guide, "Reference counting".)
 #[derive(Drop)]
 pub struct Death {
     object: u64,
@@ -38,13 +38,15 @@ pub struct Death {
 }
 
 impl Death {
-    /// Begins the death of an object: it is untracked, and a weak reference is cleared without a line. No weak reference
-    /// waits with it.
+    /// Begins the death of an object: it is untracked, and a weak reference is cleared without a
+    /// line. No weak reference waits with it.
     pub fn begin<B: Kind>(heap: &mut Heap<B>, object: u64) -> Death
         requires unheld { IsUnheld heap.old object }
         requires none_waits { waiting_in heap.old.rows object ≡ [] }
-        ensures rest { heap.new ≡ forgets_referent object (moved object place_of.Untracked heap.old) }
-        ensures begins { (w : machine.World) → Represents heap.old w → Represents heap.new (begin_death object w) }
+        ensures rest { heap.new ≡ forgets_referent object (moved object place_of.Untracked
+            heap.old) }
+        ensures begins { (w : machine.World) → Represents heap.old w
+            → Represents heap.new (begin_death object w) }
         ensures stack { on_stack result heap.new ≡ death_of object machine.Finalizer ∷ [] }
         ensures settled { IsSettled result }
         ensures going { IsGoing result }
@@ -67,9 +69,10 @@ impl Death {
 
     /// One action of the death.
     ///
-    /// `Frame` if a finalizer or a callback is to be called; the next steps give back the holds that it takes. `Died`
-    /// exactly if a reference was given up and nothing holds its object any more; it is never the dying object. `Gone`
-    /// exactly if the death is over: the object was freed or resurrected.
+    /// `Frame` if a finalizer or a callback is to be called; the next steps give back the holds
+    /// that it takes. `Died` exactly if a reference was given up and nothing holds its object any
+    /// more; it is never the dying object. `Gone` exactly if the death is over: the object was
+    /// freed or resurrected.
     pub fn step<B: Kind>(&mut self, heap: &mut Heap<B>, script: &Script) -> DeathStep
         requires few { HasFewHolds heap.old }
         requires held { HasHolds heap.old (held_by self.old heap.old) }
@@ -77,7 +80,8 @@ impl Death {
         ensures steps { DeathSteps script.now heap.old (on_stack self.old heap.old) heap.new
             (on_stack self.new heap.new) result }
 
-        ensures falls { result ≡ answer_of.Continue → DeathFalls self.old heap.old self.new heap.new }
+        ensures falls { result ≡ answer_of.Continue → DeathFalls self.old heap.old self.new
+            heap.new }
         ensures cause { HasCause self.old heap.new result }
         ensures gone { (result ≡ answer_of.Gone) ↔ IsOver self.old }
         ensures over { result ≡ answer_of.Gone → on_stack self.new heap.new ≡ [] }
@@ -89,7 +93,8 @@ impl Death {
         ensures names { KeepsNames heap.old heap.new }
 
         // If nothing else runs, the next step may be taken after any answer.
-        ensures steady { IsSteady script.now self.old heap.old → IsSteady script.now self.new heap.new }
+        ensures steady { IsSteady script.now self.old heap.old → IsSteady script.now self.new
+            heap.new }
         ensures framed { DeathStandsAfterFrame result self.new }
         ensures died { DiesUnheld result heap.new }
     {
@@ -102,7 +107,8 @@ impl Death {
         turn.answer
     }
 
-    /// Whether it is over: the object was freed or resurrected, and nothing of the death is left on the stack.
+    /// Whether it is over: the object was freed or resurrected, and nothing of the death is left on
+    /// the stack.
     pub fn is_over(&self) -> bool
         ensures over { IsTrue result → IsOffStack self.now }
         ensures going { result ≡ false → IsGoing self.now }

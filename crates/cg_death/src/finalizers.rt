@@ -37,7 +37,8 @@ const NO_FINALIZERS: Finalizers = Finalizers {
 #[inline(never)]
 fn finalizers_in(items: &Items, class: u32) -> Finalizers
     ensures del { result.del ≡ option_and_then (λ c. c.del) (slice_get (classes items.now) class) }
-    ensures legacy { result.legacy ≡ option_and_then (λ c. c.legacy) (slice_get (classes items.now) class) }
+    ensures legacy { result.legacy ≡ option_and_then (λ c. c.legacy) (slice_get (classes items.now)
+        class) }
 {
     match items.class(class) {
         Some(def) => Finalizers {
@@ -81,8 +82,8 @@ pub fn finalizer_to_run<B: Kind>(heap: &Heap<B>, script: &Script, object: u64) -
     }
 }
 
-/// Runs the finalizer if it has not run: the object is tracked in generation 0, marked, and held for its frame. If the death
-/// has nothing else to call either, it goes straight to the contents.
+/// Runs the finalizer if it has not run: the object is tracked in generation 0, marked, and held
+/// for its frame. If the death has nothing else to call either, it goes straight to the contents.
 pub fn run_finalizer<B: Kind>(object: u64, heap: &mut Heap<B>, script: &Script) -> Turn
     requires few { HasFewHolds heap.old }
     requires unheld { IsUnheld heap.old object }
@@ -137,11 +138,12 @@ pub fn finalizer_frame(sort: FrameSort, proc: u32, object: u64) -> FrameSpec
     }
 }
 
-/// Gives up the hold of the object's own frame. If it is still held, it was resurrected and its death is over; else it
-/// is untracked again and the death goes on.
+/// Gives up the hold of the object's own frame. If it is still held, it was resurrected and its
+/// death is over; else it is untracked again and the death goes on.
 pub fn end_finalizer<B: Kind>(object: u64, heap: &mut Heap<B>) -> Turn
     requires { 0 < outside_of heap.old object }
-    ensures { (script : Script) → TakesTurn script heap.old object phase_of.AfterFinalizer heap.new result }
+    ensures { (script : Script) → TakesTurn script heap.old object phase_of.AfterFinalizer heap.new
+        result }
 {
     if is_unheld_now(object, heap) {
         Turn::to(Phase::Clearing)
@@ -153,7 +155,8 @@ pub fn end_finalizer<B: Kind>(object: u64, heap: &mut Heap<B>) -> Turn
 /// The same after the frame of a legacy finalizer.
 pub fn end_legacy<B: Kind>(object: u64, heap: &mut Heap<B>) -> Turn
     requires { 0 < outside_of heap.old object }
-    ensures { (script : Script) → TakesTurn script heap.old object phase_of.AfterLegacy heap.new result }
+    ensures { (script : Script) → TakesTurn script heap.old object phase_of.AfterLegacy heap.new
+        result }
 {
     if is_unheld_now(object, heap) {
         Turn::to(Phase::Detaching)
@@ -165,7 +168,8 @@ pub fn end_legacy<B: Kind>(object: u64, heap: &mut Heap<B>) -> Turn
 /// Gives up the hold of an object's own frame. If nothing else holds it, it is untracked.
 fn is_unheld_now<B: Kind>(object: u64, heap: &mut Heap<B>) -> bool
     requires { 0 < outside_of heap.old object }
-    ensures rest { heap.new ≡ (if result then moved object place_of.Untracked (unheld (object ∷ []) heap.old)
+    ensures rest { heap.new ≡ (if result then moved object place_of.Untracked
+        (unheld (object ∷ []) heap.old)
         else unheld (object ∷ []) heap.old) }
     ensures answer { IsTrue result ↔ (count_of (unheld (object ∷ []) heap.old) object ≡ 0) }
 {

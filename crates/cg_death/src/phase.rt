@@ -6,7 +6,8 @@ use crate::answer::DeathStep;
 use crate::release::Release;
 use cg_machine::{Event, FrameSpec};
 
-/// The phase of a death. (PEP 442, "Disposal of regular objects": finalizer, weak references, contents.)
+/// The phase of a death. (PEP 442, "Disposal of regular objects": finalizer, weak references,
+/// contents.)
 #[derive(Clone, Copy, Debug, PartialEq, Eq, Drop)]
 pub enum Phase {
     /// The finalizer comes next.
@@ -64,7 +65,12 @@ impl Turn {
 
     /// A frame is to run, and the death goes on with a phase.
     pub fn runs(frame: FrameSpec, phase: Phase) -> Turn
-        ensures { result ≡ record { phase = phase; release = None; answer = answer_of.Frame frame } }
+        ensures { result ≡ record {
+          phase = phase;
+          release = None;
+          answer = answer_of.Frame
+              frame;
+        } }
     {
         Turn {
             phase,

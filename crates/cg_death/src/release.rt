@@ -48,8 +48,9 @@ impl Release {
 
     /// Gives up the next reference.
     ///
-    /// `Died` exactly if nothing then holds its object, and `Gone` exactly if no reference was left. Never `Frame`
-    /// or `Emit`. (Developer guide, "Reference counting": an object whose count reaches 0 is deallocated.)
+    /// `Died` exactly if nothing then holds its object, and `Gone` exactly if no reference was
+    /// left. Never `Frame` or `Emit`. (Developer guide, "Reference counting": an object whose count
+    /// reaches 0 is deallocated.)
     #[inline(always)]
     pub fn step<B: Kind>(&mut self, heap: &mut Heap<B>) -> DeathStep
         requires { HasHolds heap.old (references_left self.old) }
@@ -71,7 +72,8 @@ impl Release {
 
     #[inline(always)]
     pub(crate) fn take_first(&mut self) -> Option<u64>
-        ensures taken { references_left self.old ≡ option_to_list result ++ references_left self.new }
+        ensures taken { references_left self.old ≡ option_to_list result
+            ++ references_left self.new }
         ensures none { IfNone result (references_left self.new ≡ []) }
     {
         match self.first {

@@ -1,4 +1,5 @@
-//! The phases on weak references: they are cleared, and the callbacks of those that wait are called.
+//! The phases on weak references: they are cleared, and the callbacks of those that wait are
+//! called.
 ghost use Rattle.std.specs.Prelude.{◌≡◌, ◌<◌, ◌∷◌, [], Some, None, true, false, IfSome, IsSome, slice_get, option_map, option_and_then, if◌then◌else◌, is_some, unwrap_or};
 ghost use Rattle.cg_script.specs.declared.Script.{Script};
 ghost use Rattle.cg_value.specs.declared.Val.TheVariants as val_of;
@@ -26,12 +27,14 @@ use cg_machine::{Event, FrameSort, FrameSpec};
 use cg_script::Script;
 use cg_value::KindCode;
 
-/// Clears the newest weak reference to a dying instance or function. One with a callback waits, and is held.
+/// Clears the newest weak reference to a dying instance or function. One with a callback waits, and
+/// is held.
 pub fn clear_one<B: Kind>(object: u64, heap: &mut Heap<B>) -> Turn
     requires few { HasFewHolds heap.old }
     requires unheld { IsUnheld heap.old object }
     requires newer { AreNewer heap.old object }
-    ensures { (script : Script) → TakesTurn script heap.old object phase_of.Clearing heap.new result }
+    ensures { (script : Script) → TakesTurn script heap.old object phase_of.Clearing heap.new
+        result }
 {
     heap.sound();
     match newest_to_clear(object, heap) {
@@ -43,8 +46,8 @@ pub fn clear_one<B: Kind>(object: u64, heap: &mut Heap<B>) -> Turn
     }
 }
 
-/// The newest weak reference to an object of a kind that supports them: an instance or a function. (`weakref`
-/// manual.)
+/// The newest weak reference to an object of a kind that supports them: an instance or a function.
+/// (`weakref` manual.)
 #[inline(always)]
 pub(crate) fn newest_to_clear<B: Kind>(object: u64, heap: &Heap<B>) -> Option<u64>
     requires { IsLive heap.now object }
@@ -66,7 +69,8 @@ fn lose_referent<B: Kind>(weak: u64, heap: &mut Heap<B>)
     requires live { IsLive heap.old weak }
     requires refers { IsSome (referent_in heap.old.rows weak) }
     ensures { heap.new ≡ (if is_some (callback_of (objects_of heap.old) weak)
-        then cleared_weak weak true (held (weak ∷ []) heap.old) else cleared_weak weak false heap.old) }
+        then cleared_weak weak true (held (weak ∷ []) heap.old) else cleared_weak weak false
+        heap.old) }
 {
     if has_callback(weak, heap) {
         heap.hold(weak);
@@ -100,7 +104,8 @@ pub fn call_one<B: Kind>(object: u64, heap: &mut Heap<B>) -> Turn
     requires few { HasFewHolds heap.old }
     requires live { IsLive heap.old object }
     requires callbacks { HaveCallbacks heap.old object }
-    ensures { (script : Script) → TakesTurn script heap.old object phase_of.Calling heap.new result }
+    ensures { (script : Script) → TakesTurn script heap.old object phase_of.Calling heap.new
+        result }
 {
     match heap.newest_waiting(object) {
         None => Turn::to(Phase::LegacyFinalizer),
@@ -113,7 +118,8 @@ fn call_back<B: Kind>(object: u64, weak: u64, heap: &mut Heap<B>) -> Turn
     requires few { HasFewHolds heap.old }
     requires callbacks { HaveCallbacks heap.old object }
     requires newest { slice_get (waiting_in heap.old.rows object) 0 ≡ Some weak }
-    ensures { (script : Script) → TakesTurn script heap.old object phase_of.Calling heap.new result }
+    ensures { (script : Script) → TakesTurn script heap.old object phase_of.Calling heap.new
+        result }
 {
     heap.sound();
     let callback = take_callback(weak, heap);
@@ -129,7 +135,8 @@ pub fn callback_frame<B: Kind>(heap: &Heap<B>, weak: u64, callback: u64) -> Fram
     requires { IsLive heap.now callback }
     ensures { result ≡ record {
       sort = sort_of.Callback;
-      proc = unwrap_or (option_and_then (λ x. x.class) (object_at (objects_of heap.now) callback)) 0;
+      proc = unwrap_or (option_and_then (λ x. x.class) (object_at (objects_of heap.now) callback))
+          0;
       subject = weak;
       func = Some callback;
     } }
@@ -158,7 +165,8 @@ fn take_callback<B: Kind>(weak: u64, heap: &mut Heap<B>) -> u64
 pub fn end_call<B: Kind>(object: u64, weak: u64, callback: u64, heap: &mut Heap<B>) -> Turn
     requires unheld { IsUnheld heap.old object }
     requires held { HasHolds heap.old (callback ∷ weak ∷ []) }
-    ensures { (script : Script) → TakesTurn script heap.old object (phase_of.AfterCall weak callback) heap.new result }
+    ensures { (script : Script) → TakesTurn script heap.old object
+        (phase_of.AfterCall weak callback) heap.new result }
 {
     let answer = give_up(heap, callback);
     Turn {
@@ -203,7 +211,8 @@ fn newest_to_detach<B: Kind>(object: u64, heap: &Heap<B>, script: &Script) -> Op
 fn has_finalizers<B: Kind>(object: u64, heap: &Heap<B>, script: &Script) -> bool
     requires { IsLive heap.now object }
     ensures { result ≡
-        unwrap_or (option_map (has_finalizers script.now) (object_at (objects_of heap.now) object)) false }
+        unwrap_or (option_map (has_finalizers script.now) (object_at (objects_of heap.now) object))
+        false }
 {
     let finalizers = finalizers_of(heap, script, object);
     finalizers.del.is_some() || finalizers.legacy.is_some()

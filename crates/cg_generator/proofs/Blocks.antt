@@ -69,7 +69,8 @@ known_items n =
 all_texts : (items : List Item) → All KnownItem items → All (λ n. n < 3) (flat_map item_texts items)
 all_texts [] all = All-nil (λ n. n < 3)
 all_texts (x ∷ xs) all =
-    subst (All (λ n. n < 3)) (sym (flat_map-cons item_texts x xs)) (All-append (λ n. n < 3) (item_texts x) (flat_map item_texts xs) (All-head KnownItem x xs all) (all_texts xs (All-tail KnownItem x xs all)))
+    subst (All (λ n. n < 3)) (sym (flat_map-cons item_texts x xs)) (All-append (λ n. n < 3) (item_texts x) (flat_map item_texts xs)
+    (All-head KnownItem x xs all) (all_texts xs (All-tail KnownItem x xs all)))
 
 -- it uses only its own texts
 pub generated_known : (n : ℕ) → TextsAreKnown (generated n)
@@ -99,7 +100,10 @@ spelled_items n =
         ),
       ),
     ))
-    (λ i. All-from_recursion SpelledItem (tree i) (list_spelled 1 (Int (pos i) ∷ []) (all_below (1 ∷ []) refl) (omega arith), (both_first, (both_first, (spelled (Del 1) (all_below (1 ∷ []) refl) tt, tt)))))
+    (λ i. All-from_recursion SpelledItem (tree i) (
+      list_spelled 1 (Int (pos i) ∷ []) (all_below (1 ∷ []) refl) (omega arith),
+      (both_first, (both_first, (spelled (Del 1) (all_below (1 ∷ []) refl) tt, tt))),
+    ))
     (All-from_recursion SpelledItem link (list_spelled 0 (Name 0 ∷ []) (all_below (0 ∷ 0 ∷ []) refl) (omega arith), tt))
     (All-from_recursion SpelledItem ending (spelled (Del 0) (all_below (0 ∷ []) refl) tt, (spelled (Collect (pos 2)) (all_below [] refl) tt, tt)))
 

@@ -15,7 +15,8 @@ sum_more f xs x = fold-append (λ a y. a + f y) 0 xs (x ∷ [])
 
 pub tally_more : (lines : List (List ℕ)) (line : List ℕ) → tally_of_lines (lines ++ line ∷ []) ≡ with_line (tally_of_lines lines) line
 tally_more lines line =
-    let collected : min (sum_by collected_in (lines ++ line ∷ [])) largest ≡ min (min (sum_by collected_in lines) largest + min (collected_in line) largest) largest = omega (arith, sum_more collected_in lines line) in
+    let collected : min (sum_by collected_in (lines ++ line ∷ [])) largest ≡ min (min (sum_by collected_in lines) largest + min (collected_in line) largest)
+    largest = omega (arith, sum_more collected_in lines line) in
     let all : length (lines ++ line ∷ []) ≡ length lines + 1 = length-append lines (line ∷ []) in
     rw (count_more (begins (codes "made ")) lines line, count_more (begins (codes "free ")) lines line, count_more (begins (codes "gc stop ")) lines line, collected, all) refl
 
@@ -34,7 +35,8 @@ pub record CountedSoFar (text rest : List ℕ) (counts : Tally) : Type 0 where
   pub counted : counts ≡ tally_of_lines done
   pub few : length done + length rest ≤ length text
 
-pub counted_more : (text rest line behind : List ℕ) (counts next : Tally) → lines_of rest ≡ line ∷ lines_of behind → length behind < length rest → CountedSoFar text rest counts → next ≡ with_line counts line → CountedSoFar text behind next
+pub counted_more : (text rest line behind : List ℕ) (counts next : Tally) → lines_of rest ≡ line ∷ lines_of behind → length behind < length rest
+    → CountedSoFar text rest counts → next ≡ with_line counts line → CountedSoFar text behind next
 counted_more text rest line behind counts next cut shorter so_far is = record {
   done = so_far.done ++ line ∷ [];
   lines = so_far.lines ∙ ap (λ l. so_far.done ++ l) cut ∙ sym (append_assoc so_far.done (line ∷ []) (lines_of behind));

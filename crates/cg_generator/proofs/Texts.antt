@@ -67,7 +67,8 @@ seen_byte text line counts refused b other s = record {
   refusal = s.refusal;
 }
 
-pub seen_line : (text line after : List ℕ) (counts next : Tally) (refused now : Bool) → next ≡ with_line counts line → now ≡ (refused || is_refusal line) → after ≡ [] → HasSeen text counts refused line
+pub seen_line : (text line after : List ℕ) (counts next : Tally) (refused now : Bool) → next ≡ with_line counts line → now ≡ (refused || is_refusal line)
+    → after ≡ [] → HasSeen text counts refused line
     → HasSeen (text ++ 10 ∷ []) next now after
 seen_line text line after counts next refused now is tells none s = record {
   lines = s.lines ++ line ∷ [];

@@ -24,7 +24,8 @@ number_behind_space bytes = option_and_then number_then (after_prefix (codes " "
 -- the second of three numbers with one space between them and nothing after them
 abbrev pub second_of_three : List ℕ → Option (List ℕ)
 second_of_three bytes =
-    option_and_then (λ first. option_and_then (λ second. option_and_then (λ third. if length third.1 == 0 then Some second.0 else None) (number_behind_space second.1)) (number_behind_space first.1)) (number_then bytes)
+    option_and_then (λ first. option_and_then (λ second. option_and_then (λ third. if length third.1 == 0 then Some second.0 else None)
+    (number_behind_space second.1)) (number_behind_space first.1)) (number_then bytes)
 
 -- M of a line `gc stop g M N`
 abbrev pub collected_digits : List ℕ → Option (List ℕ)

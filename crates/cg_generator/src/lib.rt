@@ -1,7 +1,8 @@
 //! A large script from a number, and the tally of a run's text.
 //!
-//! `generated_script` answers the script of a number of blocks. `tally` counts the lines of a text; `TallySink` counts those
-//! of a run as they are written, and stores none. `summary_line` is the line of a tally.
+//! `generated_script` answers the script of a number of blocks. `tally` counts the lines of a text;
+//! `TallySink` counts those of a run as they are written, and stores none. `summary_line` is the
+//! line of a tally.
 #![tactic(auto)]
 
 mod counts;

@@ -49,7 +49,8 @@ fn number_and_rest(bytes: &[u8]) -> Option<(&[u8], &[u8])>
 
 /// The same after a space.
 fn spaced_number(bytes: &[u8]) -> Option<(&[u8], &[u8])>
-    ensures { option_map (λ parts. (parts.0.now, parts.1.now)) result ≡ number_behind_space bytes.now }
+    ensures { option_map (λ parts. (parts.0.now, parts.1.now)) result
+        ≡ number_behind_space bytes.now }
 {
     let rest = after(b" ", bytes)?;
     number_and_rest(rest)
@@ -85,7 +86,8 @@ fn digits_of_stop(line: &[u8]) -> Option<&[u8]>
     middle_of_three(rest)
 }
 
-/// The number of objects that a line `gc stop g M N` says were freed, and 0 for a line of another form.
+/// The number of objects that a line `gc stop g M N` says were freed, and 0 for a line of another
+/// form.
 pub(crate) fn collected_in(line: &[u8]) -> u64
     ensures { result ≡ min (collected line.now) largest }
 {

@@ -45,7 +45,8 @@ fn push_list(
     name: u32,
     members: &[Operand],
 ) -> Result<(), AllocError>
-    ensures { OnOk result (items.new.items ≡ items.old.items ++ item.Run (command.MakeList name members.now) ∷ []) }
+    ensures { OnOk result (items.new.items ≡ items.old.items
+        ++ item.Run (command.MakeList name members.now) ∷ []) }
 {
     let members = Operands::new(members.to_vec(alloc)?);
     push(
@@ -124,9 +125,9 @@ fn all_items(alloc: Global, blocks: u32) -> Result<Vec<Item>, AllocError>
     Ok(items)
 }
 
-/// The script of `blocks` blocks, at most 10,000: a list `c`; then for each number from 1 on a ring of two lists, a tree of
-/// three or one link of a chain, in turn; and at the end `del c` and `collect 2`. Answers `AllocError` only if memory runs
-/// out. (Ours.)
+/// The script of `blocks` blocks, at most 10,000: a list `c`; then for each number from 1 on a ring
+/// of two lists, a tree of three or one link of a chain, in turn; and at the end `del c` and
+/// `collect 2`. Answers `AllocError` only if memory runs out. (Ours.)
 pub fn generated_script(alloc: Global, blocks: u32) -> Result<Script, AllocError>
     requires { blocks ≤ MOST_BLOCKS }
     ensures ok { IfOk result (λ script. script ≡ generated blocks) }

@@ -34,7 +34,8 @@ impl Seen {
     /// Ends the line.
     fn end_line(&mut self)
         requires { self.old.counts.lines + 1 < largest }
-        ensures { (text : List ℕ) → HasSeen text self.old.counts self.old.refused self.old.line.items
+        ensures { (text : List ℕ) → HasSeen text self.old.counts self.old.refused
+            self.old.line.items
             → HasSeen (text ++ 10 ∷ []) self.new.counts self.new.refused self.new.line.items }
     {
         self.counts = with_one_line(self.counts, self.line.as_slice());
@@ -42,12 +43,14 @@ impl Seen {
         self.line.clear();
     }
 
-    /// Takes one more byte. Answers `AllocError` if memory for the line runs out, or after 2^64 - 2 lines; then nothing
-    /// has changed.
+    /// Takes one more byte. Answers `AllocError` if memory for the line runs out, or after 2^64 - 2
+    /// lines; then nothing has changed.
     pub(crate) fn take(&mut self, byte: u8) -> Result<(), AllocError>
-        ensures ok { OnOk result ((text : List ℕ) → HasSeen text self.old.counts self.old.refused self.old.line.items
+        ensures ok { OnOk result ((text : List ℕ) → HasSeen text self.old.counts self.old.refused
+            self.old.line.items
             → HasSeen (text ++ byte ∷ []) self.new.counts self.new.refused self.new.line.items) }
-        ensures err { OnErr result ((text : List ℕ) → HasSeen text self.old.counts self.old.refused self.old.line.items
+        ensures err { OnErr result ((text : List ℕ) → HasSeen text self.old.counts self.old.refused
+            self.old.line.items
             → HasSeen text self.new.counts self.new.refused self.new.line.items) }
     {
         if byte != b'\n' {
@@ -63,7 +66,8 @@ impl Seen {
 
     /// The tally, with the unfinished line if it is not empty.
     pub(crate) fn tally(&self) -> Tally
-        ensures { (text : List ℕ) → HasSeen text self.now.counts self.now.refused self.now.line.items → result ≡ tally_of text }
+        ensures { (text : List ℕ) → HasSeen text self.now.counts self.now.refused
+            self.now.line.items → result ≡ tally_of text }
     {
         match self.line.as_slice() {
             [] => self.counts,
@@ -73,7 +77,8 @@ impl Seen {
 
     /// Whether a line reports a refusal.
     pub(crate) fn has_refusal(&self) -> bool
-        ensures { (text : List ℕ) → HasSeen text self.now.counts self.now.refused self.now.line.items → result ≡ some_refusal text }
+        ensures { (text : List ℕ) → HasSeen text self.now.counts self.now.refused
+            self.now.line.items → result ≡ some_refusal text }
     {
         self.refused || is_refusal(self.line.as_slice())
     }

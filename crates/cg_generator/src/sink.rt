@@ -11,8 +11,8 @@ use cg_io::{Sink, WriteFailed};
 use std::alloc::Global;
 use std::marker::Model;
 
-/// Counts the lines of what is written, and stores only the unfinished line. Contracts see the whole text, which takes
-/// no memory.
+/// Counts the lines of what is written, and stores only the unfinished line. Contracts see the
+/// whole text, which takes no memory.
 ///
 /// A contract sees a `Tallied`: the text that was written, and the faults so far.
 #[derive(Drop)]
@@ -61,7 +61,10 @@ impl TallySink {
 
     /// Takes one more byte, if there is memory for its line.
     fn take(&mut self, byte: u8) -> Result<(), WriteFailed>
-        ensures ok { OnOk result (self.new ≡ record { text = self.old.text ++ byte ∷ []; faults = self.old.faults }) }
+        ensures ok { OnOk result (self.new ≡ record {
+          text = self.old.text ++ byte ∷ [];
+          faults = self.old.faults;
+        }) }
         ensures err { OnErr result (self.new ≡ self.old) }
     {
         if self.seen.take(byte).is_err() {
@@ -77,10 +80,12 @@ impl Sink for TallySink {
 
     ghost faults = { λ s. s.faults };
 
-    /// Counts the bytes. Fails if memory for a line runs out, after a prefix of the bytes, or after 2^64 - 2 lines.
+    /// Counts the bytes. Fails if memory for a line runs out, after a prefix of the bytes, or after
+    /// 2^64 - 2 lines.
     fn write(&mut self, bytes: &[u8]) -> Result<(), WriteFailed>
         ensures ok { OnOk result (Appends (Some self.old.text) (Some self.new.text) bytes.now) }
-        ensures err { OnErr result (AppendsFront (Some self.old.text) (Some self.new.text) bytes.now) }
+        ensures err { OnErr result (AppendsFront (Some self.old.text) (Some self.new.text)
+            bytes.now) }
         ensures cause { HasCause self.old.faults self.new.faults result }
     {
         'bytes: for byte in bytes {

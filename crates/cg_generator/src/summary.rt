@@ -6,8 +6,9 @@ use crate::counts::Tally;
 use arrayvec::ArrayString;
 use itoa::Buffer;
 
-/// The line `summary A B C D E` of a tally, with its line feed: how many objects were made and freed, how many
-/// collections stopped, how many objects they collected, and the number of lines. (Ours.)
+/// The line `summary A B C D E` of a tally, with its line feed: how many objects were made and
+/// freed, how many collections stopped, how many objects they collected, and the number of lines.
+/// (Ours.)
 pub fn summary_line(tally: &Tally) -> ArrayString<200>
     ensures { result.bytes ≡ summary_of tally.now }
 {

@@ -24,7 +24,8 @@ fn cut_line(bytes: &[u8]) -> (&[u8], &[u8])
     }
 }
 
-/// The tally of a text. A line feed ends a line; a last line without one counts if it is not empty. (Ours.)
+/// The tally of a text. A line feed ends a line; a last line without one counts if it is not empty.
+/// (Ours.)
 pub fn tally(text: &[u8]) -> Tally
     ensures { result ≡ tally_of text.now }
 {

@@ -24,7 +24,8 @@ pub looked_up : (found : Findings) (object : ℕ) → is_some (lookup (nat_eq ob
 looked_up [] object h = absurd (cc)
 looked_up (e ∷ found) object h = go (cases_eq object e.0) h (looked_up found object)
   where
-    go : (object ≡ e.0) ⊎ (object ≢ e.0) → is_some (cond (nat_eq object e.0) (Some e.1) (lookup (nat_eq object) found)) ≡ true → (is_some (lookup (nat_eq object) found) ≡ true → Includes (objects_in found) object) → Includes (objects_in (e ∷ found)) object
+    go : (object ≡ e.0) ⊎ (object ≢ e.0) → is_some (cond (nat_eq object e.0) (Some e.1) (lookup (nat_eq object) found)) ≡ true
+        → (is_some (lookup (nat_eq object) found) ≡ true → Includes (objects_in found) object) → Includes (objects_in (e ∷ found)) object
     go (inl same) k rec = inl (sym same)
     go (inr differs) k rec = inr (rec (sym (ap (λ b. is_some (cond b (Some e.1) (lookup (nat_eq object) found))) (ne_eqb object e.0 differs)) ∙ k))
 
@@ -47,9 +48,11 @@ placed_from : (object k : ℕ) (xs : List ℕ) (j : ℕ) → position_from (nat_
 placed_from object k [] j h = absurd (cc)
 placed_from object k (x ∷ xs) j h = go (cases_eq object x) h (placed_from object (k + 1) xs j)
   where
-    go : (object ≡ x) ⊎ (object ≢ x) → cond (nat_eq object x) (Some k) (position_from (nat_eq object) (k + 1) xs) ≡ Some j → (position_from (nat_eq object) (k + 1) xs ≡ Some j → (i : ℕ) × (j ≡ (k + 1) + i) × (slice_get xs i ≡ Some object))
+    go : (object ≡ x) ⊎ (object ≢ x) → cond (nat_eq object x) (Some k) (position_from (nat_eq object) (k + 1) xs) ≡ Some j
+        → (position_from (nat_eq object) (k + 1) xs ≡ Some j → (i : ℕ) × (j ≡ (k + 1) + i) × (slice_get xs i ≡ Some object))
         → (i : ℕ) × (j ≡ k + i) × (slice_get (x ∷ xs) i ≡ Some object)
-    go (inl same) s rec = let e : Some k ≡ Some j = sym (ap (λ b. cond b (Some k) (position_from (nat_eq object) (k + 1) xs)) (eq-eqb object x same)) ∙ s in let is : k ≡ j = cc in (0, omega (arith, is), ap Some (sym same))
+    go (inl same) s rec = let e : Some k ≡ Some j = sym (ap (λ b. cond b (Some k) (position_from (nat_eq object) (k + 1) xs)) (eq-eqb object x same)) ∙ s
+        in let is : k ≡ j = cc in (0, omega (arith, is), ap Some (sym same))
     go (inr differs) s rec = let r = rec (sym (ap (λ b. cond b (Some k) (position_from (nat_eq object) (k + 1) xs)) (ne_eqb object x differs)) ∙ s) in (suc r.0, omega (arith, r.1), r.2)
 
 pub placed : (object : ℕ) (xs : List ℕ) (j : ℕ) → position (nat_eq object) xs ≡ Some j → slice_get xs j ≡ Some object

@@ -26,18 +26,22 @@ use Rattle.cg_inspect.proofs.Objects.{entries_are, holdings-serials, live_serial
 use Rattle.cg_search.proofs.Trails.{next_taken, get_below, get_in, start_more, start_same, trail_of, spread_more}
 use Rattle.cg_inspect.proofs.Found.{few_found}
 
-pub references_next : (es : List Entry) (i : ℕ) (e : Entry) → slice_get es i ≡ Some e → references (take (i + 1) es) ≡ (references (take i es) ++ references_of_value (Some e.val)) ++ references_of_value (Some e.key)
+pub references_next : (es : List Entry) (i : ℕ) (e : Entry) → slice_get es i ≡ Some e → references (take (i + 1) es)
+    ≡ (references (take i es) ++ references_of_value (Some e.val)) ++ references_of_value (Some e.key)
 references_next es i e at = references_in_turn es i e at
 
-pub listed_next : (es : List Entry) (i : ℕ) (e : Entry) (listed half now : List ℕ) → slice_get es i ≡ Some e → listed ≡ references (take i es) → half ≡ listed ++ references_of_value (Some e.val) → now ≡ half ++ references_of_value (Some e.key)
+pub listed_next : (es : List Entry) (i : ℕ) (e : Entry) (listed half now : List ℕ) → slice_get es i ≡ Some e → listed ≡ references (take i es) → half ≡ listed
+    ++ references_of_value (Some e.val) → now ≡ half ++ references_of_value (Some e.key)
     → now ≡ references (take (i + 1) es)
-listed_next es i e listed half now at so val key = key ∙ ap (λ (l : List ℕ). l ++ references_of_value (Some e.key)) (val ∙ ap (λ (l : List ℕ). l ++ references_of_value (Some e.val)) so) ∙ sym (references_next es i e at)
+listed_next es i e listed half now at so val key = key ∙ ap (λ (l : List ℕ). l ++ references_of_value (Some e.key))
+    (val ∙ ap (λ (l : List ℕ). l ++ references_of_value (Some e.val)) so) ∙ sym (references_next es i e at)
 
 -- whether the first entries hold an object, and with one more
 includes_append : (xs ys : List ℕ) (o : ℕ) → includes (xs ++ ys) o ≡ (includes xs o || includes ys o)
 includes_append xs ys o = list_any-append (λ x. x == o) xs ys
 
-pub held_by_next : (es : List Entry) (i : ℕ) (e : Entry) (o : ℕ) → slice_get es i ≡ Some e → includes (references (take i es)) o ≡ false → includes (entry_references e) o ≡ false → includes (references (take (i + 1) es)) o ≡ false
+pub held_by_next : (es : List Entry) (i : ℕ) (e : Entry) (o : ℕ) → slice_get es i ≡ Some e → includes (references (take i es)) o ≡ false
+    → includes (entry_references e) o ≡ false → includes (references (take (i + 1) es)) o ≡ false
 held_by_next es i e o at none here =
     ap (λ (l : List ℕ). includes l o) (references_more es i e at)
     ∙ includes_append (references (take i es)) (entry_references e) o
@@ -47,7 +51,8 @@ pub held_by_one : (es : List Entry) (i : ℕ) (e : Entry) (o : ℕ) → slice_ge
 held_by_one es i e o at here =
     includes-of (references es) o
     (subst (λ (l : List ℕ). Includes l o) (sym (references_split es i e at))
-    (Includes-append_right (references (take i es)) (entry_references e ++ references (drop (i + 1) es)) o (Includes-append_left (entry_references e) (references (drop (i + 1) es)) o (Includes-of (entry_references e) o here))))
+    (Includes-append_right (references (take i es)) (entry_references e ++ references (drop (i + 1) es)) o (Includes-append_left (entry_references e)
+    (references (drop (i + 1) es)) o (Includes-of (entry_references e) o here))))
 
 -- Numbers, one by one.
 pub numbers_none : (number : ℕ → ℕ) (numbers : List (ℕ × ℕ)) → AreNumbers number [] numbers
@@ -63,7 +68,8 @@ numbers_more number objects object old new are now o m = go (cases_eq object o) 
     go (inr differs) (inr k) = absurd (differs (either k (λ e. e) (λ f. absurd f)))
 
 -- numbers lowered by references, and by further ones
-pub numbers_lowered : (number : ℕ → ℕ) (objects refs more : List ℕ) (old new : List (ℕ × ℕ)) → AreNumbers (λ o. number o - occurrences o refs) objects old → AreLowered more old new → AreNumbers (λ o. number o - occurrences o (refs ++ more)) objects new
+pub numbers_lowered : (number : ℕ → ℕ) (objects refs more : List ℕ) (old new : List (ℕ × ℕ)) → AreNumbers (λ o. number o - occurrences o refs) objects old
+    → AreLowered more old new → AreNumbers (λ o. number o - occurrences o (refs ++ more)) objects new
 numbers_lowered number objects refs more old new are lowered o m =
     lowered o ∙ ap (option_map (λ n. n - occurrences o more)) (are o m)
     ∙ ap Some (omega (arith, occurrences-append o refs more))
@@ -107,7 +113,8 @@ module _ (store : Store) where
   pub arrows_out : (o p : ℕ) → Includes (arrows_of store) (record { from = o; to = p }) → Includes (references (entries_of store o)) p
   arrows_out o p m = go (objects_of store) (λ x k. k) m
     where
-      go : (xs : List Object) → ((x : Object) → Includes xs x → Includes (objects_of store) x) → Includes (edges (graph_of xs)) (record { from = o; to = p }) → Includes (references (entries_of store o)) p
+      go : (xs : List Object) → ((x : Object) → Includes xs x → Includes (objects_of store) x) → Includes (edges (graph_of xs)) (record { from = o; to = p })
+          → Includes (references (entries_of store o)) p
       go [] into m = absurd m
       go (x ∷ xs) into m =
           either (Includes-append_cases (map (λ r. record { from = x.serial; to = r }) (references x.entries)) (edges (graph_of xs)) (record { from = o; to = p }) m)
@@ -150,11 +157,14 @@ module _ (store : Store) where
         (subst (λ es. Includes (references es) p) (entries_are store x.0 x.1) (subst (λ q. Includes (references (entries_of store q)) p) (sym x.2) m))
 
 -- one more object lowers the numbers of what its entries refer to
-pub lowered_next : (store : Store) (xs refs objects : List ℕ) (i : ℕ) (old new : List (ℕ × ℕ)) → i < length xs → AreNumbers (λ o. count_of store o - occurrences o (flat_map (λ p. references (entries_of store p)) (take i xs))) objects old
-    → refs ≡ references (entries_of store (get_or xs i 0)) → AreLowered refs old new → AreNumbers (λ o. count_of store o - occurrences o (flat_map (λ p. references (entries_of store p)) (take (i + 1) xs))) objects new
+pub lowered_next : (store : Store) (xs refs objects : List ℕ) (i : ℕ) (old new : List (ℕ × ℕ)) → i < length xs
+    → AreNumbers (λ o. count_of store o - occurrences o (flat_map (λ p. references (entries_of store p)) (take i xs))) objects old
+    → refs ≡ references (entries_of store (get_or xs i 0)) → AreLowered refs old new
+    → AreNumbers (λ o. count_of store o - occurrences o (flat_map (λ p. references (entries_of store p)) (take (i + 1) xs))) objects new
 lowered_next store xs refs objects i old new low are is lowered =
     subst (λ (l : List ℕ). AreNumbers (λ o. count_of store o - occurrences o l) objects new) (sym (flat_next (λ p. references (entries_of store p)) xs i (get_or xs i 0) at))
-    (numbers_lowered (count_of store) objects (flat_map (λ p. references (entries_of store p)) (take i xs)) (references (entries_of store (get_or xs i 0))) old new are (subst (λ (l : List ℕ). AreLowered l old new) is lowered))
+    (numbers_lowered (count_of store) objects (flat_map (λ p. references (entries_of store p)) (take i xs)) (references (entries_of store (get_or xs i 0))) old
+    new are (subst (λ (l : List ℕ). AreLowered l old new) is lowered))
   where
     at : slice_get xs i ≡ Some (get_or xs i 0)
     at = let r = get_below xs i low in r.1 ∙ ap Some (sym (get_or_from_slice_get xs i r.0 0 r.1))
@@ -186,7 +196,8 @@ module _ (store : Store) (object : ℕ) (xs : List ℕ) (i : ℕ) (numbers : Lis
   out : (o : ℕ) → HeldAmong store object (take (i + 1) xs) o → HeldAmong store object (take i xs) o ⊎ (last ≡ o)
   out o h = either (Includes-append_cases (take i xs) (last ∷ []) o (subst (λ (l : List ℕ). Includes l o) more_taken h.1)) (λ k. inl (h.0, k)) (λ k. inr (either k (λ e. e) (λ f. absurd f)))
 
-  pub start_held : (old new : Findings) → IsStart (HeldAmong store object (take i xs)) old → held ≡ true → Finds old (get_or xs i 0 ∷ []) None new → IsStart (HeldAmong store object (take (i + 1) xs)) new
+  pub start_held : (old new : Findings) → IsStart (HeldAmong store object (take i xs)) old → held ≡ true → Finds old (get_or xs i 0 ∷ []) None new
+      → IsStart (HeldAmong store object (take (i + 1) xs)) new
   unfolding last
   start_held old new a is_true f =
       start_more (HeldAmong store object (take i xs)) (HeldAmong store object (take (i + 1) xs)) old new (get_or xs i 0) a f
@@ -199,7 +210,8 @@ module _ (store : Store) (object : ℕ) (xs : List ℕ) (i : ℕ) (numbers : Lis
       (start_same (HeldAmong store object (take i xs)) (HeldAmong store object (take (i + 1) xs)) old a into
       (λ o h. either (out o h) (λ k. k) (λ e. let yes : held ≡ true = is_held.1 (subst (HeldElse store object) (sym e) h.0) in absurd (cc))))
 
-pub start_all : (store : Store) (live : (s : ℕ) → 0 < inner store s → IsLive store s) (object : ℕ) (xs : List ℕ) (i : ℕ) (found : Findings) → xs ≡ serials (objects_of store) → length xs ≤ i → IsStart (HeldAmong store object (take i xs)) found
+pub start_all : (store : Store) (live : (s : ℕ) → 0 < inner store s → IsLive store s) (object : ℕ) (xs : List ℕ) (i : ℕ) (found : Findings) → xs
+    ≡ serials (objects_of store) → length xs ≤ i → IsStart (HeldAmong store object (take i xs)) found
     → IsStart (HeldElse store object) found
 start_all store live object xs i found all end a =
     start_same (HeldAmong store object (take i xs)) (HeldElse store object) found a (λ o h. h.0)
@@ -225,7 +237,8 @@ module _ (store : Store) (live : (s : ℕ) → 0 < inner store s → IsLive stor
         let few = few_found found xs h.once (λ p m. subst (λ (l : List ℕ). Includes l p) (sym all) (live_serial store p (found_lives p m))) in
         omega (arith, low, few)
 
-    pub turn_spread : (o : ℕ) (holder : Option ℕ) (refs : List ℕ) (new : Findings) → slice_get found place ≡ Some (o, holder) → refs ≡ references (entries_of store o) → Finds found refs (Some place) new
+    pub turn_spread : (o : ℕ) (holder : Option ℕ) (refs : List ℕ) (new : Findings) → slice_get found place ≡ Some (o, holder) → refs
+        ≡ references (entries_of store o) → Finds found refs (Some place) new
         → HasSpread (HeldElse store object) (arrows_of store) new (place + 1)
     turn_spread o holder refs new at is finds =
         spread_more (HeldElse store object) (arrows_of store) found new place o holder refs h at
@@ -239,5 +252,6 @@ module _ (store : Store) (live : (s : ℕ) → 0 < inner store s → IsLive stor
       at_end (inl low) = let r = get_below found place low in absurd (let e : Some r.0 ≡ None = sym r.1 ∙ none in cc)
       at_end (inr high) = let w = h.within in omega (arith, high, w)
 
-  pub turns_over : (found : Findings) (place : ℕ) → HasSpread (HeldElse store object) (arrows_of store) found place → slice_get found place ≡ None → IsOver (HeldElse store object) (arrows_of store) found
+  pub turns_over : (found : Findings) (place : ℕ) → HasSpread (HeldElse store object) (arrows_of store) found place → slice_get found place ≡ None
+      → IsOver (HeldElse store object) (arrows_of store) found
   turns_over found place h none = subst (HasSpread (HeldElse store object) (arrows_of store) found) (turns_end found place h none) h

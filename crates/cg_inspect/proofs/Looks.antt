@@ -52,7 +52,8 @@ module _ (store : Store) where
         omega (arith, so, some, sum_by-take-le entry_count (objects_in found) i, all_entries)
 
     -- one more object found, which finds others
-    module _ (holder : ℕ) (by : Option ℕ) (at : slice_get found place ≡ Some (holder, by)) (old before now : ℕ) (so : before ≤ old + sum_by entry_count (take place (objects_in found))) (more : now ≤ before + length (entries_of store holder)) where
+    module _ (holder : ℕ) (by : Option ℕ) (at : slice_get found place ≡ Some (holder, by)) (old before now : ℕ) (so : before ≤ old + sum_by entry_count
+        (take place (objects_in found))) (more : now ≤ before + length (entries_of store holder)) where
       pub searched_more : now ≤ old + sum_by entry_count (take (place + 1) (objects_in found))
       searched_more =
           let there : get_or (objects_in found) place 0 ≡ holder =

@@ -145,14 +145,18 @@ module _ (store : Store) where
   pub filter-serials : (target : ℕ) → filter (λ s. includes (references (entries_of store s)) target) (serials (objects_of store)) ≡ serials (filter (refers_to target) (objects_of store))
   filter-serials target = go (objects_of store) (λ x m. m)
     where
-      go : (xs : List Object) → ((x : Object) → Includes xs x → Includes (objects_of store) x) → filter (λ s. includes (references (entries_of store s)) target) (serials xs) ≡ serials (filter (refers_to target) xs)
+      go : (xs : List Object) → ((x : Object) → Includes xs x → Includes (objects_of store) x) → filter (λ s. includes (references (entries_of store s)) target)
+          (serials xs) ≡ serials (filter (refers_to target) xs)
       go [] h = refl
       go (x ∷ xs) h =
-          ap (λ es. cond (includes (references es) target) (x.serial ∷ filter (λ s. includes (references (entries_of store s)) target) (serials xs)) (filter (λ s. includes (references (entries_of store s)) target) (serials xs))) (entries_are x (h x (inl refl)))
+          ap (λ es. cond (includes (references es) target) (x.serial ∷ filter (λ s. includes (references (entries_of store s)) target) (serials xs))
+          (filter (λ s. includes (references (entries_of store s)) target) (serials xs))) (entries_are x (h x (inl refl)))
           ∙ step (includes (references x.entries) target) (go xs (λ y m. h y (inr m)))
         where
           step : (b : Bool) → filter (λ s. includes (references (entries_of store s)) target) (serials xs) ≡ serials (filter (refers_to target) xs)
-              → cond b (x.serial ∷ filter (λ s. includes (references (entries_of store s)) target) (serials xs)) (filter (λ s. includes (references (entries_of store s)) target) (serials xs)) ≡ serials (cond b (x ∷ filter (refers_to target) xs) (filter (refers_to target) xs))
+              → cond b (x.serial ∷ filter (λ s. includes (references (entries_of store s)) target) (serials xs))
+              (filter (λ s. includes (references (entries_of store s)) target) (serials xs))
+              ≡ serials (cond b (x ∷ filter (refers_to target) xs) (filter (refers_to target) xs))
           step true e = ap (λ l. x.serial ∷ l) e
           step false e = e
 
@@ -278,16 +282,19 @@ module _ (test : ℕ → Bool) (xs listed new : List ℕ) (i : ℕ) (low : i < l
   filter_no fails is =
       is ∙ so ∙ sym (filter_more test xs i 0 low ∙ ap (λ b. filter test (take i xs) ++ cond b (get_or xs i 0 ∷ []) []) fails ∙ append-nil (filter test (take i xs)))
 
-pub listed_all : (store : Store) (target : ℕ) (xs listed : List ℕ) (i : ℕ) → xs ≡ serials (objects_of store) → listed ≡ filter (λ s. includes (references (entries_of store s)) target) (take i xs) → length xs ≤ i
+pub listed_all : (store : Store) (target : ℕ) (xs listed : List ℕ) (i : ℕ) → xs ≡ serials (objects_of store) → listed
+    ≡ filter (λ s. includes (references (entries_of store s)) target) (take i xs) → length xs ≤ i
     → listed ≡ serials (filter (refers_to target) (objects_of store))
 listed_all store target xs listed i all so end =
     so ∙ ap (filter (λ s. includes (references (entries_of store s)) target)) (take_all i xs end ∙ all) ∙ filter-serials store target
 
 -- a walk over a place appends its list
-pub along_all : (store : Store) (p : Place) (cursor : Option ℕ) (old now : List ℕ) → (front : List ℕ) × (now ≡ old ++ front) × ((back : List ℕ) × IsAt (list_at store p) cursor front back) → cursor ≡ None → now ≡ old ++ list_at store p
+pub along_all : (store : Store) (p : Place) (cursor : Option ℕ) (old now : List ℕ) → (front : List ℕ) × (now ≡ old ++ front)
+    × ((back : List ℕ) × IsAt (list_at store p) cursor front back) → cursor ≡ None → now ≡ old ++ list_at store p
 along_all store p cursor old now so none = so.1 ∙ ap (λ (l : List ℕ). old ++ l) (along_end store p cursor so.0 so.2 none)
 
-pub along_next : (store : Store) (listed : IsListed store) (p : Place) (was cursor : Option ℕ) (old now more : List ℕ) (o : ℕ) (so : (front : List ℕ) × (now ≡ old ++ front) × ((back : List ℕ) × IsAt (list_at store p) was front back))
+pub along_next : (store : Store) (listed : IsListed store) (p : Place) (was cursor : Option ℕ) (old now more : List ℕ) (o : ℕ) (so : (front : List ℕ)
+    × (now ≡ old ++ front) × ((back : List ℕ) × IsAt (list_at store p) was front back))
     → was ≡ Some o → cursor ≡ following o (list_at store (place_of store o)) → more ≡ now ++ o ∷ []
     → ((front : List ℕ) × (more ≡ old ++ front) × ((back : List ℕ) × IsAt (list_at store p) cursor front back)) × (length (ahead cursor (list_at store p)) < length (ahead was (list_at store p)))
 along_next store listed p was cursor old now more o so is next items =

@@ -40,10 +40,11 @@ fn has_reference<B: Kind, L: Ledger>(
     false
 }
 
-/// The objects that refer to an object, by rising serial, each once however often it refers. (`gc` manual,
-/// `gc.get_referrers`; unlike there, untracked objects are included.)
+/// The objects that refer to an object, by rising serial, each once however often it refers. (`gc`
+/// manual, `gc.get_referrers`; unlike there, untracked objects are included.)
 ///
-/// No collection may be under way. Looks at each entry at most once. Answers `AllocError` only if memory runs out.
+/// No collection may be under way. Looks at each entry at most once. Answers `AllocError` only if
+/// memory runs out.
 pub fn referrers<B: Kind, L: Ledger>(
     alloc: Global,
     heap: &Heap<B>,
@@ -51,7 +52,8 @@ pub fn referrers<B: Kind, L: Ledger>(
     steps: &mut Steps<L>,
 ) -> Result<Vec<u64>, AllocError>
     requires { IsIdle heap.now }
-    ensures listed { IfOk result (λ listed. listed.items ≡ serials (filter (refers_to object) (objects_of heap.now))) }
+    ensures listed { IfOk result (λ listed. listed.items
+        ≡ serials (filter (refers_to object) (objects_of heap.now))) }
     ensures looks { steps.new ≤ steps.old + entry_number_in_all heap.now }
 {
     let objects = live_objects(alloc, heap)?;

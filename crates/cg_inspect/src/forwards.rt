@@ -11,7 +11,8 @@ use std::sync::ledger::Ledger;
 
 /// Appends the object that a value refers to, if any.
 fn push_reference(listed: &mut Vec<u64>, value: Val) -> Result<(), AllocError>
-    ensures { OnOk result (listed.new.items ≡ listed.old.items ++ references_of_value (Some value)) }
+    ensures { OnOk result (listed.new.items ≡ listed.old.items
+        ++ references_of_value (Some value)) }
 {
     if let Val::Ref(object) = value {
         listed.push(object)?;
@@ -19,8 +20,8 @@ fn push_reference(listed: &mut Vec<u64>, value: Val) -> Result<(), AllocError>
     Ok(())
 }
 
-/// The objects that a live object refers to, in entry order, with the value before the key in each entry; an object
-/// that occurs twice is listed twice. (`gc` manual, `gc.get_referents`.)
+/// The objects that a live object refers to, in entry order, with the value before the key in each
+/// entry; an object that occurs twice is listed twice. (`gc` manual, `gc.get_referents`.)
 ///
 /// Looks at each entry once. Answers `AllocError` only if memory runs out.
 pub fn referents<B: Kind, L: Ledger>(
@@ -30,7 +31,8 @@ pub fn referents<B: Kind, L: Ledger>(
     steps: &mut Steps<L>,
 ) -> Result<Vec<u64>, AllocError>
     requires { IsLive heap.now object }
-    ensures listed { IfOk result (λ listed. listed.items ≡ references (entries_of heap.now object)) }
+    ensures listed { IfOk result (λ listed. listed.items
+        ≡ references (entries_of heap.now object)) }
     ensures looks { steps.new ≤ steps.old + length (entries_of heap.now object) }
 {
     let mut listed = Vec::new(alloc);

@@ -23,7 +23,8 @@ type Numbers = IndexMap<u64, u64, SerialHashing>;
 
 /// Gives the object a number.
 fn set_number(numbers: &mut Numbers, object: u64, number: u64) -> Result<(), AllocError>
-    ensures { OnOk result ((s : ℕ) → number_of numbers.new.entries s ≡ (if object == s then Some number else number_of numbers.old.entries s)) }
+    ensures { OnOk result ((s : ℕ) → number_of numbers.new.entries s
+        ≡ (if object == s then Some number else number_of numbers.old.entries s)) }
 {
     numbers.insert(object, number)?;
     Ok(())
@@ -75,7 +76,8 @@ fn other_holdings<B: Kind, L: Ledger>(
 ) -> Result<Numbers, AllocError>
     requires { objects.now ≡ serials (objects_of heap.now) }
     ensures looks { steps.new ≤ steps.old + entry_number_in_all heap.now }
-    ensures numbers { IfOk result (λ numbers. AreNumbers (holdings_but_entries heap.now) objects.now numbers.entries) }
+    ensures numbers { IfOk result (λ numbers. AreNumbers (holdings_but_entries heap.now) objects.now
+        numbers.entries) }
 {
     let mut numbers = in_degrees(alloc, heap, objects)?;
     'objects: for object in objects.iter() {
@@ -87,7 +89,8 @@ fn other_holdings<B: Kind, L: Ledger>(
 
 /// Whether a root other than the given name holds the object; the name holds it.
 fn is_held_else(numbers: &Numbers, holder: u64, object: u64) -> bool
-    ensures { (n : ℕ) → number_of numbers.now.entries holder ≡ Some n → IsTrue result ↔ (occurrences holder (object ∷ []) < n) }
+    ensures { (n : ℕ) → number_of numbers.now.entries holder ≡ Some n
+        → IsTrue result ↔ (occurrences holder (object ∷ []) < n) }
 {
     let by_the_name = if holder == object { 1 } else { 0 };
     match numbers.get(&holder) {
@@ -96,8 +99,8 @@ fn is_held_else(numbers: &Numbers, holder: u64, object: u64) -> bool
     }
 }
 
-/// Which objects are held by a root, and than by the name that is asked about, which holds the object, by rising serial.
-/// The objects are all live ones.
+/// Which objects are held by a root, and than by the name that is asked about, which holds the
+/// object, by rising serial. The objects are all live ones.
 pub fn held_else<B: Kind, L: Ledger>(
     alloc: Global,
     heap: &Heap<B>,

@@ -1,7 +1,8 @@
-//! What an object refers to, what refers to it, and why it is alive: three questions about a heap that change nothing.
+//! What an object refers to, what refers to it, and why it is alive: three questions about a heap
+//! that change nothing.
 //!
-//! They help to find leaks. (`gc` manual, `gc.get_referents` and `gc.get_referrers`; `why` is ours.) They require that
-//! no collection is under way.
+//! They help to find leaks. (`gc` manual, `gc.get_referents` and `gc.get_referrers`; `why` is
+//! ours.) They require that no collection is under way.
 //!
 //! - `live`: all live objects, by rising serial.
 //! - `forwards`, `backwards`: what an object refers to, and what refers to it.

@@ -31,15 +31,16 @@ fn path_back(alloc: Global, found: &Found, last: usize) -> Result<Vec<u64>, Allo
     Ok(path)
 }
 
-/// Why the object is alive, apart from one name that holds it: a shortest path of holders from an object held by a root, which
-/// is a name, the garbage root or a hold from outside the heap. `Unreachable` exactly if there is none. (Ours.)
+/// Why the object is alive, apart from one name that holds it: a shortest path of holders from an
+/// object held by a root, which is a name, the garbage root or a hold from outside the heap.
+/// `Unreachable` exactly if there is none. (Ours.)
 ///
-/// Where something else than an entry and one name holds the object, the path is the object alone. Of several shortest
-/// paths the first is told: the one from the object with the lowest serial, and then, wherever they part, the one by the
-/// earliest reference.
+/// Where something else than an entry and one name holds the object, the path is the object alone.
+/// Of several shortest paths the first is told: the one from the object with the lowest serial, and
+/// then, wherever they part, the one by the earliest reference.
 ///
-/// No collection may be under way. Looks at each entry at most twice: to find what roots hold, and in the search. Answers
-/// `AllocError` only if memory runs out.
+/// No collection may be under way. Looks at each entry at most twice: to find what roots hold, and
+/// in the search. Answers `AllocError` only if memory runs out.
 pub fn why<B: Kind, L: Ledger>(
     alloc: Global,
     heap: &Heap<B>,

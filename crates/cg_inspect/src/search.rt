@@ -1,4 +1,5 @@
-//! A search by breadth: what is held otherwise comes first, and then what it leads to, the nearest first.
+//! A search by breadth: what is held otherwise comes first, and then what it leads to, the nearest
+//! first.
 ghost use Rattle.std.specs.Prelude.{◌≡◌, ◌+◌, ◌*◌, ◌≤◌, ◌∷◌, [], Some, IfOk, OnOk, length, slice_get};
 ghost use Rattle.cg_graph.specs.Object.{serials};
 ghost use Rattle.cg_graph.specs.Store.{objects_of};
@@ -16,7 +17,8 @@ use indexmap::IndexMap;
 use std::alloc::{AllocError, Global};
 use std::sync::ledger::Ledger;
 
-/// The objects found, in order, each with the position of its holder among them; None for one held by a root.
+/// The objects found, in order, each with the position of its holder among them; None for one held
+/// by a root.
 pub type Found = IndexMap<u64, Option<usize>, SerialHashing>;
 
 /// Adds the object if it is new.
@@ -31,7 +33,8 @@ pub fn find(found: &mut Found, object: u64, holder: Option<usize>) -> Result<(),
 
 /// Adds those of the references that were not found before, in their order.
 fn find_all(found: &mut Found, references: &[u64], holder: usize) -> Result<(), AllocError>
-    ensures { OnOk result (FindsInOrder found.old.entries references.now (Some holder) found.new.entries) }
+    ensures { OnOk result (FindsInOrder found.old.entries references.now (Some holder)
+        found.new.entries) }
 {
     'references: for object in references.iter() {
         find(found, *object, Some(holder))?;
@@ -49,8 +52,8 @@ pub fn found_at(found: &Found, at: usize) -> Option<(u64, Option<usize>)>
     }
 }
 
-/// Finds what is held by a root, and than by the name that is asked about, which holds the object; and
-/// all that it leads to, in order. The objects are all live ones.
+/// Finds what is held by a root, and than by the name that is asked about, which holds the object;
+/// and all that it leads to, in order. The objects are all live ones.
 pub fn search<B: Kind, L: Ledger>(
     alloc: Global,
     heap: &Heap<B>,
@@ -60,8 +63,10 @@ pub fn search<B: Kind, L: Ledger>(
 ) -> Result<Found, AllocError>
     requires { objects.now ≡ serials (objects_of heap.now) }
     ensures looks { steps.new ≤ steps.old + 2 * entry_number_in_all heap.now }
-    ensures found { IfOk result (λ found. IsOver (HeldElse heap.now object) (arrows_of heap.now) found.entries) }
-    ensures order { IfOk result (λ found. AreInOrder (references_by heap.now) found.entries (length found.entries)) }
+    ensures found { IfOk result (λ found. IsOver (HeldElse heap.now object) (arrows_of heap.now)
+        found.entries) }
+    ensures order { IfOk result (λ found. AreInOrder (references_by heap.now) found.entries
+        (length found.entries)) }
 {
     heap.sound();
     let mut found = held_else(alloc, heap, objects, object, steps)?;

@@ -70,8 +70,10 @@ pub record KeepsEntries (top : Activity) (tops : List Activity) (lines : List Ev
 -- how the objects change
 pub data HasChanged (top : Activity) (tops : List Activity) (lines : List Event) : List Object → List Object → Type 0 where
   NothingChanges : (objects : List Object) → HasChanged top tops lines objects objects
-  ChangesEach : (f : Object → Object) (test : Object → Bool) (objects : List Object) → ((x : Object) → Includes objects x → test x ≡ true → KeepsEntries top tops lines x (f x)) → HasChanged top tops lines objects (map (λ x. if test x then f x else x) objects)
-  LosesEntries : (es : List Entry) (s : ℕ) (objects : List Object) → Owns top s → ((e : Entry) → Includes es e → Includes (entries_of objects s) e) → HasChanged top tops lines objects (change (with_entries es) s objects)
+  ChangesEach : (f : Object → Object) (test : Object → Bool) (objects : List Object) → ((x : Object) → Includes objects x → test x ≡ true
+      → KeepsEntries top tops lines x (f x)) → HasChanged top tops lines objects (map (λ x. if test x then f x else x) objects)
+  LosesEntries : (es : List Entry) (s : ℕ) (objects : List Object) → Owns top s → ((e : Entry) → Includes es e → Includes (entries_of objects s) e)
+      → HasChanged top tops lines objects (change (with_entries es) s objects)
   GetsEntry : (o : ℕ) (objects : List Object) → is_collection top ≡ true → HasChanged top tops lines objects (saved o objects)
   LosesObject : (o : ℕ) (objects : List Object) → Owns top o → Includes lines (Free o) → HasChanged top tops lines objects (without o objects)
   Followed : (before now after : List Object) → HasChanged top tops lines before now → HasChanged top tops lines now after → HasChanged top tops lines before after
@@ -95,10 +97,12 @@ IsEarly (AfterTurn o) = ⊥
 IsEarly phase = Unit {0}
 
 pub data Continues (before after : List Object) : Activity → Activity → Type 0 where
-  DeathGoesOn : (o : ℕ) (phase next : DyingPhase) → ((n : ℕ) → Includes (death_waits next) n → Includes (death_waits phase) n) → ClearsNone next → Continues before after (Dying (record { object = o; phase = phase })) (Dying (record { object = o; phase = next }))
+  DeathGoesOn : (o : ℕ) (phase next : DyingPhase) → ((n : ℕ) → Includes (death_waits next) n → Includes (death_waits phase) n) → ClearsNone next
+      → Continues before after (Dying (record { object = o; phase = phase })) (Dying (record { object = o; phase = next }))
   DeathClears : (o weak : ℕ) (waiting weaks : List ℕ) (b : Bool) → weak_references_if has_weak_references before o ≡ weak ∷ weaks → after ≡ loses_referent weak before
       → Continues before after (Dying (record { object = o; phase = Clearing waiting })) (Dying (record { object = o; phase = Clearing (waiting ++ (if b then weak ∷ [] else [])) }))
-  CollectionGoesOn : (c d : Collection) → d.generation ≡ c.generation → is_first d.phase ≡ false → (IsEarly c.phase → c.phase ≢ Split → IsEarly d.phase) → Continues before after (Collecting c) (Collecting d)
+  CollectionGoesOn : (c d : Collection) → d.generation ≡ c.generation → is_first d.phase ≡ false → (IsEarly c.phase → c.phase ≢ Split → IsEarly d.phase)
+      → Continues before after (Collecting c) (Collecting d)
 
 -- A collection keeps each hold or gives it up.
 abbrev pub HoldsOn : List ℕ → Activity → Activity → Type 0
@@ -119,7 +123,8 @@ pub data Tops (before after : List Object) : Activity → List Activity → Type
   GivesReferences : (top a : Activity) (references : List ℕ) → length references ≤ 2 → Continues before after top a → HoldsOn references top a → Tops before after top (Releasing references ∷ a ∷ [])
 
 pub data FrameOf (script : Script) (before after : List Object) (top a : Activity) : FrameSpec → Type 0 where
-  OfFinalizer : (o p : ℕ) → option_and_then (finalizer_to_run script) (object_at before o) ≡ Some p → ((y : Object) → Includes after y → y.serial ≡ o → y.finalized ≡ true) → FrameOf script before after top a (record { sort = Del; proc = p; subject = o; func = None })
+  OfFinalizer : (o p : ℕ) → option_and_then (finalizer_to_run script) (object_at before o) ≡ Some p → ((y : Object) → Includes after y → y.serial ≡ o
+      → y.finalized ≡ true) → FrameOf script before after top a (record { sort = Del; proc = p; subject = o; func = None })
   OfLegacy : (o p : ℕ) → option_and_then (legacy_of script) (object_at before o) ≡ Some p → FrameOf script before after top a (record { sort = Legacy; proc = p; subject = o; func = None })
   OfCallback : (weak p : ℕ) → Includes (waits_of top) weak → Includes (holds a) (unwrap_or (callback_of before weak) 0) ⊎ Includes (waits_of a) weak × (after ≡ before)
       → FrameOf script before after top a (record { sort = Callback; proc = p; subject = weak; func = Some (unwrap_or (callback_of before weak) 0) })
@@ -156,9 +161,11 @@ pub data AreLinesOf (before after : List Object) (top : Activity) : List Event �
 
 -- What a step of the activity on top of `below` can be. It leaves the names and makes no object.
 pub data Advance (script : Script) (v : World) (top : Activity) (below : List Activity) : List Event → World → Type 0 where
-  Plainly : (tops : List Activity) (objects : List Object) (numbers : Numbers) (lines : List Event) → Tops v.objects objects top tops → HasChanged top tops lines v.objects objects → Renumbers top v.objects v.numbers numbers → AreLinesOf v.objects objects top lines
+  Plainly : (tops : List Activity) (objects : List Object) (numbers : Numbers) (lines : List Event) → Tops v.objects objects top tops
+      → HasChanged top tops lines v.objects objects → Renumbers top v.objects v.numbers numbers → AreLinesOf v.objects objects top lines
       → Advance script v top below lines (record v { objects = objects; numbers = numbers; stack = tops ++ below })
-  WithFrame : (spec : FrameSpec) (a : Activity) (objects : List Object) → FrameOf script v.objects objects top a spec → Continues v.objects objects top a → HoldsOn [] top a → HasChanged top [] [] v.objects objects
+  WithFrame : (spec : FrameSpec) (a : Activity) (objects : List Object) → FrameOf script v.objects objects top a spec → Continues v.objects objects top a
+      → HoldsOn [] top a → HasChanged top [] [] v.objects objects
       → Advance script v top below (start_frame script spec (record v { objects = objects; stack = a ∷ below })).0 (start_frame script spec (record v { objects = objects; stack = a ∷ below })).1
 
 pub continues_idle : (before after : List Object) (a b : Activity) → Continues before after a b → commands_on b ≡ []
@@ -171,21 +178,26 @@ module _ (top : Activity) (tops : List Activity) (lines : List Event) where
   as_is : (x : Object) → KeepsEntries top tops lines x x
   as_is x = record { later = later_refl x; referent = inl refl; entries = refl; finalized = λ e. e; moved = StaysThere refl }
 
-  pub asides : (f : Object → Object) (test : Object → Bool) (objects : List Object) → ((x : Object) → Includes objects x → test x ≡ true → KeepsEntries top tops lines x (f x)) → Came (KeepsEntries top tops lines) objects (map (λ x. if test x then f x else x) objects)
+  pub asides : (f : Object → Object) (test : Object → Bool) (objects : List Object) → ((x : Object) → Includes objects x → test x ≡ true
+      → KeepsEntries top tops lines x (f x)) → Came (KeepsEntries top tops lines) objects (map (λ x. if test x then f x else x) objects)
   asides = came_if (KeepsEntries top tops lines) as_is
 
-  pub asides_last : (f : Object → Object) (test : Object → Bool) (objects : List Object) → ((x : Object) → Includes objects x → test x ≡ true → KeepsEntries top tops lines x (f x)) → Lasts (KeepsEntries top tops lines) objects (map (λ x. if test x then f x else x) objects)
+  pub asides_last : (f : Object → Object) (test : Object → Bool) (objects : List Object) → ((x : Object) → Includes objects x → test x ≡ true
+      → KeepsEntries top tops lines x (f x)) → Lasts (KeepsEntries top tops lines) objects (map (λ x. if test x then f x else x) objects)
   asides_last = lasts_if (KeepsEntries top tops lines) as_is
 
 -- A relation that each change of one object respects is respected by the whole step.
 module _ (R : Object → Object → Type 0) (order : IsOrder R) (top : Activity) (tops : List Activity) (lines : List Event) (keeps : (x y : Object) → KeepsEntries top tops lines x y → R x y)
-    (loses : (objects : List Object) (s : ℕ) (es : List Entry) → Owns top s → ((e : Entry) → Includes es e → Includes (entries_of objects s) e) → (x : Object) → Includes objects x → x.serial ≡ s → R x (with_entries es x))
+    (loses : (objects : List Object) (s : ℕ) (es : List Entry) → Owns top s → ((e : Entry) → Includes es e → Includes (entries_of objects s) e) → (x : Object)
+    → Includes objects x → x.serial ≡ s → R x (with_entries es x))
     (gets : is_collection top ≡ true → (o : ℕ) (x : Object) → x.serial ≡ 1 → R x (with_entries (x.entries ++ item (Ref o) ∷ []) x)) where
   pub changed_came : (before after : List Object) → HasChanged top tops lines before after → Came R before after
   changed_came before after (NothingChanges objects) = (came R order).same objects
   changed_came before after (ChangesEach f test objects aside) = came_if R order.same f test objects (λ x m t. keeps x (f x) (aside x m t))
-  changed_came before after (LosesEntries es s objects owns fewer) = came_if R order.same (with_entries es) (λ x. x.serial == s) objects (λ x m t. loses objects s es owns fewer x m (eqb-true x.serial s t))
-  changed_came before after (GetsEntry o objects is) = came_if R order.same (λ x. with_entries (x.entries ++ item (Ref o) ∷ []) x) (λ x. x.serial == 1) objects (λ x m t. gets is o x (eqb-true x.serial 1 t))
+  changed_came before after (LosesEntries es s objects owns fewer) = came_if R order.same (with_entries es) (λ x. x.serial == s) objects
+      (λ x m t. loses objects s es owns fewer x m (eqb-true x.serial s t))
+  changed_came before after (GetsEntry o objects is) = came_if R order.same (λ x. with_entries (x.entries ++ item (Ref o) ∷ []) x) (λ x. x.serial == 1) objects
+      (λ x m t. gets is o x (eqb-true x.serial 1 t))
   changed_came before after (LosesObject o objects owns line) = came_without R order.same o objects
   changed_came before after (Followed first now last h k) = (came R order).trans first now last (changed_came first now h) (changed_came now last k)
 
@@ -221,15 +233,20 @@ module _ (top : Activity) (tops : List Activity) (lines : List Event) where
   -- each object is still there, except one that a line frees
   pub changed_lasts : (before after : List Object) → HasChanged top tops lines before after → (n : ℕ) → Includes (serials before) n → Includes (serials after) n ⊎ Includes lines (Free n)
   changed_lasts before after (NothingChanges objects) n m = inl m
-  changed_lasts before after (ChangesEach f test objects aside) n m = inl (lasts_lives (Becomes tops lines) (λ x y k. k.later.serial) objects after (lasts_if (Becomes tops lines) becomes.same f test objects (λ x i t. kept x (f x) (aside x i t))) n m)
-  changed_lasts before after (LosesEntries es s objects owns fewer) n m = inl (lasts_lives (Becomes tops lines) (λ x y k. k.later.serial) objects after (lasts_if (Becomes tops lines) becomes.same (with_entries es) (λ x. x.serial == s) objects (λ x i t. same_entry es x)) n m)
-  changed_lasts before after (GetsEntry o objects is) n m = inl (lasts_lives (Becomes tops lines) (λ x y k. k.later.serial) objects after (lasts_if (Becomes tops lines) becomes.same (λ x. with_entries (x.entries ++ item (Ref o) ∷ []) x) (λ x. x.serial == 1) objects (λ x i t. same_entry _ x)) n m)
+  changed_lasts before after (ChangesEach f test objects aside) n m = inl (lasts_lives (Becomes tops lines) (λ x y k. k.later.serial) objects after
+      (lasts_if (Becomes tops lines) becomes.same f test objects (λ x i t. kept x (f x) (aside x i t))) n m)
+  changed_lasts before after (LosesEntries es s objects owns fewer) n m = inl (lasts_lives (Becomes tops lines) (λ x y k. k.later.serial) objects after
+      (lasts_if (Becomes tops lines) becomes.same (with_entries es) (λ x. x.serial == s) objects (λ x i t. same_entry es x)) n m)
+  changed_lasts before after (GetsEntry o objects is) n m = inl (lasts_lives (Becomes tops lines) (λ x y k. k.later.serial) objects after
+      (lasts_if (Becomes tops lines) becomes.same (λ x. with_entries (x.entries ++ item (Ref o) ∷ []) x) (λ x. x.serial == 1) objects (λ x i t. same_entry _ x))
+      n m)
   changed_lasts before after (LosesObject o objects owns line) n m = either (without_lasts o objects n m) (λ k. inl k) (λ e. inr (subst (λ k. Includes lines (Free k)) e line))
   changed_lasts before after (Followed first now last h k) n m = either (changed_lasts first now h n m) (changed_lasts now last k n) (λ f. inr f)
 
 pub fewer_references : (es entries : List Entry) → ((e : Entry) → Includes es e → Includes entries e) → (n : ℕ) → Includes (references es) n → Includes (references entries) n
 fewer_references [] entries h n m = absurd m
-fewer_references (e ∷ es) entries h n m = either (Includes-append_cases (entry_references e) (references es) n m) (references_of_member entries e n (h e (inl refl))) (fewer_references es entries (λ x i. h x (inr i)) n)
+fewer_references (e ∷ es) entries h n m = either (Includes-append_cases (entry_references e) (references es) n m)
+    (references_of_member entries e n (h e (inl refl))) (fewer_references es entries (λ x i. h x (inr i)) n)
 
 pub few_option : (m : Option ℕ) → length (option_to_list m) ≤ 1
 few_option None = omega arith

@@ -16,10 +16,12 @@ use Rattle.cg_laws.proofs.Measure.{candidates, other_candidate}
 use Rattle.cg_laws.proofs.FewerEntries.{if_fades, place_fades, Faded, faded_after, unchanged, change_fades, referent_fades}
 
 -- one of them moves
-pub leaves : (p : Place) → same_place p Cand ≡ false → (objects : List Object) (o : ℕ) (x : Object) → Includes objects x → x.serial ≡ o → is_at Cand x ≡ true → candidates (change (with_place p) o objects) < candidates objects
+pub leaves : (p : Place) → same_place p Cand ≡ false → (objects : List Object) (o : ℕ) (x : Object) → Includes objects x → x.serial ≡ o → is_at Cand x ≡ true
+    → candidates (change (with_place p) o objects) < candidates objects
 leaves p e objects o x m s c =
     tally-map_lt (λ x. bit (is_at Cand x)) (λ x. if x.serial == o then with_place p x else x) (if_fades (with_place p) (place_fades p e) (λ x. x.serial == o)).condemned objects x m
-    (subst (λ b. bit (is_at Cand (if b then with_place p x else x)) < bit (is_at Cand x)) (sym (eq-eqb x.serial o s)) (subst (λ b. bit b < bit (is_at Cand x)) (sym e) (subst (λ b. 0 < bit b) (sym c) (omega arith))))
+    (subst (λ b. bit (is_at Cand (if b then with_place p x else x)) < bit (is_at Cand x)) (sym (eq-eqb x.serial o s)) (subst (λ b. bit b < bit (is_at Cand x))
+    (sym e) (subst (λ b. 0 < bit b) (sym c) (omega arith))))
 
 other_le : (o : ℕ) (x : Object) → other_candidate o x ≤ bit (is_at Cand x)
 other_le o x = go (x.serial == o)
@@ -43,17 +45,21 @@ only_others p e o objects = tally-map_to (λ x. bit (is_at Cand x)) (other_candi
 entry_added : ℕ → Object → Object
 entry_added o x = with_entries (x.entries ++ item (Ref o) ∷ []) x
 
-kept_at : (b : Bool) (f : Object → Object) → ((x : Object) → (f x).place ≡ x.place) → ((x : Object) → (f x).serial ≡ x.serial) → (x : Object) → ((if b then f x else x).place ≡ x.place) × ((if b then f x else x).serial ≡ x.serial)
+kept_at : (b : Bool) (f : Object → Object) → ((x : Object) → (f x).place ≡ x.place) → ((x : Object) → (f x).serial ≡ x.serial) → (x : Object)
+    → ((if b then f x else x).place ≡ x.place) × ((if b then f x else x).serial ≡ x.serial)
 kept_at true f p s x = (p x, s x)
 kept_at false f p s x = (refl, refl)
 
-pub saved_leaves : (p : Place) → same_place p Cand ≡ false → (objects : List Object) (x : Object) → Includes objects x → is_at Cand x ≡ true → candidates (change (with_place p) x.serial (saved x.serial objects)) < candidates objects
+pub saved_leaves : (p : Place) → same_place p Cand ≡ false → (objects : List Object) (x : Object) → Includes objects x → is_at Cand x ≡ true
+    → candidates (change (with_place p) x.serial (saved x.serial objects)) < candidates objects
 saved_leaves p e objects x m c =
     let kept = kept_at (x.serial == 1) (λ y. with_entries (y.entries ++ item (Ref x.serial) ∷ []) y) (λ y. refl) (λ y. refl) x in
     let fewer = leaves p e (saved x.serial objects) x.serial (if x.serial == 1 then with_entries (x.entries ++ item (Ref x.serial) ∷ []) x else x)
     (Includes-map (λ y. if y.serial == 1 then with_entries (y.entries ++ item (Ref x.serial) ∷ []) y else y) objects x m) kept.1 (ap (λ q. same_place q Cand) kept.0 ∙ c) in
-    let same : candidates (saved x.serial objects) ≤ candidates objects = tally-map_le (λ y. bit (is_at Cand y)) (λ y. if y.serial == 1 then with_entries (y.entries ++ item (Ref x.serial) ∷ []) y else y)
-    (λ y. subst (λ q. bit (same_place q Cand) ≤ bit (is_at Cand y)) (sym (kept_at (y.serial == 1) (λ z. with_entries (z.entries ++ item (Ref x.serial) ∷ []) z) (λ z. refl) (λ z. refl) y).0) (omega arith)) objects in
+    let same : candidates (saved x.serial objects) ≤ candidates objects = tally-map_le (λ y. bit (is_at Cand y)) (λ y. if y.serial == 1
+    then with_entries (y.entries ++ item (Ref x.serial) ∷ []) y else y)
+    (λ y. subst (λ q. bit (same_place q Cand) ≤ bit (is_at Cand y)) (sym (kept_at (y.serial == 1) (λ z. with_entries (z.entries ++ item (Ref x.serial) ∷ []) z)
+    (λ z. refl) (λ z. refl) y).0) (omega arith)) objects in
     omega (arith, fewer, same)
 
 pub member_at : (objects : List Object) (p : Place) (o : ℕ) → Includes (serials_at objects p) o → (x : Object) × Includes objects x × (x.serial ≡ o) × (is_at p x ≡ true)

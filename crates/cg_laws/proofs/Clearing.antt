@@ -10,11 +10,13 @@ use Rattle.cg_machine.specs.Weak.{MayLoseNext, NoneLeft, AllLose, loses_referent
 use Rattle.cg_machine.specs.Collect.{is_lost_early, loses_in_weak_phase, is_condemned, is_condemned_in}
 
 -- the referents of the weak references that the weak phase may clear, in both profiles
-pub refers_early : (profile : ℕ) (objects : List Object) (x : Object) → loses_in_weak_phase profile objects x ≡ true → unwrap_or (option_map (λ o. is_condemned_in objects o || is_condemned x) x.referent) false ≡ true
+pub refers_early : (profile : ℕ) (objects : List Object) (x : Object) → loses_in_weak_phase profile objects x ≡ true
+    → unwrap_or (option_map (λ o. is_condemned_in objects o || is_condemned x) x.referent) false ≡ true
 refers_early profile objects x e = (true_and (is_lost_early profile x) _ e).1
 
 -- a weak reference that keeps its referent past the weak phase has no callback
-pub kept_late : (profile : ℕ) (objects : List Object) (x : Object) → unwrap_or (option_map (λ o. is_condemned_in objects o || is_condemned x) x.referent) false ≡ true → loses_in_weak_phase profile objects x ≡ false → callback_in x.entries ≡ None
+pub kept_late : (profile : ℕ) (objects : List Object) (x : Object) → unwrap_or (option_map (λ o. is_condemned_in objects o || is_condemned x) x.referent) false
+    ≡ true → loses_in_weak_phase profile objects x ≡ false → callback_in x.entries ≡ None
 kept_late profile objects x refers kept = none_of (callback_in x.entries) (not (profile == 2)) _ refers kept
   where
     none_of : (m : Option ℕ) (first refers : Bool) → refers ≡ true → ((first || is_some m) && refers) ≡ false → m ≡ None
@@ -42,7 +44,8 @@ abbrev pub IsGreatest : (Object → Bool) → List Object → Option Object → 
 IsGreatest wanted objects None = NoneLeft wanted objects
 IsGreatest wanted objects (Some y) = Greatest wanted objects y
 
-greater_at : (wanted : Object → Bool) (x y : Object) (xs : List Object) → wanted x ≡ true → Greatest wanted xs y → (t : Bool) → nat_lt x.serial y.serial ≡ t → IsGreatest wanted (x ∷ xs) (if t then Some y else Some x)
+greater_at : (wanted : Object → Bool) (x y : Object) (xs : List Object) → wanted x ≡ true → Greatest wanted xs y → (t : Bool) → nat_lt x.serial y.serial ≡ t
+    → IsGreatest wanted (x ∷ xs) (if t then Some y else Some x)
 greater_at wanted x y xs e h true lt = record {
   member = inr h.member;
   passes = h.passes;
@@ -51,11 +54,17 @@ greater_at wanted x y xs e h true lt = record {
 greater_at wanted x y xs e h false ge = record {
   member = inl refl;
   passes = e;
-  greatest = λ z m k. either m (λ i. let same = ap (λ (q : Object). q.serial) i in omega (arith, same)) (λ j. let more = ltb-false _ _ ge in let below = h.greatest z j k in omega (arith, more, below));
+  greatest = λ z m k. either m (λ i. let same = ap (λ (q : Object). q.serial) i in omega (arith, same)) (λ j. let more = ltb-false _ _ ge
+      in let below = h.greatest z j k in omega (arith, more, below));
 }
 
 newest_spec_at : (wanted : Object → Bool) (x : Object) (xs : List Object) (b : Bool) → wanted x ≡ b → (r : Option Object) → IsGreatest wanted xs r → IsGreatest wanted (x ∷ xs) (newest_at b x r)
-newest_spec_at wanted x xs true e None h = record { member = inl refl; passes = e; greatest = λ z m k. either m (λ i. let same = ap (λ (q : Object). q.serial) i in omega (arith, same)) (λ j. let no = h z j in absurd (let same : true ≡ false = sym k ∙ no in cc)) }
+newest_spec_at wanted x xs true e None h = record {
+  member = inl refl;
+  passes = e;
+  greatest = λ z m k. either m (λ i. let same = ap (λ (q : Object). q.serial) i
+      in omega (arith, same)) (λ j. let no = h z j in absurd (let same : true ≡ false = sym k ∙ no in cc));
+}
 newest_spec_at wanted x xs true e (Some y) h = greater_at wanted x y xs e h (nat_lt x.serial y.serial) refl
 newest_spec_at wanted x xs false e None h = λ z m. either m (λ i. subst (λ q. wanted q ≡ false) i e) (h z)
 newest_spec_at wanted x xs false e (Some y) h = record {
@@ -84,7 +93,8 @@ count_map_le : (p : Object → Bool) (f : Object → Object) → ((x : Object) �
 count_map_le p f h [] = omega arith
 count_map_le p f h (x ∷ xs) = rw (count_cons p (f x) (map f xs), count_cons p x xs) (omega (arith, one_le (p (f x)) (p x) (h x), count_map_le p f h xs))
 
-count_map_lt : (p : Object → Bool) (f : Object → Object) → ((x : Object) → p (f x) ≡ true → p x ≡ true) → (xs : List Object) (y : Object) → Includes xs y → p y ≡ true → p (f y) ≡ false → count_by p (map f xs) < count_by p xs
+count_map_lt : (p : Object → Bool) (f : Object → Object) → ((x : Object) → p (f x) ≡ true → p x ≡ true) → (xs : List Object) (y : Object) → Includes xs y → p y
+    ≡ true → p (f y) ≡ false → count_by p (map f xs) < count_by p xs
 count_map_lt p f h [] y m passes fails = absurd m
 count_map_lt p f h (x ∷ xs) y (inl i) passes fails =
     let here : p x ≡ true = ap p i ∙ passes in
@@ -131,7 +141,8 @@ module _ (wanted : Object → Bool) (needs_referent : (x : Object) → wanted (w
           (ap (λ b. wanted (if b then with_referent None y else y)) (eq-eqb y.serial y.serial refl) ∙ needs_referent y)
 
       go : (o : Option Object) → IsGreatest wanted objects o
-          → ((y : Object) → count_by wanted (loses_referent y.serial objects) ≤ n → AllLose wanted (loses_referent y.serial objects) (clears wanted n (loses_referent y.serial objects)).0 (clears wanted n (loses_referent y.serial objects)).1)
+          → ((y : Object) → count_by wanted (loses_referent y.serial objects) ≤ n → AllLose wanted (loses_referent y.serial objects)
+          (clears wanted n (loses_referent y.serial objects)).0 (clears wanted n (loses_referent y.serial objects)).1)
           → AllLose wanted objects (clear_at o objects (λ y. clears wanted n (loses_referent y.serial objects))).0 (clear_at o objects (λ y. clears wanted n (loses_referent y.serial objects))).1
       go None none ih = (none, refl)
       go (Some y) some ih = (greatest_is_newest wanted objects y some, ih y (omega (arith, less y some, h)))

@@ -39,7 +39,8 @@ module _ (script : Script) (c : Collection) (below : List Activity) (v : World) 
   phase_apart (AfterTurn o) events after step orderly h = to after _ step.1 (after_turn_apart script c below v alone o h)
   phase_apart Ending events after step orderly h = end_apart script c below v alone events after step h
 
-pub collect_apart : (script : Script) (budget : ℕ) (w : World) (c : Collection) (below : List Activity) (events : List Event) (after : World) → w.stack ≡ Collecting c ∷ below → IsLawful script budget w → IsApart w → CollectStep script w c below events after → IsApart after
+pub collect_apart : (script : Script) (budget : ℕ) (w : World) (c : Collection) (below : List Activity) (events : List Event) (after : World) → w.stack
+    ≡ Collecting c ∷ below → IsLawful script budget w → IsApart w → CollectStep script w c below events after → IsApart after
 collect_apart script budget w c below events after top lawful apart step =
     phase_apart script c below w (alone_of c below (subst (λ stack. count_by is_collection stack ≤ 1) top lawful.bounded.collections)) c.phase events after
     (subst (λ stack. CollectStep script (with_stack stack w) c below events after) top step)

@@ -36,7 +36,8 @@ pub option_held : (m : Option ℕ) (o : ℕ) → m ≡ Some o → Includes (opti
 option_held m o e = subst (λ n. Includes (option_to_list n) o) (sym e) (inl refl)
 
 pub entry_free : (e : Entry) (o : ℕ) → IsNotTo o e.val → IsNotTo o e.key → ¬ Includes (entry_references e) o
-entry_free e o h k m = either (Includes-append_cases (option_to_list (reference_in e.val)) (option_to_list (reference_in e.key)) o m) (option_free (reference_in e.val) o h) (option_free (reference_in e.key) o k)
+entry_free e o h k m = either (Includes-append_cases (option_to_list (reference_in e.val)) (option_to_list (reference_in e.key)) o m)
+    (option_free (reference_in e.val) o h) (option_free (reference_in e.key) o k)
 
 pub entry_val : (e : Entry) (o : ℕ) → ¬ Includes (entry_references e) o → IsNotTo o e.val
 entry_val e o h k = h (Includes-append_left (option_to_list (reference_in e.val)) (option_to_list (reference_in e.key)) o (option_held (reference_in e.val) o k))
@@ -101,7 +102,8 @@ name_free (n ∷ names) (suc x) o h k = name_free names x o (λ m. h (Includes-a
 
 pub bound_free : (names : List (Option Val)) (x o : ℕ) (v : Option Val) → ¬ Includes (references_of_value v) o → ¬ Includes (name_holdings names) o → ¬ Includes (name_holdings (slice_set names x v)) o
 bound_free [] x o v free h k = h k
-bound_free (n ∷ names) zero o v free h k = either (Includes-append_cases (references_of_value v) (name_holdings names) o k) free (λ m. h (Includes-append_right (references_of_value n) (name_holdings names) o m))
+bound_free (n ∷ names) zero o v free h k = either (Includes-append_cases (references_of_value v) (name_holdings names) o k) free
+    (λ m. h (Includes-append_right (references_of_value n) (name_holdings names) o m))
 bound_free (n ∷ names) (suc x) o v free h k =
     either (Includes-append_cases (references_of_value n) (name_holdings (slice_set names x v)) o k) (λ m. h (Includes-append_left (references_of_value n) (name_holdings names) o m))
     (bound_free names x o v free (λ m. h (Includes-append_right (references_of_value n) (name_holdings names) o m)))
@@ -158,7 +160,9 @@ module _ (w : World) (over : AreOver w.stack) where
   function_known None i v e = none_known v e
   function_known (Some s) i v e = entry_known s i v e
 
-  cell_known : (m : Option Frame) (i : ℕ) (v : Val) → option_and_then (λ (f : Frame). option_and_then (λ o. option_map (λ (e : Entry). e.val) (slice_get (entries_of w.objects o) i)) f.function) m ≡ Some v → IsKnown v
+  cell_known : (m : Option Frame) (i : ℕ) (v : Val)
+      → option_and_then (λ (f : Frame). option_and_then (λ o. option_map (λ (e : Entry). e.val) (slice_get (entries_of w.objects o) i)) f.function) m ≡ Some v
+      → IsKnown v
   cell_known None i v e = none_known v e
   cell_known (Some f) i v e = function_known f.function i v e
 

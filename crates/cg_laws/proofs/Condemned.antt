@@ -29,15 +29,28 @@ filter_holdings : (p : Object → Bool) (objects : List Object) (o : ℕ) → oc
 filter_holdings p [] o = omega arith
 filter_holdings p (x ∷ objects) o = go (p x) (filter_holdings p objects o)
   where
-    go : (b : Bool) → occurrences o (entry_holdings (graph_of (filter p objects))) ≤ occurrences o (entry_holdings (graph_of objects)) → occurrences o (entry_holdings (graph_of (cond b (x ∷ filter p objects) (filter p objects)))) ≤ occurrences o (entry_holdings (graph_of (x ∷ objects)))
-    go true k = omega (arith, k, occurrences-append o (references x.entries) (entry_holdings (graph_of (filter p objects))), occurrences-append o (references x.entries) (entry_holdings (graph_of objects)))
+    go : (b : Bool) → occurrences o (entry_holdings (graph_of (filter p objects))) ≤ occurrences o (entry_holdings (graph_of objects))
+        → occurrences o (entry_holdings (graph_of (cond b (x ∷ filter p objects) (filter p objects)))) ≤ occurrences o (entry_holdings (graph_of (x ∷ objects)))
+    go true k = omega (
+      arith,
+      k,
+      occurrences-append o (references x.entries) (entry_holdings (graph_of (filter p objects))),
+      occurrences-append o (references x.entries) (entry_holdings (graph_of objects)),
+    )
     go false k = omega (arith, k, occurrences-append o (references x.entries) (entry_holdings (graph_of objects)))
 
 pub held_survives : (w : World) (p : Place) (x : Object) → Includes (objects_at w.objects p) x → Includes (flat_map holds w.stack) x.serial → Survives w p x.serial
 held_survives w p x m held =
     let more = present x.serial (flat_map holds w.stack) held in
     let less = filter_holdings (is_at p) w.objects x.serial in
-    first (omega (arith, more, less, occurrences-append x.serial (name_holdings w.names ++ (1 ∷ []) ++ entry_holdings (graph_of w.objects)) (flat_map holds w.stack), occurrences-append x.serial (name_holdings w.names ++ (1 ∷ [])) (entry_holdings (graph_of w.objects))))
+    first (omega (
+      arith,
+      more,
+      less,
+      occurrences-append x.serial (name_holdings w.names ++ (1 ∷ []) ++ entry_holdings (graph_of w.objects))
+          (flat_map holds w.stack),
+      occurrences-append x.serial (name_holdings w.names ++ (1 ∷ [])) (entry_holdings (graph_of w.objects)),
+    ))
     (Includes-map (λ (z : Object). z.serial) (objects_at w.objects p) x m)
 
 -- survivors' places are not those of condemned objects
@@ -57,8 +70,10 @@ merged_uncondemned g (Gen i) x e = go (nat_le i g) e
 merged_uncondemned g p x e = e
 
 -- an object is appended to the garbage list
-pub saved_orderly : (s : ℕ) (objects : List Object) (names : List (Option Val)) (stack : List Activity) → Includes (serials objects) s → Orderly objects names stack → Orderly (saved s objects) names stack
-saved_orderly s objects names stack lives h = objects_orderly objects (saved s objects) names stack (change_alters longer (λ x. record { serial = refl; code = refl; class = refl; referent = inl refl }) 1 objects) from h
+pub saved_orderly : (s : ℕ) (objects : List Object) (names : List (Option Val)) (stack : List Activity) → Includes (serials objects) s
+    → Orderly objects names stack → Orderly (saved s objects) names stack
+saved_orderly s objects names stack lives h = objects_orderly objects (saved s objects) names stack
+    (change_alters longer (λ x. record { serial = refl; code = refl; class = refl; referent = inl refl }) 1 objects) from h
   where
     longer : Object → Object
     longer x = with_entries (x.entries ++ item (Ref s) ∷ []) x
@@ -83,16 +98,22 @@ saved_orderly s objects names stack lives h = objects_orderly objects (saved s o
     from y m = let x = Includes-map_cases (λ x. if x.serial == 1 then longer x else x) objects y m in subst (From objects stack) x.2 (one (x.0.serial == 1) x.0 refl x.1)
 
 saved_lives : (s : ℕ) (objects : List Object) (o : ℕ) → Includes (serials objects) o → Includes (serials (saved s objects)) o
-saved_lives s objects o m = lives_after objects (saved s objects) (change_alters (λ x. with_entries (x.entries ++ item (Ref s) ∷ []) x) (λ x. record { serial = refl; code = refl; class = refl; referent = inl refl }) 1 objects) o m
+saved_lives s objects o m = lives_after objects (saved s objects) (change_alters (λ x. with_entries (x.entries ++ item (Ref s) ∷ []) x)
+    (λ x. record { serial = refl; code = refl; class = refl; referent = inl refl }) 1 objects) o m
 
-pub all_saved_orderly : (keeps : List ℕ) (objects : List Object) (names : List (Option Val)) (stack : List Activity) → ((o : ℕ) → Includes keeps o → Includes (serials objects) o) → Orderly objects names stack → Orderly (all_saved keeps objects) names stack
+pub all_saved_orderly : (keeps : List ℕ) (objects : List Object) (names : List (Option Val)) (stack : List Activity)
+    → ((o : ℕ) → Includes keeps o → Includes (serials objects) o) → Orderly objects names stack → Orderly (all_saved keeps objects) names stack
 all_saved_orderly [] objects names stack live h = h
-all_saved_orderly (s ∷ keeps) objects names stack live h = all_saved_orderly keeps (saved s objects) names stack (λ o m. saved_lives s objects o (live o (inr m))) (saved_orderly s objects names stack (live s (inl refl)) h)
+all_saved_orderly (s ∷ keeps) objects names stack live h = all_saved_orderly keeps (saved s objects) names stack
+    (λ o m. saved_lives s objects o (live o (inr m))) (saved_orderly s objects names stack (live s (inl refl)) h)
 
-pub all_lose_orderly : (wanted : Object → Bool) (weaks : List ℕ) (objects after : List Object) (names : List (Option Val)) (stack : List Activity) → AllLose wanted objects weaks after → Orderly objects names stack → Orderly after names stack
+pub all_lose_orderly : (wanted : Object → Bool) (weaks : List ℕ) (objects after : List Object) (names : List (Option Val)) (stack : List Activity)
+    → AllLose wanted objects weaks after → Orderly objects names stack → Orderly after names stack
 all_lose_orderly wanted [] objects after names stack lose h = subst (λ os. Orderly os names stack) (sym lose.1) h
 all_lose_orderly wanted (weak ∷ weaks) objects after names stack lose h = all_lose_orderly wanted weaks (loses_referent weak objects) after names stack lose.1 (lost_orderly weak objects names stack h)
 
 -- an object moves to a place of uncondemned objects
-pub placed_orderly : (p : Place) (o : ℕ) (objects : List Object) (names : List (Option Val)) (stack : List Activity) → ((x : Object) → is_condemned (with_place p x) ≡ true → is_condemned x ≡ true) → Orderly objects names stack → Orderly (change (with_place p) o objects) names stack
+pub placed_orderly : (p : Place) (o : ℕ) (objects : List Object) (names : List (Option Val)) (stack : List Activity)
+    → ((x : Object) → is_condemned (with_place p x) ≡ true → is_condemned x ≡ true) → Orderly objects names stack → Orderly (change (with_place p) o objects)
+    names stack
 placed_orderly p o objects names stack condemned h = one_orderly (with_place p) o objects names stack (place_later p) (λ x. refl) condemned h

@@ -48,7 +48,8 @@ pub data Progresses (before after : List Object) (p q : CollectPhase) (tops : Li
   next_phase : phase_rank q < phase_rank p → entries_in after ≤ entries_in before → tally weight_in tops ≤ 8 → Progresses before after p q tops
   fewer_turns : phase_rank q ≤ phase_rank p → left_at after q < left_at before p → entries_in after ≤ entries_in before + 1 → tally weight_in tops ≤ 8 → Progresses before after p q tops
   fewer_entries : phase_rank q ≤ phase_rank p → left_at after q ≤ left_at before p → entries_in after < entries_in before → tally weight_in tops ≤ 15 → Progresses before after p q tops
-  fewer_referents : phase_rank q ≤ phase_rank p → left_at after q ≤ left_at before p → entries_in after ≤ entries_in before → referents_in after < referents_in before → tally weight_in tops ≤ 0 → Progresses before after p q tops
+  fewer_referents : phase_rank q ≤ phase_rank p → left_at after q ≤ left_at before p → entries_in after ≤ entries_in before → referents_in after < referents_in
+      before → tally weight_in tops ≤ 0 → Progresses before after p q tops
 
 due_same : (b c d s : Bool) → c ≡ false → d ≡ false → due_rank b (c || s) ≤ due_rank b (d || s)
 due_same b true d s e f = cc
@@ -77,22 +78,32 @@ module _ (script : Script) (c : Collection) (below : List Activity) (v : World) 
       commands = omega (arith, counts.commands)
 
       due : due_left after ≤ due_left (collection_at c p below v)
-      due = subst (λ s. due_rank (is_due v.numbers) s ≤ due_left (collection_at c p below v)) (sym counts.starting) (due_same (is_due v.numbers) (is_first q) (is_first p) (list_any is_starting below) first_not not_first)
+      due = subst (λ s. due_rank (is_due v.numbers) s ≤ due_left (collection_at c p below v)) (sym counts.starting) (due_same (is_due v.numbers) (is_first q)
+          (is_first p) (list_any is_starting below) first_not not_first)
 
       over : List Activity
       over = Collecting (record d { phase = q }) ∷ below
 
       lower : Progresses v.objects objects p q tops → Lower (summary script after) (summary script (collection_at c p below v))
       lower (next_phase r e h) = by_rank commands stays.size due (omega (arith, r, counts.rank)) (omega (arith, e)) stays.referents (omega (arith, h, tally-append weight_in tops over))
-      lower (fewer_turns r l e h) = by_left commands stays.size due (omega (arith, r, counts.rank)) (omega (arith, l, counts.left objects, none.left objects, none.left v.objects)) e stays.referents (omega (arith, h, tally-append weight_in tops over))
-      lower (fewer_entries r l e h) = by_entries commands stays.size due (omega (arith, r, counts.rank)) (omega (arith, l, counts.left objects, none.left objects, none.left v.objects)) e stays.referents (omega (arith, h, tally-append weight_in tops over))
-      lower (fewer_referents r l e f h) = by_referents commands stays.size due (omega (arith, r, counts.rank)) (omega (arith, l, counts.left objects, none.left objects, none.left v.objects)) e f (omega (arith, h, tally-append weight_in tops over))
+      lower (fewer_turns r l e h) = by_left commands stays.size due (omega (arith, r, counts.rank)) (omega (
+        arith,
+        l,
+        counts.left objects,
+        none.left objects,
+        none.left v.objects,
+      )) e stays.referents (omega (arith, h, tally-append weight_in tops over))
+      lower (fewer_entries r l e h) = by_entries commands stays.size due (omega (arith, r, counts.rank))
+          (omega (arith, l, counts.left objects, none.left objects, none.left v.objects)) e stays.referents (omega (arith, h, tally-append weight_in tops over))
+      lower (fewer_referents r l e f h) = by_referents commands stays.size due (omega (arith, r, counts.rank))
+          (omega (arith, l, counts.left objects, none.left objects, none.left v.objects)) e f (omega (arith, h, tally-append weight_in tops over))
 
   all_stay : Stays v.objects v.objects
   all_stay = faded_stays v.objects v.objects (unchanged v.objects)
 
   -- only the phase changes, and perhaps a release goes on top
-  turns_to : (p q : CollectPhase) (tops : List Activity) → IsPlain tops → is_first p ≡ false → is_first q ≡ false → phase_rank q < phase_rank p → tally weight_in tops ≤ 8 → Sound (collection_at c p below v)
+  turns_to : (p q : CollectPhase) (tops : List Activity) → IsPlain tops → is_first p ≡ false → is_first q ≡ false → phase_rank q < phase_rank p
+      → tally weight_in tops ≤ 8 → Sound (collection_at c p below v)
       → Moves script (collection_at c p below v) (record v { stack = tops ++ Collecting (record c { phase = q }) ∷ below })
   turns_to p q tops plain not_first first_not r h sound = goes_to p q c tops v.objects plain not_first first_not all_stay (next_phase r (omega arith) h) sound
 
@@ -103,7 +114,8 @@ module _ (script : Script) (c : Collection) (below : List Activity) (v : World) 
   calls_for : (p q : CollectPhase) (spec : FrameSpec) (objects : List Object) → Faded objects v.objects → Sound (collection_at c p below v) → v.outcome ≡ Running
       → Moves script (collection_at c p below v) (start_frame script spec (collection_at c q below (with_objects objects v))).1
   calls_for p q spec objects faded sound running =
-      starts script spec (collection_at c p below v) (collection_at c q below (with_objects objects v)) (record { rises = faded.rises 1 v.next_serial sound.rises; bottom = sound.bottom; single = sound.single }) running
+      starts script spec (collection_at c p below v) (collection_at c q below (with_objects objects v))
+      (record { rises = faded.rises 1 v.next_serial sound.rises; bottom = sound.bottom; single = sound.single }) running
       (record { commands = omega arith; size = faded.size; entries = faded.entries; referents = faded.referents; weight = omega arith })
 
   moves_to : (p : CollectPhase) (after now : World) → after ≡ now → Moves script (collection_at c p below v) now → Moves script (collection_at c p below v) after
@@ -116,10 +128,13 @@ module _ (script : Script) (c : Collection) (below : List Activity) (v : World) 
   not_due true = omega arith
   not_due false = omega arith
 
-  start_moves : (events : List Event) (after : World) → StartStep script (collection_at c Start below v) c below events after → Sound (collection_at c Start below v) → Moves script (collection_at c Start below v) after
+  start_moves : (events : List Event) (after : World) → StartStep script (collection_at c Start below v) c below events after
+      → Sound (collection_at c Start below v) → Moves script (collection_at c Start below v) after
   start_moves events after step sound = moves_to Start after now step.world (record {
     sound = record { rises = stays.rises 1 v.next_serial sound.rises; bottom = sound.bottom; single = sound.single };
-    lower = by_rank (omega arith) stays.size (subst (λ b. due_rank b (list_any is_starting below) ≤ due_left (collection_at c Start below v)) (sym (begun_not_due c.generation count v.numbers)) (not_due (list_any is_starting below))) (omega arith) (omega (arith, same_entries)) stays.referents (omega arith);
+    lower = by_rank (omega arith) stays.size (subst (λ b. due_rank b (list_any is_starting below) ≤ due_left (collection_at c Start below v))
+        (sym (begun_not_due c.generation count v.numbers)) (not_due (list_any is_starting below))) (omega arith) (omega (arith, same_entries)) stays.referents
+        (omega arith);
   })
     where
       w : World
@@ -135,7 +150,8 @@ module _ (script : Script) (c : Collection) (below : List Activity) (v : World) 
       merge_same = record { serial = λ x. refl; referent = λ x. refl }
 
       stays : Stays (sorted c.generation step.places w.objects) v.objects
-      stays = stays_after (sorted c.generation step.places w.objects) w.objects v.objects (placed step.places (is_at (Gen c.generation)) w.objects) (map_stays (λ x. with_place (merged_place c.generation x.place) x) merge_same v.objects)
+      stays = stays_after (sorted c.generation step.places w.objects) w.objects v.objects (placed step.places (is_at (Gen c.generation)) w.objects)
+          (map_stays (λ x. with_place (merged_place c.generation x.place) x) merge_same v.objects)
 
       same_entries : entries_in (sorted c.generation step.places w.objects) ≤ entries_in v.objects
       same_entries =
@@ -147,7 +163,9 @@ module _ (script : Script) (c : Collection) (below : List Activity) (v : World) 
   has_referent None f e = e
   has_referent (Some r) f e = refl
 
-  clears_moves : (waiting : List ℕ) (events : List Event) (after : World) → ClearsOne (profile_of script.items) c waiting below (collection_at c (WeakClearing waiting) below v) events after → Sound (collection_at c (WeakClearing waiting) below v) → Moves script (collection_at c (WeakClearing waiting) below v) after
+  clears_moves : (waiting : List ℕ) (events : List Event) (after : World) → ClearsOne (profile_of script.items) c waiting below
+      (collection_at c (WeakClearing waiting) below v) events after → Sound (collection_at c (WeakClearing waiting) below v)
+      → Moves script (collection_at c (WeakClearing waiting) below v) after
   clears_moves waiting events after step sound = moves_to (WeakClearing waiting) after _ step.yields.1 (go (waits v.objects step.weak))
     where
       lost : List Object
@@ -160,53 +178,82 @@ module _ (script : Script) (c : Collection) (below : List Activity) (v : World) 
       pend = change_fades (with_place Pend) (place_fades Pend refl) step.weak lost
 
       fewer : referents_in lost < referents_in v.objects
-      fewer = loses_one v.objects step.weak step.newest.object step.newest.member step.newest.is (has_referent step.newest.object.referent _ (refers_early (profile_of script.items) v.objects step.newest.object step.newest.to_lose))
+      fewer = loses_one v.objects step.weak step.newest.object step.newest.member step.newest.is (has_referent step.newest.object.referent _
+          (refers_early (profile_of script.items) v.objects step.newest.object step.newest.to_lose))
 
-      go : (b : Bool) → Moves script (collection_at c (WeakClearing waiting) below v) (if b then collection_at c (WeakClearing (waiting ++ step.weak ∷ [])) below (with_objects (change (with_place Pend) step.weak lost) v) else collection_at c (WeakClearing waiting) below (with_objects lost v))
-      go true = goes_to (WeakClearing waiting) (WeakClearing (waiting ++ step.weak ∷ [])) c [] (change (with_place Pend) step.weak lost) tt refl refl (faded_stays (change (with_place Pend) step.weak lost) v.objects (faded_after (change (with_place Pend) step.weak lost) lost v.objects pend fade))
+      go : (b : Bool) → Moves script (collection_at c (WeakClearing waiting) below v) (if b then collection_at c (WeakClearing (waiting ++ step.weak ∷ []))
+          below (with_objects (change (with_place Pend) step.weak lost) v) else collection_at c (WeakClearing waiting) below (with_objects lost v))
+      go true = goes_to (WeakClearing waiting) (WeakClearing (waiting ++ step.weak ∷ [])) c [] (change (with_place Pend) step.weak lost) tt refl refl
+          (faded_stays (change (with_place Pend) step.weak lost) v.objects (faded_after (change (with_place Pend) step.weak lost) lost v.objects pend fade))
           (fewer_referents (omega arith) (omega (arith, pend.condemned, fade.condemned)) (omega (arith, pend.entries, fade.entries)) (omega (arith, pend.referents, fewer)) (omega arith)) sound
       go false = changes (WeakClearing waiting) (WeakClearing waiting) lost fade refl refl (fewer_referents (omega arith) (omega (arith, fade.condemned)) fade.entries fewer (omega arith)) sound
 
-  clearing_moves : (waiting : List ℕ) (events : List Event) (after : World) → WeakClearingStep (profile_of script.items) c waiting below (collection_at c (WeakClearing waiting) below v) events after → Sound (collection_at c (WeakClearing waiting) below v) → Moves script (collection_at c (WeakClearing waiting) below v) after
+  clearing_moves : (waiting : List ℕ) (events : List Event) (after : World) → WeakClearingStep (profile_of script.items) c waiting below
+      (collection_at c (WeakClearing waiting) below v) events after → Sound (collection_at c (WeakClearing waiting) below v)
+      → Moves script (collection_at c (WeakClearing waiting) below v) after
   clearing_moves waiting events after (inl step) sound = clears_moves waiting events after step sound
-  clearing_moves waiting events after (inr step) sound = moves_to (WeakClearing waiting) after _ step.1.1 (turns_to (WeakClearing waiting) (WeakCalling waiting) [] tt refl refl (omega arith) (omega arith) sound)
+  clearing_moves waiting events after (inr step) sound = moves_to (WeakClearing waiting) after _ step.1.1 (turns_to (WeakClearing waiting) (WeakCalling waiting)
+      [] tt refl refl (omega arith) (omega arith) sound)
 
-  calls_back_moves : (waiting : List ℕ) → Sound (collection_at c (WeakCalling waiting) below v) → v.outcome ≡ Running → Moves script (collection_at c (WeakCalling waiting) below v) (calls_back script c waiting below (collection_at c (WeakCalling waiting) below v)).1
+  calls_back_moves : (waiting : List ℕ) → Sound (collection_at c (WeakCalling waiting) below v) → v.outcome ≡ Running
+      → Moves script (collection_at c (WeakCalling waiting) below v) (calls_back script c waiting below (collection_at c (WeakCalling waiting) below v)).1
   calls_back_moves [] sound running = turns_to (WeakCalling []) Finalizing [] tt refl refl (omega arith) (omega arith) sound
   calls_back_moves (weak ∷ waiting) sound running = calls_for (WeakCalling (weak ∷ waiting)) (AfterCallback weak waiting) _ v.objects (unchanged v.objects) sound running
 
-  after_wait_moves : (weak : ℕ) (waiting : List ℕ) → Sound (collection_at c (AfterRelease weak waiting) below v) → Moves script (collection_at c (AfterRelease weak waiting) below v) (after_release c weak waiting below (collection_at c (AfterRelease weak waiting) below v)).1
+  after_wait_moves : (weak : ℕ) (waiting : List ℕ) → Sound (collection_at c (AfterRelease weak waiting) below v)
+      → Moves script (collection_at c (AfterRelease weak waiting) below v) (after_release c weak waiting below (collection_at c (AfterRelease weak waiting)
+      below v)).1
   after_wait_moves weak waiting sound = go (is_in_map v.objects weak)
     where
-      go : (b : Bool) → (let t : Transition = if b then ([], collection_at c (WeakCalling waiting) below (with_change (with_place (Gen (older c.generation))) weak v)) else ([], collection_at (record c { collected = c.collected + 1 }) (WeakCalling waiting) below v) in Moves script (collection_at c (AfterRelease weak waiting) below v) t.1)
-      go true = changes (AfterRelease weak waiting) (WeakCalling waiting) (change (with_place (Gen (older c.generation))) weak v.objects) (change_fades (with_place (Gen (older c.generation))) (place_fades (Gen (older c.generation)) refl) weak v.objects) refl refl (next_phase (omega arith) (change_fades (with_place (Gen (older c.generation))) (place_fades (Gen (older c.generation)) refl) weak v.objects).entries (omega arith)) sound
-      go false = goes_to (AfterRelease weak waiting) (WeakCalling waiting) (record c { collected = c.collected + 1 }) [] v.objects tt refl refl all_stay (next_phase (omega arith) (omega arith) (omega arith)) sound
+      go : (b : Bool) → (let t : Transition = if b then (
+        [],
+        collection_at c (WeakCalling waiting) below (with_change (with_place (Gen (older c.generation)))
+            weak v),
+      ) else ([], collection_at (record c { collected = c.collected + 1 }) (WeakCalling waiting) below v) in Moves script (collection_at c
+          (AfterRelease weak waiting) below v) t.1)
+      go true = changes (AfterRelease weak waiting) (WeakCalling waiting) (change (with_place (Gen (older c.generation))) weak v.objects)
+          (change_fades (with_place (Gen (older c.generation))) (place_fades (Gen (older c.generation)) refl) weak v.objects) refl refl
+          (next_phase (omega arith) (change_fades (with_place (Gen (older c.generation))) (place_fades (Gen (older c.generation)) refl) weak v.objects).entries
+          (omega arith)) sound
+      go false = goes_to (AfterRelease weak waiting) (WeakCalling waiting) (record c { collected = c.collected + 1 }) [] v.objects tt refl refl all_stay
+          (next_phase (omega arith) (omega arith) (omega arith)) sound
 
-  looks_at_moves : (o : ℕ) (m : Option ℕ) → (x : Object) × Includes v.objects x × (x.serial ≡ o) × (is_at Cand x ≡ true) → Sound (collection_at c Finalizing below v) → v.outcome ≡ Running → Moves script (collection_at c Finalizing below v) (looks_at script c o below (collection_at c Finalizing below v) m).1
+  looks_at_moves : (o : ℕ) (m : Option ℕ) → (x : Object) × Includes v.objects x × (x.serial ≡ o) × (is_at Cand x ≡ true)
+      → Sound (collection_at c Finalizing below v) → v.outcome ≡ Running → Moves script (collection_at c Finalizing below v)
+      (looks_at script c o below (collection_at c Finalizing below v) m).1
   looks_at_moves o None y sound running =
       changes Finalizing Finalizing (change (with_place Seen) o v.objects) (change_fades (with_place Seen) (place_fades Seen refl) o v.objects) refl refl
-      (fewer_turns (omega arith) (omega (arith, leaves Seen refl v.objects o y.0 y.1 y.2 y.3)) (omega (arith, (change_fades (with_place Seen) (place_fades Seen refl) o v.objects).entries)) (omega arith)) sound
+      (fewer_turns (omega arith) (omega (arith, leaves Seen refl v.objects o y.0 y.1 y.2 y.3))
+      (omega (arith, (change_fades (with_place Seen) (place_fades Seen refl) o v.objects).entries)) (omega arith)) sound
   looks_at_moves o (Some p) y sound running =
-      calls_for Finalizing (AfterFinalizing o) _ (change (λ x. marked (with_place Seen x)) o v.objects) (change_fades (λ x. marked (with_place Seen x)) (then_fades (with_place Seen) marked (place_fades Seen refl) marked_fades) o v.objects) sound running
+      calls_for Finalizing (AfterFinalizing o) _ (change (λ x. marked (with_place Seen x)) o v.objects) (change_fades (λ x. marked (with_place Seen x))
+      (then_fades (with_place Seen) marked (place_fades Seen refl) marked_fades) o v.objects) sound running
 
-  finalizing_moves : (events : List Event) (after : World) → FinalizingStep script c below (collection_at c Finalizing below v) events after → Sound (collection_at c Finalizing below v) → v.outcome ≡ Running → Moves script (collection_at c Finalizing below v) after
+  finalizing_moves : (events : List Event) (after : World) → FinalizingStep script c below (collection_at c Finalizing below v) events after
+      → Sound (collection_at c Finalizing below v) → v.outcome ≡ Running → Moves script (collection_at c Finalizing below v) after
   finalizing_moves events after (inl step) sound running =
-      moves_to Finalizing after _ step.yields.1 (looks_at_moves step.object (option_and_then (finalizer_to_run script) (object_at v.objects step.object)) (member_at v.objects Cand step.object step.condemned) sound running)
+      moves_to Finalizing after _ step.yields.1 (looks_at_moves step.object (option_and_then (finalizer_to_run script) (object_at v.objects step.object))
+      (member_at v.objects Cand step.object step.condemned) sound running)
   finalizing_moves events after (inr step) sound running =
-      moves_to Finalizing after _ step.1.1 (goes_to Finalizing Split c [] (map (λ x. if is_at Seen x then with_place Cand x else x) v.objects) tt refl refl (placed (λ x. Cand) (is_at Seen) v.objects) (next_phase (omega arith) (placed_entries (λ x. Cand) (is_at Seen) v.objects) (omega arith)) sound)
+      moves_to Finalizing after _ step.1.1 (goes_to Finalizing Split c [] (map (λ x. if is_at Seen x then with_place Cand x else x) v.objects) tt refl refl
+      (placed (λ x. Cand) (is_at Seen) v.objects) (next_phase (omega arith) (placed_entries (λ x. Cand) (is_at Seen) v.objects) (omega arith)) sound)
 
-  split_moves : (events : List Event) (after : World) → SplitStep c below (collection_at c Split below v) events after → Sound (collection_at c Split below v) → Moves script (collection_at c Split below v) after
+  split_moves : (events : List Event) (after : World) → SplitStep c below (collection_at c Split below v) events after → Sound (collection_at c Split below v)
+      → Moves script (collection_at c Split below v) after
   split_moves events after step sound = moves_to Split after _ step.world
-      (goes_to Split Turns (record c { collected = c.collected + length (serials_at step.objects Cand) }) [] step.objects tt refl refl (faded_stays step.objects v.objects fade) (next_phase (omega arith) fade.entries (omega arith)) sound)
+      (goes_to Split Turns (record c { collected = c.collected + length (serials_at step.objects Cand) }) [] step.objects tt refl refl
+      (faded_stays step.objects v.objects fade) (next_phase (omega arith) fade.entries (omega arith)) sound)
     where
       now : List Object
       now = get_older c.generation step.alive v.objects
 
       fade : Faded step.objects v.objects
       fade = faded_after step.objects now v.objects (AllLose-fades (loses_at_split now) now step.cleared step.objects step.lose)
-          (map_fades (λ x. if includes step.alive x.serial then with_place (Gen (older c.generation)) x else x) (if_fades (with_place (Gen (older c.generation))) (place_fades (Gen (older c.generation)) refl) (λ x. includes step.alive x.serial)) v.objects)
+          (map_fades (λ x. if includes step.alive x.serial then with_place (Gen (older c.generation)) x else x)
+          (if_fades (with_place (Gen (older c.generation))) (place_fades (Gen (older c.generation)) refl) (λ x. includes step.alive x.serial)) v.objects)
 
-  turn_moves : (x : Object) → Includes v.objects x → is_at Cand x ≡ true → Sound (collection_at c Turns below v) → Moves script (collection_at c Turns below v) (takes_turn c x below (collection_at c Turns below v)).1
+  turn_moves : (x : Object) → Includes v.objects x → is_at Cand x ≡ true → Sound (collection_at c Turns below v) → Moves script (collection_at c Turns below v)
+      (takes_turn c x below (collection_at c Turns below v)).1
   turn_moves x m e sound = go (has_flag c.flags save_all) (is_tuple x)
     where
       next : Place
@@ -218,27 +265,39 @@ module _ (script : Script) (c : Collection) (below : List Activity) (v : World) 
       moved : (objects : List Object) → Faded (change (with_place next) x.serial objects) objects
       moved objects = change_fades (with_place next) (place_fades next refl) x.serial objects
 
-      go : (b t : Bool) → (let s : Transition = if b then (GcSaved x.serial ∷ [], collection_at c Turns below (with_objects (change (with_place next) x.serial (saved x.serial v.objects)) v)) else if t then ([], older_now) else ([], collection_at c (Turn x.serial) below v) in Moves script (collection_at c Turns below v) s.1)
+      go : (b t : Bool) → (let s : Transition = if b
+          then (GcSaved x.serial ∷ [], collection_at c Turns below (with_objects (change (with_place next) x.serial (saved x.serial v.objects)) v)) else if t
+          then ([], older_now) else ([], collection_at c (Turn x.serial) below v) in Moves script (collection_at c Turns below v) s.1)
       go true t = goes_to Turns Turns c [] (change (with_place next) x.serial (saved x.serial v.objects)) tt refl refl
-          (stays_after (change (with_place next) x.serial (saved x.serial v.objects)) (saved x.serial v.objects) v.objects (faded_stays (change (with_place next) x.serial (saved x.serial v.objects)) (saved x.serial v.objects) (moved (saved x.serial v.objects))) (saved_stays x.serial v.objects))
-          (fewer_turns (omega arith) (omega (arith, saved_leaves next refl v.objects x m e)) (omega (arith, (moved (saved x.serial v.objects)).entries, saved_entries x.serial 1 v.next_serial v.objects sound.rises)) (omega arith)) sound
+          (stays_after (change (with_place next) x.serial (saved x.serial v.objects)) (saved x.serial v.objects) v.objects
+          (faded_stays (change (with_place next) x.serial (saved x.serial v.objects)) (saved x.serial v.objects) (moved (saved x.serial v.objects)))
+          (saved_stays x.serial v.objects))
+          (fewer_turns (omega arith) (omega (arith, saved_leaves next refl v.objects x m e)) (omega (
+            arith,
+            (moved (saved x.serial v.objects)).entries,
+            saved_entries x.serial 1 v.next_serial v.objects sound.rises,
+          )) (omega arith)) sound
       go false true = changes Turns Turns (change (with_place next) x.serial v.objects) (moved v.objects) refl refl
           (fewer_turns (omega arith) (omega (arith, leaves next refl v.objects x.serial x m refl e)) (omega (arith, (moved v.objects).entries)) (omega arith)) sound
       go false false = goes_to Turns (Turn x.serial) c [] v.objects tt refl refl all_stay (fewer_turns (omega arith) (omega (arith, others_fewer v.objects x m e)) (omega arith) (omega arith)) sound
 
-  turns_moves : (events : List Event) (after : World) → TurnsStep c below (collection_at c Turns below v) events after → Sound (collection_at c Turns below v) → Moves script (collection_at c Turns below v) after
+  turns_moves : (events : List Event) (after : World) → TurnsStep c below (collection_at c Turns below v) events after → Sound (collection_at c Turns below v)
+      → Moves script (collection_at c Turns below v) after
   turns_moves events after (inl step) sound =
       let kept = Includes-filter_cases (is_at Cand) v.objects step.object step.member in
       moves_to Turns after _ step.yields.1 (turn_moves step.object kept.0 kept.1 sound)
   turns_moves events after (inr step) sound = moves_to Turns after _ step.1.1 (turns_to Turns Ending [] tt refl refl (omega arith) (omega arith) sound)
 
-  empties_moves : (o : ℕ) (m : Option Entry) → last_entry (entries_of v.objects o) ≡ m → Sound (collection_at c (Turn o) below v) → Moves script (collection_at c (Turn o) below v) (empties c o below (collection_at c (Turn o) below v) m).1
+  empties_moves : (o : ℕ) (m : Option Entry) → last_entry (entries_of v.objects o) ≡ m → Sound (collection_at c (Turn o) below v)
+      → Moves script (collection_at c (Turn o) below v) (empties c o below (collection_at c (Turn o) below v) m).1
   empties_moves o None e sound = goes_to (Turn o) (AfterTurn o) c (Releasing (o ∷ []) ∷ []) v.objects tt refl refl all_stay (fewer_turns (omega arith) (omega arith) (omega arith) (omega arith)) sound
   empties_moves o (Some entry) e sound =
       let same = change-shortened o 1 v.next_serial v.objects sound.rises in
-      let fade : Faded (change (with_entries (without_last (entries_of v.objects o))) o v.objects) v.objects = subst (λ os. Faded os v.objects) (sym same) (change_fades shortened shortened_fades o v.objects) in
+      let fade : Faded (change (with_entries (without_last (entries_of v.objects o))) o v.objects) v.objects = subst (λ os. Faded os v.objects) (sym same)
+      (change_fades shortened shortened_fades o v.objects) in
       goes_to (Turn o) (Turn o) c (Releasing (entry_references entry) ∷ []) (change (with_entries (without_last (entries_of v.objects o))) o v.objects) tt refl refl (faded_stays _ v.objects fade)
-      (fewer_entries (omega arith) (omega (arith, fade.others o)) (subst (λ os. entries_in os < entries_in v.objects) (sym same) (shorter v.objects o entry e)) (omega (arith, references_two entry))) sound
+      (fewer_entries (omega arith) (omega (arith, fade.others o)) (subst (λ os. entries_in os < entries_in v.objects) (sym same) (shorter v.objects o entry e))
+      (omega (arith, references_two entry))) sound
 
   after_turn_moves : (o : ℕ) → Sound (collection_at c (AfterTurn o) below v) → Moves script (collection_at c (AfterTurn o) below v) (after_turn c o below (collection_at c (AfterTurn o) below v)).1
   after_turn_moves o sound =
@@ -246,7 +305,8 @@ module _ (script : Script) (c : Collection) (below : List Activity) (v : World) 
       changes (AfterTurn o) Turns (change (with_place (Gen (older c.generation))) o v.objects) fade refl refl
       (fewer_turns (omega arith) (omega (arith, only_others (Gen (older c.generation)) refl o v.objects)) (omega (arith, fade.entries)) (omega arith)) sound
 
-  end_moves : (events : List Event) (after : World) → EndStep script c below (collection_at c Ending below v) events after → Sound (collection_at c Ending below v) → Moves script (collection_at c Ending below v) after
+  end_moves : (events : List Event) (after : World) → EndStep script c below (collection_at c Ending below v) events after
+      → Sound (collection_at c Ending below v) → Moves script (collection_at c Ending below v) after
   end_moves events after step sound = moves_to Ending after _ step.world (record {
     sound = record { rises = stays.rises 1 v.next_serial sound.rises; bottom = sound.bottom; single = omega (arith, sound.single) };
     lower = by_rank (omega arith) stays.size (omega arith) (omega arith) grown stays.referents (omega arith);
@@ -272,14 +332,17 @@ module _ (script : Script) (c : Collection) (below : List Activity) (v : World) 
           let fourth = filter_size (is_saved script c) v.objects in
           omega (arith, first, second, third, fourth)
 
-  pub phase_moves : (p : CollectPhase) (events : List Event) (after : World) → PhaseStep script c p below (collection_at c p below v) events after → Sound (collection_at c p below v) → v.outcome ≡ Running → Moves script (collection_at c p below v) after
+  pub phase_moves : (p : CollectPhase) (events : List Event) (after : World) → PhaseStep script c p below (collection_at c p below v) events after
+      → Sound (collection_at c p below v) → v.outcome ≡ Running → Moves script (collection_at c p below v) after
   phase_moves Start events after step sound running = start_moves events after step sound
   phase_moves (WeakClearing waiting) events after step sound running = clearing_moves waiting events after step sound
   phase_moves (WeakCalling waiting) events after step sound running = moves_to (WeakCalling waiting) after _ step.1 (calls_back_moves waiting sound running)
-  phase_moves (AfterCallback weak waiting) events after step sound running = moves_to (AfterCallback weak waiting) after _ step.1 (turns_to (AfterCallback weak waiting) (AfterRelease weak waiting) (Releasing (weak ∷ []) ∷ []) tt refl refl (omega arith) (omega arith) sound)
+  phase_moves (AfterCallback weak waiting) events after step sound running = moves_to (AfterCallback weak waiting) after _ step.1
+      (turns_to (AfterCallback weak waiting) (AfterRelease weak waiting) (Releasing (weak ∷ []) ∷ []) tt refl refl (omega arith) (omega arith) sound)
   phase_moves (AfterRelease weak waiting) events after step sound running = moves_to (AfterRelease weak waiting) after _ step.1 (after_wait_moves weak waiting sound)
   phase_moves Finalizing events after step sound running = finalizing_moves events after step sound running
-  phase_moves (AfterFinalizing o) events after step sound running = moves_to (AfterFinalizing o) after _ step.1 (turns_to (AfterFinalizing o) Finalizing (Releasing (o ∷ []) ∷ []) tt refl refl (omega arith) (omega arith) sound)
+  phase_moves (AfterFinalizing o) events after step sound running = moves_to (AfterFinalizing o) after _ step.1 (turns_to (AfterFinalizing o) Finalizing
+      (Releasing (o ∷ []) ∷ []) tt refl refl (omega arith) (omega arith) sound)
   phase_moves Split events after step sound running = split_moves events after step sound
   phase_moves Turns events after step sound running = turns_moves events after step sound
   phase_moves (Turn o) events after step sound running = moves_to (Turn o) after _ step.1 (empties_moves o (last_entry (entries_of v.objects o)) refl sound)

@@ -67,7 +67,11 @@ module _ (script : Script) (v : World) (a : Activity) (below : List Activity) wh
   pub quiet : (objects : List Object) (numbers : Numbers) (tops : List Activity) → IsLow a → IsPlain tops → Faded objects v.objects → (is_due numbers ≡ true → is_due v.numbers ≡ true)
       → Gains v.objects objects a tops → Sound before → Moves script before (after objects numbers tops)
   quiet objects numbers tops l p faded due gains sound = record {
-    sound = record { rises = faded.rises 1 v.next_serial sound.rises; bottom = counts.bottom (from.bottom below sound.bottom); single = omega (arith, counts.collections, from.collections, sound.single) };
+    sound = record {
+      rises = faded.rises 1 v.next_serial sound.rises;
+      bottom = counts.bottom (from.bottom below sound.bottom);
+      single = omega (arith, counts.collections, from.collections, sound.single);
+    };
     lower = lower gains;
   }
     where
@@ -81,7 +85,9 @@ module _ (script : Script) (v : World) (a : Activity) (below : List Activity) wh
       commands = omega (arith, counts.commands)
 
       still_due : due_left (after objects numbers tops) ≤ due_left before
-      still_due = subst (λ s. due_rank (is_due numbers) s ≤ due_rank (is_due v.numbers) (list_any is_starting (a ∷ below))) (starting_same (is_starting a) (list_any is_starting below) from.starting ∙ sym counts.starting) (due_less (is_due numbers) (is_due v.numbers) (list_any is_starting (a ∷ below)) due)
+      still_due = subst (λ s. due_rank (is_due numbers) s ≤ due_rank (is_due v.numbers) (list_any is_starting (a ∷ below)))
+          (starting_same (is_starting a) (list_any is_starting below) from.starting ∙ sym counts.starting) (due_less (is_due numbers) (is_due v.numbers)
+          (list_any is_starting (a ∷ below)) due)
 
       rank : tally rank_in (tops ++ below) ≤ tally rank_in (a ∷ below)
       rank = omega (arith, counts.rank)
@@ -105,7 +111,8 @@ less_due n e =
 pub Includes-reverse : (xs : List ℕ) (x : ℕ) → Includes (reverse xs) x → Includes xs x
 Includes-reverse [] x m = m
 Includes-reverse (y ∷ xs) x m =
-    either (Includes-append_cases (reverse xs) (y ∷ []) x (subst (λ ys. Includes ys x) (reverse-append (y ∷ []) xs) m)) (λ k. inr (Includes-reverse xs x k)) (λ k. either k (λ e. inl e) (λ n. absurd n))
+    either (Includes-append_cases (reverse xs) (y ∷ []) x (subst (λ ys. Includes ys x) (reverse-append (y ∷ []) xs) m)) (λ k. inr (Includes-reverse xs x k))
+    (λ k. either k (λ e. inl e) (λ n. absurd n))
 
 refers_some : (o : ℕ) (r : Option ℕ) → unwrap_or (option_map (λ p. p == o) r) false ≡ true → is_some r ≡ true
 refers_some o None e = e
@@ -115,7 +122,8 @@ pub passed : (b : Bool) (weaks : List ℕ) (weak : ℕ) (rest : List ℕ) → (i
 passed true weaks weak rest e = e
 passed false weaks weak rest e = cc
 
-pub refers_first : (test : Object → Bool) (objects : List Object) (o weak : ℕ) (weaks : List ℕ) → weak_references_if test objects o ≡ weak ∷ weaks → (y : Object) × Includes objects y × (y.serial ≡ weak) × (is_some y.referent ≡ true)
+pub refers_first : (test : Object → Bool) (objects : List Object) (o weak : ℕ) (weaks : List ℕ) → weak_references_if test objects o ≡ weak ∷ weaks
+    → (y : Object) × Includes objects y × (y.serial ≡ weak) × (is_some y.referent ≡ true)
 refers_first test objects o weak weaks e =
     let all = passed (unwrap_or (option_map test (object_at objects o)) false) (weak_references objects o) weak weaks e in
     let m : Includes (reverse (serials (filter (is_reference_to o) objects))) weak = subst (λ ys. Includes ys weak) (sym all) (inl refl) in
@@ -137,54 +145,79 @@ death_at o phase below v = with_stack (Dying (record { object = o; phase = phase
 module _ (script : Script) (o : ℕ) (below : List Activity) (v : World) where
   -- it goes on to a phase of less weight
   goes_on : (phase next : DyingPhase) → death_weight next < death_weight phase → Sound (death_at o phase below v) → Moves script (death_at o phase below v) (death_at o next below v)
-  goes_on phase next l sound = quiet script v (Dying (record { object = o; phase = phase })) below v.objects v.numbers (Dying (record { object = o; phase = next }) ∷ []) tt tt (unchanged v.objects) (λ e. e) (lighter (omega (arith, l))) sound
+  goes_on phase next l sound = quiet script v (Dying (record { object = o; phase = phase })) below v.objects v.numbers
+      (Dying (record { object = o; phase = next }) ∷ []) tt tt (unchanged v.objects) (λ e. e) (lighter (omega (arith, l))) sound
 
   -- it changes one object and starts a frame
   calls : (phase next : DyingPhase) (spec : FrameSpec) (f : Object → Object) (p : ℕ) → Fades f → death_weight next ≤ death_weight phase + 16 → Sound (death_at o phase below v) → v.outcome ≡ Running
       → Moves script (death_at o phase below v) (start_frame script spec (death_at o next below (with_change f p v))).1
   calls phase next spec f p k l sound running =
       let fade = change_fades f k p v.objects in
-      starts script spec (death_at o phase below v) (death_at o next below (with_change f p v)) (record { rises = fade.rises 1 v.next_serial sound.rises; bottom = sound.bottom; single = sound.single }) running
+      starts script spec (death_at o phase below v) (death_at o next below (with_change f p v)) (record {
+        rises = fade.rises 1 v.next_serial sound.rises;
+        bottom = sound.bottom;
+        single = sound.single;
+      }) running
       (record { commands = omega arith; size = fade.size; entries = fade.entries; referents = fade.referents; weight = omega (arith, l) })
 
-  finalizer_moves : (m : Option ℕ) → Sound (death_at o Finalizer below v) → v.outcome ≡ Running → Moves script (death_at o Finalizer below v) (run_finalizer script o below (death_at o Finalizer below v) m).1
+  finalizer_moves : (m : Option ℕ) → Sound (death_at o Finalizer below v) → v.outcome ≡ Running → Moves script (death_at o Finalizer below v)
+      (run_finalizer script o below (death_at o Finalizer below v) m).1
   finalizer_moves None sound running = goes_on Finalizer (Clearing []) (omega arith) sound
-  finalizer_moves (Some p) sound running = calls Finalizer AfterFinalizer (record { sort = Del; proc = p; subject = o; func = None }) (λ x. marked (with_place (Gen 0) x)) o (then_fades (with_place (Gen 0)) marked (place_fades (Gen 0) refl) marked_fades) (omega arith) sound running
+  finalizer_moves (Some p) sound running = calls Finalizer AfterFinalizer (record { sort = Del; proc = p; subject = o; func = None })
+      (λ x. marked (with_place (Gen 0) x)) o (then_fades (with_place (Gen 0)) marked (place_fades (Gen 0) refl) marked_fades) (omega arith) sound running
 
-  legacy_moves : (m : Option ℕ) → Sound (death_at o LegacyFinalizer below v) → v.outcome ≡ Running → Moves script (death_at o LegacyFinalizer below v) (run_legacy script o below (death_at o LegacyFinalizer below v) m).1
+  legacy_moves : (m : Option ℕ) → Sound (death_at o LegacyFinalizer below v) → v.outcome ≡ Running → Moves script (death_at o LegacyFinalizer below v)
+      (run_legacy script o below (death_at o LegacyFinalizer below v) m).1
   legacy_moves None sound running = goes_on LegacyFinalizer Detaching (omega arith) sound
-  legacy_moves (Some p) sound running = calls LegacyFinalizer AfterLegacy (record { sort = Legacy; proc = p; subject = o; func = None }) (with_place (Gen 0)) o (place_fades (Gen 0) refl) (omega arith) sound running
+  legacy_moves (Some p) sound running = calls LegacyFinalizer AfterLegacy (record { sort = Legacy; proc = p; subject = o; func = None }) (with_place (Gen 0)) o
+      (place_fades (Gen 0) refl) (omega arith) sound running
 
-  after_frame_moves : (phase next : DyingPhase) → death_weight next < death_weight phase → Sound (death_at o phase below v) → Moves script (death_at o phase below v) (after_frame o next below (death_at o phase below v)).1
+  after_frame_moves : (phase next : DyingPhase) → death_weight next < death_weight phase → Sound (death_at o phase below v)
+      → Moves script (death_at o phase below v) (after_frame o next below (death_at o phase below v)).1
   after_frame_moves phase next l sound = go (in_degree (death_at o next below v) o == 0)
     where
-      go : (b : Bool) → (let t : Transition = if b then ([], with_change (with_place Untracked) o (death_at o next below v)) else (Alive o ∷ [], with_stack below v) in Moves script (death_at o phase below v) t.1)
-      go true = quiet script v (Dying (record { object = o; phase = phase })) below (change (with_place Untracked) o v.objects) v.numbers (Dying (record { object = o; phase = next }) ∷ []) tt tt (change_fades (with_place Untracked) (place_fades Untracked refl) o v.objects) (λ e. e) (lighter (omega (arith, l))) sound
+      go : (b : Bool) → (let t : Transition = if b then ([], with_change (with_place Untracked) o (death_at o next below v))
+          else (Alive o ∷ [], with_stack below v) in Moves script (death_at o phase below v) t.1)
+      go true = quiet script v (Dying (record { object = o; phase = phase })) below (change (with_place Untracked) o v.objects) v.numbers
+          (Dying (record { object = o; phase = next }) ∷ []) tt tt (change_fades (with_place Untracked) (place_fades Untracked refl) o v.objects) (λ e. e)
+          (lighter (omega (arith, l))) sound
       go false = quiet script v (Dying (record { object = o; phase = phase })) below v.objects v.numbers [] tt tt (unchanged v.objects) (λ e. e) (lighter (omega (arith, l))) sound
 
-  loses : (test : Object → Bool) (phase next : DyingPhase) → death_weight next ≤ death_weight phase → (weak : ℕ) (weaks : List ℕ) → weak_references_if test v.objects o ≡ weak ∷ weaks → Sound (death_at o phase below v)
+  loses : (test : Object → Bool) (phase next : DyingPhase) → death_weight next ≤ death_weight phase → (weak : ℕ) (weaks : List ℕ) → weak_references_if test
+      v.objects o ≡ weak ∷ weaks → Sound (death_at o phase below v)
       → Moves script (death_at o phase below v) (record v { objects = loses_referent weak v.objects; stack = Dying (record { object = o; phase = next }) ∷ below })
   loses test phase next l weak weaks e sound =
       let y = refers_first test v.objects o weak weaks e in
-      quiet script v (Dying (record { object = o; phase = phase })) below (loses_referent weak v.objects) v.numbers (Dying (record { object = o; phase = next }) ∷ []) tt tt (change_fades (with_referent None) referent_fades weak v.objects) (λ e. e) (fewer_referents (loses_one v.objects weak y.0 y.1 y.2 y.3) (omega (arith, l))) sound
+      quiet script v (Dying (record { object = o; phase = phase })) below (loses_referent weak v.objects) v.numbers (Dying (record { object = o; phase = next })
+      ∷ []) tt tt (change_fades (with_referent None) referent_fades weak v.objects) (λ e. e) (fewer_referents (loses_one v.objects weak y.0 y.1 y.2 y.3)
+      (omega (arith, l))) sound
 
-  clearing_moves : (waiting weaks : List ℕ) → weak_references_if has_weak_references v.objects o ≡ weaks → Sound (death_at o (Clearing waiting) below v) → Moves script (death_at o (Clearing waiting) below v) (clear_one o waiting below (death_at o (Clearing waiting) below v) weaks).1
+  clearing_moves : (waiting weaks : List ℕ) → weak_references_if has_weak_references v.objects o ≡ weaks → Sound (death_at o (Clearing waiting) below v)
+      → Moves script (death_at o (Clearing waiting) below v) (clear_one o waiting below (death_at o (Clearing waiting) below v) weaks).1
   clearing_moves waiting [] e sound = goes_on (Clearing waiting) (Calling waiting) (omega arith) sound
-  clearing_moves waiting (weak ∷ weaks) e sound = loses has_weak_references (Clearing waiting) (Clearing (waiting ++ (if is_some (callback_of v.objects weak) then weak ∷ [] else []))) (omega arith) weak weaks e sound
+  clearing_moves waiting (weak ∷ weaks) e sound = loses has_weak_references (Clearing waiting)
+      (Clearing (waiting ++ (if is_some (callback_of v.objects weak) then weak ∷ [] else []))) (omega arith) weak weaks e sound
 
-  detaching_moves : (weaks : List ℕ) → weak_references_if (has_finalizers script) v.objects o ≡ weaks → Sound (death_at o Detaching below v) → Moves script (death_at o Detaching below v) (detach_one o below (death_at o Detaching below v) weaks).1
+  detaching_moves : (weaks : List ℕ) → weak_references_if (has_finalizers script) v.objects o ≡ weaks → Sound (death_at o Detaching below v)
+      → Moves script (death_at o Detaching below v) (detach_one o below (death_at o Detaching below v) weaks).1
   detaching_moves [] e sound = goes_on Detaching Emptying (omega arith) sound
   detaching_moves (weak ∷ weaks) e sound = loses (has_finalizers script) Detaching Detaching (omega arith) weak weaks e sound
 
-  calling_moves : (waiting : List ℕ) → Sound (death_at o (Calling waiting) below v) → v.outcome ≡ Running → Moves script (death_at o (Calling waiting) below v) (call_one script o below (death_at o (Calling waiting) below v) waiting).1
+  calling_moves : (waiting : List ℕ) → Sound (death_at o (Calling waiting) below v) → v.outcome ≡ Running → Moves script (death_at o (Calling waiting) below v)
+      (call_one script o below (death_at o (Calling waiting) below v) waiting).1
   calling_moves [] sound running = goes_on (Calling []) LegacyFinalizer (omega arith) sound
-  calling_moves (weak ∷ waiting) sound running = calls (Calling (weak ∷ waiting)) (AfterCall weak (unwrap_or (callback_of v.objects weak) 0) waiting) _ (with_entries []) weak entries_fades (omega arith) sound running
+  calling_moves (weak ∷ waiting) sound running = calls (Calling (weak ∷ waiting)) (AfterCall weak (unwrap_or (callback_of v.objects weak) 0) waiting) _
+      (with_entries []) weak entries_fades (omega arith) sound running
 
-  emptying_moves : (m : Option Entry) → last_entry (entries_of v.objects o) ≡ m → Sound (death_at o Emptying below v) → Moves script (death_at o Emptying below v) (empty_one o below (death_at o Emptying below v) m).1
-  emptying_moves None e sound = quiet script v (Dying (record { object = o; phase = Emptying })) below (without o v.objects) (record v.numbers { zero_count = v.numbers.zero_count - 1 }) [] tt tt (filter_fades (λ x. not (x.serial == o)) v.objects) (less_due v.numbers) (lighter (omega arith)) sound
+  emptying_moves : (m : Option Entry) → last_entry (entries_of v.objects o) ≡ m → Sound (death_at o Emptying below v)
+      → Moves script (death_at o Emptying below v) (empty_one o below (death_at o Emptying below v) m).1
+  emptying_moves None e sound = quiet script v (Dying (record { object = o; phase = Emptying })) below (without o v.objects)
+      (record v.numbers { zero_count = v.numbers.zero_count - 1 }) [] tt tt (filter_fades (λ x. not (x.serial == o)) v.objects) (less_due v.numbers)
+      (lighter (omega arith)) sound
   emptying_moves (Some entry) e sound =
       let same = change-shortened o 1 v.next_serial v.objects sound.rises in
-      quiet script v (Dying (record { object = o; phase = Emptying })) below (change (with_entries (without_last (entries_of v.objects o))) o v.objects) v.numbers (Releasing (entry_references entry) ∷ Dying (record { object = o; phase = Emptying }) ∷ []) tt tt
+      quiet script v (Dying (record { object = o; phase = Emptying })) below (change (with_entries (without_last (entries_of v.objects o))) o v.objects)
+      v.numbers (Releasing (entry_references entry) ∷ Dying (record { object = o; phase = Emptying }) ∷ []) tt tt
       (subst (λ os. Faded os v.objects) (sym same) (change_fades shortened shortened_fades o v.objects)) (λ e. e)
       (fewer_entries (subst (λ os. entries_in os < entries_in v.objects) (sym same) (shorter v.objects o entry e)) (omega (arith, references_two entry))) sound
 
@@ -194,22 +227,28 @@ module _ (script : Script) (o : ℕ) (below : List Activity) (v : World) where
   dying_moves (Clearing waiting) sound running = clearing_moves waiting (weak_references_if has_weak_references v.objects o) refl sound
   dying_moves (Calling waiting) sound running = calling_moves waiting sound running
   dying_moves (AfterCall weak callback waiting) sound running =
-      quiet script v (Dying (record { object = o; phase = AfterCall weak callback waiting })) below v.objects v.numbers (Releasing (callback ∷ weak ∷ []) ∷ Dying (record { object = o; phase = Calling waiting }) ∷ []) tt tt (unchanged v.objects) (λ e. e) (lighter (omega arith)) sound
+      quiet script v (Dying (record { object = o; phase = AfterCall weak callback waiting })) below v.objects v.numbers (Releasing (callback ∷ weak ∷ [])
+      ∷ Dying (record { object = o; phase = Calling waiting }) ∷ []) tt tt (unchanged v.objects) (λ e. e) (lighter (omega arith)) sound
   dying_moves LegacyFinalizer sound running = legacy_moves (option_and_then (legacy_of script) (object_at v.objects o)) sound running
   dying_moves AfterLegacy sound running = after_frame_moves AfterLegacy Detaching (omega arith) sound
   dying_moves Detaching sound running = detaching_moves (weak_references_if (has_finalizers script) v.objects o) refl sound
   dying_moves Emptying sound running = emptying_moves (last_entry (entries_of v.objects o)) refl sound
 
-pub released_moves : (script : Script) (references : List ℕ) (below : List Activity) (v : World) → Sound (with_stack (Releasing references ∷ below) v) → Moves script (with_stack (Releasing references ∷ below) v) (released references below (with_stack (Releasing references ∷ below) v)).1
+pub released_moves : (script : Script) (references : List ℕ) (below : List Activity) (v : World) → Sound (with_stack (Releasing references ∷ below) v)
+    → Moves script (with_stack (Releasing references ∷ below) v) (released references below (with_stack (Releasing references ∷ below) v)).1
 released_moves script [] below v sound = quiet script v (Releasing []) below v.objects v.numbers [] tt tt (unchanged v.objects) (λ e. e) (lighter (omega arith)) sound
 released_moves script (o ∷ references) below v sound = go (not (is_dying (with_stack (Releasing references ∷ below) v) o) && (in_degree (with_stack (Releasing references ∷ below) v) o == 0))
   where
-    go : (b : Bool) → (let t : Transition = if b then ([], begin_death o (with_stack (Releasing references ∷ below) v)) else ([], with_stack (Releasing references ∷ below) v) in Moves script (with_stack (Releasing (o ∷ references) ∷ below) v) t.1)
-    go true = quiet script v (Releasing (o ∷ references)) below (change (λ x. with_referent None (with_place Untracked x)) o v.objects) v.numbers (Dying (record { object = o; phase = Finalizer }) ∷ Releasing references ∷ []) tt tt
-        (change_fades (λ x. with_referent None (with_place Untracked x)) (then_fades (with_place Untracked) (with_referent None) (place_fades Untracked refl) referent_fades) o v.objects) (λ e. e) (lighter (omega arith)) sound
+    go : (b : Bool) → (let t : Transition = if b then ([], begin_death o (with_stack (Releasing references ∷ below) v))
+        else ([], with_stack (Releasing references ∷ below) v) in Moves script (with_stack (Releasing (o ∷ references) ∷ below) v) t.1)
+    go true = quiet script v (Releasing (o ∷ references)) below (change (λ x. with_referent None (with_place Untracked x)) o v.objects) v.numbers
+        (Dying (record { object = o; phase = Finalizer }) ∷ Releasing references ∷ []) tt tt
+        (change_fades (λ x. with_referent None (with_place Untracked x)) (then_fades (with_place Untracked) (with_referent None) (place_fades Untracked refl)
+        referent_fades) o v.objects) (λ e. e) (lighter (omega arith)) sound
     go false = quiet script v (Releasing (o ∷ references)) below v.objects v.numbers (Releasing references ∷ []) tt tt (unchanged v.objects) (λ e. e) (lighter (omega arith)) sound
 
-pub frame_end_moves : (script : Script) (f : Frame) (below : List Activity) (v : World) → Sound (with_stack (Framed f ∷ below) v) → Moves script (with_stack (Framed f ∷ below) v) (frame_end f (with_stack below v)).1
+pub frame_end_moves : (script : Script) (f : Frame) (below : List Activity) (v : World) → Sound (with_stack (Framed f ∷ below) v)
+    → Moves script (with_stack (Framed f ∷ below) v) (frame_end f (with_stack below v)).1
 frame_end_moves script f below v sound = by_sort f.sort f.function
   where
     popped : Moves script (with_stack (Framed f ∷ below) v) (with_stack below v)

@@ -169,7 +169,8 @@ has_last : (entries : List Entry) (e : Entry) → last_entry entries ≡ Some e 
 has_last entries e h = omega (arith, slice_get_within entries (length entries - 1) e h)
 
 shorter_at : (b : Bool) (o : ℕ) (x : Object) (xs : List Object) (e : Entry) → last_entry (unwrap_or (option_map (λ (y : Object). y.entries) (cond b (Some x) (object_at xs o))) []) ≡ Some e
-    → (last_entry (entries_of xs o) ≡ Some e → entries_in (change shortened o xs) < entries_in xs) → length (if b then shortened x else x).entries + entries_in (change shortened o xs) < length x.entries + entries_in xs
+    → (last_entry (entries_of xs o) ≡ Some e → entries_in (change shortened o xs) < entries_in xs) → length (if b then shortened x else x).entries + entries_in
+    (change shortened o xs) < length x.entries + entries_in xs
 shorter_at true o x xs e h rest = omega (arith, has_last x.entries e h, length-without_last x.entries, (change_fades shortened shortened_fades o xs).entries)
 shorter_at false o x xs e h rest = omega (arith, rest h)
 

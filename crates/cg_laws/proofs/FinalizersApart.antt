@@ -62,14 +62,16 @@ module _ (script : Script) (c : Collection) (below : List Activity) (v : World) 
   to : (after next : World) → after ≡ next → IsApart next → IsApart after
   to after next e h = subst IsApart (sym e) h
 
-  seen_apart : (f : Object → Object) (o : ℕ) → Keeps f → ((x : Object) → (f x).place ≡ Seen) → IsMemberOf (at Finalizing) Cand o → AreApart v.objects Finalizing → AreApart (change f o v.objects) Finalizing
+  seen_apart : (f : Object → Object) (o : ℕ) → Keeps f → ((x : Object) → (f x).place ≡ Seen) → IsMemberOf (at Finalizing) Cand o → AreApart v.objects Finalizing
+      → AreApart (change f o v.objects) Finalizing
   seen_apart f o keeps place member h = moved f (λ x. x.serial == o) v.objects Finalizing Finalizing keeps (λ k. k)
       (record {
         untracked = λ x m t one e. absurd (root_not_at v.objects Finalizing Cand o refl h member (sym (eqb-true x.serial o t) ∙ one));
         chosen = λ x m t k. (λ e. let no : Seen ≡ Back = sym (place x) ∙ e in cc, λ e. let no : Seen ≡ Pend = sym (place x) ∙ e in cc);
         others = λ x m t k. k;
         found = λ x m t k. let z = stands_at v.objects Cand o member in
-            subst (λ s. ¬ Includes (references (entries_of v.objects 1)) s) (z.3 ∙ sym (eqb-true x.serial o t)) (h.unsaved z.0 z.1 (condemned_found z.0.place (or_left (is_at Cand z.0) (is_at Seen z.0) z.2)));
+            subst (λ s. ¬ Includes (references (entries_of v.objects 1)) s) (z.3 ∙ sym (eqb-true x.serial o t))
+            (h.unsaved z.0 z.1 (condemned_found z.0.place (or_left (is_at Cand z.0) (is_at Seen z.0) z.2)));
       }) h
 
   looks_at_apart : (o : ℕ) (m : Option ℕ) → IsMemberOf (at Finalizing) Cand o → AreApart v.objects Finalizing → IsApart (looks_at script c o below (at Finalizing) m).1
@@ -98,7 +100,8 @@ module _ (script : Script) (c : Collection) (below : List Activity) (v : World) 
   after_finalizing_apart o h = gives_up_apart (o ∷ []) (at Finalizing) (goes_to c Finalizing below v alone (restands (AfterFinalizing o) Finalizing v.objects (λ k. k) (λ x m k. k) h))
 
   pub split_apart : (events : List Event) (after : World) → SplitStep c below (at Split) events after → AreApart v.objects Split → IsApart after
-  split_apart events after step h = to after _ step.world (goes_to (record c { collected = c.collected + length (serials_at step.objects Cand) }) Turns below (with_objects step.objects (at Split)) alone
+  split_apart events after step h = to after _ step.world (goes_to (record c { collected = c.collected + length (serials_at step.objects Cand) }) Turns below
+      (with_objects step.objects (at Split)) alone
       (restands Split Turns step.objects (λ k. k) (λ x m k. k) (all_lose_apart (loses_at_split now) step.cleared now step.objects step.lose older_now)))
     where
       place : Place

@@ -141,7 +141,8 @@ if_quiet : (o : ℕ) (f : Object → Object) (b : Bool) (x : Object) → (b ≡ 
 if_quiet o f true x h q = h refl
 if_quiet o f false x h q = q
 
-pub test_quiet : (o : ℕ) (f : Object → Object) (test : Object → Bool) → ((x : Object) → test x ≡ true → IsQuiet o x → IsQuiet o (f x)) → (objects : List Object) → AreQuiet o objects → AreQuiet o (map (λ x. if test x then f x else x) objects)
+pub test_quiet : (o : ℕ) (f : Object → Object) (test : Object → Bool) → ((x : Object) → test x ≡ true → IsQuiet o x → IsQuiet o (f x)) → (objects : List Object)
+    → AreQuiet o objects → AreQuiet o (map (λ x. if test x then f x else x) objects)
 test_quiet o f test h objects q = map_quiet o (λ x. if test x then f x else x) (λ x k. if_quiet o f (test x) x (λ e. h x e k) k) objects q
 
 pub place_quiet : (o s : ℕ) (p : Place) → s ≢ o → (objects : List Object) → AreQuiet o objects → AreQuiet o (change (with_place p) s objects)
@@ -169,7 +170,8 @@ entries_alter es s objects = change_alters (with_entries es) (λ x. record { ser
 pub place_alters : (p : Place) (s : ℕ) (objects : List Object) → Alters objects (change (with_place p) s objects)
 place_alters p s objects = change_alters (with_place p) (place_later p) s objects
 
-pub still_unheld : (w after : World) (o : ℕ) → after.names ≡ w.names → (AreQuiet o w.objects → AreQuiet o after.objects) → (¬ Includes (flat_map holds w.stack) o → ¬ Includes (flat_map holds after.stack) o) → Unheld w o → Unheld after o
+pub still_unheld : (w after : World) (o : ℕ) → after.names ≡ w.names → (AreQuiet o w.objects → AreQuiet o after.objects)
+    → (¬ Includes (flat_map holds w.stack) o → ¬ Includes (flat_map holds after.stack) o) → Unheld w o → Unheld after o
 still_unheld w after o names quiet stack h = record {
   quiet = quiet h.quiet;
   names = subst (λ ns. ¬ Includes (name_holdings ns) o) (sym names) h.names;
@@ -178,8 +180,13 @@ still_unheld w after o names quiet stack h = record {
 }
 
 -- A change that leaves the names keeps an object forgotten if no activity comes to hold it.
-pub still_forgotten : (w after : World) (o : ℕ) → after.names ≡ w.names → Alters w.objects after.objects → (AreQuiet o w.objects → AreQuiet o after.objects) → (¬ Includes (flat_map holds w.stack) o → ¬ Includes (flat_map holds after.stack) o) → Forgotten w o → Forgotten after o
-still_forgotten w after o names alters quiet stack h = record { unheld = still_unheld w after o names quiet stack h.unheld; unreferred = unreferred_after w.objects after.objects alters o h.unreferred }
+pub still_forgotten : (w after : World) (o : ℕ) → after.names ≡ w.names → Alters w.objects after.objects → (AreQuiet o w.objects → AreQuiet o after.objects)
+    → (¬ Includes (flat_map holds w.stack) o → ¬ Includes (flat_map holds after.stack) o) → Forgotten w o → Forgotten after o
+still_forgotten w after o names alters quiet stack h = record {
+  unheld = still_unheld w after o names quiet stack h.unheld;
+  unreferred = unreferred_after
+      w.objects after.objects alters o h.unreferred;
+}
 
 -- a serial that lives is between 1 and the next one
 pub lives_within : (low high : ℕ) (objects : List Object) (o : ℕ) → Rises low high objects → Includes (serials objects) o → (low ≤ o) × (o < high)

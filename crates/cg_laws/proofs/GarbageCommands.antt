@@ -33,7 +33,8 @@ module _ (w : World) (garbage : HasGarbageList w.objects) (made : 1 < w.next_ser
   other_object command x h e = false_true (sym (ap (λ (k : KindCode). (elim k [ Dict ↦ true | _ ↦ false ]) || (elim k [ Inst ↦ true | _ ↦ false ])) (garbage x h.member e).list) ∙ h.passes)
 
   -- an edit of the garbage list only removes entries
-  edits_kept : (command : Command) (x : Object) (entries : List Entry) (given_up : List ℕ) → Includes w.objects x → IsEdit w command x entries given_up → KeepsList w.objects (with_change (with_entries entries) x.serial w).objects
+  edits_kept : (command : Command) (x : Object) (entries : List Entry) (given_up : List ℕ) → Includes w.objects x → IsEdit w command x entries given_up
+      → KeepsList w.objects (with_change (with_entries entries) x.serial w).objects
   edits_kept command x entries given_up m edit = list_kept (with_entries entries) x.serial w.objects (λ y. refl) (λ y k s e. record {
     was = y;
     member = k;
@@ -46,7 +47,8 @@ module _ (w : World) (garbage : HasGarbageList w.objects) (made : 1 < w.next_ser
   pub shape_kept : (command : Command) (e : Effect) → Shape w command e → IsKept e
   shape_kept command e (Makes name kind class entries referent own parts) = new_kept w.objects _ (λ i. omega (arith, made, i))
   shape_kept command e (Edits wants x entries given h mutable edit) = edits_kept command x entries given h.member edit
-  shape_kept command e (Puts x key v h mutable hand_key hand room) = other_kept (λ y. tracked_by w key v (with_entries (put x.entries key v) y)) x.serial w.objects (λ y. (put_later w x key v y).serial) (other_object command x h)
+  shape_kept command e (Puts x key v h mutable hand_key hand room) = other_kept (λ y. tracked_by w key v (with_entries (put x.entries key v) y)) x.serial
+      w.objects (λ y. (put_later w x key v y).serial) (other_object command x h)
   shape_kept command e (Freezes is) = places_kept frozen w.objects refl
   shape_kept command e (Unfreezes is) = places_kept unfrozen w.objects refl
   shape_kept command e (StartsFrame f h) = tt

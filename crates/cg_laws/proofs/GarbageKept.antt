@@ -48,7 +48,8 @@ pub same_list : (objects : List Object) → KeepsList objects objects
 same_list objects y m e = record { was = y; member = m; serial = e; code = refl; place = λ p. p; names = λ o h. h y m e }
 
 -- the changed object is not the garbage list, or keeps what it names
-pub list_kept : (f : Object → Object) (s : ℕ) (objects : List Object) → ((x : Object) → (f x).serial ≡ x.serial) → ((x : Object) → Includes objects x → x.serial ≡ s → x.serial ≡ 1 → IsOfList objects (f x)) → KeepsList objects (change f s objects)
+pub list_kept : (f : Object → Object) (s : ℕ) (objects : List Object) → ((x : Object) → (f x).serial ≡ x.serial) → ((x : Object) → Includes objects x → x.serial
+    ≡ s → x.serial ≡ 1 → IsOfList objects (f x)) → KeepsList objects (change f s objects)
 list_kept f s objects same keeps y m e =
     let x = Includes-map_cases (λ x. if x.serial == s then f x else x) objects y m in
     subst (IsOfList objects) x.2 (one (x.0.serial == s) x.0 refl x.1 (ap (λ (z : Object). z.serial) x.2 ∙ e))
@@ -73,7 +74,8 @@ places_kept f objects still y m e =
     one x k i = record { was = x; member = k; serial = i; code = refl; place = λ p. ap f p ∙ still; names = λ o h. h x k i }
 
 pub new_kept : (objects : List Object) (new : Object) → new.serial ≢ 1 → KeepsList objects (objects ++ new ∷ [])
-new_kept objects new apart y m e = either (Includes-append_cases objects (new ∷ []) y m) (λ k. same_list objects y k e) (λ k. either k (λ i. absurd (apart (ap (λ (z : Object). z.serial) i ∙ e))) (λ n. absurd n))
+new_kept objects new apart y m e = either (Includes-append_cases objects (new ∷ []) y m) (λ k. same_list objects y k e)
+    (λ k. either k (λ i. absurd (apart (ap (λ (z : Object). z.serial) i ∙ e))) (λ n. absurd n))
 
 pub list_trans : (before now after : List Object) → KeepsList before now → KeepsList now after → KeepsList before after
 list_trans before now after h k z m e =

@@ -38,7 +38,8 @@ GrowsBy w (Collects g) = Unit {0}
 GrowsBy w (Explains o) = Unit {0}
 GrowsBy w Quits = Unit {0}
 
-changed_entries : (f : Object → Object) (low high : ℕ) (objects : List Object) (x : Object) → Rises low high objects → Includes objects x → entries_in (change f x.serial objects) + length x.entries ≡ entries_in objects + length (f x).entries
+changed_entries : (f : Object → Object) (low high : ℕ) (objects : List Object) (x : Object) → Rises low high objects → Includes objects x
+    → entries_in (change f x.serial objects) + length x.entries ≡ entries_in objects + length (f x).entries
 changed_entries f low high [] x r m = absurd m
 changed_entries f low high (y ∷ objects) x r (inl e) =
     let same : y.serial ≡ x.serial = ap (λ (z : Object). z.serial) e in
@@ -50,7 +51,8 @@ changed_entries f low high (y ∷ objects) x r (inr m) =
     let above = serial_from (suc y.serial) high objects x r.1 m in
     rw (ne_eqb y.serial x.serial (λ e. omega (arith, e, above))) (omega (arith, changed_entries f (suc y.serial) high objects x r.1 m))
 
-sets : (w : World) (f : Object → Object) → Same f → (x : Object) (given_up : List ℕ) → Rises 1 w.next_serial w.objects → Includes w.objects x → length (f x).entries ≤ length x.entries + 1 → length given_up ≤ 2 → Grows w (with_change f x.serial w) given_up
+sets : (w : World) (f : Object → Object) → Same f → (x : Object) (given_up : List ℕ) → Rises 1 w.next_serial w.objects → Includes w.objects x
+    → length (f x).entries ≤ length x.entries + 1 → length given_up ≤ 2 → Grows w (with_change f x.serial w) given_up
 sets w f k x given_up r m l g =
     let stays = map_stays (λ y. if y.serial == x.serial then f y else y) (if_same f k (λ y. y.serial == x.serial)) w.objects in record {
       names = omega arith;
@@ -60,7 +62,8 @@ sets w f k x given_up r m l g =
       given = g;
     }
 
-stays_so : (w : World) (names : List (Option Val)) (numbers : Numbers) (given_up : List ℕ) → bound_names names ≤ bound_names w.names + 1 → length given_up ≤ 2 → Grows w (record w { names = names; numbers = numbers }) given_up
+stays_so : (w : World) (names : List (Option Val)) (numbers : Numbers) (given_up : List ℕ) → bound_names names ≤ bound_names w.names + 1 → length given_up ≤ 2
+    → Grows w (record w { names = names; numbers = numbers }) given_up
 stays_so w names numbers given_up more g = record { names = more; size = omega arith; entries = omega arith; referents = omega arith; given = g }
 
 places : (w : World) (f : Place → Place) (numbers : Numbers) → Grows w (record w { objects = replaced f w; numbers = numbers }) []
@@ -109,7 +112,8 @@ length-put (e ∷ entries) key v = go (same_value e.key key) (length-put entries
 tracked_same : (w : World) (key v : Val) (x : Object) → ((tracked_by w key v x).serial ≡ x.serial) × ((tracked_by w key v x).referent ≡ x.referent) × ((tracked_by w key v x).entries ≡ x.entries)
 tracked_same w key v x = go (is_dict x && not (is_tracked x) && (may_track w key || may_track w v))
   where
-    go : (b : Bool) → ((if b then with_place (Gen 0) x else x).serial ≡ x.serial) × ((if b then with_place (Gen 0) x else x).referent ≡ x.referent) × ((if b then with_place (Gen 0) x else x).entries ≡ x.entries)
+    go : (b : Bool) → ((if b then with_place (Gen 0) x else x).serial ≡ x.serial) × ((if b then with_place (Gen 0) x else x).referent ≡ x.referent)
+        × ((if b then with_place (Gen 0) x else x).entries ≡ x.entries)
     go true = (refl, refl, refl)
     go false = (refl, refl, refl)
 
@@ -125,7 +129,8 @@ shape_grows w r command e (Makes name kind class entries referent own parts) = r
   referents = omega (arith, bit_one (is_some referent), tally-append (λ (x : Object). bit (is_some x.referent)) w.objects (made w kind class entries referent ∷ []));
   given = name_one w name;
 }
-shape_grows w r command e (Edits wants x entries given h mutable edit) = sets w (with_entries entries) (with_entries_same entries) x given r h.member edit.longer (shape_gives_few w command _ (Edits wants x entries given h mutable edit))
+shape_grows w r command e (Edits wants x entries given h mutable edit) = sets w (with_entries entries) (with_entries_same entries) x given r h.member
+    edit.longer (shape_gives_few w command _ (Edits wants x entries given h mutable edit))
 shape_grows w r command e (Puts x key v h mutable hand_key hand room) = sets w (λ y. tracked_by w key v (with_entries (put x.entries key v) y))
     (record { serial = λ y. (tracked_same w key v (with_entries (put x.entries key v) y)).0; referent = λ y. (tracked_same w key v (with_entries (put x.entries key v) y)).1 })
     x (references_of_value (value_at x.entries key)) r h.member

@@ -146,8 +146,22 @@ holds_at_most (TopLevel commands ∷ below) h = omega (arith, holds_at_most belo
 holds_at_most (ShuttingDown started ∷ below) h = omega (arith, holds_at_most below h.1)
 holds_at_most (Framed f ∷ below) h = omega (arith, holds_at_most below h.1, frame_holds f.sort f.function, length-append (call_holds f.sort f.function) (flat_map holds below))
 holds_at_most (Releasing references ∷ below) h = omega (arith, holds_at_most below h.2, h.0, length-append references (flat_map holds below))
-holds_at_most (Dying d ∷ below) h = omega (arith, holds_at_most below h, death_holds d.object d.phase, length-append (dying_holds d.object d.phase) (flat_map holds below), length-append (death_waits d.phase) (all_waits below))
-holds_at_most (Collecting c ∷ below) h = omega (arith, holds_at_most below h.1, collection_holds c.phase, length-append (collect_holds c.phase) (flat_map holds below), length-append (collection_waits c.phase) (all_waits below))
+holds_at_most (Dying d ∷ below) h = omega (
+  arith,
+  holds_at_most below h,
+  death_holds d.object d.phase,
+  length-append (dying_holds d.object d.phase)
+      (flat_map holds below),
+  length-append (death_waits d.phase) (all_waits below),
+)
+holds_at_most (Collecting c ∷ below) h = omega (
+  arith,
+  holds_at_most below h.1,
+  collection_holds c.phase,
+  length-append (collect_holds c.phase)
+      (flat_map holds below),
+  length-append (collection_waits c.phase) (all_waits below),
+)
 
 one_collection : (a : Activity) → bit (is_collection a) ≤ collections_in a
 one_collection (Collecting c) = omega arith
@@ -189,4 +203,5 @@ module _ (b : ℕ) (w : World) (sound : Sound w) (h : IsOrderly w) (room : Room 
   }
 
 pub stacks_bounded : StacksAreBounded
-stacks_bounded script budget steps run = bounds budget (last_world (opening script budget) steps) (sound_after script (opening script budget) steps (opening_sound script budget) run) (worlds_orderly script budget steps run) (runs_have_room script budget steps run)
+stacks_bounded script budget steps run = bounds budget (last_world (opening script budget) steps) (sound_after script (opening script budget) steps
+    (opening_sound script budget) run) (worlds_orderly script budget steps run) (runs_have_room script budget steps run)

@@ -69,7 +69,8 @@ function_after before after a f z =
     let same : is_function y.0 ≡ is_function z.0 = cc in
     (y.0, y.1, y.2.serial ∙ z.2, same ∙ z.3)
 
-pub objects_orderly : (before after : List Object) (names : List (Option Val)) (stack : List Activity) → Alters before after → ((y : Object) → Includes after y → From before stack y) → Orderly before names stack → Orderly after names stack
+pub objects_orderly : (before after : List Object) (names : List (Option Val)) (stack : List Activity) → Alters before after → ((y : Object) → Includes after y
+    → From before stack y) → Orderly before names stack → Orderly after names stack
 objects_orderly before after names stack alters from h = record {
   names_live = λ o m. lives o (h.names_live o m);
   root_lives = lives 1 h.root_lives;
@@ -84,8 +85,14 @@ objects_orderly before after names stack alters from h = record {
       let was = h.waiting weak k x.was x.member (sym x.later.serial ∙ e) in
       record { code = x.later.code ∙ was.code; referent = none_later x.was y x.later was.referent; callback = λ n. was.callback (sym (x.same (subst (Includes (all_waits stack)) (sym e) k)) ∙ n) };
   once = h.once;
-  condemned = λ y m e. let x = from y m in either (x.condemned e) (λ k. let was = h.condemned x.was x.member k in (λ n. was.0 (subst (Includes (all_waits stack)) x.later.serial n), either was.1 (λ n. inl (none_later x.was y x.later n)) (λ r. still_may y x r))) (λ k. (k.1, inr (inl k.0)));
-  turns = λ c m o e. let t = h.turns c m o e in (t.0, λ y k i. let x = from y k in either (t.1 x.was x.member (sym x.later.serial ∙ i)) (λ n. inl (none_later x.was y x.later n)) (λ n. calls_none y x n));
+  condemned = λ y m e. let x = from y m in either (x.condemned e) (λ k. let was = h.condemned x.was x.member k
+      in (λ n. was.0 (subst (Includes (all_waits stack)) x.later.serial n), either was.1 (λ n. inl (none_later x.was y x.later n)) (λ r. still_may y x r))) (λ
+      k. (k.1, inr (inl k.0)));
+  turns = λ c m o e. let t = h.turns c m o e in (
+    t.0,
+    λ y k i. let x = from y k in either (t.1 x.was x.member (sym x.later.serial ∙ i))
+        (λ n. inl (none_later x.was y x.later n)) (λ n. calls_none y x n),
+  );
 }
   where
     lives : (o : ℕ) → Includes (serials before) o → Includes (serials after) o
@@ -102,7 +109,9 @@ objects_orderly before after names stack alters from h = record {
     still_may y x (inl clearing) = inr (inl clearing)
     still_may y x (inr t) = either (calls_none y x t) (λ e. inl e) (λ e. inr (inr e))
 
-pub from_same : (objects : List Object) (stack : List Activity) (names : List (Option Val)) (x y : Object) → Orderly objects names stack → Includes objects x → IsLater x y → y.entries ≡ x.entries → (is_condemned y ≡ true → (is_condemned x ≡ true) ⊎ IsClearing stack × (¬ Includes (all_waits stack) y.serial)) → From objects stack y
+pub from_same : (objects : List Object) (stack : List Activity) (names : List (Option Val)) (x y : Object) → Orderly objects names stack → Includes objects x
+    → IsLater x y → y.entries ≡ x.entries → (is_condemned y ≡ true → (is_condemned x ≡ true) ⊎ IsClearing stack × (¬ Includes (all_waits stack) y.serial))
+    → From objects stack y
 from_same objects stack names x y h m later entries condemned = record {
   was = x;
   member = m;
@@ -114,8 +123,10 @@ from_same objects stack names x y h m later entries condemned = record {
   condemned = condemned;
 }
 
-pub if_orderly : (f : Object → Object) (test : Object → Bool) (objects : List Object) (names : List (Option Val)) (stack : List Activity) → ((x : Object) → IsLater x (f x)) → ((x : Object) → (f x).entries ≡ x.entries)
-    → ((x : Object) → Includes objects x → test x ≡ true → is_condemned (f x) ≡ true → (is_condemned x ≡ true) ⊎ IsClearing stack × (¬ Includes (all_waits stack) x.serial)) → Orderly objects names stack
+pub if_orderly : (f : Object → Object) (test : Object → Bool) (objects : List Object) (names : List (Option Val)) (stack : List Activity)
+    → ((x : Object) → IsLater x (f x)) → ((x : Object) → (f x).entries ≡ x.entries)
+    → ((x : Object) → Includes objects x → test x ≡ true → is_condemned (f x) ≡ true → (is_condemned x ≡ true) ⊎ IsClearing stack
+    × (¬ Includes (all_waits stack) x.serial)) → Orderly objects names stack
     → Orderly (map (λ x. if test x then f x else x) objects) names stack
 if_orderly f test objects names stack later entries condemned h = objects_orderly objects (map change_of objects) names stack (if_alters f later test objects) from h
   where
@@ -123,15 +134,18 @@ if_orderly f test objects names stack later entries condemned h = objects_orderl
     change_of x = if test x then f x else x
 
     one : (b : Bool) (x : Object) → test x ≡ b → Includes objects x → From objects stack (if b then f x else x)
-    one true x e m = from_same objects stack names x (f x) h m (later x) (entries x) (λ k. subst (λ s. (is_condemned x ≡ true) ⊎ IsClearing stack × (¬ Includes (all_waits stack) s)) (sym (later x).serial) (condemned x m e k))
+    one true x e m = from_same objects stack names x (f x) h m (later x) (entries x) (λ k. subst (λ s. (is_condemned x ≡ true) ⊎ IsClearing stack
+        × (¬ Includes (all_waits stack) s)) (sym (later x).serial) (condemned x m e k))
     one false x e m = from_same objects stack names x x h m (later_refl x) refl (λ k. inl k)
 
     from : (y : Object) → Includes (map change_of objects) y → From objects stack y
     from y m = let x = Includes-map_cases change_of objects y m in subst (From objects stack) x.2 (one (test x.0) x.0 refl x.1)
 
 -- Its new entries are old ones, or live if it is no weak reference.
-pub entries_orderly : (s : ℕ) (es : List Entry) (objects : List Object) (names : List (Option Val)) (stack : List Activity) → (¬ Includes (all_waits stack) s) → ((f : ℕ) → Includes (references es) f → Includes (serials objects) f)
-    → ((x : Object) → Includes objects x → x.serial ≡ s → x.code ≡ Weak → (f : ℕ) → Includes (references es) f → Includes (references x.entries) f) → ((x : Object) → Includes objects x → x.serial ≡ s → x.code ≡ Weak → callback_in x.entries ≡ None → callback_in es ≡ None)
+pub entries_orderly : (s : ℕ) (es : List Entry) (objects : List Object) (names : List (Option Val)) (stack : List Activity) → (¬ Includes (all_waits stack) s)
+    → ((f : ℕ) → Includes (references es) f → Includes (serials objects) f)
+    → ((x : Object) → Includes objects x → x.serial ≡ s → x.code ≡ Weak → (f : ℕ) → Includes (references es) f → Includes (references x.entries) f)
+    → ((x : Object) → Includes objects x → x.serial ≡ s → x.code ≡ Weak → callback_in x.entries ≡ None → callback_in es ≡ None)
     → Orderly objects names stack → Orderly (change (with_entries es) s objects) names stack
 entries_orderly s es objects names stack apart live fewer quiet h = objects_orderly objects (map change_of objects) names stack (entries_alter es s objects) from h
   where
@@ -155,8 +169,10 @@ entries_orderly s es objects names stack apart live fewer quiet h = objects_orde
     from y m = let x = Includes-map_cases change_of objects y m in subst (From objects stack) x.2 (one (x.0.serial == s) x.0 refl x.1)
 
 -- Something that waits for nothing goes on top.
-pub push_orderly : (a : Activity) (objects : List Object) (names : List (Option Val)) (stack : List Activity) → waits_of a ≡ [] → (IsClearing stack → ⊥) → ((o : ℕ) → Includes (holds a) o → Includes (serials objects) o)
-    → ((d : Death) → a ≡ Dying d → Includes (serials objects) d.object) → ((c : Collection) (o : ℕ) → a ≡ Collecting c → c.phase ≢ Turn o) → Orderly objects names stack → Orderly objects names (a ∷ stack)
+pub push_orderly : (a : Activity) (objects : List Object) (names : List (Option Val)) (stack : List Activity) → waits_of a ≡ [] → (IsClearing stack → ⊥)
+    → ((o : ℕ) → Includes (holds a) o → Includes (serials objects) o)
+    → ((d : Death) → a ≡ Dying d → Includes (serials objects) d.object) → ((c : Collection) (o : ℕ) → a ≡ Collecting c → c.phase ≢ Turn o)
+    → Orderly objects names stack → Orderly objects names (a ∷ stack)
 push_orderly a objects names stack none still held death turn h = record {
   names_live = h.names_live;
   root_lives = h.root_lives;
@@ -175,7 +191,8 @@ push_orderly a objects names stack none still held death turn h = record {
     same : all_waits (a ∷ stack) ≡ all_waits stack
     same = ap (λ ws. ws ++ all_waits stack) none
 
-pub pop_orderly : (a : Activity) (objects : List Object) (names : List (Option Val)) (below : List Activity) → (IsClearing (a ∷ below) → ⊥) → Orderly objects names (a ∷ below) → Orderly objects names below
+pub pop_orderly : (a : Activity) (objects : List Object) (names : List (Option Val)) (below : List Activity) → (IsClearing (a ∷ below) → ⊥)
+    → Orderly objects names (a ∷ below) → Orderly objects names below
 pop_orderly a objects names below still h = record {
   names_live = h.names_live;
   root_lives = h.root_lives;
@@ -198,13 +215,15 @@ pop_orderly a objects names below still h = record {
 pub record TurnsTo (a b : Activity) (objects : List Object) (below : List Activity) : Type 0 where
   pub held : (o : ℕ) → Includes (holds b) o → Includes (serials objects) o
   pub death : (d : Death) → b ≡ Dying d → Includes (serials objects) d.object
-  pub waits : (weak : ℕ) → Includes (waits_of b) weak → Includes (waits_of a) weak ⊎ (¬ Includes (all_waits (a ∷ below)) weak) × ((x : Object) → Includes objects x → x.serial ≡ weak → IsWaiting x × (is_condemned x ≡ false))
+  pub waits : (weak : ℕ) → Includes (waits_of b) weak → Includes (waits_of a) weak ⊎ (¬ Includes (all_waits (a ∷ below)) weak)
+      × ((x : Object) → Includes objects x → x.serial ≡ weak → IsWaiting x × (is_condemned x ≡ false))
   pub apart : (c : Collection) → Includes below (Collecting c) → (o : ℕ) → c.phase ≡ Turn o → ¬ Includes (waits_of b) o
   pub once : (weak : ℕ) → occurrences weak (waits_of b) + occurrences weak (all_waits below) ≤ 1
   pub turn : (c : Collection) (o : ℕ) → b ≡ Collecting c → c.phase ≡ Turn o → (¬ Includes (all_waits (b ∷ below)) o) × ((x : Object) → Includes objects x → x.serial ≡ o → CallsNone x)
   pub clearing : (x : Object) → Includes objects x → is_condemned x ≡ true → MayRefer x.entries (a ∷ below) → (x.referent ≡ None) ⊎ MayRefer x.entries (b ∷ below)
 
-pub turn_orderly : (a b : Activity) (objects : List Object) (names : List (Option Val)) (below : List Activity) → TurnsTo a b objects below → Orderly objects names (a ∷ below) → Orderly objects names (b ∷ below)
+pub turn_orderly : (a b : Activity) (objects : List Object) (names : List (Option Val)) (below : List Activity) → TurnsTo a b objects below
+    → Orderly objects names (a ∷ below) → Orderly objects names (b ∷ below)
 turn_orderly a b objects names below t h = record {
   names_live = h.names_live;
   root_lives = h.root_lives;
@@ -215,7 +234,8 @@ turn_orderly a b objects names below t h = record {
   codes = h.codes;
   garbage = h.garbage;
   waiting = λ weak m x k e. either (Includes-append_cases (waits_of b) (all_waits below) weak m)
-      (λ n. either (t.waits weak n) (λ i. h.waiting weak (Includes-append_left (waits_of a) (all_waits below) weak i) x k e) (λ i. (i.1 x k e).0)) (λ n. h.waiting weak (Includes-append_right (waits_of a) (all_waits below) weak n) x k e);
+      (λ n. either (t.waits weak n) (λ i. h.waiting weak (Includes-append_left (waits_of a) (all_waits below) weak i) x k e) (λ i. (i.1 x k e).0))
+      (λ n. h.waiting weak (Includes-append_right (waits_of a) (all_waits below) weak n) x k e);
   once = λ weak. let all = t.once weak in omega (arith, all, occurrences-append weak (waits_of b) (all_waits below));
   condemned = λ x m e. let k = h.condemned x m e in (not_waiting x m e k.0, either k.1 (λ n. inl n) (λ n. t.clearing x m e n));
   turns = λ c m o e. either m (λ i. t.turn c o i e) (λ k. let u = h.turns c (inr k) o e in (apart c k o e u.0, u.1));
@@ -229,7 +249,8 @@ turn_orderly a b objects names below t h = record {
     apart : (c : Collection) → Includes below (Collecting c) → (o : ℕ) → c.phase ≡ Turn o → ¬ Includes (all_waits (a ∷ below)) o → ¬ Includes (all_waits (b ∷ below)) o
     apart c m o e free n = either (Includes-append_cases (waits_of b) (all_waits below) o n) (t.apart c m o e) (λ k. free (Includes-append_right (waits_of a) (all_waits below) o k))
 
-pub turns_fewer : (a b : Activity) (objects : List Object) (names : List (Option Val)) (below : List Activity) → Orderly objects names (a ∷ below) → ((o : ℕ) → Includes (holds b) o → Includes (serials objects) o) → ((d : Death) → b ≡ Dying d → Includes (serials objects) d.object)
+pub turns_fewer : (a b : Activity) (objects : List Object) (names : List (Option Val)) (below : List Activity) → Orderly objects names (a ∷ below)
+    → ((o : ℕ) → Includes (holds b) o → Includes (serials objects) o) → ((d : Death) → b ≡ Dying d → Includes (serials objects) d.object)
     → ((weak : ℕ) → Includes (waits_of b) weak → Includes (waits_of a) weak) → ((weak : ℕ) → occurrences weak (waits_of b) ≤ occurrences weak (waits_of a))
     → ((c : Collection) (o : ℕ) → b ≡ Collecting c → c.phase ≡ Turn o → (¬ Includes (all_waits (a ∷ below)) o) × ((x : Object) → Includes objects x → x.serial ≡ o → CallsNone x))
     → ((x : Object) → Includes objects x → is_condemned x ≡ true → MayRefer x.entries (a ∷ below) → (x.referent ≡ None) ⊎ MayRefer x.entries (b ∷ below)) → Orderly objects names (b ∷ below)
@@ -239,11 +260,16 @@ turns_fewer a b objects names below h held death fewer count turn clearing = tur
   waits = λ weak m. inl (fewer weak m);
   apart = λ c m o e n. (h.turns c (inr m) o e).0 (Includes-append_left (waits_of a) (all_waits below) o (fewer o n));
   once = λ weak. let all = h.once weak in let less = count weak in omega (arith, all, less, occurrences-append weak (waits_of a) (all_waits below));
-  turn = λ c o i e. let t = turn c o i e in (λ n. either (Includes-append_cases (waits_of b) (all_waits below) o n) (λ k. t.0 (Includes-append_left (waits_of a) (all_waits below) o (fewer o k))) (λ k. t.0 (Includes-append_right (waits_of a) (all_waits below) o k)), t.1);
+  turn = λ c o i e. let t = turn c o i e in (
+    λ n. either (Includes-append_cases (waits_of b) (all_waits below) o n)
+        (λ k. t.0 (Includes-append_left (waits_of a) (all_waits below) o (fewer o k))) (λ k. t.0 (Includes-append_right (waits_of a) (all_waits below) o k)),
+    t.1,
+  );
   clearing = clearing;
 }) h
 
-pub turns_more : (a b : Activity) (s : ℕ) (objects : List Object) (names : List (Option Val)) (below : List Activity) → Orderly objects names (a ∷ below) → ((o : ℕ) → Includes (holds b) o → Includes (serials objects) o) → ((d : Death) → b ≡ Dying d → Includes (serials objects) d.object)
+pub turns_more : (a b : Activity) (s : ℕ) (objects : List Object) (names : List (Option Val)) (below : List Activity) → Orderly objects names (a ∷ below)
+    → ((o : ℕ) → Includes (holds b) o → Includes (serials objects) o) → ((d : Death) → b ≡ Dying d → Includes (serials objects) d.object)
     → waits_of b ≡ waits_of a ++ s ∷ [] → (¬ Includes (all_waits (a ∷ below)) s) → ((x : Object) → Includes objects x → x.serial ≡ s → IsWaiting x × (is_condemned x ≡ false))
     → ((c : Collection) → Includes below (Collecting c) → (o : ℕ) → c.phase ≡ Turn o → s ≢ o) → ((c : Collection) (o : ℕ) → b ≡ Collecting c → c.phase ≢ Turn o)
     → ((x : Object) → Includes objects x → is_condemned x ≡ true → MayRefer x.entries (a ∷ below) → (x.referent ≡ None) ⊎ MayRefer x.entries (b ∷ below)) → Orderly objects names (b ∷ below)
@@ -310,9 +336,11 @@ waits_are_held (Collecting c) weak m = collection c.phase m
 pub waits_held : (stack : List Activity) (weak : ℕ) → Includes (all_waits stack) weak → Includes (flat_map holds stack) weak
 waits_held [] weak m = m
 waits_held (a ∷ stack) weak m =
-    either (Includes-append_cases (waits_of a) (all_waits stack) weak m) (λ k. Includes-append_left (holds a) (flat_map holds stack) weak (waits_are_held a weak k)) (λ k. Includes-append_right (holds a) (flat_map holds stack) weak (waits_held stack weak k))
+    either (Includes-append_cases (waits_of a) (all_waits stack) weak m) (λ k. Includes-append_left (holds a) (flat_map holds stack) weak
+    (waits_are_held a weak k)) (λ k. Includes-append_right (holds a) (flat_map holds stack) weak (waits_held stack weak k))
 
-pub without_orderly : (o : ℕ) (objects : List Object) (names : List (Option Val)) (stack : List Activity) → (¬ Includes (name_holdings names) o) → o ≢ 1 → ((x : Object) → Includes objects x → ¬ Includes (references x.entries) o) → (¬ Includes (flat_map holds stack) o)
+pub without_orderly : (o : ℕ) (objects : List Object) (names : List (Option Val)) (stack : List Activity) → (¬ Includes (name_holdings names) o) → o ≢ 1
+    → ((x : Object) → Includes objects x → ¬ Includes (references x.entries) o) → (¬ Includes (flat_map holds stack) o)
     → ((d : Death) → Includes stack (Dying d) → d.object ≢ o) → Orderly objects names stack → Orderly (without o objects) names stack
 without_orderly o objects names stack no_name no_root no_entry no_hold no_death h = record {
   names_live = λ s m. lives s (λ e. no_name (subst (Includes (name_holdings names)) e m)) (h.names_live s m);

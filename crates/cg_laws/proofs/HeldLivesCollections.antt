@@ -41,7 +41,8 @@ module _ (script : Script) (c : Collection) (below : List Activity) (v : World) 
   collecting d phase = Collecting (record d { phase = phase })
 
   -- The collection goes to a phase with no more waiting weak references.
-  goes_to : (phase next : CollectPhase) (d : Collection) (objects : List Object) → ((s : ℕ) → Includes (collect_holds next) s → Includes (serials objects) s) → ((weak : ℕ) → Includes (collection_waits next) weak → Includes (collection_waits phase) weak)
+  goes_to : (phase next : CollectPhase) (d : Collection) (objects : List Object) → ((s : ℕ) → Includes (collect_holds next) s → Includes (serials objects) s)
+      → ((weak : ℕ) → Includes (collection_waits next) weak → Includes (collection_waits phase) weak)
       → ((weak : ℕ) → occurrences weak (collection_waits next) ≤ occurrences weak (collection_waits phase))
       → ((o : ℕ) → next ≡ Turn o → (¬ Includes (all_waits (collecting c phase ∷ below)) o) × ((x : Object) → Includes objects x → x.serial ≡ o → CallsNone x))
       → ((x : Object) → Includes objects x → is_condemned x ≡ true → MayRefer x.entries (collecting c phase ∷ below) → (x.referent ≡ None) ⊎ MayRefer x.entries (collecting d next ∷ below))
@@ -59,7 +60,8 @@ module _ (script : Script) (c : Collection) (below : List Activity) (v : World) 
   to after next e k = subst HasOrder (sym e) k
 
   start_orderly : (events : List Event) (after : World) → StartStep script (at Start) c below events after → HasOrder (at Start) → HasOrder after
-  start_orderly events after step h = to after _ step.world (if_orderly (λ x. with_place (step.places x) x) (is_at (Gen g)) now.objects v.names stack (λ x. place_later (step.places x) x) (λ x. refl) condemned merged_now)
+  start_orderly events after step h = to after _ step.world (if_orderly (λ x. with_place (step.places x) x) (is_at (Gen g)) now.objects v.names stack
+      (λ x. place_later (step.places x) x) (λ x. refl) condemned merged_now)
     where
       g : ℕ
       g = c.generation
@@ -74,9 +76,11 @@ module _ (script : Script) (c : Collection) (below : List Activity) (v : World) 
       turned = goes_to Start (WeakClearing []) c v.objects (λ s k. absurd k) (λ weak k. k) (λ weak. omega arith) (λ o i. cc) (λ x m e k. inr (inl tt)) h
 
       merged_now : Orderly now.objects v.names stack
-      merged_now = if_orderly (λ x. with_place (merged_place g x.place) x) (λ x. true) v.objects v.names stack (λ x. place_later (merged_place g x.place) x) (λ x. refl) (λ x m e k. inl (merged_uncondemned g x.place x k)) turned
+      merged_now = if_orderly (λ x. with_place (merged_place g x.place) x) (λ x. true) v.objects v.names stack (λ x. place_later (merged_place g x.place) x)
+          (λ x. refl) (λ x m e k. inl (merged_uncondemned g x.place x k)) turned
 
-      condemned : (x : Object) → Includes now.objects x → is_at (Gen g) x ≡ true → is_condemned (with_place (step.places x) x) ≡ true → (is_condemned x ≡ true) ⊎ IsClearing stack × (¬ Includes (all_waits stack) x.serial)
+      condemned : (x : Object) → Includes now.objects x → is_at (Gen g) x ≡ true → is_condemned (with_place (step.places x) x) ≡ true → (is_condemned x ≡ true)
+          ⊎ IsClearing stack × (¬ Includes (all_waits stack) x.serial)
       condemned x m e k = inr (
         tt,
         λ n.
@@ -91,7 +95,8 @@ module _ (script : Script) (c : Collection) (below : List Activity) (v : World) 
   lost_one None f e = absurd (let no : false ≡ true = e in cc)
   lost_one (Some s) f e = (s, refl)
 
-  clears_orderly : (waiting : List ℕ) (events : List Event) (after : World) → ClearsOne (profile_of script.items) c waiting below (at (WeakClearing waiting)) events after → HasOrder (at (WeakClearing waiting)) → HasOrder after
+  clears_orderly : (waiting : List ℕ) (events : List Event) (after : World) → ClearsOne (profile_of script.items) c waiting below (at (WeakClearing waiting))
+      events after → HasOrder (at (WeakClearing waiting)) → HasOrder after
   clears_orderly waiting events after step h = to after _ step.yields.1 (go (waits v.objects step.weak) refl)
     where
       weak : ℕ
@@ -135,7 +140,8 @@ module _ (script : Script) (c : Collection) (below : List Activity) (v : World) 
           let a = Includes-map_cases (λ x. if x.serial == weak then with_place Pend x else x) lost x m in
           let b = Includes-map_cases (λ x. if x.serial == weak then with_referent None x else x) v.objects a.0 a.1 in
           subst (λ (q : Object). q.serial ≡ weak → IsWaiting q × (is_condemned q ≡ false)) a.2
-          (subst (λ (q : Object). (if q.serial == weak then with_place Pend q else q).serial ≡ weak → IsWaiting (if q.serial == weak then with_place Pend q else q) × (is_condemned (if q.serial == weak then with_place Pend q else q) ≡ false)) b.2 (one b.0 b.1 (b.0.serial == weak) refl)) same
+          (subst (λ (q : Object). (if q.serial == weak then with_place Pend q else q).serial ≡ weak → IsWaiting (if q.serial == weak then with_place Pend q
+          else q) × (is_condemned (if q.serial == weak then with_place Pend q else q) ≡ false)) b.2 (one b.0 b.1 (b.0.serial == weak) refl)) same
         where
           calls_back_some : is_some (callback_of v.objects weak) ≡ true
           calls_back_some = (and_parts (not (is_condemned_in v.objects weak)) (is_some (callback_of v.objects weak)) calls).1
@@ -143,7 +149,8 @@ module _ (script : Script) (c : Collection) (below : List Activity) (v : World) 
           pend : Object → Object
           pend q = if q.serial == weak then with_place Pend q else q
 
-          one : (x : Object) → Includes v.objects x → (t : Bool) → (x.serial == weak) ≡ t → (pend (if t then with_referent None x else x)).serial ≡ weak → IsWaiting (pend (if t then with_referent None x else x)) × (is_condemned (pend (if t then with_referent None x else x)) ≡ false)
+          one : (x : Object) → Includes v.objects x → (t : Bool) → (x.serial == weak) ≡ t → (pend (if t then with_referent None x else x)).serial ≡ weak
+              → IsWaiting (pend (if t then with_referent None x else x)) × (is_condemned (pend (if t then with_referent None x else x)) ≡ false)
           one x m true t i = two (x.serial == weak) t
             where
               at_weak : x.serial ≡ weak
@@ -152,7 +159,8 @@ module _ (script : Script) (c : Collection) (below : List Activity) (v : World) 
               same_y : x ≡ y
               same_y = same_object 1 v.next_serial v.objects x y rises m step.newest.member (at_weak ∙ sym step.newest.is)
 
-              two : (b : Bool) → b ≡ true → IsWaiting (if b then with_place Pend (with_referent None x) else with_referent None x) × (is_condemned (if b then with_place Pend (with_referent None x) else with_referent None x) ≡ false)
+              two : (b : Bool) → b ≡ true → IsWaiting (if b then with_place Pend (with_referent None x) else with_referent None x)
+                  × (is_condemned (if b then with_place Pend (with_referent None x) else with_referent None x) ≡ false)
               two true b = (
                 record {
                   code = h.codes x m refers.0 (ap (λ (q : Object). q.referent) same_y ∙ refers.1);
@@ -164,14 +172,18 @@ module _ (script : Script) (c : Collection) (below : List Activity) (v : World) 
               two false b = false_true b
           one x m false t i = two (x.serial == weak) t i
             where
-              two : (b : Bool) → b ≡ false → (if b then with_place Pend x else x).serial ≡ weak → IsWaiting (if b then with_place Pend x else x) × (is_condemned (if b then with_place Pend x else x) ≡ false)
+              two : (b : Bool) → b ≡ false → (if b then with_place Pend x else x).serial ≡ weak → IsWaiting (if b then with_place Pend x else x)
+                  × (is_condemned (if b then with_place Pend x else x) ≡ false)
               two true b k = absurd (let no : true ≡ false = b in cc)
               two false b k = absurd (let no : true ≡ false = sym (eq-eqb x.serial weak k) ∙ t in cc)
 
-      go : (b : Bool) → waits v.objects weak ≡ b → HasOrder (if b then collection_at c (WeakClearing (waiting ++ weak ∷ [])) below (with_objects pending (at (WeakClearing waiting))) else collection_at c (WeakClearing waiting) below (with_objects lost (at (WeakClearing waiting))))
+      go : (b : Bool) → waits v.objects weak ≡ b → HasOrder (if b then collection_at c (WeakClearing (waiting ++ weak ∷ [])) below
+          (with_objects pending (at (WeakClearing waiting))) else collection_at c (WeakClearing waiting) below (with_objects lost (at (WeakClearing waiting))))
       go true calls = turns_more (collecting c (WeakClearing waiting)) (collecting c (WeakClearing (waiting ++ weak ∷ []))) weak pending v.names below pending_now
           (λ s m. either (Includes-append_cases waiting (weak ∷ []) s m) (own_held (WeakClearing waiting) pending pending_now s) (λ k. either k (weak_lives s) (λ n. absurd n)))
-          (λ d i. cc) refl (λ k. some (h.waiting weak k y step.newest.member step.newest.is).referent) (is calls) (λ e m s k i. either ((h.turns e (inr m) s k).1 y step.newest.member (step.newest.is ∙ i)) some (λ n. calls_back calls n)) (λ e s i k. not_turn e s (phase_is e i) k) (λ x m e k. inr (inl tt))
+          (λ d i. cc) refl (λ k. some (h.waiting weak k y step.newest.member step.newest.is).referent) (is calls)
+          (λ e m s k i. either ((h.turns e (inr m) s k).1 y step.newest.member (step.newest.is ∙ i)) some (λ n. calls_back calls n))
+          (λ e s i k. not_turn e s (phase_is e i) k) (λ x m e k. inr (inl tt))
         where
           phase_is : (e : Collection) → collecting c (WeakClearing (waiting ++ weak ∷ [])) ≡ Collecting e → WeakClearing (waiting ++ weak ∷ []) ≡ e.phase
           phase_is e i = let same : record c { phase = WeakClearing (waiting ++ weak ∷ []) } ≡ e = cc in ap (λ (z : Collection). z.phase) same
@@ -180,26 +192,34 @@ module _ (script : Script) (c : Collection) (below : List Activity) (v : World) 
           not_turn e s i k = let no : WeakClearing (waiting ++ weak ∷ []) ≡ Turn s = i ∙ k in cc
       go false calls = lost_now
 
-  clearing_orderly : (waiting : List ℕ) (events : List Event) (after : World) → WeakClearingStep (profile_of script.items) c waiting below (at (WeakClearing waiting)) events after → HasOrder (at (WeakClearing waiting)) → HasOrder after
+  clearing_orderly : (waiting : List ℕ) (events : List Event) (after : World) → WeakClearingStep (profile_of script.items) c waiting below
+      (at (WeakClearing waiting)) events after → HasOrder (at (WeakClearing waiting)) → HasOrder after
   clearing_orderly waiting events after (inl step) h = clears_orderly waiting events after step h
-  clearing_orderly waiting events after (inr step) h = to after _ step.1.1 (goes_to (WeakClearing waiting) (WeakCalling waiting) c v.objects (own_held (WeakClearing waiting) v.objects h) (λ weak k. k) (λ weak. omega arith) (λ o i. cc) (λ x m e k. left x m e x.referent refl) h)
+  clearing_orderly waiting events after (inr step) h = to after _ step.1.1 (goes_to (WeakClearing waiting) (WeakCalling waiting) c v.objects
+      (own_held (WeakClearing waiting) v.objects h) (λ weak k. k) (λ weak. omega arith) (λ o i. cc) (λ x m e k. left x m e x.referent refl) h)
     where
       left : (x : Object) → Includes v.objects x → is_condemned x ≡ true → (r : Option ℕ) → x.referent ≡ r → (x.referent ≡ None) ⊎ MayRefer x.entries (collecting c (WeakCalling waiting) ∷ below)
       left x m e None i = inl i
       left x m e (Some r) i =
-          let refers : unwrap_or (option_map (λ o. is_condemned_in v.objects o || is_condemned x) x.referent) false ≡ true = ap (λ k. unwrap_or (option_map (λ o. is_condemned_in v.objects o || is_condemned x) k) false) i ∙ or_right (is_condemned_in v.objects r) (is_condemned x) e in
+          let refers : unwrap_or (option_map (λ o. is_condemned_in v.objects o || is_condemned x) x.referent) false ≡ true =
+          ap (λ k. unwrap_or (option_map (λ o. is_condemned_in v.objects o || is_condemned x) k) false) i ∙ or_right (is_condemned_in v.objects r)
+          (is_condemned x) e in
           inr (inr (kept_late (profile_of script.items) v.objects x refers (step.0 x m)))
 
   calls_back_orderly : (waiting : List ℕ) → HasOrder (at (WeakCalling waiting)) → HasOrder (calls_back script c waiting below (at (WeakCalling waiting))).1
   calls_back_orderly [] h = goes_to (WeakCalling []) Finalizing c v.objects (λ s k. absurd k) (λ weak k. k) (λ weak. omega arith) (λ o i. cc) (λ x m e k. inr k) h
   calls_back_orderly (weak ∷ waiting) h =
       let callback = unwrap_or (callback_of v.objects weak) 0 in
-      starts_orderly script (record { sort = Callback; proc = procedure_of (at (WeakCalling (weak ∷ waiting))) callback; subject = weak; func = Some callback }) (at (AfterCallback weak waiting)) (λ k. k) (λ s k. absurd k)
-      (goes_to (WeakCalling (weak ∷ waiting)) (AfterCallback weak waiting) c v.objects (own_held (WeakCalling (weak ∷ waiting)) v.objects h) (λ s k. k) (λ s. omega arith) (λ o i. cc) (λ x m e k. inr k) h)
+      starts_orderly script (record { sort = Callback; proc = procedure_of (at (WeakCalling (weak ∷ waiting))) callback; subject = weak; func = Some callback })
+      (at (AfterCallback weak waiting)) (λ k. k) (λ s k. absurd k)
+      (goes_to (WeakCalling (weak ∷ waiting)) (AfterCallback weak waiting) c v.objects (own_held (WeakCalling (weak ∷ waiting)) v.objects h) (λ s k. k)
+      (λ s. omega arith) (λ o i. cc) (λ x m e k. inr k) h)
 
   after_callback_orderly : (weak : ℕ) (waiting : List ℕ) → HasOrder (at (AfterCallback weak waiting)) → HasOrder (push (Releasing (weak ∷ [])) (at (AfterRelease weak waiting)))
-  after_callback_orderly weak waiting h = gives_up_orderly (weak ∷ []) (at (AfterRelease weak waiting)) (λ k. k) (λ s m. own_held (AfterCallback weak waiting) v.objects h s (either m (λ e. inl e) (λ n. absurd n)))
-      (goes_to (AfterCallback weak waiting) (AfterRelease weak waiting) c v.objects (λ s m. own_held (AfterCallback weak waiting) v.objects h s (inr m)) (λ s k. inr k) (λ s. omega (arith, occurrences-cons s weak waiting)) (λ o i. cc) (λ x m e k. inr k) h)
+  after_callback_orderly weak waiting h = gives_up_orderly (weak ∷ []) (at (AfterRelease weak waiting)) (λ k. k) (λ s m. own_held (AfterCallback weak waiting)
+      v.objects h s (either m (λ e. inl e) (λ n. absurd n)))
+      (goes_to (AfterCallback weak waiting) (AfterRelease weak waiting) c v.objects (λ s m. own_held (AfterCallback weak waiting) v.objects h s (inr m))
+      (λ s k. inr k) (λ s. omega (arith, occurrences-cons s weak waiting)) (λ o i. cc) (λ x m e k. inr k) h)
 
   after_release_orderly : (weak : ℕ) (waiting : List ℕ) → HasOrder (at (AfterRelease weak waiting)) → HasOrder (after_release c weak waiting below (at (AfterRelease weak waiting))).1
   after_release_orderly weak waiting h = go (is_in_map v.objects weak)
@@ -210,7 +230,9 @@ module _ (script : Script) (c : Collection) (below : List Activity) (v : World) 
       turned : (d : Collection) → Orderly v.objects v.names (collecting d (WeakCalling waiting) ∷ below)
       turned d = goes_to (AfterRelease weak waiting) (WeakCalling waiting) d v.objects (own_held (AfterRelease weak waiting) v.objects h) (λ s k. k) (λ s. omega arith) (λ o i. cc) (λ x m e k. inr k) h
 
-      go : (b : Bool) → (let t : Transition = if b then ([], collection_at c (WeakCalling waiting) below (with_change (with_place place) weak (at (AfterRelease weak waiting)))) else ([], collection_at (record c { collected = c.collected + 1 }) (WeakCalling waiting) below (at (AfterRelease weak waiting))) in HasOrder t.1)
+      go : (b : Bool) → (let t : Transition = if b
+          then ([], collection_at c (WeakCalling waiting) below (with_change (with_place place) weak (at (AfterRelease weak waiting))))
+          else ([], collection_at (record c { collected = c.collected + 1 }) (WeakCalling waiting) below (at (AfterRelease weak waiting))) in HasOrder t.1)
       go true = placed_orderly place weak v.objects v.names (collecting c (WeakCalling waiting) ∷ below) (λ x e. false_true e) (turned c)
       go false = turned (record c { collected = c.collected + 1 })
 
@@ -223,7 +245,8 @@ module _ (script : Script) (c : Collection) (below : List Activity) (v : World) 
   lives_at : (p : Place) (o : ℕ) → Includes (serials_at v.objects p) o → Includes (serials v.objects) o
   lives_at p o m = let x = member_of_place p o m in subst (Includes (serials v.objects)) x.3 (Includes-map (λ (z : Object). z.serial) v.objects x.0 x.1)
 
-  seen_orderly : (f : Object → Object) (o : ℕ) (stack : List Activity) → ((x : Object) → IsLater x (f x)) → ((x : Object) → (f x).entries ≡ x.entries) → Includes (serials_at v.objects Cand) o → Orderly v.objects v.names stack → Orderly (change f o v.objects) v.names stack
+  seen_orderly : (f : Object → Object) (o : ℕ) (stack : List Activity) → ((x : Object) → IsLater x (f x)) → ((x : Object) → (f x).entries ≡ x.entries)
+      → Includes (serials_at v.objects Cand) o → Orderly v.objects v.names stack → Orderly (change f o v.objects) v.names stack
   seen_orderly f o stack later entries member h = if_orderly f (λ x. x.serial == o) v.objects v.names stack later entries (λ x m e k.
       let y = member_of_place Cand o member in
       let same : y.0 ≡ x = same_object 1 v.next_serial v.objects y.0 x rises y.1 m (y.3 ∙ sym (eqb-true x.serial o e)) in
@@ -233,7 +256,8 @@ module _ (script : Script) (c : Collection) (below : List Activity) (v : World) 
   looks_at_orderly o None member h = seen_orderly (with_place Seen) o (at Finalizing).stack (place_later Seen) (λ x. refl) member h
   looks_at_orderly o (Some p) member h =
       starts_orderly script (record { sort = Del; proc = p; subject = o; func = None }) (collection_at c (AfterFinalizing o) below (with_change seen o (at Finalizing))) (λ k. k) (λ s k. absurd k)
-      (goes_to Finalizing (AfterFinalizing o) c (change seen o v.objects) (λ s m. either m (λ e. lives_after v.objects (change seen o v.objects) (change_alters seen seen_later o v.objects) s (subst (Includes (serials v.objects)) e (lives_at Cand o member))) (λ n. absurd n))
+      (goes_to Finalizing (AfterFinalizing o) c (change seen o v.objects) (λ s m. either m (λ e. lives_after v.objects (change seen o v.objects)
+      (change_alters seen seen_later o v.objects) s (subst (Includes (serials v.objects)) e (lives_at Cand o member))) (λ n. absurd n))
       (λ weak k. k) (λ weak. omega arith) (λ s i. cc) (λ x m e k. inr k) (seen_orderly seen o (at Finalizing).stack seen_later (λ x. refl) member h))
     where
       seen : Object → Object
@@ -255,7 +279,8 @@ module _ (script : Script) (c : Collection) (below : List Activity) (v : World) 
       (goes_to (AfterFinalizing o) Finalizing c v.objects (λ s k. absurd k) (λ weak k. k) (λ weak. omega arith) (λ s i. cc) (λ x m e k. inr k) h)
 
   split_orderly : (events : List Event) (after : World) → SplitStep c below (at Split) events after → HasOrder (at Split) → HasOrder after
-  split_orderly events after step h = to after _ step.world (goes_to Split Turns (record c { collected = c.collected + length (serials_at step.objects Cand) }) step.objects (λ s k. absurd k) (λ weak k. k) (λ weak. omega arith) (λ o i. cc) (λ x m e k. inr k)
+  split_orderly events after step h = to after _ step.world (goes_to Split Turns (record c { collected = c.collected + length (serials_at step.objects Cand) })
+      step.objects (λ s k. absurd k) (λ weak k. k) (λ weak. omega arith) (λ o i. cc) (λ x m e k. inr k)
       (all_lose_orderly (loses_at_split now) step.cleared now step.objects v.names (at Split).stack step.lose
       (if_orderly (with_place place) (λ x. includes step.alive x.serial) v.objects v.names (at Split).stack (place_later place) (λ x. refl) (λ x m e k. false_true k) h)))
     where
@@ -282,8 +307,11 @@ module _ (script : Script) (c : Collection) (below : List Activity) (v : World) 
       older_now : World
       older_now = collection_at c Turns below (with_change (with_place place) x.serial (at Turns))
 
-      go : (b t : Bool) → (let s : Transition = if b then (GcSaved x.serial ∷ [], collection_at c Turns below (with_objects (change (with_place place) x.serial (saved x.serial v.objects)) (at Turns))) else if t then ([], older_now) else ([], collection_at c (Turn x.serial) below (at Turns)) in HasOrder s.1)
-      go true t = placed_orderly place x.serial (saved x.serial v.objects) v.names (at Turns).stack (λ y k. false_true k) (saved_orderly x.serial v.objects v.names (at Turns).stack (lives x.serial (inl refl)) h)
+      go : (b t : Bool) → (let s : Transition = if b
+          then (GcSaved x.serial ∷ [], collection_at c Turns below (with_objects (change (with_place place) x.serial (saved x.serial v.objects)) (at Turns)))
+          else if t then ([], older_now) else ([], collection_at c (Turn x.serial) below (at Turns)) in HasOrder s.1)
+      go true t = placed_orderly place x.serial (saved x.serial v.objects) v.names (at Turns).stack (λ y k. false_true k)
+          (saved_orderly x.serial v.objects v.names (at Turns).stack (lives x.serial (inl refl)) h)
       go false true = placed_orderly place x.serial v.objects v.names (at Turns).stack (λ y k. false_true k) h
       go false false = goes_to Turns (Turn x.serial) c v.objects lives (λ weak k. k) (λ weak. omega arith)
           (λ o i. let same : x.serial ≡ o = cc in (subst (λ q. ¬ Includes (all_waits (at Turns).stack) q) same own.0, λ y n k. own.1 y n (k ∙ sym same))) (λ y n i k. inr k) h
@@ -299,9 +327,15 @@ module _ (script : Script) (c : Collection) (below : List Activity) (v : World) 
       (goes_to (Turn o) (AfterTurn o) c v.objects (λ s k. absurd k) (λ weak k. k) (λ weak. omega arith) (λ s i. cc) (λ x m i k. inr k) h)
   empties_orderly o (Some entry) e h =
       gives_up_orderly (entry_references entry) (collection_at c (Turn o) below (with_change (with_entries shorter) o (at (Turn o)))) (λ k. k)
-      (λ s m. lives_after v.objects (change (with_entries shorter) o v.objects) (entries_alter shorter o v.objects) s (found_entries_live v.objects v.names (at (Turn o)).stack o s h (references_of_member (entries_of v.objects o) entry s (slice_get_member (entries_of v.objects o) (length (entries_of v.objects o) - 1) entry e) m)))
-      (entries_orderly o shorter v.objects v.names (at (Turn o)).stack (h.turns (record c { phase = Turn o }) (inl refl) o refl).0 (λ f k. found_entries_live v.objects v.names (at (Turn o)).stack o f h (taken f k))
-      (λ x m i w f k. subst (λ es. Includes (references es) f) (ap (λ z. unwrap_or (option_map (λ (q : Object). q.entries) z) []) (subst (λ s. object_at v.objects s ≡ Some x) i (at_member 1 v.next_serial v.objects x rises m))) (taken f k)) (λ x m i w n. callback_shorter (entries_of v.objects o) (found_callback v.objects o x (subst (λ s. object_at v.objects s ≡ Some x) i (at_member 1 v.next_serial v.objects x rises m)) n)) h)
+      (λ s m. lives_after v.objects (change (with_entries shorter) o v.objects) (entries_alter shorter o v.objects) s (found_entries_live v.objects v.names
+      (at (Turn o)).stack o s h (references_of_member (entries_of v.objects o) entry s (slice_get_member (entries_of v.objects o)
+      (length (entries_of v.objects o) - 1) entry e) m)))
+      (entries_orderly o shorter v.objects v.names (at (Turn o)).stack (h.turns (record c { phase = Turn o }) (inl refl) o refl).0
+      (λ f k. found_entries_live v.objects v.names (at (Turn o)).stack o f h (taken f k))
+      (λ x m i w f k. subst (λ es. Includes (references es) f) (ap (λ z. unwrap_or (option_map (λ (q : Object). q.entries) z) [])
+      (subst (λ s. object_at v.objects s ≡ Some x) i (at_member 1 v.next_serial v.objects x rises m))) (taken f k)) (λ x m i w n. callback_shorter
+      (entries_of v.objects o) (found_callback v.objects o x (subst (λ s. object_at v.objects s ≡ Some x) i (at_member 1 v.next_serial v.objects x rises m))
+      n)) h)
     where
       shorter : List Entry
       shorter = without_last (entries_of v.objects o)
@@ -315,7 +349,8 @@ module _ (script : Script) (c : Collection) (below : List Activity) (v : World) 
 
   end_orderly : (events : List Event) (after : World) → EndStep script c below (at Ending) events after → HasOrder (at Ending) → HasOrder after
   end_orderly events after step h = to after _ step.world (pop_orderly (collecting c Ending) now v.names below (λ k. k)
-      (if_orderly (with_place place) (is_at Legacy) kept v.names (at Ending).stack (place_later place) (λ x. refl) (λ x m e k. false_true k) (all_saved_orderly step.keeps v.objects v.names (at Ending).stack live h)))
+      (if_orderly (with_place place) (is_at Legacy) kept v.names (at Ending).stack (place_later place) (λ x. refl) (λ x m e k. false_true k)
+      (all_saved_orderly step.keeps v.objects v.names (at Ending).stack live h)))
     where
       place : Place
       place = Gen (older c.generation)

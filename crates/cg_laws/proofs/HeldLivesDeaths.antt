@@ -38,20 +38,29 @@ abbrev pub HasOrder : World → Type 0
 HasOrder w = Orderly w.objects w.names w.stack
 
 -- one object changes place, mark or referent, and is not condemned afterwards
-pub one_orderly : (f : Object → Object) (o : ℕ) (objects : List Object) (names : List (Option Val)) (stack : List Activity) → ((x : Object) → IsLater x (f x)) → ((x : Object) → (f x).entries ≡ x.entries)
+pub one_orderly : (f : Object → Object) (o : ℕ) (objects : List Object) (names : List (Option Val)) (stack : List Activity) → ((x : Object) → IsLater x (f x))
+    → ((x : Object) → (f x).entries ≡ x.entries)
     → ((x : Object) → is_condemned (f x) ≡ true → is_condemned x ≡ true) → Orderly objects names stack → Orderly (change f o objects) names stack
 one_orderly f o objects names stack later entries condemned h = if_orderly f (λ x. x.serial == o) objects names stack later entries (λ x m e k. inl (condemned x k)) h
 
 pub lost_orderly : (weak : ℕ) (objects : List Object) (names : List (Option Val)) (stack : List Activity) → Orderly objects names stack → Orderly (loses_referent weak objects) names stack
-lost_orderly weak objects names stack h = one_orderly (with_referent None) weak objects names stack (λ x. record { serial = refl; code = refl; class = refl; referent = inr refl }) (λ x. refl) (λ x e. e) h
+lost_orderly weak objects names stack h = one_orderly (with_referent None) weak objects names stack (λ x. record {
+  serial = refl;
+  code = refl;
+  class = refl;
+  referent = inr refl;
+}) (λ x. refl) (λ x e. e) h
 
 pub false_true : {P : Type 0} → false ≡ true → P
 false_true e = absurd (cc)
 
-pub starts_orderly : (script : Script) (spec : FrameSpec) (u : World) → (IsClearing u.stack → ⊥) → ((o : ℕ) → Includes (call_holds spec.sort spec.func) o → Includes (serials u.objects) o) → HasOrder u → HasOrder (start_frame script spec u).1
-starts_orderly script spec u still held h = starts_either (λ lines. HasOrder) script spec u h (λ some. push_orderly (begun_frame script spec) u.objects u.names u.stack refl still held (λ d e. cc) (λ c o e. cc) h)
+pub starts_orderly : (script : Script) (spec : FrameSpec) (u : World) → (IsClearing u.stack → ⊥) → ((o : ℕ) → Includes (call_holds spec.sort spec.func) o
+    → Includes (serials u.objects) o) → HasOrder u → HasOrder (start_frame script spec u).1
+starts_orderly script spec u still held h = starts_either (λ lines. HasOrder) script spec u h (λ some. push_orderly (begun_frame script spec) u.objects u.names
+    u.stack refl still held (λ d e. cc) (λ c o e. cc) h)
 
-pub gives_up_orderly : (given_up : List ℕ) (u : World) → (IsClearing u.stack → ⊥) → ((o : ℕ) → Includes given_up o → Includes (serials u.objects) o) → HasOrder u → HasOrder (push (Releasing given_up) u)
+pub gives_up_orderly : (given_up : List ℕ) (u : World) → (IsClearing u.stack → ⊥) → ((o : ℕ) → Includes given_up o → Includes (serials u.objects) o)
+    → HasOrder u → HasOrder (push (Releasing given_up) u)
 gives_up_orderly given_up u still held h = push_orderly (Releasing given_up) u.objects u.names u.stack refl still held (λ d e. cc) (λ c o e. cc) h
 
 pub frame_end_orderly : (f : Frame) (below : List Activity) (v : World) → HasOrder (with_stack (Framed f ∷ below) v) → HasOrder (frame_end f (with_stack below v)).1
@@ -60,13 +69,16 @@ frame_end_orderly f below v h = by_sort f.sort f.function (λ o k. h.stack_lives
     popped : HasOrder (with_stack below v)
     popped = pop_orderly (Framed f) v.objects v.names below (λ k. k) h
 
-    by_sort : (sort : FrameSort) (function : Option ℕ) → ((o : ℕ) → Includes (call_holds sort function) o → Includes (serials v.objects) o) → HasOrder (gives_up_function sort function (with_stack below v))
+    by_sort : (sort : FrameSort) (function : Option ℕ) → ((o : ℕ) → Includes (call_holds sort function) o → Includes (serials v.objects) o)
+        → HasOrder (gives_up_function sort function (with_stack below v))
     by_sort Del function live = popped
     by_sort Legacy function live = popped
     by_sort Callback function live = popped
-    by_sort Call function live = turns_fewer (Framed f) (Releasing (option_to_list function)) v.objects v.names below h live (λ d e. cc) (λ weak m. m) (λ weak. omega arith) (λ c o e. cc) (λ x m e k. inr k)
+    by_sort Call function live = turns_fewer (Framed f) (Releasing (option_to_list function)) v.objects v.names below h live (λ d e. cc) (λ weak m. m)
+        (λ weak. omega arith) (λ c o e. cc) (λ x m e k. inr k)
 
-pub released_orderly : (references : List ℕ) (below : List Activity) (v : World) → HasOrder (with_stack (Releasing references ∷ below) v) → HasOrder (released references below (with_stack (Releasing references ∷ below) v)).1
+pub released_orderly : (references : List ℕ) (below : List Activity) (v : World) → HasOrder (with_stack (Releasing references ∷ below) v)
+    → HasOrder (released references below (with_stack (Releasing references ∷ below) v)).1
 released_orderly [] below v h = pop_orderly (Releasing []) v.objects v.names below (λ k. k) h
 released_orderly (o ∷ references) below v h = go (not (is_dying now o) && (in_degree now o == 0))
   where
@@ -74,7 +86,9 @@ released_orderly (o ∷ references) below v h = go (not (is_dying now o) && (in_
     now = with_stack (Releasing references ∷ below) v
 
     rest : HasOrder now
-    rest = turns_fewer (Releasing (o ∷ references)) (Releasing references) v.objects v.names below h (λ s m. h.stack_lives s (inr (Includes-append_left references (flat_map holds below) s m))) (λ d e. cc) (λ weak m. m) (λ weak. omega arith) (λ c s e. cc) (λ x m e k. inr k)
+    rest = turns_fewer (Releasing (o ∷ references)) (Releasing references) v.objects v.names below h
+        (λ s m. h.stack_lives s (inr (Includes-append_left references (flat_map holds below) s m))) (λ d e. cc) (λ weak m. m) (λ weak. omega arith)
+        (λ c s e. cc) (λ x m e k. inr k)
 
     dead : Object → Object
     dead x = with_referent None (with_place Untracked x)
@@ -86,17 +100,20 @@ released_orderly (o ∷ references) below v h = go (not (is_dying now o) && (in_
     lives = lives_in moved
       where
         lives_in : Orderly (change dead o v.objects) v.names (Releasing references ∷ below) → Includes (serials (change dead o v.objects)) o
-        lives_in k = lives_after v.objects (change dead o v.objects) (change_alters dead (λ x. record { serial = refl; code = refl; class = refl; referent = inr refl }) o v.objects) o (h.stack_lives o (inl refl))
+        lives_in k = lives_after v.objects (change dead o v.objects)
+            (change_alters dead (λ x. record { serial = refl; code = refl; class = refl; referent = inr refl }) o v.objects) o (h.stack_lives o (inl refl))
 
     go : (b : Bool) → (let t : Transition = if b then ([], begin_death o now) else ([], now) in HasOrder t.1)
-    go true = push_orderly (Dying (record { object = o; phase = Finalizer })) (change dead o v.objects) v.names (Releasing references ∷ below) refl (λ k. k) (λ s k. absurd k) (λ d e. subst (λ (x : Death). Includes (serials (change dead o v.objects)) x.object) (death_is d e) lives) (λ c s e. cc) moved
+    go true = push_orderly (Dying (record { object = o; phase = Finalizer })) (change dead o v.objects) v.names (Releasing references ∷ below) refl (λ k. k)
+        (λ s k. absurd k) (λ d e. subst (λ (x : Death). Includes (serials (change dead o v.objects)) x.object) (death_is d e) lives) (λ c s e. cc) moved
       where
         death_is : (d : Death) → Dying (record { object = o; phase = Finalizer }) ≡ Dying d → record { object = o; phase = Finalizer } ≡ d
         death_is d e = cc
     go false = rest
 
 -- what the entries of an object hold lives
-pub found_entries_live : (objects : List Object) (names : List (Option Val)) (stack : List Activity) (o f : ℕ) → Orderly objects names stack → Includes (references (entries_of objects o)) f → Includes (serials objects) f
+pub found_entries_live : (objects : List Object) (names : List (Option Val)) (stack : List Activity) (o f : ℕ) → Orderly objects names stack
+    → Includes (references (entries_of objects o)) f → Includes (serials objects) f
 found_entries_live objects names stack o f h = go (object_at objects o) refl
   where
     go : (m : Option Object) → object_at objects o ≡ m → Includes (references (unwrap_or (option_map (λ (x : Object). x.entries) m) [])) f → Includes (serials objects) f
@@ -123,9 +140,11 @@ module _ (script : Script) (o : ℕ) (below : List Activity) (v : World) (rises 
   death_is phase d e = cc
 
   -- The death goes to a phase with no more waiting weak references.
-  goes_to : (phase next : DyingPhase) (objects : List Object) → ((s : ℕ) → Includes (dying_holds o next) s → Includes (serials objects) s) → ((weak : ℕ) → Includes (death_waits next) weak → Includes (death_waits phase) weak)
+  goes_to : (phase next : DyingPhase) (objects : List Object) → ((s : ℕ) → Includes (dying_holds o next) s → Includes (serials objects) s)
+      → ((weak : ℕ) → Includes (death_waits next) weak → Includes (death_waits phase) weak)
       → ((weak : ℕ) → occurrences weak (death_waits next) ≤ occurrences weak (death_waits phase)) → Orderly objects v.names (dying_now phase ∷ below) → Orderly objects v.names (dying_now next ∷ below)
-  goes_to phase next objects held fewer count h = turns_fewer (dying_now phase) (dying_now next) objects v.names below h held (λ d e. subst (λ (x : Death). Includes (serials objects) x.object) (death_is next d e) (h.deaths_live (record { object = o; phase = phase }) (inl refl)))
+  goes_to phase next objects held fewer count h = turns_fewer (dying_now phase) (dying_now next) objects v.names below h held
+      (λ d e. subst (λ (x : Death). Includes (serials objects) x.object) (death_is next d e) (h.deaths_live (record { object = o; phase = phase }) (inl refl)))
       fewer count (λ c s e. cc) (λ x m e k. inr k)
 
   own_held : (phase : DyingPhase) (objects : List Object) → Orderly objects v.names (dying_now phase ∷ below) → (s : ℕ) → Includes (dying_holds o phase) s → Includes (serials objects) s
@@ -142,7 +161,8 @@ module _ (script : Script) (o : ℕ) (below : List Activity) (v : World) (rises 
   finalizer_orderly (Some p) h =
       let moved = one_orderly revived o v.objects v.names (at Finalizer).stack (λ x. record { serial = refl; code = refl; class = refl; referent = inl refl }) (λ x. refl) (λ x e. false_true e) h in
       starts_orderly script (record { sort = Del; proc = p; subject = o; func = None }) (death_at o AfterFinalizer below (with_change revived o (at Finalizer))) (λ k. k) (λ s k. absurd k)
-      (goes_to Finalizer AfterFinalizer (change revived o v.objects) (its_own (change revived o v.objects) (own_lives Finalizer (change revived o v.objects) moved)) (λ weak k. k) (λ weak. omega arith) moved)
+      (goes_to Finalizer AfterFinalizer (change revived o v.objects) (its_own (change revived o v.objects) (own_lives Finalizer (change revived o v.objects)
+      moved)) (λ weak k. k) (λ weak. omega arith) moved)
     where
       revived : Object → Object
       revived x = marked (with_place (Gen 0) x)
@@ -152,10 +172,12 @@ module _ (script : Script) (o : ℕ) (below : List Activity) (v : World) (rises 
     where
       go : (b : Bool) → (let t : Transition = if b then ([], with_change (with_place Untracked) o (at next)) else (Alive o ∷ [], with_stack below (at phase)) in HasOrder t.1)
       go true = one_orderly (with_place Untracked) o v.objects v.names (at next).stack (λ x. record { serial = refl; code = refl; class = refl; referent = inl refl }) (λ x. refl) (λ x e. false_true e)
-          (goes_to phase next v.objects (λ s k. absurd (free s k)) (λ weak k. absurd (subst (λ ws. Includes ws weak) none k)) (λ weak. let zero : occurrences weak (death_waits next) ≡ 0 = ap (occurrences weak) none in omega (arith, zero)) h)
+          (goes_to phase next v.objects (λ s k. absurd (free s k)) (λ weak k. absurd (subst (λ ws. Includes ws weak) none k))
+          (λ weak. let zero : occurrences weak (death_waits next) ≡ 0 = ap (occurrences weak) none in omega (arith, zero)) h)
       go false = pop_orderly (dying_now phase) v.objects v.names below (λ k. k) h
 
-  clearing_orderly : (waiting weaks : List ℕ) → weak_references_if has_weak_references v.objects o ≡ weaks → HasOrder (at (Clearing waiting)) → HasOrder (clear_one o waiting below (at (Clearing waiting)) weaks).1
+  clearing_orderly : (waiting weaks : List ℕ) → weak_references_if has_weak_references v.objects o ≡ weaks → HasOrder (at (Clearing waiting))
+      → HasOrder (clear_one o waiting below (at (Clearing waiting)) weaks).1
   clearing_orderly waiting [] e h = goes_to (Clearing waiting) (Calling waiting) v.objects (own_held (Clearing waiting) v.objects h) (λ weak k. k) (λ weak. omega arith) h
   clearing_orderly waiting (weak ∷ weaks) e h = go (is_some (callback_of v.objects weak)) refl
     where
@@ -186,9 +208,12 @@ module _ (script : Script) (o : ℕ) (below : List Activity) (v : World) (rises 
           subst (λ (q : Object). q.serial ≡ weak → IsWaiting q × (is_condemned q ≡ false)) z.2 (one z.0 z.1 (z.0.serial == weak) refl) same
         where
           uncondemned : (x : Object) → Includes v.objects x → x ≡ y.0 → is_condemned x ≡ false
-          uncondemned x m i = either (cases_Bool (is_condemned x)) (λ yes'. absurd (either (h.condemned x m yes').1 (λ n. some (ap (λ (q : Object). q.referent) (sym i) ∙ n)) (λ r. either r (λ n. n) (λ t. calls_back calls (ap (λ (q : Object). callback_in q.entries) (sym i) ∙ t))))) (λ k. k)
+          uncondemned x m i = either (cases_Bool (is_condemned x))
+              (λ yes'. absurd (either (h.condemned x m yes').1 (λ n. some (ap (λ (q : Object). q.referent) (sym i) ∙ n))
+              (λ r. either r (λ n. n) (λ t. calls_back calls (ap (λ (q : Object). callback_in q.entries) (sym i) ∙ t))))) (λ k. k)
 
-          one : (x : Object) → Includes v.objects x → (b : Bool) → (x.serial == weak) ≡ b → (if b then with_referent None x else x).serial ≡ weak → IsWaiting (if b then with_referent None x else x) × (is_condemned (if b then with_referent None x else x) ≡ false)
+          one : (x : Object) → Includes v.objects x → (b : Bool) → (x.serial == weak) ≡ b → (if b then with_referent None x else x).serial ≡ weak
+              → IsWaiting (if b then with_referent None x else x) × (is_condemned (if b then with_referent None x else x) ≡ false)
           one x m true t i =
               let same_y : x ≡ y.0 = same_object 1 v.next_serial v.objects x y.0 rises m y.1 (i ∙ sym y.2) in
               let r = refers y.0.referent y.3 in (
@@ -203,10 +228,14 @@ module _ (script : Script) (o : ℕ) (below : List Activity) (v : World) (rises 
 
       go : (b : Bool) → is_some (callback_of v.objects weak) ≡ b → Orderly objects v.names (dying_now (Clearing (waiting ++ (if b then weak ∷ [] else []))) ∷ below)
       go true calls = turns_more (dying_now (Clearing waiting)) (dying_now (Clearing (waiting ++ weak ∷ []))) weak objects v.names below lost
-          (λ s m. either (Includes-append_cases waiting (weak ∷ []) s m) (own_held (Clearing waiting) objects lost s) (λ k. either k (λ i. lives_after v.objects objects (lost_alters weak v.objects) s (subst (Includes (serials v.objects)) (y.2 ∙ i) (Includes-map (λ (z : Object). z.serial) v.objects y.0 y.1))) (λ n. absurd n)))
+          (λ s m. either (Includes-append_cases waiting (weak ∷ []) s m) (own_held (Clearing waiting) objects lost s)
+          (λ k. either k (λ i. lives_after v.objects objects (lost_alters weak v.objects) s (subst (Includes (serials v.objects)) (y.2 ∙ i)
+          (Includes-map (λ (z : Object). z.serial) v.objects y.0 y.1))) (λ n. absurd n)))
           (λ d i. subst (λ (x : Death). Includes (serials objects) x.object) (death_is (Clearing (waiting ++ weak ∷ [])) d i) (own_lives (Clearing waiting) objects lost))
-          refl (λ k. some (h.waiting weak k y.0 y.1 y.2).referent) (is calls) (λ c m s k i. either ((h.turns c (inr m) s k).1 y.0 y.1 (y.2 ∙ i)) some (λ n. calls_back calls n)) (λ c s i. cc) (λ x m i k. inr k)
-      go false calls = goes_to (Clearing waiting) (Clearing (waiting ++ [])) objects (λ s m. own_held (Clearing waiting) objects lost s (back s m)) back (λ s. omega (arith, occurrences-append s waiting [])) lost
+          refl (λ k. some (h.waiting weak k y.0 y.1 y.2).referent) (is calls) (λ c m s k i. either ((h.turns c (inr m) s k).1 y.0 y.1 (y.2 ∙ i)) some
+          (λ n. calls_back calls n)) (λ c s i. cc) (λ x m i k. inr k)
+      go false calls = goes_to (Clearing waiting) (Clearing (waiting ++ [])) objects (λ s m. own_held (Clearing waiting) objects lost s (back s m)) back
+          (λ s. omega (arith, occurrences-append s waiting [])) lost
         where
           back : (s : ℕ) → Includes (waiting ++ []) s → Includes waiting s
           back s m = either (Includes-append_cases waiting [] s m) (λ k. k) (λ n. absurd n)
@@ -214,7 +243,8 @@ module _ (script : Script) (o : ℕ) (below : List Activity) (v : World) (rises 
   calling_orderly : (waiting : List ℕ) → HasOrder (at (Calling waiting)) → HasOrder (call_one script o below (at (Calling waiting)) waiting).1
   calling_orderly [] h = goes_to (Calling []) LegacyFinalizer v.objects (λ s k. absurd k) (λ weak k. k) (λ weak. omega arith) h
   calling_orderly (weak ∷ waiting) h =
-      starts_orderly script (record { sort = Callback; proc = procedure_of (at (Calling (weak ∷ waiting))) callback; subject = weak; func = Some callback }) (death_at o next below (with_change (with_entries []) weak (at (Calling (weak ∷ waiting))))) (λ k. k) (λ s k. absurd k)
+      starts_orderly script (record { sort = Callback; proc = procedure_of (at (Calling (weak ∷ waiting))) callback; subject = weak; func = Some callback })
+      (death_at o next below (with_change (with_entries []) weak (at (Calling (weak ∷ waiting))))) (λ k. k) (λ s k. absurd k)
       (entries_orderly weak [] v.objects v.names (dying_now next ∷ below) done (λ f k. absurd k) (λ x m i c f k. absurd k) (λ x m i c n. refl) turned)
     where
       callback : ℕ
@@ -229,7 +259,8 @@ module _ (script : Script) (o : ℕ) (below : List Activity) (v : World) (rises 
           let is = h.waiting weak (inl refl) x.0 x.1 x.2 in
           go x.0 x.1 (callback_in x.0.entries) refl is.callback (sym (ap (callback_of v.objects) x.2) ∙ callback_at 1 v.next_serial v.objects x.0 rises x.1)
         where
-          go : (x : Object) → Includes v.objects x → (m : Option ℕ) → callback_in x.entries ≡ m → callback_in x.entries ≢ None → callback_of v.objects weak ≡ callback_in x.entries → Includes (serials v.objects) callback
+          go : (x : Object) → Includes v.objects x → (m : Option ℕ) → callback_in x.entries ≡ m → callback_in x.entries ≢ None → callback_of v.objects weak
+              ≡ callback_in x.entries → Includes (serials v.objects) callback
           go x m None e some at_x = absurd (some e)
           go x m (Some f) e some at_x =
               let is : f ≡ callback = ap (λ k. unwrap_or k 0) (sym (at_x ∙ e)) in
@@ -245,19 +276,35 @@ module _ (script : Script) (o : ℕ) (below : List Activity) (v : World) (rises 
       done =
           let all = h.once weak in
           let one : ◌≡◌ {A = ℕ} (cond (weak == weak) 1 0) 1 = ap (λ k. cond k 1 0) (eq-eqb weak weak refl) in
-          absent weak (all_waits (dying_now next ∷ below)) (omega (arith, all, one, occurrences-cons weak weak waiting, occurrences-append weak (weak ∷ waiting) (all_waits below), occurrences-append weak waiting (all_waits below)))
+          absent weak (all_waits (dying_now next ∷ below)) (omega (
+            arith,
+            all,
+            one,
+            occurrences-cons weak weak waiting,
+            occurrences-append weak (weak ∷ waiting)
+                (all_waits below),
+            occurrences-append weak waiting (all_waits below),
+          ))
 
   after_call_orderly : (weak callback : ℕ) (waiting : List ℕ) → HasOrder (at (AfterCall weak callback waiting)) → HasOrder (push (Releasing (callback ∷ weak ∷ [])) (at (Calling waiting)))
   after_call_orderly weak callback waiting h =
-      gives_up_orderly (callback ∷ weak ∷ []) (at (Calling waiting)) (λ k. k) (λ s m. own_held (AfterCall weak callback waiting) v.objects h s (either m (λ e. inl e) (λ k. either k (λ e. inr (inl e)) (λ n. absurd n))))
+      gives_up_orderly (callback ∷ weak ∷ []) (at (Calling waiting)) (λ k. k) (λ s m. own_held (AfterCall weak callback waiting) v.objects h s
+      (either m (λ e. inl e) (λ k. either k (λ e. inr (inl e)) (λ n. absurd n))))
       (goes_to (AfterCall weak callback waiting) (Calling waiting) v.objects (λ s m. own_held (AfterCall weak callback waiting) v.objects h s (inr (inr m))) (λ s k. k) (λ s. omega arith) h)
 
   legacy_orderly : (m : Option ℕ) → HasOrder (at LegacyFinalizer) → HasOrder (run_legacy script o below (at LegacyFinalizer) m).1
   legacy_orderly None h = goes_to LegacyFinalizer Detaching v.objects (λ s k. absurd k) (λ weak k. k) (λ weak. omega arith) h
   legacy_orderly (Some p) h =
-      let moved = one_orderly (with_place (Gen 0)) o v.objects v.names (at LegacyFinalizer).stack (λ x. record { serial = refl; code = refl; class = refl; referent = inl refl }) (λ x. refl) (λ x e. false_true e) h in
-      starts_orderly script (record { sort = Legacy; proc = p; subject = o; func = None }) (death_at o AfterLegacy below (with_change (with_place (Gen 0)) o (at LegacyFinalizer))) (λ k. k) (λ s k. absurd k)
-      (goes_to LegacyFinalizer AfterLegacy (change (with_place (Gen 0)) o v.objects) (its_own (change (with_place (Gen 0)) o v.objects) (own_lives LegacyFinalizer (change (with_place (Gen 0)) o v.objects) moved)) (λ weak k. k) (λ weak. omega arith) moved)
+      let moved = one_orderly (with_place (Gen 0)) o v.objects v.names (at LegacyFinalizer).stack (λ x. record {
+        serial = refl;
+        code = refl;
+        class = refl;
+        referent = inl refl;
+      }) (λ x. refl) (λ x e. false_true e) h in
+      starts_orderly script (record { sort = Legacy; proc = p; subject = o; func = None })
+      (death_at o AfterLegacy below (with_change (with_place (Gen 0)) o (at LegacyFinalizer))) (λ k. k) (λ s k. absurd k)
+      (goes_to LegacyFinalizer AfterLegacy (change (with_place (Gen 0)) o v.objects) (its_own (change (with_place (Gen 0)) o v.objects)
+      (own_lives LegacyFinalizer (change (with_place (Gen 0)) o v.objects) moved)) (λ weak k. k) (λ weak. omega arith) moved)
 
   detaching_orderly : (weaks : List ℕ) → HasOrder (at Detaching) → HasOrder (detach_one o below (at Detaching) weaks).1
   detaching_orderly [] h = goes_to Detaching Emptying v.objects (λ s k. absurd k) (λ weak k. k) (λ weak. omega arith) h
@@ -265,13 +312,19 @@ module _ (script : Script) (o : ℕ) (below : List Activity) (v : World) (rises 
 
   emptying_orderly : (m : Option Entry) → last_entry (entries_of v.objects o) ≡ m → Calm script (at Emptying) → HasOrder (at Emptying) → HasOrder (empty_one o below (at Emptying) m).1
   emptying_orderly None e c h =
-      without_orderly o v.objects v.names below c.stack.0.unheld.names c.stack.0.unheld.root (λ x m. (c.stack.0.unheld.quiet x m).entries) (popped_free (dying_now Emptying) below o c.stack.0.unheld.stack)
+      without_orderly o v.objects v.names below c.stack.0.unheld.names c.stack.0.unheld.root (λ x m. (c.stack.0.unheld.quiet x m).entries)
+      (popped_free (dying_now Emptying) below o c.stack.0.unheld.stack)
       (λ d m. not_dying o below d c.over.0 m) (pop_orderly (dying_now Emptying) v.objects v.names below (λ k. k) h)
   emptying_orderly (Some entry) e c h =
       gives_up_orderly (entry_references entry) (death_at o Emptying below (with_change (with_entries shorter) o (at Emptying))) (λ k. k)
-      (λ s m. lives_after v.objects (change (with_entries shorter) o v.objects) (entries_alter shorter o v.objects) s (own_entries_live s (references_of_member (entries_of v.objects o) entry s (slice_get_member (entries_of v.objects o) (length (entries_of v.objects o) - 1) entry e) m)))
+      (λ s m. lives_after v.objects (change (with_entries shorter) o v.objects) (entries_alter shorter o v.objects) s
+      (own_entries_live s (references_of_member (entries_of v.objects o) entry s (slice_get_member (entries_of v.objects o)
+      (length (entries_of v.objects o) - 1) entry e) m)))
       (entries_orderly o shorter v.objects v.names (at Emptying).stack (λ k. c.stack.0.unheld.stack (waits_held (at Emptying).stack o k)) (λ f k. own_entries_live f (taken f k))
-      (λ x m i w f k. subst (λ es. Includes (references es) f) (ap (λ z. unwrap_or (option_map (λ (q : Object). q.entries) z) []) (subst (λ s. object_at v.objects s ≡ Some x) i (at_member 1 v.next_serial v.objects x rises m))) (taken f k)) (λ x m i w n. callback_shorter (entries_of v.objects o) (found_callback v.objects o x (subst (λ s. object_at v.objects s ≡ Some x) i (at_member 1 v.next_serial v.objects x rises m)) n)) h)
+      (λ x m i w f k. subst (λ es. Includes (references es) f) (ap (λ z. unwrap_or (option_map (λ (q : Object). q.entries) z) [])
+      (subst (λ s. object_at v.objects s ≡ Some x) i (at_member 1 v.next_serial v.objects x rises m))) (taken f k)) (λ x m i w n. callback_shorter
+      (entries_of v.objects o) (found_callback v.objects o x (subst (λ s. object_at v.objects s ≡ Some x) i (at_member 1 v.next_serial v.objects x rises m))
+      n)) h)
     where
       shorter : List Entry
       shorter = without_last (entries_of v.objects o)

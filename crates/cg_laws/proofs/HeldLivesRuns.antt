@@ -59,7 +59,8 @@ lives_or_not objects o = go (includes (serials objects) o) refl
     go true e = inl (Includes-of (serials objects) o e)
     go false e = inr (λ m. let no : true ≡ false = sym (includes-of (serials objects) o m) ∙ e in cc)
 
-module _ (script : Script) (w : World) (rises : Rises 1 w.next_serial w.objects) (over : AreOver w.stack) (referred : AreReferred w.objects) (h : HasOrder w) (after : World) (given_up : List ℕ) (same_stack : after.stack ≡ w.stack) (mild : Mild script w rises over after given_up) where
+module _ (script : Script) (w : World) (rises : Rises 1 w.next_serial w.objects) (over : AreOver w.stack) (referred : AreReferred w.objects) (h : HasOrder w)
+    (after : World) (given_up : List ℕ) (same_stack : after.stack ≡ w.stack) (mild : Mild script w rises over after given_up) where
   lasts_live : (o : ℕ) → Includes (serials w.objects) o → Includes (serials after.objects) o
   lasts_live o m =
       let x = Includes-map_cases (λ (z : Object). z.serial) w.objects o m in
@@ -116,8 +117,11 @@ module _ (script : Script) (w : World) (rises : Rises 1 w.next_serial w.objects)
 
   marked : (y : Object) → Comes script w rises over y → is_condemned y ≡ true → (¬ Includes (all_waits w.stack) y.serial) × ((y.referent ≡ None) ⊎ MayRefer y.entries w.stack)
   marked y (was_there x m later same condemned placed) e =
-      let was = h.condemned x m (condemned e) in
-      (λ n. was.0 (subst (Includes (all_waits w.stack)) later.serial n), either was.1 (λ n. inl (none_later x y later n)) (λ r. either r (λ c. inr (inl c)) (λ n. either (quiet y x m later same n) (λ k. inl k) (λ k. inr (inr k)))))
+      let was = h.condemned x m (condemned e) in (
+        λ n. was.0 (subst (Includes (all_waits w.stack)) later.serial n),
+        either was.1 (λ n. inl (none_later x y later n))
+            (λ r. either r (λ c. inr (inl c)) (λ n. either (quiet y x m later same n) (λ k. inl k) (λ k. inr (inr k)))),
+      )
   marked y (is_new serial condemned apart weak_alone functions) e = absurd (let no : true ≡ false = sym e ∙ condemned in cc)
 
   refers : (o : ℕ) → ((x : Object) → Includes w.objects x → x.serial ≡ o → CallsNone x) → Includes (serials w.objects) o → (y : Object) → Comes script w rises over y → y.serial ≡ o → CallsNone y
@@ -137,7 +141,12 @@ module _ (script : Script) (w : World) (rises : Rises 1 w.next_serial w.objects)
     waiting = λ weak k y m. waiting weak k y (mild.comes y m);
     once = h.once;
     condemned = λ y m. marked y (mild.comes y m);
-    turns = λ c m o e. let t = h.turns c m o e in (t.0, λ y k i. refers o t.1 (h.stack_lives o (held_by_member w.stack (Collecting c) o m (subst (λ p. Includes (collect_holds p) o) (sym e) (inl refl)))) y (mild.comes y k) i);
+    turns = λ c m o e. let t = h.turns c m o e
+        in (
+          t.0,
+          λ y k i. refers o t.1 (h.stack_lives o (held_by_member w.stack (Collecting c) o m (subst (λ p. Includes (collect_holds p) o) (sym e)
+              (inl refl)))) y (mild.comes y k) i,
+        );
   })
 
 -- the activity on top when a command is done
@@ -153,9 +162,13 @@ no_waits (Framed f) h = refl
 no_waits (ShuttingDown started) h = refl
 no_waits a h = absurd h
 
-pub turned_orderly : (a b : Activity) (below : List Activity) (v : World) → HasCommands a → HasCommands b → ((o : ℕ) → Includes (holds b) o → Includes (holds a) o) → HasOrder (with_stack (a ∷ below) v) → HasOrder (with_stack (b ∷ below) v)
-turned_orderly a b below v ha hb fewer h = turns_fewer a b v.objects v.names below h (λ o m. h.stack_lives o (Includes-append_left (holds a) (flat_map holds below) o (fewer o m))) (λ d e. absurd (no_death b hb d e))
-    (λ weak m. absurd (subst (λ ws. Includes ws weak) (no_waits b hb) m)) (λ weak. let none : occurrences weak (waits_of b) ≡ 0 = ap (occurrences weak) (no_waits b hb) in omega (arith, none)) (λ c o e. absurd (no_collection b hb c e)) (λ x m e k. either k (λ n. absurd (no_clearing a below ha n)) (λ n. inr (inr n)))
+pub turned_orderly : (a b : Activity) (below : List Activity) (v : World) → HasCommands a → HasCommands b
+    → ((o : ℕ) → Includes (holds b) o → Includes (holds a) o) → HasOrder (with_stack (a ∷ below) v) → HasOrder (with_stack (b ∷ below) v)
+turned_orderly a b below v ha hb fewer h = turns_fewer a b v.objects v.names below h
+    (λ o m. h.stack_lives o (Includes-append_left (holds a) (flat_map holds below) o (fewer o m))) (λ d e. absurd (no_death b hb d e))
+    (λ weak m. absurd (subst (λ ws. Includes ws weak) (no_waits b hb) m)) (λ weak. let none : occurrences weak (waits_of b) ≡ 0 = ap (occurrences weak)
+    (no_waits b hb) in omega (arith, none)) (λ c o e. absurd (no_collection b hb c e)) (λ x m e k. either k (λ n. absurd (no_clearing a below ha n))
+    (λ n. inr (inr n)))
   where
     no_collection : (a : Activity) → HasCommands a → (c : Collection) → a ≢ Collecting c
     no_collection (TopLevel commands) h c e = cc
@@ -163,8 +176,10 @@ turned_orderly a b below v ha hb fewer h = turns_fewer a b v.objects v.names bel
     no_collection (ShuttingDown started) h c e = cc
     no_collection a h c e = absurd h
 
-collects_orderly : (a : Activity) (g : ℕ) (asked : Bool) (below : List Activity) (v : World) → HasCommands a → HasOrder (with_stack (a ∷ below) v) → HasOrder (push (new_collection g asked (with_stack (a ∷ below) v)) (with_stack (a ∷ below) v))
-collects_orderly a g asked below v ha h = push_orderly (new_collection g asked (with_stack (a ∷ below) v)) v.objects v.names (a ∷ below) refl (no_clearing a below ha) (λ o k. absurd k) (λ d e. cc) (λ c o e k. starts c o e k) h
+collects_orderly : (a : Activity) (g : ℕ) (asked : Bool) (below : List Activity) (v : World) → HasCommands a → HasOrder (with_stack (a ∷ below) v)
+    → HasOrder (push (new_collection g asked (with_stack (a ∷ below) v)) (with_stack (a ∷ below) v))
+collects_orderly a g asked below v ha h = push_orderly (new_collection g asked (with_stack (a ∷ below) v)) v.objects v.names (a ∷ below) refl
+    (no_clearing a below ha) (λ o k. absurd k) (λ d e. cc) (λ c o e k. starts c o e k) h
   where
     starts : (c : Collection) (o : ℕ) → new_collection g asked (with_stack (a ∷ below) v) ≡ Collecting c → c.phase ≢ Turn o
     starts c o e k =
@@ -181,14 +196,17 @@ pub taken_orderly : (command : Command) (a b : Activity) (below : List Activity)
 taken_orderly command a b below v (FromTop commands) h = turned_orderly (TopLevel (command ∷ commands)) (TopLevel commands) below v tt tt (λ o k. k) h
 taken_orderly command a b below v (FromFrame f commands left) h = turned_orderly (Framed f) (Framed (record f { commands = commands })) below v tt tt (λ o k. k) h
 
-command_does : (script : Script) (w : World) (command : Command) (a : Activity) (below : List Activity) (v : World) → HasCommands a → Rises 1 v.next_serial v.objects → Calm script (on a below v) → HasOrder (on a below v) → CommandSteps script (λ w events. HasOrder) w command (on a below v) a below
+command_does : (script : Script) (w : World) (command : Command) (a : Activity) (below : List Activity) (v : World) → HasCommands a
+    → Rises 1 v.next_serial v.objects → Calm script (on a below v) → HasOrder (on a below v) → CommandSteps script (λ w events. HasOrder) w command
+    (on a below v) a below
 command_does script w command a below v ha rises c h = record {
   stays = λ lines answers. h;
   stops = λ lines answers. emptied_orderly a below v ha h;
   changes = λ wants_memory lines given_up after shape.
       let l = changes_leave (on a below v) command wants_memory lines given_up after shape in
       let m = shape_mild script (on a below v) rises c.over command (Changes wants_memory lines given_up after) shape in
-      gives_up_orderly given_up after (λ k. no_clearing a below ha (subst IsClearing l.stack k)) (given_live script (on a below v) rises c.over c.referred h after given_up l.stack m) (command_orderly script (on a below v) rises c.over c.referred h after given_up l.stack m);
+      gives_up_orderly given_up after (λ k. no_clearing a below ha (subst IsClearing l.stack k)) (given_live script (on a below v) rises c.over c.referred h
+      after given_up l.stack m) (command_orderly script (on a below v) rises c.over c.referred h after given_up l.stack m);
   calls = λ f k. starts_orderly script (record { sort = CallFrame; proc = procedure_of (on a below v) f.serial; subject = f.serial; func = Some f.serial }) (on a below v) (no_clearing a below ha)
       (λ o m. either m (λ e. subst (Includes (serials v.objects)) e (Includes-map (λ (z : Object). z.serial) v.objects f k.member)) (λ n. absurd n)) h;
   asks = λ g low e. collects_orderly a g true below v ha h;
@@ -199,9 +217,11 @@ keeps_order script = record {
   starts_due = λ a below v ha g e k. collects_orderly a g false below v ha k.1;
   ends = λ a lines below v last k. k.1;
   shuts_down = λ below v k. turned_orderly (TopLevel []) (ShuttingDown false) below v tt tt (λ o i. i) k.1;
-  gives_up = λ name below v e k. (command_does script (on (ShuttingDown false) below v) (Del name) (ShuttingDown false) below v tt k.0.0.rises k.0.1 k.1).changes false [] _ _ (del_shaped (on (ShuttingDown false) below v) name);
+  gives_up = λ name below v e k. (command_does script (on (ShuttingDown false) below v) (Del name) (ShuttingDown false) below v tt k.0.0.rises k.0.1
+      k.1).changes false [] _ _ (del_shaped (on (ShuttingDown false) below v) name);
   collects_last = λ below v k. collects_orderly (ShuttingDown true) 2 false below v tt (turned_orderly (ShuttingDown false) (ShuttingDown true) below v tt tt (λ o i. i) k.1);
-  commands = λ command a b below v takes hb k. command_does script (on a below v) command b below v hb k.0.0.rises (taken_calm script below v command a b takes k.0.1) (taken_orderly command a b below v takes k.1);
+  commands = λ command a b below v takes hb k. command_does script (on a below v) command b below v hb k.0.0.rises (taken_calm script below v command a b takes
+      k.0.1) (taken_orderly command a b below v takes k.1);
   frame_ends = λ f below v left k. frame_end_orderly f below v k.1;
   releases = λ references below v k. released_orderly references below v k.1;
   dies = λ d below v k. dying_orderly script d.object below v k.0.0.rises d.phase k.0.1 k.1;
@@ -234,21 +254,43 @@ opening_orderly script budget = record {
     no_names zero o k = k
     no_names (suc n) o k = no_names n o k
 
-pub orderly_after : (script : Script) (w : World) (steps : List StepTaken) → Sound w → Calm script w → HasOrder w → Run script w steps → Calm script (last_world w steps) × HasOrder (last_world w steps)
+pub orderly_after : (script : Script) (w : World) (steps : List StepTaken) → Sound w → Calm script w → HasOrder w → Run script w steps
+    → Calm script (last_world w steps) × HasOrder (last_world w steps)
 orderly_after script w [] sound calm h run = (calm, h)
 orderly_after script w (step ∷ steps) sound calm h run =
-    orderly_after script step.world steps (step_falls script w step.events step.world run.0 sound).0 (step_calm script w step.events step.world run.0 sound calm) (step_orderly script w step.events step.world run.0 sound calm h) run.1
+    orderly_after script step.world steps (step_falls script w step.events step.world run.0 sound).0 (step_calm script w step.events step.world run.0 sound
+    calm) (step_orderly script w step.events step.world run.0 sound calm h) run.1
 
 death_in : (script : Script) (w : World) (o : ℕ) (phase : DyingPhase) → Includes (serials w.objects) o → Stands script w o phase → IsDeathIn w.objects (record { object = o; phase = phase })
 death_in script w o Finalizer lives h = record { lives = lives; refers_to_none = λ x m. (h.quiet x m).refers_to_none; untracked = λ t x m. (h.quiet x m).untracked; unreferred = λ t. cc }
 death_in script w o AfterFinalizer lives h = record { lives = lives; refers_to_none = h.refers_to_none; untracked = λ t. cc; unreferred = λ t. cc }
 death_in script w o (Clearing waiting) lives h = record { lives = lives; refers_to_none = λ x m. (h.0.quiet x m).refers_to_none; untracked = λ t x m. (h.0.quiet x m).untracked; unreferred = λ t. cc }
-death_in script w o (Calling waiting) lives h = record { lives = lives; refers_to_none = λ x m. (h.0.unheld.quiet x m).refers_to_none; untracked = λ t x m. (h.0.unheld.quiet x m).untracked; unreferred = λ t. h.0.unreferred }
-death_in script w o (AfterCall weak callback waiting) lives h = record { lives = lives; refers_to_none = h.0.refers_to_none; untracked = λ t x m. (h.1.unheld.quiet x m).untracked; unreferred = λ t. h.1.unreferred }
-death_in script w o LegacyFinalizer lives h = record { lives = lives; refers_to_none = λ x m. (h.unheld.quiet x m).refers_to_none; untracked = λ t x m. (h.unheld.quiet x m).untracked; unreferred = λ t. h.unreferred }
+death_in script w o (Calling waiting) lives h = record {
+  lives = lives;
+  refers_to_none = λ x m. (h.0.unheld.quiet x m).refers_to_none;
+  untracked = λ t x m. (h.0.unheld.quiet x m).untracked;
+  unreferred = λ t. h.0.unreferred;
+}
+death_in script w o (AfterCall weak callback waiting) lives h = record {
+  lives = lives;
+  refers_to_none = h.0.refers_to_none;
+  untracked = λ t x m. (h.1.unheld.quiet x m).untracked;
+  unreferred = λ t. h.1.unreferred;
+}
+death_in script w o LegacyFinalizer lives h = record {
+  lives = lives;
+  refers_to_none = λ x m. (h.unheld.quiet x m).refers_to_none;
+  untracked = λ t x m. (h.unheld.quiet x m).untracked;
+  unreferred = λ t. h.unreferred;
+}
 death_in script w o AfterLegacy lives h = record { lives = lives; refers_to_none = h.0.refers_to_none; untracked = λ t. cc; unreferred = λ t. cc }
 death_in script w o Detaching lives h = record { lives = lives; refers_to_none = λ x m. (h.0.quiet x m).refers_to_none; untracked = λ t x m. (h.0.quiet x m).untracked; unreferred = λ t. cc }
-death_in script w o Emptying lives h = record { lives = lives; refers_to_none = λ x m. (h.unheld.quiet x m).refers_to_none; untracked = λ t x m. (h.unheld.quiet x m).untracked; unreferred = λ t. h.unreferred }
+death_in script w o Emptying lives h = record {
+  lives = lives;
+  refers_to_none = λ x m. (h.unheld.quiet x m).refers_to_none;
+  untracked = λ t x m. (h.unheld.quiet x m).untracked;
+  unreferred = λ t. h.unreferred;
+}
 
 pub held_live : (w : World) → HasOrder w → (o : ℕ) → Includes (holdings w) o → Includes (serials w.objects) o
 held_live w h o m = either (Includes-append_cases (names ++ (1 ∷ []) ++ entries) (flat_map holds w.stack) o m) front (h.stack_lives o)

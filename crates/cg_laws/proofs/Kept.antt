@@ -13,4 +13,5 @@ kept_after : (script : Script) (budget : ℕ) (steps : List StepTaken) → IsRun
 kept_after script budget steps run = record { lawful = lawful_after script budget steps run; apart = runs_apart script budget steps run; few = numbers_few script budget steps run }
 
 pub stay_kept : WorldsStayKept
-stay_kept script budget steps run more goes_on = subst (IsKept script budget) (last_world-append (opening script budget) steps more) (kept_after script budget (steps ++ more) (Run-append script (opening script budget) steps more run goes_on))
+stay_kept script budget steps run more goes_on = subst (IsKept script budget) (last_world-append (opening script budget) steps more)
+    (kept_after script budget (steps ++ more) (Run-append script (opening script budget) steps more run goes_on))

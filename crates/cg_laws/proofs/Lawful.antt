@@ -25,4 +25,5 @@ lawful_after script budget steps run = record {
 
 pub stay_lawful : RunsStayLawful
 stay_lawful script budget steps run more goes_on =
-    subst (IsLawful script budget) (last_world-append (opening script budget) steps more) (lawful_after script budget (steps ++ more) (Run-append script (opening script budget) steps more run goes_on))
+    subst (IsLawful script budget) (last_world-append (opening script budget) steps more) (lawful_after script budget (steps ++ more)
+    (Run-append script (opening script budget) steps more run goes_on))

@@ -53,8 +53,10 @@ from_trans w below before now after h k z m =
       place = λ c. either (y.place c) (λ e. either (x.place (subst IsOfCollection (sym e) c)) (λ f. inl (f ∙ e)) (λ t. inr t)) (λ t. inr t);
     }
 
-pub from_if : (w : World) (below : List Activity) (f : Object → Object) (test : Object → Bool) → ((x : Object) → IsLater x (f x)) → ((x : Object) → test x ≡ true → ((f x).entries ≡ x.entries) ⊎ MayChange w below x.serial)
-    → ((x : Object) → IsOfCollection (f x).place → (x.place ≡ (f x).place) ⊎ IsCollectionOnTop w.stack) → (objects : List Object) → AreFrom w below objects (map (λ x. if test x then f x else x) objects)
+pub from_if : (w : World) (below : List Activity) (f : Object → Object) (test : Object → Bool) → ((x : Object) → IsLater x (f x))
+    → ((x : Object) → test x ≡ true → ((f x).entries ≡ x.entries) ⊎ MayChange w below x.serial)
+    → ((x : Object) → IsOfCollection (f x).place → (x.place ≡ (f x).place) ⊎ IsCollectionOnTop w.stack) → (objects : List Object) → AreFrom w below objects
+    (map (λ x. if test x then f x else x) objects)
 from_if w below f test later entries places objects y m =
     let x = Includes-map_cases (λ x. if test x then f x else x) objects y m in
     subst (ComesFrom w below objects) x.2 (one (test x.0) x.0 refl x.1)
@@ -64,13 +66,20 @@ from_if w below f test later entries places objects y m =
     one false x e k = record { was = x; member = k; later = later_refl x; entries = inl refl; place = λ c. inl refl }
 
 pub from_entries : (w : World) (below : List Activity) (es : List Entry) (s : ℕ) → MayChange w below s → (objects : List Object) → AreFrom w below objects (change (with_entries es) s objects)
-from_entries w below es s t objects = from_if w below (with_entries es) (λ x. x.serial == s) (λ x. record { serial = refl; code = refl; class = refl; referent = inl refl }) (λ x e. inr (subst (MayChange w below) (sym (eqb-true x.serial s e)) t)) (λ x c. inl refl) objects
+from_entries w below es s t objects = from_if w below (with_entries es) (λ x. x.serial == s) (λ x. record {
+  serial = refl;
+  code = refl;
+  class = refl;
+  referent = inl refl;
+}) (λ x e. inr (subst (MayChange w below) (sym (eqb-true x.serial s e)) t)) (λ x c. inl refl) objects
 
 pub from_without : (w : World) (below : List Activity) (o : ℕ) (objects : List Object) → AreFrom w below objects (without o objects)
 from_without w below o objects y m = from_refl w below objects y (Includes-filter_cases (λ x. not (x.serial == o)) objects y m).0
 
 pub from_saved : (w : World) (below : List Activity) (s : ℕ) → MayChange w below 1 → (objects : List Object) → AreFrom w below objects (saved s objects)
-from_saved w below s t objects = from_if w below (λ x. with_entries (x.entries ++ item (Ref s) ∷ []) x) (λ x. x.serial == 1) (λ x. record { serial = refl; code = refl; class = refl; referent = inl refl }) (λ x e. inr (subst (MayChange w below) (sym (eqb-true x.serial 1 e)) t)) (λ x c. inl refl) objects
+from_saved w below s t objects = from_if w below (λ x. with_entries (x.entries ++ item (Ref s) ∷ []) x) (λ x. x.serial == 1)
+    (λ x. record { serial = refl; code = refl; class = refl; referent = inl refl }) (λ x e. inr (subst (MayChange w below) (sym (eqb-true x.serial 1 e)) t))
+    (λ x c. inl refl) objects
 
 -- What a step leaves below it. It makes at most one object.
 pub record LeavesIt (w : World) (below : List Activity) (after : World) : Type 0 where
@@ -83,7 +92,8 @@ leaves_from w below after tops stack from = record { tops = tops; stack = stack;
 
 pub held_may_change : (w : World) (a : Activity) (below : List Activity) (s : ℕ) → w.stack ≡ a ∷ below → Includes (holds a) s → (¬ Includes (all_waits below) s) → MayChange w below s
 held_may_change w a below s top held free = record {
-  dying = λ d m f e. f.unheld.stack (subst (λ st. Includes (flat_map holds st) d.object) (sym top) (Includes-append_left (holds a) (flat_map holds below) d.object (subst (Includes (holds a)) e held)));
+  dying = λ d m f e. f.unheld.stack (subst (λ st. Includes (flat_map holds st) d.object) (sym top) (Includes-append_left (holds a) (flat_map holds below)
+      d.object (subst (Includes (holds a)) e held)));
   waiting = free;
 }
 

@@ -55,7 +55,10 @@ module _ (script : Script) (b a : Activity) (below : List Activity) (v : World) 
     was = x;
     member = m;
     later = later;
-    entries = inr (record { dying = λ d k f. changed.1 d.object (forgotten d.object f); waiting = λ k. changed.0 (h.waiting x.serial (Includes-append_right (waits_of a) (all_waits below) x.serial k) x m refl).code });
+    entries = inr (record {
+      dying = λ d k f. changed.1 d.object (forgotten d.object f);
+      waiting = λ k. changed.0 (h.waiting x.serial (Includes-append_right (waits_of a) (all_waits below) x.serial k) x m refl).code;
+    });
     place = λ k. inl (placed k);
   })
   from y (is_new serial condemned apart weak_alone functions) = inr (serial, apart)
@@ -89,12 +92,17 @@ taken_held command a b (FromFrame f commands left) o k = k
 
 steps_leave_it : (script : Script) → Steps script (λ w. (Sound w × Calm script w) × HasOrder w) (λ w events after. LeavesUnder w w.stack after)
 steps_leave_it script = record {
-  starts_due = λ a below v ha g e k. leaves_from (on a below v) below (push (new_collection g false (on a below v)) (on a below v)) (new_collection g false (on a below v) ∷ a ∷ []) refl (from_refl (on a below v) below v.objects);
+  starts_due = λ a below v ha g e k. leaves_from (on a below v) below (push (new_collection g false (on a below v)) (on a below v))
+      (new_collection g false (on a below v) ∷ a ∷ []) refl (from_refl (on a below v) below v.objects);
   ends = λ a lines below v last k. leaves_from (on a below v) below (record v { stack = a ∷ below; outcome = Ended }) (a ∷ []) refl (from_refl (on a below v) below v.objects);
   shuts_down = λ below v k. leaves_from (on (TopLevel []) below v) below (on (ShuttingDown false) below v) (ShuttingDown false ∷ []) refl (from_refl (on (TopLevel []) below v) below v.objects);
-  gives_up = λ name below v e k. (command_leaves script (ShuttingDown false) (ShuttingDown false) below v tt (λ o i. i) k.0.0.rises k.0.1 k.1 (Del name)).changes false [] _ _ (del_shaped (on (ShuttingDown false) below v) name);
-  collects_last = λ below v k. let w : World = on (ShuttingDown false) below v in leaves_from w below (push (new_collection 2 false w) (on (ShuttingDown true) below v)) (new_collection 2 false w ∷ ShuttingDown true ∷ []) refl (from_refl w below v.objects);
-  commands = λ command a b below v takes hb k. command_leaves script a b below v hb (taken_held command a b takes) k.0.0.rises (taken_calm script below v command a b takes k.0.1) (taken_orderly command a b below v takes k.1) command;
+  gives_up = λ name below v e k. (command_leaves script (ShuttingDown false) (ShuttingDown false) below v tt (λ o i. i) k.0.0.rises k.0.1 k.1
+      (Del name)).changes false [] _ _ (del_shaped (on (ShuttingDown false) below v) name);
+  collects_last = λ below v k. let w : World = on (ShuttingDown false) below v
+      in leaves_from w below (push (new_collection 2 false w) (on (ShuttingDown true) below v)) (new_collection 2 false w ∷ ShuttingDown true ∷ []) refl
+      (from_refl w below v.objects);
+  commands = λ command a b below v takes hb k. command_leaves script a b below v hb (taken_held command a b takes) k.0.0.rises
+      (taken_calm script below v command a b takes k.0.1) (taken_orderly command a b below v takes k.1) command;
   frame_ends = λ f below v left k. advance_leaves script below v (Framed f) k.0.1 k.1 _ _ (frame_end_advances script f below v);
   releases = λ references below v k. advance_leaves script below v (Releasing references) k.0.1 k.1 _ _ (released_advances script references below v);
   dies = λ d below v k. advance_leaves script below v (Dying d) k.0.1 k.1 _ _ (dying_advances script d.object below v d.phase);
@@ -102,7 +110,8 @@ steps_leave_it script = record {
 }
 
 pub step_leaves : (script : Script) (w : World) (events : List Event) (after : World) → Step script w events after → Sound w → Calm script w → HasOrder w → LeavesUnder w w.stack after
-step_leaves script w events after step sound c h = any_step script (λ u. (Sound u × Calm script u) × HasOrder u) (λ u events after. LeavesUnder u u.stack after) (steps_leave_it script) w events after step ((sound, c), h)
+step_leaves script w events after step sound c h = any_step script (λ u. (Sound u × Calm script u) × HasOrder u) (λ u events after. LeavesUnder u u.stack after)
+    (steps_leave_it script) w events after step ((sound, c), h)
 
 -- what that says of objects that are dying or waiting below
 cleared_forgotten : (script : Script) (w : World) (o : ℕ) (phase : DyingPhase) → Rests script w o phase → is_cleared phase ≡ true → Forgotten w o
@@ -116,7 +125,8 @@ cleared_forgotten script w o AfterLegacy h e = absurd (let no : false ≡ true =
 cleared_forgotten script w o Detaching h e = absurd h
 cleared_forgotten script w o Emptying h e = h.1
 
-module _ (script : Script) (w : World) (a : Activity) (below : List Activity) (after : World) (top : w.stack ≡ a ∷ below) (rises : Rises 1 w.next_serial w.objects) (resting : AreResting script w below) (h : HasOrder w) (l : LeavesIt w below after) where
+module _ (script : Script) (w : World) (a : Activity) (below : List Activity) (after : World) (top : w.stack ≡ a ∷ below)
+    (rises : Rises 1 w.next_serial w.objects) (resting : AreResting script w below) (h : HasOrder w) (l : LeavesIt w below after) where
   had : (y : Object) → Includes after.objects y → Includes (serials w.objects) y.serial → ¬ MayChange w below y.serial → HadItsEntries w.objects y
   had y m lives still = either (l.from y m)
       (λ k. (k.was, k.member, sym k.later.serial, either k.entries (λ e. e) (λ t. absurd (still (subst (MayChange w below) (sym k.later.serial) t)))))
@@ -136,10 +146,12 @@ module _ (script : Script) (w : World) (a : Activity) (below : List Activity) (a
     tops = l.tops;
     stack = l.stack;
     places = λ none y m c. placed none y m c;
-    dying = λ d k e y m s. had y m (subst (Includes (serials w.objects)) (sym s) (h.deaths_live d (subst (λ st. Includes st (Dying d)) (sym top) (inr k)))) (λ t. t.dying d k (cleared_forgotten script w d.object d.phase (resting d k) e) s);
+    dying = λ d k e y m s. had y m (subst (Includes (serials w.objects)) (sym s) (h.deaths_live d (subst (λ st. Includes st (Dying d)) (sym top) (inr k))))
+        (λ t. t.dying d k (cleared_forgotten script w d.object d.phase (resting d k) e) s);
     waiting = λ weak k y m s.
         let waits : Includes (all_waits below) y.serial = subst (Includes (all_waits below)) (sym s) k in
-        had y m (h.stack_lives y.serial (waits_held w.stack y.serial (subst (λ st. Includes (all_waits st) y.serial) (sym top) (Includes-append_right (waits_of a) (all_waits below) y.serial waits)))) (λ t. t.waiting waits);
+        had y m (h.stack_lives y.serial (waits_held w.stack y.serial (subst (λ st. Includes (all_waits st) y.serial) (sym top)
+        (Includes-append_right (waits_of a) (all_waits below) y.serial waits)))) (λ t. t.waiting waits);
   }
 
 run_split : (script : Script) (w : World) (steps : List StepTaken) (step : StepTaken) → Run script w (steps ++ step ∷ []) → Run script w steps × Step script (last_world w steps) step.events step.world

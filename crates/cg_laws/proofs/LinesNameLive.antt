@@ -50,7 +50,8 @@ filter_lives test objects n m =
 
 pub reversed_back : (xs : List ℕ) (n : ℕ) → Includes (reverse xs) n → Includes xs n
 reversed_back [] n m = m
-reversed_back (x ∷ xs) n m = either (Includes-append_cases (reverse xs) (x ∷ []) n (subst (λ ys. Includes ys n) (reverse-append (x ∷ []) xs) m)) (λ k. inr (reversed_back xs n k)) (λ k. either k (λ e. inl e) (λ e. absurd e))
+reversed_back (x ∷ xs) n m = either (Includes-append_cases (reverse xs) (x ∷ []) n (subst (λ ys. Includes ys n) (reverse-append (x ∷ []) xs) m))
+    (λ k. inr (reversed_back xs n k)) (λ k. either k (λ e. inl e) (λ e. absurd e))
 
 pub weak_lives : (test : Object → Bool) (objects : List Object) (o weak : ℕ) (weaks : List ℕ) → weak_references_if test objects o ≡ weak ∷ weaks → Includes (serials objects) weak
 weak_lives test objects o weak weaks e = go (unwrap_or (option_map test (object_at objects o)) false) e
@@ -70,7 +71,8 @@ without_lasts o objects n m = let x = Includes-map_cases (λ (z : Object). z.ser
   where
     go : (x : Object) (b : Bool) → (x.serial == o) ≡ b → Includes objects x → x.serial ≡ n → Includes (serials (without o objects)) n ⊎ (o ≡ n)
     go x true t k e = inr (sym (eqb-true x.serial o t) ∙ e)
-    go x false t k e = inl (subst (Includes (serials (without o objects))) e (Includes-map (λ (z : Object). z.serial) (without o objects) x (Includes-filter (λ x. not (x.serial == o)) objects x (ap not t) k)))
+    go x false t k e = inl (subst (Includes (serials (without o objects))) e (Includes-map (λ (z : Object). z.serial) (without o objects) x
+        (Includes-filter (λ x. not (x.serial == o)) objects x (ap not t) k)))
 
 -- a field of all objects of a serial that changes
 pub changed_all : (Q : Object → Type 0) (f : Object → Object) (o : ℕ) (objects : List Object) → ((x : Object) → Q (f x)) → (y : Object) → Includes (change f o objects) y → y.serial ≡ o → Q y
@@ -89,9 +91,12 @@ none_stays n before after h none y m e = let x = h y m in none_later x.0 y x.2 (
 pub all_lose_live : (wanted : Object → Bool) (weaks : List ℕ) (objects after : List Object) → AllLose wanted objects weaks after → (n : ℕ) → Includes weaks n → Includes (serials objects) n
 all_lose_live wanted [] objects after lose n m = absurd m
 all_lose_live wanted (weak ∷ weaks) objects after lose n (inl e) = subst (Includes (serials objects)) (lose.0.is ∙ e) (Includes-map (λ (z : Object). z.serial) objects lose.0.object lose.0.member)
-all_lose_live wanted (weak ∷ weaks) objects after lose n (inr m) = came_back objects (loses_referent weak objects) (lost_alters weak objects).origin n (all_lose_live wanted weaks (loses_referent weak objects) after lose.1 n m)
+all_lose_live wanted (weak ∷ weaks) objects after lose n (inr m) = came_back objects (loses_referent weak objects) (lost_alters weak objects).origin n
+    (all_lose_live wanted weaks (loses_referent weak objects) after lose.1 n m)
 
 pub all_lose_none : (wanted : Object → Bool) (weaks : List ℕ) (objects after : List Object) → AllLose wanted objects weaks after → (n : ℕ) → Includes weaks n → HasNoReferent n after
 all_lose_none wanted [] objects after lose n m = absurd m
-all_lose_none wanted (weak ∷ weaks) objects after lose n (inl e) = none_stays n (loses_referent weak objects) after (all_lose_alters wanted weaks (loses_referent weak objects) after lose.1).origin (subst (λ k. HasNoReferent k (loses_referent weak objects)) e (lost_none weak objects))
+all_lose_none wanted (weak ∷ weaks) objects after lose n (inl e) = none_stays n (loses_referent weak objects) after
+    (all_lose_alters wanted weaks (loses_referent weak objects) after lose.1).origin (subst (λ k. HasNoReferent k (loses_referent weak objects)) e
+    (lost_none weak objects))
 all_lose_none wanted (weak ∷ weaks) objects after lose n (inr m) = all_lose_none wanted weaks (loses_referent weak objects) after lose.1 n m

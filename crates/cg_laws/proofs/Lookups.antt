@@ -42,7 +42,8 @@ pub references_take : (n : ℕ) (entries : List Entry) (o : ℕ) → Includes (r
 references_take zero entries o m = absurd m
 references_take (suc n) [] o m = absurd m
 references_take (suc n) (e ∷ entries) o m =
-    either (Includes-append_cases (entry_references e) (references (take n entries)) o m) (λ k. Includes-append_left (entry_references e) (references entries) o k) (λ k. Includes-append_right (entry_references e) (references entries) o (references_take n entries o k))
+    either (Includes-append_cases (entry_references e) (references (take n entries)) o m) (λ k. Includes-append_left (entry_references e) (references entries) o
+    k) (λ k. Includes-append_right (entry_references e) (references entries) o (references_take n entries o k))
 
 -- what the entries of quiet objects do not hold
 pub entries_free : (objects : List Object) (s o : ℕ) → AreQuiet o objects → ¬ Includes (references (entries_of objects s)) o
@@ -68,7 +69,8 @@ last_lives objects o e h = go (object_at objects o) refl h
 -- The callback of a weak reference is the object in its entry. Without one, no object has that number.
 pub callback_first : (entries : List Entry) (f : ℕ) → callback_in entries ≡ Some f → Includes (references entries) f
 callback_first [] f e = let no : None ≡ Some f = e in cc
-callback_first (x ∷ entries) f e = Includes-append_left (entry_references x) (references entries) f (Includes-append_left (option_to_list (reference_in x.val)) (option_to_list (reference_in x.key)) f (subst (λ m. Includes (option_to_list m) f) (sym e) (inl refl)))
+callback_first (x ∷ entries) f e = Includes-append_left (entry_references x) (references entries) f (Includes-append_left (option_to_list (reference_in x.val))
+    (option_to_list (reference_in x.key)) f (subst (λ m. Includes (option_to_list m) f) (sym e) (inl refl)))
 
 pub callback_free : (low high : ℕ) (objects : List Object) (weak o : ℕ) → Rises (suc low) high objects → Includes (serials objects) o → AreQuiet o objects → unwrap_or (callback_of objects weak) 0 ≢ o
 callback_free low high objects weak o r lives q = go (object_at objects weak) refl
@@ -87,13 +89,15 @@ Includes-reversed [] x m = m
 Includes-reversed (y ∷ xs) x m = subst (λ ys. Includes ys x) (sym (reverse-append (y ∷ []) xs))
     (either m (λ e. Includes-append_right (reverse xs) (y ∷ []) x (inl e)) (λ k. Includes-append_left (reverse xs) (y ∷ []) x (Includes-reversed xs x k)))
 
-pub none_found : (test : Object → Bool) (low high : ℕ) (objects : List Object) (o : ℕ) (z x : Object) → Rises low high objects → weak_references_if test objects o ≡ [] → Includes objects z → z.serial ≡ o → test z ≡ true → Includes objects x → x.referent ≢ Some o
+pub none_found : (test : Object → Bool) (low high : ℕ) (objects : List Object) (o : ℕ) (z x : Object) → Rises low high objects → weak_references_if test objects
+    o ≡ [] → Includes objects z → z.serial ≡ o → test z ≡ true → Includes objects x → x.referent ≢ Some o
 none_found test low high objects o z x r none mz same passes mx refers =
     let at : object_at objects o ≡ Some z = subst (λ s. object_at objects s ≡ Some z) same (at_member low high objects z r mz) in
     let tested : unwrap_or (option_map test (object_at objects o)) false ≡ true = ap (λ m. unwrap_or (option_map test m) false) at ∙ passes in
     let all : weak_references objects o ≡ [] = ap (λ b. if b then weak_references objects o else []) (sym tested) ∙ none in
     let is : is_reference_to o x ≡ true = ap (λ m. unwrap_or (option_map (λ s. s == o) m) false) refers ∙ eq-eqb o o refl in
-    let member : Includes (weak_references objects o) x.serial = Includes-reversed (serials (filter (is_reference_to o) objects)) x.serial (Includes-map (λ (y : Object). y.serial) (filter (is_reference_to o) objects) x (Includes-filter (is_reference_to o) objects x is mx)) in
+    let member : Includes (weak_references objects o) x.serial = Includes-reversed (serials (filter (is_reference_to o) objects)) x.serial
+    (Includes-map (λ (y : Object). y.serial) (filter (is_reference_to o) objects) x (Includes-filter (is_reference_to o) objects x is mx)) in
     subst (λ ys. Includes ys x.serial) all member
 
 pub found_referent : (test : Object → Bool) (objects : List Object) (o weak : ℕ) (weaks : List ℕ) → weak_references_if test objects o ≡ weak ∷ weaks → Includes (serials objects) o

@@ -32,7 +32,8 @@ taken zero most some = absurd (some refl)
 taken (suc n) most some = let less : (suc n - 1) * most ≡ n * most = ap (λ k. k * most) (the_less n) in omega (arith, less, suc-mul n most)
 
 pub starts_makes : (most b : ℕ) (script : Script) (spec : FrameSpec) (u : World) → length (body_of script spec.proc) ≤ most → IsFew most b u → IsFew most b (start_frame script spec u).1
-starts_makes most b script spec u short h = starts_either (λ lines. IsFew most b) script spec u (record { within = h.within }) (λ some. record { within = omega (arith, h.within, short, taken u.budget most some) })
+starts_makes most b script spec u short h = starts_either (λ lines. IsFew most b) script spec u (record { within = h.within })
+    (λ some. record { within = omega (arith, h.within, short, taken u.budget most some) })
 
 -- a step of another activity adds no commands
 idle : (before after : List Object) (a b : Activity) → Continues before after a b → length (commands_on b) ≡ 0
@@ -46,6 +47,9 @@ tops_bring_none before after top tops below (BeginsDeath o references) = omega a
 tops_bring_none before after top tops below (TopGoesOn a b c held) = omega (arith, idle before after a b c)
 tops_bring_none before after top tops below (GivesReferences a b references few c held) = omega (arith, idle before after a b c)
 
-pub advance_makes : (most b : ℕ) (script : Script) (top : Activity) (below : List Activity) (v : World) → ((p : ℕ) → length (body_of script p) ≤ most) → (lines : List Event) (after : World) → Advance script v top below lines after → IsFew most b (on top below v) → IsFew most b after
-advance_makes most b script top below v short lines after (Plainly tops objects numbers ls t c n none) h = record { within = omega (arith, h.within, tops_bring_none v.objects objects top tops below t) }
-advance_makes most b script top below v short lines after (WithFrame spec a objects s c held m) h = starts_makes most b script spec (record v { objects = objects; stack = a ∷ below }) (short spec.proc) (record { within = omega (arith, h.within, idle v.objects objects top a c) })
+pub advance_makes : (most b : ℕ) (script : Script) (top : Activity) (below : List Activity) (v : World) → ((p : ℕ) → length (body_of script p) ≤ most)
+    → (lines : List Event) (after : World) → Advance script v top below lines after → IsFew most b (on top below v) → IsFew most b after
+advance_makes most b script top below v short lines after (Plainly tops objects numbers ls t c n none) h =
+    record { within = omega (arith, h.within, tops_bring_none v.objects objects top tops below t) }
+advance_makes most b script top below v short lines after (WithFrame spec a objects s c held m) h = starts_makes most b script spec
+    (record v { objects = objects; stack = a ∷ below }) (short spec.proc) (record { within = omega (arith, h.within, idle v.objects objects top a c) })

@@ -15,7 +15,8 @@ use Rattle.cg_laws.proofs.Making.{Few, IsFew, starts_makes, advance_makes}
 -- A command is taken, which may make an object.
 taken : (most b serial budget : ℕ) (command : Command) (a c : Activity) (below : List Activity) → Takes command a c → Few most b serial budget (a ∷ below) → Few most b (serial + 1) budget (c ∷ below)
 taken most b serial budget command a c below (FromTop commands) h = record { within = omega (arith, h.within) }
-taken most b serial budget command a c below (FromFrame f commands left) h = let one : length f.commands ≡ length (command ∷ commands) = ap length left in record { within = omega (arith, h.within, one) }
+taken most b serial budget command a c below (FromFrame f commands left) h = let one : length f.commands ≡ length (command ∷ commands) = ap length left
+    in record { within = omega (arith, h.within, one) }
 
 stopped : (most b serial budget : ℕ) (a : Activity) (below : List Activity) → HasCommands a → Few most b (serial + 1) budget (a ∷ below) → Few most b serial budget (emptied a ∷ below)
 stopped most b serial budget (TopLevel commands) below ha h = record { within = omega (arith, h.within) }
@@ -23,18 +24,26 @@ stopped most b serial budget (Framed f) below ha h = record { within = omega (ar
 stopped most b serial budget (ShuttingDown started) below ha h = record { within = omega (arith, h.within) }
 stopped most b serial budget a below ha h = absurd ha
 
-gives_up : (most b serial budget next left : ℕ) (a : Activity) (below : List Activity) (given_up : List ℕ) (stack : List Activity) → next ≤ serial + 1 → stack ≡ a ∷ below → left ≡ budget → Few most b (serial + 1) budget (a ∷ below) → Few most b next left (Releasing given_up ∷ stack)
-gives_up most b serial budget next left a below given_up stack s e k h = subst (λ st. Few most b next left (Releasing given_up ∷ st)) (sym e) (subst (λ n. Few most b next n (Releasing given_up ∷ a ∷ below)) (sym k) (record { within = omega (arith, h.within, s) }))
+gives_up : (most b serial budget next left : ℕ) (a : Activity) (below : List Activity) (given_up : List ℕ) (stack : List Activity) → next ≤ serial + 1 → stack
+    ≡ a ∷ below → left ≡ budget → Few most b (serial + 1) budget (a ∷ below) → Few most b next left (Releasing given_up ∷ stack)
+gives_up most b serial budget next left a below given_up stack s e k h = subst (λ st. Few most b next left (Releasing given_up ∷ st)) (sym e)
+    (subst (λ n. Few most b next n (Releasing given_up ∷ a ∷ below)) (sym k) (record { within = omega (arith, h.within, s) }))
 
 module _ (most b : ℕ) (script : Script) (short : (p : ℕ) → length (body_of script p) ≤ most) where
-  command_makes : (w : World) (command : Command) (a : Activity) (below : List Activity) (v : World) → HasCommands a → Few most b (v.next_serial + 1) v.budget (a ∷ below) → CommandSteps script (λ w events. IsFew most b) w command (on a below v) a below
+  command_makes : (w : World) (command : Command) (a : Activity) (below : List Activity) (v : World) → HasCommands a → Few most b (v.next_serial + 1) v.budget
+      (a ∷ below) → CommandSteps script (λ w events. IsFew most b) w command (on a below v) a below
   command_makes w command a below v ha h = record {
     stays = λ lines answers. record { within = omega (arith, h.within) };
     stops = λ lines answers. stopped most b v.next_serial v.budget a below ha h;
     changes = λ wants_memory lines given_up after shape.
         let l = changes_leave (on a below v) command wants_memory lines given_up after shape in
         gives_up most b v.next_serial v.budget after.next_serial after.budget a below given_up after.stack l.serial l.stack l.budget h;
-    calls = λ f k. starts_makes most b script (record { sort = CallFrame; proc = procedure_of (on a below v) f.serial; subject = f.serial; func = Some f.serial }) (on a below v) (short (procedure_of (on a below v) f.serial)) (record { within = omega (arith, h.within) });
+    calls = λ f k. starts_makes most b script (record {
+      sort = CallFrame;
+      proc = procedure_of (on a below v) f.serial;
+      subject = f.serial;
+      func = Some f.serial;
+    }) (on a below v) (short (procedure_of (on a below v) f.serial)) (record { within = omega (arith, h.within) });
     asks = λ g low e. record { within = omega (arith, h.within) };
   }
 

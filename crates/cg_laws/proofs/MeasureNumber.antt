@@ -23,7 +23,8 @@ product a b x y h k = omega (arith, mul-le-mul_right x h, mul-le-mul_left b k)
 product_gap : (a b g x y : ℕ) → a + g ≤ b → x ≤ y → a * x + g * y ≤ b * y
 product_gap a b g x y h k = omega (arith, mul-le-mul_left a k, mul-le-mul_right y h)
 
-quiet : (n o : Summary) → n.commands ≤ o.commands → n.size ≤ o.size → n.due ≤ o.due → n.rank ≤ o.rank → 30 * n.left + 20 * n.entries + n.referents + n.weight < 30 * o.left + 20 * o.entries + o.referents + o.weight → number n < number o
+quiet : (n o : Summary) → n.commands ≤ o.commands → n.size ≤ o.size → n.due ≤ o.due → n.rank ≤ o.rank → 30 * n.left + 20 * n.entries + n.referents + n.weight <
+    30 * o.left + 20 * o.entries + o.referents + o.weight → number n < number o
 quiet n o c s d k h =
     let first = product n.commands o.commands (4000 * (n.size + n.commands + 1) + 80000200) (4000 * (o.size + o.commands + 1) + 80000200) c (omega (arith, s, c)) in
     let second = product (1300 * n.due + 120 * n.rank) (1300 * o.due + 120 * o.rank) (n.size + n.commands + 1) (o.size + o.commands + 1) (omega (arith, d, k)) (omega (arith, s, c)) in
@@ -81,7 +82,11 @@ stack_bound objects (Collecting c ∷ stack) h =
 stack_bound objects (_ ∷ stack) h = let k = stack_bound objects stack (omega (arith, h)) in (omega (arith, k.0), omega (arith, k.1))
 
 pub bounded : (script : Script) (w : World) → Sound w → Bounded (summary script w)
-bounded script w sound = record { due = due_two (is_due w.numbers) (list_any is_starting w.stack); rank = (stack_bound w.objects w.stack sound.single).0; left = (stack_bound w.objects w.stack sound.single).1 }
+bounded script w sound = record {
+  due = due_two (is_due w.numbers) (list_any is_starting w.stack);
+  rank = (stack_bound w.objects w.stack sound.single).0;
+  left = (stack_bound w.objects w.stack sound.single).1;
+}
 
 -- So each step lowers the number of a sound world, and leaves it sound.
 abbrev pub number_of : Script → World → ℕ

@@ -46,7 +46,8 @@ module _ (limits : Limits) (n : Numbers) (budget : ℕ) (stack : List Activity) 
   begun_counts false true = omega arith
   begun_counts false false = omega arith
 
-  survivors_pend : (spent survivors : ℕ) → n.pending ≤ spent * limits.objects → survivors ≤ limits.objects → (zero one : Bool) → (if zero then n.pending else (if one then n.pending + survivors else 0)) ≤ suc spent * limits.objects
+  survivors_pend : (spent survivors : ℕ) → n.pending ≤ spent * limits.objects → survivors ≤ limits.objects → (zero one : Bool)
+      → (if zero then n.pending else (if one then n.pending + survivors else 0)) ≤ suc spent * limits.objects
   survivors_pend spent survivors h fit true one = omega (arith, h)
   survivors_pend spent survivors h fit false true = omega (arith, h, fit)
   survivors_pend spent survivors h fit false false = omega arith
@@ -84,7 +85,13 @@ full_settles limits n budget stack h survivors fit = record { spent = h.spent; w
 -- activities without commands are pushed and popped
 module _ (limits : Limits) (n : Numbers) (budget : ℕ) (a : Activity) (below : List Activity) where
   pub on_top : left_on (a ∷ []) ≡ 0 → is_starting a ≡ false → Settled limits n budget below → Settled limits n budget (a ∷ below)
-  on_top none quiet h = record { spent = h.spent; within = omega (arith, h.within, none); pending = h.pending; total = h.total; still = subst (λ b. (b || list_any is_starting below) ≡ false) (sym quiet) h.still }
+  on_top none quiet h = record {
+    spent = h.spent;
+    within = omega (arith, h.within, none);
+    pending = h.pending;
+    total = h.total;
+    still = subst (λ b. (b || list_any is_starting below) ≡ false) (sym quiet) h.still;
+  }
 
   pub off_top : Settled limits n budget (a ∷ below) → Settled limits n budget below
   off_top h = record { spent = h.spent; within = omega (arith, h.within); pending = h.pending; total = h.total; still = (or_parts (is_starting a) (list_any is_starting below) h.still).1 }

@@ -61,7 +61,8 @@ counted : (limits : Limits) (after : World) → IsSettled limits after → IsCou
 counted limits after s = settled_counted limits after.numbers after.budget after.stack s
 
 -- A command counts at most one object, or asks for a collection.
-module _ (limits : Limits) (script : Script) (short : (p : ℕ) → length (body_of script p) ≤ limits.longest) (a : Activity) (below : List Activity) (v : World) (ha : HasCommands a) (h : Settled limits (raised v.numbers) v.budget (a ∷ below)) where
+module _ (limits : Limits) (script : Script) (short : (p : ℕ) → length (body_of script p) ≤ limits.longest) (a : Activity) (below : List Activity) (v : World)
+    (ha : HasCommands a) (h : Settled limits (raised v.numbers) v.budget (a ∷ below)) where
   abbrev now : World
   now = with_stack (a ∷ below) v
 
@@ -73,13 +74,14 @@ module _ (limits : Limits) (script : Script) (short : (p : ℕ) → length (body
   fewer b less quiet = record { spent = h.spent; within = omega (arith, h.within, less); pending = h.pending; total = h.total; still = ap (λ t. t || list_any is_starting below) quiet ∙ h.still }
 
   gives_up : (given_up : List ℕ) (after : World) → after.stack ≡ a ∷ below → after.budget ≡ v.budget → CountsOne v.numbers after.numbers → IsSettled limits (push (Releasing given_up) after)
-  gives_up given_up after s k one = subst (λ st. Settled limits after.numbers after.budget (Releasing given_up ∷ st)) (sym s) (subst (λ b. Settled limits after.numbers b (Releasing given_up ∷ a ∷ below)) (sym k) (record {
-    spent = h.spent;
-    within = omega (arith, h.within, one.counts_one);
-    pending = omega (arith, h.pending, one.pending);
-    total = omega (arith, h.total, one.total);
-    still = h.still;
-  }))
+  gives_up given_up after s k one = subst (λ st. Settled limits after.numbers after.budget (Releasing given_up ∷ st)) (sym s)
+      (subst (λ b. Settled limits after.numbers b (Releasing given_up ∷ a ∷ below)) (sym k) (record {
+        spent = h.spent;
+        within = omega (arith, h.within, one.counts_one);
+        pending = omega (arith, h.pending, one.pending);
+        total = omega (arith, h.total, one.total);
+        still = h.still;
+      }))
 
   emptied_counts : (top : Activity) → top ≡ a → HasCommands top → Settled limits v.numbers v.budget (emptied top ∷ below)
   emptied_counts (TopLevel commands) same k = fewer (TopLevel []) (omega arith) (ap is_starting same)
@@ -94,14 +96,18 @@ module _ (limits : Limits) (script : Script) (short : (p : ℕ) → length (body
     changes = λ wants_memory lines given_up after shape.
         let l = changes_leave now command wants_memory lines given_up after shape in
         counted limits (push (Releasing given_up) after) (gives_up given_up after l.stack l.budget (shape_counts now command (Changes wants_memory lines given_up after) shape));
-    calls = λ f k. counted limits (start_frame script (record { sort = CallFrame; proc = procedure_of now f.serial; subject = f.serial; func = Some f.serial }) now).1 (starts_counts limits script (record { sort = CallFrame; proc = procedure_of now f.serial; subject = f.serial; func = Some f.serial }) now (short (procedure_of now f.serial)) stays);
+    calls = λ f k. counted limits (start_frame script (record { sort = CallFrame; proc = procedure_of now f.serial; subject = f.serial; func = Some f.serial })
+        now).1 (starts_counts limits script (record { sort = CallFrame; proc = procedure_of now f.serial; subject = f.serial; func = Some f.serial }) now
+        (short (procedure_of now f.serial)) stays);
     asks = λ g low e. record { now = stays; soon = λ first. asked_settles limits v.numbers v.budget (a ∷ below) g h };
   }
 
 -- a collection that is due is pushed
-due_pushed : (limits : Limits) (w : World) → IsSettled limits w → (is t : Bool) → is_due w.numbers ≡ is → (g : ℕ) → (if is && not t then Some (due_generation w.numbers) else None) ≡ Some g → StartsSettled limits w.numbers w.budget w.stack g
+due_pushed : (limits : Limits) (w : World) → IsSettled limits w → (is t : Bool) → is_due w.numbers ≡ is → (g : ℕ)
+    → (if is && not t then Some (due_generation w.numbers) else None) ≡ Some g → StartsSettled limits w.numbers w.budget w.stack g
 due_pushed limits w h true true e g d = absurd (let no : None ≡ Some g = d in cc)
-due_pushed limits w h true false e g d = let same : due_generation w.numbers ≡ g = cc in subst (StartsSettled limits w.numbers w.budget w.stack) same (due_settles limits w.numbers w.budget w.stack e h)
+due_pushed limits w h true false e g d = let same : due_generation w.numbers ≡ g = cc in subst (StartsSettled limits w.numbers w.budget w.stack) same
+    (due_settles limits w.numbers w.budget w.stack e h)
 due_pushed limits w h false t e g d = absurd (let no : None ≡ Some g = d in cc)
 
 due_counts : (limits : Limits) (w : World) → IsSettled limits w → (g : ℕ) → due w ≡ Some g → IsCounted limits (push (new_collection g false w) w)
@@ -114,14 +120,16 @@ on_commands limits (Framed f) below v ha h = h
 on_commands limits (ShuttingDown started) below v ha h = h
 on_commands limits a below v ha h = absurd ha
 
-taken : (limits : Limits) (command : Command) (a b : Activity) (below : List Activity) (v : World) → Takes command a b → IsCounted limits (on a below v) → Settled limits (raised v.numbers) v.budget (b ∷ below)
+taken : (limits : Limits) (command : Command) (a b : Activity) (below : List Activity) (v : World) → Takes command a b → IsCounted limits (on a below v)
+    → Settled limits (raised v.numbers) v.budget (b ∷ below)
 taken limits command a b below v (FromTop commands) h = record { spent = h.spent; within = omega (arith, h.within); pending = h.pending; total = h.total; still = h.still }
 taken limits command a b below v (FromFrame f commands left) h =
     let one : length f.commands ≡ length (command ∷ commands) = ap length left in
     record { spent = h.spent; within = omega (arith, h.within, one); pending = h.pending; total = h.total; still = h.still }
 
 module _ (limits : Limits) (script : Script) (short : (p : ℕ) → length (body_of script p) ≤ limits.longest) where
-  advances : (top : Activity) (below : List Activity) (v : World) → length v.objects ≤ limits.objects → Settled limits v.numbers v.budget below → ((c : Collection) → top ≡ Collecting c → c.phase ≡ Start → StartsSettled limits v.numbers v.budget below c.generation)
+  advances : (top : Activity) (below : List Activity) (v : World) → length v.objects ≤ limits.objects → Settled limits v.numbers v.budget below
+      → ((c : Collection) → top ≡ Collecting c → c.phase ≡ Start → StartsSettled limits v.numbers v.budget below c.generation)
       → (lines : List Event) (after : World) → Advance script v top below lines after → IsCounted limits after
   advances top below v fit rest soon lines after step = counted limits after (advance_counts limits script top below v short fit rest soon lines after step)
 
@@ -132,13 +140,22 @@ module _ (limits : Limits) (script : Script) (short : (p : ℕ) → length (body
     shuts_down = λ below v k. record { spent = k.1.spent; within = omega (arith, k.1.within); pending = k.1.pending; total = k.1.total; still = k.1.still };
     gives_up = λ name below v e k. record { spent = k.1.spent; within = omega (arith, k.1.within); pending = k.1.pending; total = k.1.total; still = k.1.still };
     collects_last = λ below v k.
-        let now : Settled limits v.numbers v.budget (ShuttingDown true ∷ below) = record { spent = k.1.spent; within = omega (arith, k.1.within); pending = k.1.pending; total = k.1.total; still = k.1.still } in
+        let now : Settled limits v.numbers v.budget (ShuttingDown true ∷ below) = record {
+          spent = k.1.spent;
+          within = omega (arith, k.1.within);
+          pending = k.1.pending;
+          total = k.1.total;
+          still = k.1.still;
+        } in
         record { now = now; soon = λ first. full_settles limits v.numbers v.budget (ShuttingDown true ∷ below) now };
     commands = λ command a b below v takes hb k. command_counts limits script short b below v hb (taken limits command a b below v takes k.1) (on a below v) command;
     frame_ends = λ f below v left k. advances (Framed f) below v k.0 (off_top limits v.numbers v.budget (Framed f) below k.1) (λ c e. cc) _ _ (frame_end_advances script f below v);
-    releases = λ references below v k. advances (Releasing references) below v k.0 (off_top limits v.numbers v.budget (Releasing references) below k.1) (λ c e. cc) _ _ (released_advances script references below v);
+    releases = λ references below v k. advances (Releasing references) below v k.0 (off_top limits v.numbers v.budget (Releasing references) below k.1)
+        (λ c e. cc) _ _ (released_advances script references below v);
     dies = λ d below v k. advances (Dying d) below v k.0 (off_top limits v.numbers v.budget (Dying d) below k.1) (λ c e. cc) _ _ (dying_advances script d.object below v d.phase);
-    collects = λ c below v events after step k. advances (Collecting c) below v k.0 k.1.now (λ d e. subst (λ (z : Collection). z.phase ≡ Start → StartsSettled limits v.numbers v.budget below z.generation) (let same : c ≡ d = cc in same) k.1.soon) events after (phase_advances script c below v c.phase events after step);
+    collects = λ c below v events after step k. advances (Collecting c) below v k.0 k.1.now (λ d e. subst (λ (z : Collection). z.phase ≡ Start
+        → StartsSettled limits v.numbers v.budget below z.generation) (let same : c ≡ d = cc in same) k.1.soon) events after (phase_advances script c below v
+        c.phase events after step);
   }
 
 -- serials rise, so there are fewer objects than serials
@@ -160,7 +177,8 @@ opening_counted : (script : Script) (budget most : ℕ) → IsCounted (limits_of
 opening_counted script budget most = record { spent = 0; within = omega arith; pending = omega arith; total = omega arith; still = refl }
 
 -- settled numbers are few
-settled_few : (commands longest budget : ℕ) (n : Numbers) (stack : List Activity) → Settled (record { longest = longest; commands = commands; objects = commands + 1 }) n budget stack → AreFew commands n
+settled_few : (commands longest budget : ℕ) (n : Numbers) (stack : List Activity)
+    → Settled (record { longest = longest; commands = commands; objects = commands + 1 }) n budget stack → AreFew commands n
 settled_few commands longest budget n stack h = record {
   zero = omega (arith, h.within);
   one = omega (arith, h.within);
@@ -173,5 +191,7 @@ pub numbers_few : NumbersAreFew
 numbers_few script budget steps run most short =
     let limits = limits_of script budget most in
     let w = last_world (opening script budget) steps in
-    let now = counted_now limits w.numbers w.budget w.stack (by_runs script budget (λ w. length w.objects ≤ limits.objects) (IsCounted limits) (record { opens = opening_counted script budget most; keeps = keeps_counted limits script short }) (worlds_stay_few script budget most short) steps run) in
+    let now = counted_now limits w.numbers w.budget w.stack (by_runs script budget (λ w. length w.objects ≤ limits.objects) (IsCounted limits)
+    (record { opens = opening_counted script budget most; keeps = keeps_counted limits script short }) (worlds_stay_few script budget most short) steps run)
+    in
     settled_few limits.commands most w.budget w.numbers now.0 now.1

@@ -59,12 +59,15 @@ tops_idle before after top tops below (BeginsDeath o references) = refl
 tops_idle before after top tops below (TopGoesOn a b c held) = ap (λ cs. cs ++ flat_map commands_on below) (continues_idle before after a b c)
 tops_idle before after top tops below (GivesReferences a b references few c held) = ap (λ cs. cs ++ flat_map commands_on below) (continues_idle before after a b c)
 
-changes_origin : (script : Script) (before after : List Object) (top : Activity) (tops below now : List Activity) (lines : List Event) → Tops before after top tops → HasChanged top now lines before after → AreOfScript script before (top ∷ below) → AreOfScript script after (tops ++ below)
+changes_origin : (script : Script) (before after : List Object) (top : Activity) (tops below now : List Activity) (lines : List Event)
+    → Tops before after top tops → HasChanged top now lines before after → AreOfScript script before (top ∷ below) → AreOfScript script after (tops ++ below)
 changes_origin script before after top tops below now lines t c h = record {
   commands = λ command m. (popped_origin script before top below h).commands command (subst (λ cs. Includes cs command) (tops_idle before after top tops below t) m);
   objects = λ y m. let x = changed_origin top now lines before after c y m in later_of_script script x.0 y x.2 (h.objects x.0 x.1);
 }
 
-pub advance_origin : (script : Script) (top : Activity) (below : List Activity) (v : World) (lines : List Event) (after : World) → Advance script v top below lines after → IsAllOfScript script (on top below v) → IsAllOfScript script after
+pub advance_origin : (script : Script) (top : Activity) (below : List Activity) (v : World) (lines : List Event) (after : World) → Advance script v top below
+    lines after → IsAllOfScript script (on top below v) → IsAllOfScript script after
 advance_origin script top below v lines after (Plainly tops objects numbers ls t c n none) h = changes_origin script v.objects objects top tops below tops ls t c h
-advance_origin script top below v lines after (WithFrame spec a objects s c held m) h = starts_origin script spec (record v { objects = objects; stack = a ∷ below }) (changes_origin script v.objects objects top (a ∷ []) below [] [] (TopGoesOn top a c held) m h)
+advance_origin script top below v lines after (WithFrame spec a objects s c held m) h = starts_origin script spec
+    (record v { objects = objects; stack = a ∷ below }) (changes_origin script v.objects objects top (a ∷ []) below [] [] (TopGoesOn top a c held) m h)

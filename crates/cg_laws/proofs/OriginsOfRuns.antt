@@ -23,19 +23,31 @@ use Rattle.cg_laws.proofs.Advancing.{frame_end_advances, released_advances, dyin
 use Rattle.cg_laws.proofs.Origins.{AreOfScript, IsAllOfScript, later_of_script, starts_origin, popped_origin, advance_origin}
 
 module _ (script : Script) where
-  made_of_script : (command : Command) → Includes (all_commands script) command → (y : Object) (code : KindCode) (class : Option ℕ) → y.code ≡ code → y.class ≡ class → IsMadeBy command code class → IsOfScript script y
+  made_of_script : (command : Command) → Includes (all_commands script) command → (y : Object) (code : KindCode) (class : Option ℕ) → y.code ≡ code → y.class
+      ≡ class → IsMadeBy command code class → IsOfScript script y
   made_of_script command m y code class c k (ByInst name number) = record { class = λ e. (number, k, (name, m)); procedure = λ e. absurd (let no : Inst ≡ Func = sym c ∙ e in cc) }
   made_of_script command m y code class c k (ByFunc name proc cells) = record { class = λ e. absurd (let no : Func ≡ Inst = sym c ∙ e in cc); procedure = λ e. (proc, k, (name, cells, m)) }
-  made_of_script command m y code class c k (ByList name items) = record { class = λ e. absurd (let no : ListKind ≡ Inst = sym c ∙ e in cc); procedure = λ e. absurd (let no : ListKind ≡ Func = sym c ∙ e in cc) }
-  made_of_script command m y code class c k (ByTuple name items) = record { class = λ e. absurd (let no : Tuple ≡ Inst = sym c ∙ e in cc); procedure = λ e. absurd (let no : Tuple ≡ Func = sym c ∙ e in cc) }
+  made_of_script command m y code class c k (ByList name items) = record {
+    class = λ e. absurd (let no : ListKind ≡ Inst = sym c ∙ e in cc);
+    procedure = λ e. absurd (let no : ListKind ≡ Func = sym c ∙ e in cc);
+  }
+  made_of_script command m y code class c k (ByTuple name items) = record {
+    class = λ e. absurd (let no : Tuple ≡ Inst = sym c ∙ e in cc);
+    procedure = λ e. absurd (let no : Tuple ≡ Func = sym c ∙ e in cc);
+  }
   made_of_script command m y code class c k (ByDict name) = record { class = λ e. absurd (let no : Dict ≡ Inst = sym c ∙ e in cc); procedure = λ e. absurd (let no : Dict ≡ Func = sym c ∙ e in cc) }
-  made_of_script command m y code class c k (ByRef name target callback) = record { class = λ e. absurd (let no : Weak ≡ Inst = sym c ∙ e in cc); procedure = λ e. absurd (let no : Weak ≡ Func = sym c ∙ e in cc) }
+  made_of_script command m y code class c k (ByRef name target callback) = record {
+    class = λ e. absurd (let no : Weak ≡ Inst = sym c ∙ e in cc);
+    procedure = λ e. absurd (let no : Weak ≡ Func = sym c ∙ e in cc);
+  }
 
   -- a taken command comes from the script
-  taken : (command : Command) (a b : Activity) (below : List Activity) (objects : List Object) → Takes command a b → AreOfScript script objects (a ∷ below) → AreOfScript script objects (b ∷ below) × Includes (all_commands script) command
+  taken : (command : Command) (a b : Activity) (below : List Activity) (objects : List Object) → Takes command a b → AreOfScript script objects (a ∷ below)
+      → AreOfScript script objects (b ∷ below) × Includes (all_commands script) command
   taken command a b below objects (FromTop commands) h = (record { commands = λ c m. h.commands c (inr m); objects = h.objects }, h.commands command (inl refl))
   taken command a b below objects (FromFrame f commands left) h =
-      let all : (c : Command) → Includes ((command ∷ commands) ++ flat_map commands_on below) c → Includes (all_commands script) c = λ c m. h.commands c (subst (λ (cs : List Command). Includes (cs ++ flat_map commands_on below) c) (sym left) m) in
+      let all : (c : Command) → Includes ((command ∷ commands) ++ flat_map commands_on below) c → Includes (all_commands script) c =
+      λ c m. h.commands c (subst (λ (cs : List Command). Includes (cs ++ flat_map commands_on below) c) (sym left) m) in
       (record { commands = λ c m. all c (inr m); objects = h.objects }, all command (inl refl))
 
   stopped : (a : Activity) (below : List Activity) (objects : List Object) → HasCommands a → AreOfScript script objects (a ∷ below) → AreOfScript script objects (emptied a ∷ below)
@@ -44,13 +56,15 @@ module _ (script : Script) where
   stopped (ShuttingDown started) below objects ha h = h
   stopped a below objects ha h = absurd ha
 
-  command_origin : (w : World) (command : Command) (b : Activity) (below : List Activity) (v : World) → HasCommands b → AreOfScript script v.objects (b ∷ below) × Includes (all_commands script) command → CommandSteps script (λ w events. IsAllOfScript script) w command (on b below v) b below
+  command_origin : (w : World) (command : Command) (b : Activity) (below : List Activity) (v : World) → HasCommands b → AreOfScript script v.objects (b ∷ below)
+      × Includes (all_commands script) command → CommandSteps script (λ w events. IsAllOfScript script) w command (on b below v) b below
   command_origin w command b below v hb k = record {
     stays = λ lines answers. k.0;
     stops = λ lines answers. stopped b below v.objects hb k.0;
     changes = λ wants_memory lines given_up after shape. record {
       commands = λ c m. k.0.commands c (subst (λ (st : List Activity). Includes (flat_map commands_on st) c) (changes_leave (on b below v) command wants_memory lines given_up after shape).stack m);
-      objects = λ y m. either (shape_comes (on b below v) command (Changes wants_memory lines given_up after) shape y m) (λ x. later_of_script script x.0 y x.2 (k.0.objects x.0 x.1)) (made_of_script command k.1 y y.code y.class refl refl);
+      objects = λ y m. either (shape_comes (on b below v) command (Changes wants_memory lines given_up after) shape y m) (λ x. later_of_script script x.0 y x.2
+          (k.0.objects x.0 x.1)) (made_of_script command k.1 y y.code y.class refl refl);
     };
     calls = λ f h. starts_origin script (record { sort = CallFrame; proc = procedure_of (on b below v) f.serial; subject = f.serial; func = Some f.serial }) (on b below v) k.0;
     asks = λ g low e. record { commands = k.0.commands; objects = k.0.objects };
@@ -75,7 +89,8 @@ module _ (script : Script) where
 
 pub opening_origin : (script : Script) (budget : ℕ) → IsAllOfScript script (opening script budget)
 opening_origin script budget = record {
-  commands = λ command m. either (Includes-append_cases (commands_of script.items) [] command m) (λ k. Includes-append_left (commands_of script.items) (flat_map (λ p. p.body) (procedures script.items)) command k) (λ n. absurd n);
+  commands = λ command m. either (Includes-append_cases (commands_of script.items) [] command m) (λ k. Includes-append_left (commands_of script.items)
+      (flat_map (λ p. p.body) (procedures script.items)) command k) (λ n. absurd n);
   objects = λ x m. either m (λ e. subst (IsOfScript script) e (record { class = λ k. absurd (cc); procedure = λ k. absurd (cc) })) (λ n. absurd n);
 }
 

@@ -40,24 +40,29 @@ top_level script w (Some g) commands below = ([], push (new_collection g false w
 top_level script w None [] below = after_commands (declares_shutdown script.items) below w
 top_level script w None (command ∷ commands) below = taken script (with_stack (TopLevel commands ∷ below) w) (effect (with_stack (TopLevel commands ∷ below) w) command)
 
-pub top_level_steps : (script : Script) (w : World) (d : Option ℕ) (commands : List Command) (below : List Activity) → TopLevelStep script w d commands below (top_level script w d commands below).0 (top_level script w d commands below).1
+pub top_level_steps : (script : Script) (w : World) (d : Option ℕ) (commands : List Command) (below : List Activity) → TopLevelStep script w d commands below
+    (top_level script w d commands below).0 (top_level script w d commands below).1
 top_level_steps script w (Some g) commands below = (refl, refl)
 top_level_steps script w None [] below = (refl, refl)
 top_level_steps script w None (command ∷ commands) below = taken_does script (with_stack (TopLevel commands ∷ below) w) (effect (with_stack (TopLevel commands ∷ below) w) command)
 
 abbrev pub in_frame : Script → World → Option ℕ → Frame → Command → List Command → List Activity → Transition
 in_frame script w (Some g) f command commands below = ([], push (new_collection g false w) w)
-in_frame script w None f command commands below = taken script (with_stack (Framed (record f { commands = commands }) ∷ below) w) (effect (with_stack (Framed (record f { commands = commands }) ∷ below) w) command)
+in_frame script w None f command commands below = taken script (with_stack (Framed (record f { commands = commands }) ∷ below) w)
+    (effect (with_stack (Framed (record f { commands = commands }) ∷ below) w) command)
 
-pub in_frame_steps : (script : Script) (w : World) (d : Option ℕ) (f : Frame) (command : Command) (commands : List Command) (below : List Activity) → CommandInFrame script w d f command commands below (in_frame script w d f command commands below).0 (in_frame script w d f command commands below).1
+pub in_frame_steps : (script : Script) (w : World) (d : Option ℕ) (f : Frame) (command : Command) (commands : List Command) (below : List Activity)
+    → CommandInFrame script w d f command commands below (in_frame script w d f command commands below).0 (in_frame script w d f command commands below).1
 in_frame_steps script w (Some g) f command commands below = (refl, refl)
-in_frame_steps script w None f command commands below = taken_does script (with_stack (Framed (record f { commands = commands }) ∷ below) w) (effect (with_stack (Framed (record f { commands = commands }) ∷ below) w) command)
+in_frame_steps script w None f command commands below = taken_does script (with_stack (Framed (record f { commands = commands }) ∷ below) w)
+    (effect (with_stack (Framed (record f { commands = commands }) ∷ below) w) command)
 
 abbrev pub framed : Script → World → Frame → List Command → List Activity → Transition
 framed script w f [] below = frame_end f (with_stack below w)
 framed script w f (command ∷ commands) below = in_frame script w (due w) f command commands below
 
-pub framed_steps : (script : Script) (w : World) (f : Frame) (commands : List Command) (below : List Activity) → FrameStep script w f commands below (framed script w f commands below).0 (framed script w f commands below).1
+pub framed_steps : (script : Script) (w : World) (f : Frame) (commands : List Command) (below : List Activity) → FrameStep script w f commands below
+    (framed script w f commands below).0 (framed script w f commands below).1
 framed_steps script w f [] below = (refl, refl)
 framed_steps script w f (command ∷ commands) below = in_frame_steps script w (due w) f command commands below
 
@@ -123,7 +128,8 @@ both true false h = absurd h
 both false true h = absurd h
 both false false h = absurd h
 
-goes_on : (script : Script) (w : World) (steps : List StepTaken) (b : Bool) (o : Outcome) → (w.outcome ≡ Running → T b → Run script w steps) → w.outcome ≡ o → T (to_end o b) → Run script w (up_to_end o steps)
+goes_on : (script : Script) (w : World) (steps : List StepTaken) (b : Bool) (o : Outcome) → (w.outcome ≡ Running → T b → Run script w steps) → w.outcome ≡ o
+    → T (to_end o b) → Run script w (up_to_end o steps)
 goes_on script w steps b Running go e h = go e h
 goes_on script w steps b Ended go e h = tt
 goes_on script w steps b BudgetIsSpent go e h = tt

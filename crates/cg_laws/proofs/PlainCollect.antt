@@ -38,7 +38,8 @@ distinct_only : (xs : List ℕ) (y : ℕ) → Includes (distinct xs) y → Inclu
 distinct_only [] y h = h
 distinct_only (x ∷ xs) y h = distinct_only_at (includes xs x) x xs y (distinct_only xs y) h
 
-distinct_keeps_at : (b : Bool) (x : ℕ) (xs : List ℕ) (y : ℕ) → includes xs x ≡ b → ((z : ℕ) → Includes xs z → Includes (distinct xs) z) → (x ≡ y) ⊎ Includes xs y → Includes (distinct_at b x (distinct xs)) y
+distinct_keeps_at : (b : Bool) (x : ℕ) (xs : List ℕ) (y : ℕ) → includes xs x ≡ b → ((z : ℕ) → Includes xs z → Includes (distinct xs) z) → (x ≡ y)
+    ⊎ Includes xs y → Includes (distinct_at b x (distinct xs)) y
 distinct_keeps_at true x xs y e ih k = either k (λ i. ih y (subst (λ z. Includes xs z) i (Includes-of xs x e))) (ih y)
 distinct_keeps_at false x xs y e ih k = either k (λ i. inl i) (λ m. inr (ih y m))
 
@@ -55,7 +56,8 @@ occurrences_none o (x ∷ xs) h =
 once_at : (b c : Bool) (o x : ℕ) (xs : List ℕ) → includes xs x ≡ b → (x == o) ≡ c → occurrences o (distinct xs) < 2 → occurrences o (distinct_at b x (distinct xs)) < 2
 once_at true c o x xs e d ih = ih
 once_at false true o x xs e d ih =
-    let none : occurrences o (distinct xs) ≡ 0 = occurrences_none o (distinct xs) (λ m. let there : includes xs x ≡ true = includes-of xs x (subst (λ z. Includes xs z) (sym (eqb-true x o d)) (distinct_only xs o m)) in cc) in
+    let none : occurrences o (distinct xs) ≡ 0 = occurrences_none o (distinct xs) (λ m. let there : includes xs x ≡ true = includes-of xs x
+    (subst (λ z. Includes xs z) (sym (eqb-true x o d)) (distinct_only xs o m)) in cc) in
     rw (occurrences-cons o x (distinct xs), d, none) (omega arith)
 once_at false false o x xs e d ih = rw (occurrences-cons o x (distinct xs), d) (omega (arith, ih))
 
@@ -87,7 +89,12 @@ plain_weak_at c waiting below w (Some y) = clears_one c waiting below w y.serial
 plain_weak_steps_at : (profile : ℕ) (c : Collection) (waiting : List ℕ) (below : List Activity) (w : World) (o : Option Object) → IsGreatest (loses_in_weak_phase profile w.objects) w.objects o
     → WeakClearingStep profile c waiting below w (plain_weak_at c waiting below w o).0 (plain_weak_at c waiting below w o).1
 plain_weak_steps_at profile c waiting below w None none = inr (none, (refl, refl))
-plain_weak_steps_at profile c waiting below w (Some y) some = inl (record { weak = y.serial; newest = greatest_is_newest (loses_in_weak_phase profile w.objects) w.objects y some; yields = (refl, refl) })
+plain_weak_steps_at profile c waiting below w (Some y) some = inl (record {
+  weak = y.serial;
+  newest = greatest_is_newest (loses_in_weak_phase profile w.objects)
+      w.objects y some;
+  yields = (refl, refl);
+})
 
 abbrev pub plain_finalizing : Script → Collection → List Activity → World → List ℕ → Transition
 plain_finalizing script c below w [] = ([], collection_at c Split below (replaced_place Seen Cand w))
@@ -128,7 +135,8 @@ abbrev pub plain_turns : Collection → List Activity → World → List Object 
 plain_turns c below w [] = ([], collection_at c Ending below w)
 plain_turns c below w (x ∷ xs) = takes_turn c x below w
 
-plain_turns_steps : (c : Collection) (below : List Activity) (w : World) (xs : List Object) → objects_at w.objects Cand ≡ xs → TurnsStep c below w (plain_turns c below w xs).0 (plain_turns c below w xs).1
+plain_turns_steps : (c : Collection) (below : List Activity) (w : World) (xs : List Object) → objects_at w.objects Cand ≡ xs
+    → TurnsStep c below w (plain_turns c below w xs).0 (plain_turns c below w xs).1
 plain_turns_steps c below w [] e = inr (ap serials e, (refl, refl))
 plain_turns_steps c below w (x ∷ xs) e = inl (record { object = x; member = subst (λ ys. Includes ys x) (sym e) (inl refl); yields = (refl, refl) })
 
@@ -136,7 +144,8 @@ abbrev pub plain_end : Script → Collection → List Activity → World → Tra
 plain_end script c below w =
     let told = serials_at w.objects Legacy in
     let keeps = serials (filter (is_saved script c) w.objects) in (
-      lines_if (has_flag c.flags uncollectable) (map GcUncollectable told) ++ map GcSaved keeps ++ GcStop c.generation c.collected (length told) ∷ lines_if c.asked (Collected (c.collected + length told) ∷ []),
+      lines_if (has_flag c.flags uncollectable) (map GcUncollectable told) ++ map GcSaved keeps ++ GcStop c.generation c.collected (length told)
+          ∷ lines_if c.asked (Collected (c.collected + length told) ∷ []),
       with_stack below (replaced_place Legacy (Gen (older c.generation)) (with_objects (all_saved keeps w.objects) w)),
     )
 
@@ -164,9 +173,12 @@ plain_phase script c (Turn o) below w = empties c o below w (last_entry (entries
 plain_phase script c (AfterTurn o) below w = after_turn c o below w
 plain_phase script c Ending below w = plain_end script c below w
 
-pub plain_phase_steps : (script : Script) (c : Collection) (phase : CollectPhase) (below : List Activity) (w : World) → PhaseStep script c phase below w (plain_phase script c phase below w).0 (plain_phase script c phase below w).1
+pub plain_phase_steps : (script : Script) (c : Collection) (phase : CollectPhase) (below : List Activity) (w : World) → PhaseStep script c phase below w
+    (plain_phase script c phase below w).0 (plain_phase script c phase below w).1
 plain_phase_steps script c Start below w = plain_start_steps script c below w
-plain_phase_steps script c (WeakClearing waiting) below w = plain_weak_steps_at (profile_of script.items) c waiting below w (newest (loses_in_weak_phase (profile_of script.items) w.objects) w.objects) (newest_spec (loses_in_weak_phase (profile_of script.items) w.objects) w.objects)
+plain_phase_steps script c (WeakClearing waiting) below w = plain_weak_steps_at (profile_of script.items) c waiting below w
+    (newest (loses_in_weak_phase (profile_of script.items) w.objects) w.objects) (newest_spec (loses_in_weak_phase (profile_of script.items) w.objects)
+    w.objects)
 plain_phase_steps script c (WeakCalling waiting) below w = (refl, refl)
 plain_phase_steps script c (AfterCallback weak waiting) below w = (refl, refl)
 plain_phase_steps script c (AfterRelease weak waiting) below w = (refl, refl)

@@ -28,9 +28,11 @@ Lasts R before after = (x : Object) → Includes before x → (y : Object) × In
 
 -- several objects one after the other
 module _ (P : List Object → List Object → Type 0) (order : GoesOn P) where
-  pub all_lose_by : (wanted : Object → Bool) (weaks : List ℕ) → ((weak : ℕ) → Includes weaks weak → (objects : List Object) → P objects (loses_referent weak objects)) → (objects after : List Object) → AllLose wanted objects weaks after → P objects after
+  pub all_lose_by : (wanted : Object → Bool) (weaks : List ℕ) → ((weak : ℕ) → Includes weaks weak → (objects : List Object)
+      → P objects (loses_referent weak objects)) → (objects after : List Object) → AllLose wanted objects weaks after → P objects after
   all_lose_by wanted [] h objects after lose = subst (P objects) (sym lose.1) (order.same objects)
-  all_lose_by wanted (weak ∷ weaks) h objects after lose = order.trans objects (loses_referent weak objects) after (h weak (inl refl) objects) (all_lose_by wanted weaks (λ k m. h k (inr m)) (loses_referent weak objects) after lose.1)
+  all_lose_by wanted (weak ∷ weaks) h objects after lose = order.trans objects (loses_referent weak objects) after (h weak (inl refl) objects)
+      (all_lose_by wanted weaks (λ k m. h k (inr m)) (loses_referent weak objects) after lose.1)
 
   pub all_saved_by : (keeps : List ℕ) → ((o : ℕ) → Includes keeps o → (objects : List Object) → P objects (saved o objects)) → (objects : List Object) → P objects (all_saved keeps objects)
   all_saved_by [] h objects = order.same objects
@@ -48,10 +50,12 @@ module _ (R : Object → Object → Type 0) (same : (x : Object) → R x x) wher
   pub lasts_map : (f : Object → Object) (objects : List Object) → ((x : Object) → Includes objects x → R x (f x)) → Lasts R objects (map f objects)
   lasts_map f objects h x m = (f x, Includes-map f objects x m, h x m)
 
-  pub came_if : (f : Object → Object) (test : Object → Bool) (objects : List Object) → ((x : Object) → Includes objects x → test x ≡ true → R x (f x)) → Came R objects (map (λ x. if test x then f x else x) objects)
+  pub came_if : (f : Object → Object) (test : Object → Bool) (objects : List Object) → ((x : Object) → Includes objects x → test x ≡ true → R x (f x))
+      → Came R objects (map (λ x. if test x then f x else x) objects)
   came_if f test objects h = came_map (λ x. if test x then f x else x) objects (λ x m. one_if f (test x) x (h x m))
 
-  pub lasts_if : (f : Object → Object) (test : Object → Bool) (objects : List Object) → ((x : Object) → Includes objects x → test x ≡ true → R x (f x)) → Lasts R objects (map (λ x. if test x then f x else x) objects)
+  pub lasts_if : (f : Object → Object) (test : Object → Bool) (objects : List Object) → ((x : Object) → Includes objects x → test x ≡ true → R x (f x))
+      → Lasts R objects (map (λ x. if test x then f x else x) objects)
   lasts_if f test objects h = lasts_map (λ x. if test x then f x else x) objects (λ x m. one_if f (test x) x (h x m))
 
   pub came_without : (o : ℕ) (objects : List Object) → Came R objects (without o objects)
@@ -78,13 +82,15 @@ module _ (R : Object → Object → Type 0) (order : IsOrder R) where
   came_all_saved h keeps = all_saved_by (Came R) came keeps (λ o k objects. came_if R order.same (λ x. with_entries (x.entries ++ item (Ref o) ∷ []) x) (λ x. x.serial == 1) objects (λ x m t. h o x))
 
 -- a serial that lives now lived before, if the relation keeps serials
-pub came_lives : (R : Object → Object → Type 0) → ((x y : Object) → R x y → y.serial ≡ x.serial) → (before after : List Object) → Came R before after → (n : ℕ) → Includes (serials after) n → Includes (serials before) n
+pub came_lives : (R : Object → Object → Type 0) → ((x y : Object) → R x y → y.serial ≡ x.serial) → (before after : List Object) → Came R before after → (n : ℕ)
+    → Includes (serials after) n → Includes (serials before) n
 came_lives R same before after h n m =
     let y = Includes-map_cases (λ (z : Object). z.serial) after n m in
     let x = h y.0 y.1 in
     subst (Includes (serials before)) (sym (same x.0 y.0 x.2) ∙ y.2) (Includes-map (λ (z : Object). z.serial) before x.0 x.1)
 
-pub lasts_lives : (R : Object → Object → Type 0) → ((x y : Object) → R x y → y.serial ≡ x.serial) → (before after : List Object) → Lasts R before after → (n : ℕ) → Includes (serials before) n → Includes (serials after) n
+pub lasts_lives : (R : Object → Object → Type 0) → ((x y : Object) → R x y → y.serial ≡ x.serial) → (before after : List Object) → Lasts R before after
+    → (n : ℕ) → Includes (serials before) n → Includes (serials after) n
 lasts_lives R same before after h n m =
     let x = Includes-map_cases (λ (z : Object). z.serial) before n m in
     let y = h x.0 x.1 in

@@ -67,9 +67,12 @@ module _ (texts : List (List ℕ)) (short : All (λ text. length text ≤ 1024) 
 
   function_known : (m : Option ℕ) (i : ℕ) (v : Val) → option_and_then (λ o. option_map (λ (e : Entry). e.val) (slice_get (entries_of w.objects o) i)) m ≡ Some v → IsKnown v
   function_known None i v e = none_known v e
-  function_known (Some o) i v e = entry_known (slice_get (entries_of w.objects o) i) v (λ entry at. got_known (entries_of w.objects o) i entry (entries_texts (length texts) w.objects o known.objects) at) e
+  function_known (Some o) i v e = entry_known (slice_get (entries_of w.objects o) i) v (λ entry at. got_known (entries_of w.objects o) i entry
+      (entries_texts (length texts) w.objects o known.objects) at) e
 
-  cell_known : (m : Option Frame) (i : ℕ) (v : Val) → option_and_then (λ (f : Frame). option_and_then (λ o. option_map (λ (e : Entry). e.val) (slice_get (entries_of w.objects o) i)) f.function) m ≡ Some v → IsKnown v
+  cell_known : (m : Option Frame) (i : ℕ) (v : Val)
+      → option_and_then (λ (f : Frame). option_and_then (λ o. option_map (λ (e : Entry). e.val) (slice_get (entries_of w.objects o) i)) f.function) m ≡ Some v
+      → IsKnown v
   cell_known None i v e = none_known v e
   cell_known (Some f) i v e = function_known f.function i v e
 
@@ -123,7 +126,8 @@ module _ (texts : List (List ℕ)) (short : All (λ text. length text ≤ 1024) 
   places_print : (f : Place → Place) (numbers : Numbers) → Prints texts [] (record w { objects = replaced f w; numbers = numbers })
   places_print f numbers = silent texts _ (record { names = known.names; objects = mapped_texts (length texts) (λ x. with_place (f x.place) x) (λ x k. k) w.objects known.objects })
 
-  makes_prints : (name : ℕ) (kind : KindCode) (class : Option ℕ) (entries : List Entry) (referent : Option ℕ) → HaveTexts (length texts) entries → Prints texts (Made kind w.next_serial ∷ []) (bound (with_new w kind class entries referent) name (Some (Ref w.next_serial)))
+  makes_prints : (name : ℕ) (kind : KindCode) (class : Option ℕ) (entries : List Entry) (referent : Option ℕ) → HaveTexts (length texts) entries
+      → Prints texts (Made kind w.next_serial ∷ []) (bound (with_new w kind class entries referent) name (Some (Ref w.next_serial)))
   makes_prints name kind class entries referent h = says texts (Made kind w.next_serial) _ tt (record {
     names = bound_texts name (Some (Ref w.next_serial)) (λ v e. same_known (Ref w.next_serial) v e tt);
     objects = λ x m. either (Includes-append_cases w.objects (new ∷ []) x m) (known.objects x) (λ k. either k (λ e. subst HasItsTexts e h) (λ none. absurd none));
@@ -147,7 +151,8 @@ module _ (texts : List (List ℕ)) (short : All (λ text. length text ≤ 1024) 
   pub shape_prints : (command : Command) → NamesTexts (length texts) command → (e : Effect) → Shape w command e → EffectPrints e
   shape_prints command named e (Binds name v own hand) = silent texts _ (record { names = bound_texts name v (λ u i. hand_known command named u (hand u i)); objects = known.objects })
   shape_prints command named e (Makes name kind class entries referent own parts) = makes_prints name kind class entries referent (λ e m. let i = parts.items e m in item_known command named e i.0 i.1)
-  shape_prints command named e (Edits wants x entries given h mutable edit) = sets_prints x.serial entries (λ e m. either (edit.come e m) (known.objects x h.member e) (λ new. item_known command named e new.1 new.2))
+  shape_prints command named e (Edits wants x entries given h mutable edit) = sets_prints x.serial entries
+      (λ e m. either (edit.come e m) (known.objects x h.member e) (λ new. item_known command named e new.1 new.2))
   shape_prints command named e (Puts x key v h mutable hand_key hand room) = puts_prints x key v (known.objects x h.member) (hand_known command named key hand_key) (hand_known command named v hand)
   shape_prints command named e (Shows v hand) = answers (Value v) (text_printable texts short v (hand_known command named v hand))
   shape_prints command named e (Tells line tells) = answers line (numbers_printable line tells)

@@ -34,11 +34,13 @@ module _ (script : Script) (known : TextsAreKnown script) (short : All (λ text.
   answers_print (Collected n ∷ []) k after h = says script.names (Collected n) after tt h
   answers_print lines k after h = absurd k
 
-  command_prints : (w : World) (command : Command) (a : Activity) (below : List Activity) (v : World) → WorldHasTexts (length script.names) v → NamesTexts (length script.names) command → CommandSteps script (λ w. Prints script.names) w command (on a below v) a below
+  command_prints : (w : World) (command : Command) (a : Activity) (below : List Activity) (v : World) → WorldHasTexts (length script.names) v
+      → NamesTexts (length script.names) command → CommandSteps script (λ w. Prints script.names) w command (on a below v) a below
   command_prints w command a below v h named = record {
     stays = λ lines answers. answers_print lines answers (on a below v) h;
     stops = λ lines answers. answers_print lines answers (on (emptied a) below v) h;
-    changes = λ wants_memory lines given_up after shape. let p = shape_prints script.names short (on a below v) h command named (Changes wants_memory lines given_up after) shape in record { lines = p.lines; known = p.known };
+    changes = λ wants_memory lines given_up after shape. let p = shape_prints script.names short (on a below v) h command named
+        (Changes wants_memory lines given_up after) shape in record { lines = p.lines; known = p.known };
     calls = λ f k. starts_prints script.names script (record { sort = CallFrame; proc = procedure_of (on a below v) f.serial; subject = f.serial; func = Some f.serial }) (on a below v) h;
     asks = λ g low e. silent script.names _ h;
   }
@@ -53,9 +55,11 @@ module _ (script : Script) (known : TextsAreKnown script) (short : All (λ text.
   last_prints w (ShuttingDown false) lines after e h = absurd e
   last_prints w a lines after e h = absurd e
 
-  taken_names : (command : Command) (a b : Activity) (below : List Activity) → Takes command a b → ((c : Command) → Includes (flat_map commands_on (a ∷ below)) c → NamesTexts (length script.names) c) → NamesTexts (length script.names) command
+  taken_names : (command : Command) (a b : Activity) (below : List Activity) → Takes command a b → ((c : Command) → Includes (flat_map commands_on (a ∷ below))
+      c → NamesTexts (length script.names) c) → NamesTexts (length script.names) command
   taken_names command a b below (FromTop commands) named = named command (inl refl)
-  taken_names command a b below (FromFrame f commands left) named = named command (Includes-append_left f.commands (flat_map commands_on below) command (subst (λ (cs : List Command). Includes cs command) (sym left) (inl refl)))
+  taken_names command a b below (FromFrame f commands left) named = named command (Includes-append_left f.commands (flat_map commands_on below) command
+      (subst (λ (cs : List Command). Includes cs command) (sym left) (inl refl)))
 
   -- the commands of a world name texts of the script, and its own texts are known
   abbrev Named : World → Type 0
@@ -66,7 +70,11 @@ module _ (script : Script) (known : TextsAreKnown script) (short : All (λ text.
     starts_due = λ a below v ha g e k. silent script.names _ k.1;
     ends = λ a lines below v last k. last_prints (on a below v) a lines _ last k.1;
     shuts_down = λ below v k. silent script.names _ k.1;
-    gives_up = λ name below v e k. silent script.names _ (record { names = λ u m. either (set_member v.names name None (Some u) m) (λ i. k.1.names u i) (λ n. absurd (let no : None ≡ Some u = n in cc)); objects = k.1.objects });
+    gives_up = λ name below v e k. silent script.names _ (record {
+      names = λ u m. either (set_member v.names name None (Some u) m) (λ i. k.1.names u i)
+          (λ n. absurd (let no : None ≡ Some u = n in cc));
+      objects = k.1.objects;
+    });
     collects_last = λ below v k. silent script.names _ k.1;
     commands = λ command a b below v takes hb k. command_prints (on a below v) command b below v k.1 (taken_names command a b below takes k.0);
     frame_ends = λ f below v left k. advance_prints script.names script (Framed f) below v _ _ (frame_end_advances script f below v) k.1;
@@ -75,7 +83,8 @@ module _ (script : Script) (known : TextsAreKnown script) (short : All (λ text.
     collects = λ c below v events after step k. advance_prints script.names script (Collecting c) below v events after (phase_advances script c below v c.phase events after step) k.1;
   }
 
-  run_prints : (w : World) (steps : List StepTaken) → Run script w steps → IsAllOfScript script w → WorldHasTexts (length script.names) w → (event : Event) → Includes (events_of steps) event → IsPrintable script.names event
+  run_prints : (w : World) (steps : List StepTaken) → Run script w steps → IsAllOfScript script w → WorldHasTexts (length script.names) w → (event : Event)
+      → Includes (events_of steps) event → IsPrintable script.names event
   run_prints w [] run origin h event m = absurd m
   run_prints w (step ∷ steps) run origin h event m =
       let p = any_step script Named (λ w. Prints script.names) steps_print w step.events step.world run.0 (λ c k. commands_name_texts script known c (origin.commands c k), h) in

@@ -44,14 +44,22 @@ module _ (texts : List (List ℕ)) where
   printable before after top lines (Shows ls h) event m = no_value after top event (h event m).0
   printable before after top lines (Frees o dies gone) event m = either m (λ e. subst (IsPrintable texts) e tt) (λ none. absurd none)
 
-  objects_texts : (top : Activity) (tops : List Activity) (lines : List Event) (before after : List Object) → HasChanged top tops lines before after → ObjectsHaveTexts (length texts) before → ObjectsHaveTexts (length texts) after
+  objects_texts : (top : Activity) (tops : List Activity) (lines : List Event) (before after : List Object) → HasChanged top tops lines before after
+      → ObjectsHaveTexts (length texts) before → ObjectsHaveTexts (length texts) after
   objects_texts top tops lines before after (NothingChanges objects) h = h
-  objects_texts top tops lines before after (ChangesEach f test objects aside) h = λ y m. let x = asides top tops lines f test objects aside y m in subst (HaveTexts (length texts)) (sym x.2.entries) (h x.0 x.1)
-  objects_texts top tops lines before after (LosesEntries es s objects owns fewer) h = changed_texts (length texts) (with_entries es) (λ x k e m. entries_texts (length texts) objects s h e (fewer e m)) s objects h
+  objects_texts top tops lines before after (ChangesEach f test objects aside) h = λ y m. let x = asides top tops lines f test objects aside y m
+      in subst (HaveTexts (length texts)) (sym x.2.entries) (h x.0 x.1)
+  objects_texts top tops lines before after (LosesEntries es s objects owns fewer) h = changed_texts (length texts) (with_entries es)
+      (λ x k e m. entries_texts (length texts) objects s h e (fewer e m)) s objects h
   objects_texts top tops lines before after (GetsEntry o objects is) h = changed_texts (length texts) _ (λ x k. entries_item (length texts) x.entries (Ref o) k tt) 1 objects h
   objects_texts top tops lines before after (LosesObject o objects owns line) h = λ x m. h x (Includes-filter_cases (λ y. not (y.serial == o)) objects x m).0
   objects_texts top tops lines before after (Followed first now last c d) h = objects_texts top tops lines now last d (objects_texts top tops lines first now c h)
 
-  pub advance_prints : (script : Script) (top : Activity) (below : List Activity) (v : World) (lines : List Event) (after : World) → Advance script v top below lines after → WorldHasTexts (length texts) v → Prints lines after
-  advance_prints script top below v lines after (Plainly tops objects numbers ls t c n none) h = record { lines = printable v.objects objects top ls none; known = record { names = h.names; objects = objects_texts top tops ls v.objects objects c h.objects } }
-  advance_prints script top below v lines after (WithFrame spec a objects s c held m) h = starts_prints script spec (record v { objects = objects; stack = a ∷ below }) (record { names = h.names; objects = objects_texts top [] [] v.objects objects m h.objects })
+  pub advance_prints : (script : Script) (top : Activity) (below : List Activity) (v : World) (lines : List Event) (after : World) → Advance script v top below
+      lines after → WorldHasTexts (length texts) v → Prints lines after
+  advance_prints script top below v lines after (Plainly tops objects numbers ls t c n none) h = record {
+    lines = printable v.objects objects top ls none;
+    known = record { names = h.names; objects = objects_texts top tops ls v.objects objects c h.objects };
+  }
+  advance_prints script top below v lines after (WithFrame spec a objects s c held m) h = starts_prints script spec
+      (record v { objects = objects; stack = a ∷ below }) (record { names = h.names; objects = objects_texts top [] [] v.objects objects m h.objects })

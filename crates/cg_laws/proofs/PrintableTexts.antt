@@ -124,7 +124,8 @@ module _ (n : ℕ) where
   pub mapped_texts : (f : Object → Object) → KeepsTexts f → (objects : List Object) → ObjectsHaveTexts n objects → ObjectsHaveTexts n (map f objects)
   mapped_texts f keeps objects h y m = let x = Includes-map_cases f objects y m in subst (λ (z : Object). HaveTexts n z.entries) x.2 (keeps x.0 (h x.0 x.1))
 
-  pub tested_texts : (f : Object → Object) → KeepsTexts f → (test : Object → Bool) (objects : List Object) → ObjectsHaveTexts n objects → ObjectsHaveTexts n (map (λ x. if test x then f x else x) objects)
+  pub tested_texts : (f : Object → Object) → KeepsTexts f → (test : Object → Bool) (objects : List Object) → ObjectsHaveTexts n objects
+      → ObjectsHaveTexts n (map (λ x. if test x then f x else x) objects)
   tested_texts f keeps test objects h = mapped_texts (λ x. if test x then f x else x) (λ x. go (test x) x) objects h
     where
       go : (b : Bool) (x : Object) → HaveTexts n x.entries → HaveTexts n (if b then f x else x).entries
@@ -163,4 +164,5 @@ NamesTexts n command = (t : ℕ) → Includes (command_texts command) t → t < 
 -- In a script that uses only its own texts, each command does.
 pub commands_name_texts : (script : Script) → TextsAreKnown script → (command : Command) → Includes (all_commands script) command → NamesTexts (length script.names) command
 commands_name_texts script known command m t k = all_member (λ i. i < length script.names) (flat_map item_texts script.items) t known
-    (either (Includes-append_cases (commands_of script.items) (flat_map (λ p. p.body) (procedures script.items)) command m) (λ l. outside_text script.items command t l k) (λ l. body_text script.items command t l k))
+    (either (Includes-append_cases (commands_of script.items) (flat_map (λ p. p.body) (procedures script.items)) command m)
+    (λ l. outside_text script.items command t l k) (λ l. body_text script.items command t l k))

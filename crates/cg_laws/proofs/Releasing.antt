@@ -84,21 +84,33 @@ dies_quiet o x free = go (x.serial == o) refl
   where
     go : (b : Bool) → (x.serial == o) ≡ b → IsQuiet o (if b then dead x else x)
     go true e = record { entries = free; untracked = λ i. refl; refers_to_none = λ i. refl }
-    go false e = record { entries = free; untracked = λ i. absurd (let no : true ≡ false = sym (eq-eqb x.serial o i) ∙ e in cc); refers_to_none = λ i. absurd (let no : true ≡ false = sym (eq-eqb x.serial o i) ∙ e in cc) }
+    go false e = record {
+      entries = free;
+      untracked = λ i. absurd (let no : true ≡ false = sym (eq-eqb x.serial o i) ∙ e in cc);
+      refers_to_none = λ i. absurd
+          (let no : true ≡ false = sym (eq-eqb x.serial o i) ∙ e in cc);
+    }
 
 module _ (script : Script) (below : List Activity) (v : World) where
   ends_calm : Calm script (with_stack (Releasing [] ∷ below) v) → Calm script (with_stack below v)
   ends_calm c = record {
     referred = c.referred;
     over = c.over.1;
-    stack = resting_stack script (with_stack below v) below (resting_after script (with_stack (Releasing [] ∷ below) v) (with_stack below v) below (λ d m. same_objects script (with_stack (Releasing [] ∷ below) v) (with_stack below v) d.object refl refl (popped_free (Releasing []) below d.object)) c.stack.1);
+    stack = resting_stack script (with_stack below v) below (resting_after script (with_stack (Releasing [] ∷ below) v) (with_stack below v) below
+        (λ d m. same_objects script (with_stack (Releasing [] ∷ below) v) (with_stack below v) d.object refl refl (popped_free (Releasing []) below d.object))
+        c.stack.1);
   }
 
   goes_on_calm : (o : ℕ) (references : List ℕ) → Calm script (with_stack (Releasing (o ∷ references) ∷ below) v) → Calm script (with_stack (Releasing references ∷ below) v)
   goes_on_calm o references c = record {
     referred = c.referred;
     over = (tt, c.over.1);
-    stack = (tt, resting_after script (with_stack (Releasing (o ∷ references) ∷ below) v) (with_stack (Releasing references ∷ below) v) below (λ d m. same_objects script (with_stack (Releasing (o ∷ references) ∷ below) v) (with_stack (Releasing references ∷ below) v) d.object refl refl (turned_free (Releasing (o ∷ references)) (Releasing references) below d.object (λ h k. h (inr k)))) c.stack.1);
+    stack = (
+      tt,
+      resting_after script (with_stack (Releasing (o ∷ references) ∷ below) v) (with_stack (Releasing references ∷ below) v) below
+          (λ d m. same_objects script (with_stack (Releasing (o ∷ references) ∷ below) v) (with_stack (Releasing references ∷ below) v) d.object refl refl
+          (turned_free (Releasing (o ∷ references)) (Releasing references) below d.object (λ h k. h (inr k)))) c.stack.1,
+    );
   }
 
   dies_calm : (o : ℕ) (references : List ℕ) → is_dying (with_stack (Releasing references ∷ below) v) o ≡ false → in_degree (with_stack (Releasing references ∷ below) v) o ≡ 0
@@ -130,13 +142,16 @@ module _ (script : Script) (below : List Activity) (v : World) where
       }
 
       keeps : (d : Death) → Includes (Releasing references ∷ below) (Dying d) → Keeps script now after d.object
-      keeps d m = altered_keeps script now after d.object alters (λ l. still_forgotten now after d.object refl alters (map_quiet d.object (λ x. if x.serial == o then dead x else x) (dead_quiet d.object o) v.objects) (pushed_free (Dying (record { object = o; phase = Finalizer })) (Releasing references ∷ below) d.object (λ k. k)))
+      keeps d m = altered_keeps script now after d.object alters (λ l. still_forgotten now after d.object refl alters (map_quiet d.object (λ x. if x.serial == o
+          then dead x else x) (dead_quiet d.object o) v.objects) (pushed_free (Dying (record { object = o; phase = Finalizer })) (Releasing references
+          ∷ below) d.object (λ k. k)))
 
 not_true : (b : Bool) → not b ≡ true → b ≡ false
 not_true true e = sym e
 not_true false e = refl
 
-pub released_calm : (script : Script) (references : List ℕ) (below : List Activity) (v : World) → Calm script (with_stack (Releasing references ∷ below) v) → Calm script (released references below (with_stack (Releasing references ∷ below) v)).1
+pub released_calm : (script : Script) (references : List ℕ) (below : List Activity) (v : World) → Calm script (with_stack (Releasing references ∷ below) v)
+    → Calm script (released references below (with_stack (Releasing references ∷ below) v)).1
 released_calm script [] below v c = ends_calm script below v c
 released_calm script (o ∷ references) below v c = go (not (is_dying now o) && (in_degree now o == 0)) refl
   where
@@ -164,11 +179,21 @@ starts_calm script spec u referred over resting local held = go (u.budget == 0)
     entered = record u { budget = u.budget - 1; stack = frame ∷ u.stack }
 
     go : (b : Bool) → (let t : Transition = if b then (BudgetSpent ∷ [], spent) else (Enter spec.sort spec.subject ∷ [], entered) in Calm script t.1)
-    go true = record { referred = referred; over = over; stack = resting_stack script spent u.stack (resting_after script u spent u.stack (λ d m. same_objects script u spent d.object refl refl (λ k. k)) resting) }
+    go true = record {
+      referred = referred;
+      over = over;
+      stack = resting_stack script spent u.stack (resting_after script u spent u.stack
+          (λ d m. same_objects script u spent d.object refl refl (λ k. k)) resting);
+    }
     go false = record {
       referred = referred;
       over = (local, over);
-      stack = (tt, resting_after script u entered u.stack (λ d m. altered_keeps script u entered d.object (alters_refl u.objects) (λ l f. still_forgotten u entered d.object refl (alters_refl u.objects) (λ q. q) (pushed_free frame u.stack d.object (held d.object l f)) f)) resting);
+      stack = (
+        tt,
+        resting_after script u entered u.stack (λ d m. altered_keeps script u entered d.object (alters_refl u.objects)
+            (λ l f. still_forgotten u entered d.object refl (alters_refl u.objects) (λ q. q) (pushed_free frame u.stack d.object (held d.object l f)) f))
+            resting,
+      );
     }
 
 pub frame_end_calm : (script : Script) (f : Frame) (below : List Activity) (v : World) → Calm script (with_stack (Framed f ∷ below) v) → Calm script (frame_end f (with_stack below v)).1
@@ -178,17 +203,25 @@ frame_end_calm script f below v c = by_sort f.sort f.function (λ o k. k)
     popped = record {
       referred = c.referred;
       over = c.over.1;
-      stack = resting_stack script (with_stack below v) below (resting_after script (with_stack (Framed f ∷ below) v) (with_stack below v) below (λ d m. same_objects script (with_stack (Framed f ∷ below) v) (with_stack below v) d.object refl refl (popped_free (Framed f) below d.object)) c.stack.1);
+      stack = resting_stack script (with_stack below v) below (resting_after script (with_stack (Framed f ∷ below) v) (with_stack below v) below
+          (λ d m. same_objects script (with_stack (Framed f ∷ below) v) (with_stack below v) d.object refl refl (popped_free (Framed f) below d.object))
+          c.stack.1);
     }
 
     gives_up : (references : List ℕ) → ((o : ℕ) → ¬ Includes (call_holds f.sort f.function) o → ¬ Includes references o) → Calm script (push (Releasing references) (with_stack below v))
     gives_up references free = record {
       referred = c.referred;
       over = (tt, c.over.1);
-      stack = (tt, resting_after script (with_stack (Framed f ∷ below) v) (with_stack (Releasing references ∷ below) v) below (λ d m. same_objects script (with_stack (Framed f ∷ below) v) (with_stack (Releasing references ∷ below) v) d.object refl refl (turned_free (Framed f) (Releasing references) below d.object (free d.object))) c.stack.1);
+      stack = (
+        tt,
+        resting_after script (with_stack (Framed f ∷ below) v) (with_stack (Releasing references ∷ below) v) below
+            (λ d m. same_objects script (with_stack (Framed f ∷ below) v) (with_stack (Releasing references ∷ below) v) d.object refl refl
+            (turned_free (Framed f) (Releasing references) below d.object (free d.object))) c.stack.1,
+      );
     }
 
-    by_sort : (sort : FrameSort) (function : Option ℕ) → ((o : ℕ) → ¬ Includes (call_holds f.sort f.function) o → ¬ Includes (call_holds sort function) o) → Calm script (gives_up_function sort function (with_stack below v))
+    by_sort : (sort : FrameSort) (function : Option ℕ) → ((o : ℕ) → ¬ Includes (call_holds f.sort f.function) o → ¬ Includes (call_holds sort function) o)
+        → Calm script (gives_up_function sort function (with_stack below v))
     by_sort Del function free = popped
     by_sort Legacy function free = popped
     by_sort Callback function free = popped

@@ -29,9 +29,11 @@ taken zero some = absurd (some refl)
 taken (suc n) some = omega arith
 
 pub starts_room : (b : ℕ) (script : Script) (spec : FrameSpec) (u : World) → HasNoRelease u.stack → HasRoom b u → HasRoom b (start_frame script spec u).1
-starts_room b script spec u none h = starts_either (λ lines. HasRoom b) script spec u (record { frames = h.frames; apart = h.apart }) (λ some. record { frames = omega (arith, h.frames, taken u.budget some); apart = (none, h.apart) })
+starts_room b script spec u none h = starts_either (λ lines. HasRoom b) script spec u (record { frames = h.frames; apart = h.apart })
+    (λ some. record { frames = omega (arith, h.frames, taken u.budget some); apart = (none, h.apart) })
 
-continues_room : (b budget : ℕ) (before after : List Object) (top a : Activity) (below : List Activity) → Continues before after top a → Room b budget (top ∷ below) → Room b budget (a ∷ below) × HasNoRelease (a ∷ below)
+continues_room : (b budget : ℕ) (before after : List Object) (top a : Activity) (below : List Activity) → Continues before after top a
+    → Room b budget (top ∷ below) → Room b budget (a ∷ below) × HasNoRelease (a ∷ below)
 continues_room b budget before after top a below (DeathGoesOn o phase next waits none) h = (record { frames = omega (arith, h.frames); apart = h.apart }, tt)
 continues_room b budget before after top a below (DeathClears o weak waiting weaks t first lost) h = (record { frames = omega (arith, h.frames); apart = h.apart }, tt)
 continues_room b budget before after top a below (CollectionGoesOn c d same begun early) h = (record { frames = omega (arith, h.frames); apart = h.apart }, tt)
@@ -50,8 +52,11 @@ tops_room b budget before after top tops below (GivesFunction f references few) 
 tops_room b budget before after top tops below (GivesReference o references) h = record { frames = omega (arith, h.frames); apart = (omega (arith, h.apart.0), h.apart.1, h.apart.2) }
 tops_room b budget before after top tops below (BeginsDeath o references) h = record { frames = omega (arith, h.frames); apart = (omega (arith, h.apart.0), h.apart.1, h.apart.2) }
 tops_room b budget before after top tops below (TopGoesOn t a c held) h = (continues_room b budget before after t a below c h).0
-tops_room b budget before after top tops below (GivesReferences t a references few c held) h = let k = continues_room b budget before after t a below c h in record { frames = omega (arith, k.0.frames); apart = (few, k.1, k.0.apart) }
+tops_room b budget before after top tops below (GivesReferences t a references few c held) h = let k = continues_room b budget before after t a below c h
+    in record { frames = omega (arith, k.0.frames); apart = (few, k.1, k.0.apart) }
 
-pub advance_room : (b : ℕ) (script : Script) (top : Activity) (below : List Activity) (v : World) (lines : List Event) (after : World) → Advance script v top below lines after → HasRoom b (on top below v) → HasRoom b after
+pub advance_room : (b : ℕ) (script : Script) (top : Activity) (below : List Activity) (v : World) (lines : List Event) (after : World)
+    → Advance script v top below lines after → HasRoom b (on top below v) → HasRoom b after
 advance_room b script top below v lines after (Plainly tops objects numbers ls t c n none) h = tops_room b v.budget v.objects objects top tops below t h
-advance_room b script top below v lines after (WithFrame spec a objects s c held m) h = let k = continues_room b v.budget v.objects objects top a below c h in starts_room b script spec (record v { objects = objects; stack = a ∷ below }) k.1 k.0
+advance_room b script top below v lines after (WithFrame spec a objects s c held m) h = let k = continues_room b v.budget v.objects objects top a below c h
+    in starts_room b script spec (record v { objects = objects; stack = a ∷ below }) k.1 k.0

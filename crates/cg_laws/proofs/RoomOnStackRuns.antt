@@ -30,11 +30,14 @@ stopped b budget (Framed f) below ha h = record { frames = omega (arith, h.frame
 stopped b budget (ShuttingDown started) below ha h = h
 stopped b budget a below ha h = absurd ha
 
-gives_up : (b budget : ℕ) (a : Activity) (below : List Activity) (given_up : List ℕ) (stack : List Activity) (left : ℕ) → HasCommands a → length given_up ≤ 2 → stack ≡ a ∷ below → left ≡ budget → Room b budget (a ∷ below) → Room b left (Releasing given_up ∷ stack)
-gives_up b budget a below given_up stack left ha few e k h = subst (λ st. Room b left (Releasing given_up ∷ st)) (sym e) (record { frames = omega (arith, h.frames, k); apart = (few, no_release a below ha, h.apart) })
+gives_up : (b budget : ℕ) (a : Activity) (below : List Activity) (given_up : List ℕ) (stack : List Activity) (left : ℕ) → HasCommands a → length given_up ≤ 2
+    → stack ≡ a ∷ below → left ≡ budget → Room b budget (a ∷ below) → Room b left (Releasing given_up ∷ stack)
+gives_up b budget a below given_up stack left ha few e k h = subst (λ st. Room b left (Releasing given_up ∷ st)) (sym e)
+    (record { frames = omega (arith, h.frames, k); apart = (few, no_release a below ha, h.apart) })
 
 module _ (b : ℕ) (script : Script) where
-  command_room : (w : World) (command : Command) (a : Activity) (below : List Activity) (v : World) → HasCommands a → Room b v.budget (a ∷ below) → CommandSteps script (λ w events. HasRoom b) w command (on a below v) a below
+  command_room : (w : World) (command : Command) (a : Activity) (below : List Activity) (v : World) → HasCommands a → Room b v.budget (a ∷ below)
+      → CommandSteps script (λ w events. HasRoom b) w command (on a below v) a below
   command_room w command a below v ha h = record {
     stays = λ lines answers. h;
     stops = λ lines answers. stopped b v.budget a below ha h;
@@ -50,7 +53,8 @@ module _ (b : ℕ) (script : Script) where
     starts_due = λ a below v ha g e k. record { frames = omega (arith, k.1.frames); apart = (no_release a below ha, k.1.apart) };
     ends = λ a lines below v last k. k.1;
     shuts_down = λ below v k. record { frames = omega (arith, k.1.frames); apart = k.1.apart };
-    gives_up = λ name below v e k. (command_room (on (ShuttingDown false) below v) (Del name) (ShuttingDown false) below v tt k.1).changes false [] _ _ (del_shaped (on (ShuttingDown false) below v) name);
+    gives_up = λ name below v e k. (command_room (on (ShuttingDown false) below v) (Del name) (ShuttingDown false) below v tt k.1).changes false [] _ _
+        (del_shaped (on (ShuttingDown false) below v) name);
     collects_last = λ below v k. record { frames = omega (arith, k.1.frames); apart = (tt, k.1.apart) };
     commands = λ command a c below v takes hc k. command_room (on a below v) command c below v hc (taken b v.budget command a c below takes k.1);
     frame_ends = λ f below v left k. advance_room b script (Framed f) below v _ _ (frame_end_advances script f below v) k.1;
@@ -60,4 +64,7 @@ module _ (b : ℕ) (script : Script) where
   }
 
 pub runs_have_room : (script : Script) (budget : ℕ) → InEachWorld script budget (HasRoom budget)
-runs_have_room script budget = by_runs script budget (λ w. Unit {0}) (HasRoom budget) (record { opens = record { frames = omega arith; apart = (tt, tt) }; keeps = keeps_room budget script }) (λ steps run. tt)
+runs_have_room script budget = by_runs script budget (λ w. Unit {0}) (HasRoom budget) (record {
+  opens = record { frames = omega arith; apart = (tt, tt) };
+  keeps = keeps_room budget script;
+}) (λ steps run. tt)

@@ -34,7 +34,8 @@ opening_apart script budget = record {
 }
 
 -- a step of another activity
-other_apart : (script : Script) (w : World) (a : Activity) (below : List Activity) (events : List Event) (after : World) → w.stack ≡ a ∷ below → is_collection a ≡ false → Step script w events after → Sound w → Calm script w → HasOrder w → IsApart w → IsApart after
+other_apart : (script : Script) (w : World) (a : Activity) (below : List Activity) (events : List Event) (after : World) → w.stack ≡ a ∷ below → is_collection a
+    ≡ false → Step script w events after → Sound w → Calm script w → HasOrder w → IsApart w → IsApart after
 other_apart script w a below events after top none step sound calm order h =
     let stack : IsStack script w (a ∷ below) = subst (IsStack script w) top calm.stack in
     let left : LeavesUnder w (a ∷ below) after = subst (λ st. LeavesUnder w st after) top (step_leaves script w events after step sound calm order) in
@@ -43,20 +44,24 @@ other_apart script w a below events after top none step sound calm order h =
     step_apart w a below after top none sound.rises (leaves_below script w a below after top sound.rises stack.1 order left) (plain none) h
 
 module _ (script : Script) (budget : ℕ) where
-  step_keeps : (w : World) (stack : List Activity) (events : List Event) (after : World) → w.stack ≡ stack → Step script w events after → Sound w → Calm script w → HasOrder w → IsLawful script budget w → IsApart w → IsApart after
+  step_keeps : (w : World) (stack : List Activity) (events : List Event) (after : World) → w.stack ≡ stack → Step script w events after → Sound w
+      → Calm script w → HasOrder w → IsLawful script budget w → IsApart w → IsApart after
   step_keeps w [] events after top step sound calm order lawful h = absurd (subst (λ st. StepOf script w st events after) top step.step)
   step_keeps w (TopLevel commands ∷ below) events after top step sound calm order lawful h = other_apart script w (TopLevel commands) below events after top refl step sound calm order h
   step_keeps w (Framed f ∷ below) events after top step sound calm order lawful h = other_apart script w (Framed f) below events after top refl step sound calm order h
   step_keeps w (Releasing references ∷ below) events after top step sound calm order lawful h = other_apart script w (Releasing references) below events after top refl step sound calm order h
   step_keeps w (Dying d ∷ below) events after top step sound calm order lawful h = other_apart script w (Dying d) below events after top refl step sound calm order h
   step_keeps w (ShuttingDown started ∷ below) events after top step sound calm order lawful h = other_apart script w (ShuttingDown started) below events after top refl step sound calm order h
-  step_keeps w (Collecting c ∷ below) events after top step sound calm order lawful h = collect_apart script budget w c below events after top lawful h (subst (λ st. StepOf script w st events after) top step.step)
+  step_keeps w (Collecting c ∷ below) events after top step sound calm order lawful h = collect_apart script budget w c below events after top lawful h
+      (subst (λ st. StepOf script w st events after) top step.step)
 
   apart_after : (w : World) (steps : List StepTaken) → Sound w → Calm script w → HasOrder w → StaysLawful script budget w → IsApart w → Run script w steps → IsApart (last_world w steps)
   apart_after w [] sound calm order lawful h run = h
   apart_after w (step ∷ steps) sound calm order lawful h run =
-      apart_after step.world steps (step_falls script w step.events step.world run.0 sound).0 (step_calm script w step.events step.world run.0 sound calm) (step_orderly script w step.events step.world run.0 sound calm order) (λ more goes. lawful (step ∷ more) (run.0, goes))
+      apart_after step.world steps (step_falls script w step.events step.world run.0 sound).0 (step_calm script w step.events step.world run.0 sound calm)
+      (step_orderly script w step.events step.world run.0 sound calm order) (λ more goes. lawful (step ∷ more) (run.0, goes))
       (step_keeps w w.stack step.events step.world refl run.0 sound calm order (lawful [] tt) h) run.1
 
 pub runs_apart : CollectionsAreApart
-runs_apart script budget steps run = apart_after script budget (opening script budget) steps (opening_sound script budget) (opening_calm script budget) (opening_orderly script budget) (stay_lawful script budget [] tt) (opening_apart script budget) run
+runs_apart script budget steps run = apart_after script budget (opening script budget) steps (opening_sound script budget) (opening_calm script budget)
+    (opening_orderly script budget) (stay_lawful script budget [] tt) (opening_apart script budget) run

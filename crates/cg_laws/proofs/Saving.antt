@@ -19,11 +19,13 @@ filter_size p (x ∷ objects) = go (p x) (filter_size p objects)
     go false h = omega (arith, h)
 
 -- one object changes: all entries grow as much as its own
-pub change_grows : (f : Object → Object) (k : ℕ) → ((x : Object) → length (f x).entries ≤ length x.entries + k) → (o low high : ℕ) (objects : List Object) → Rises low high objects → entries_in (change f o objects) ≤ entries_in objects + k
+pub change_grows : (f : Object → Object) (k : ℕ) → ((x : Object) → length (f x).entries ≤ length x.entries + k) → (o low high : ℕ) (objects : List Object)
+    → Rises low high objects → entries_in (change f o objects) ≤ entries_in objects + k
 change_grows f k h o low high [] r = omega arith
 change_grows f k h o low high (x ∷ objects) r = go (x.serial == o) refl (change_grows f k h o (suc x.serial) high objects r.1)
   where
-    go : (b : Bool) → (x.serial == o) ≡ b → entries_in (change f o objects) ≤ entries_in objects + k → length (if b then f x else x).entries + entries_in (change f o objects) ≤ length x.entries + entries_in objects + k
+    go : (b : Bool) → (x.serial == o) ≡ b → entries_in (change f o objects) ≤ entries_in objects + k → length (if b then f x else x).entries + entries_in
+        (change f o objects) ≤ length x.entries + entries_in objects + k
     go true e ih =
         let same : entries_in (change f o objects) ≡ entries_in objects = ap entries_in (change-below f o (suc x.serial) high objects (omega (arith, eqb-true x.serial o e)) r.1) in
         omega (arith, h x, same)

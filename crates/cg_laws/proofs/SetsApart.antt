@@ -65,7 +65,8 @@ pub goes_to : (d : Collection) (next : CollectPhase) (below : List Activity) (v 
 goes_to d next below v alone h = collects (collection_at d next below v) (record d { phase = next }) below refl alone h
 
 -- only the phase changes
-pub restands : (phase next : CollectPhase) (objects : List Object) → ¬ Includes (handles next) 1 → ((x : Object) → Includes objects x → StandsRightly phase x → StandsRightly next x) → AreApart objects phase → AreApart objects next
+pub restands : (phase next : CollectPhase) (objects : List Object) → ¬ Includes (handles next) 1 → ((x : Object) → Includes objects x → StandsRightly phase x
+    → StandsRightly next x) → AreApart objects phase → AreApart objects next
 restands phase next objects unhandled right h = record { garbage = h.garbage; rightly = λ x m. right x m (h.rightly x m); unhandled = unhandled; unsaved = h.unsaved }
 
 pub starts_apart : (script : Script) (spec : FrameSpec) (u : World) → IsApart u → IsApart (start_frame script spec u).1
@@ -111,7 +112,8 @@ entries_kept f k (x ∷ objects) o =
     ap (λ n. unwrap_or (option_map (λ (y : Object). y.entries) (cond (n == o) (Some (f x)) (object_at (map f objects) o))) []) (k.serial x) ∙ go (x.serial == o) (entries_kept f k objects o)
   where
     go : (b : Bool) → entries_of (map f objects) o ≡ entries_of objects o
-        → unwrap_or (option_map (λ (y : Object). y.entries) (cond b (Some (f x)) (object_at (map f objects) o))) [] ≡ unwrap_or (option_map (λ (y : Object). y.entries) (cond b (Some x) (object_at objects o))) []
+        → unwrap_or (option_map (λ (y : Object). y.entries) (cond b (Some (f x)) (object_at (map f objects) o))) []
+        ≡ unwrap_or (option_map (λ (y : Object). y.entries) (cond b (Some x) (object_at objects o))) []
     go true e = k.entries x
     go false e = e
 
@@ -145,12 +147,14 @@ stands_at objects p o m =
 
 -- the objects change, and the garbage list keeps its entries
 pub changed : (f : Object → Object) (test : Object → Bool) (objects : List Object) (phase next : CollectPhase) → ((x : Object) → (f x).serial ≡ x.serial) → ((x : Object) → (f x).code ≡ x.code)
-    → entries_of (map (λ x. if test x then f x else x) objects) 1 ≡ entries_of objects 1 → ¬ Includes (handles next) 1 → Moves f test objects phase next → AreApart objects phase → AreApart (map (λ x. if test x then f x else x) objects) next
+    → entries_of (map (λ x. if test x then f x else x) objects) 1 ≡ entries_of objects 1 → ¬ Includes (handles next) 1 → Moves f test objects phase next
+    → AreApart objects phase → AreApart (map (λ x. if test x then f x else x) objects) next
 changed f test objects phase next serial code same unhandled moves h = record {
   garbage = λ y m. let x = Includes-map_cases change_of objects y m in subst (λ (z : Object). z.serial ≡ 1 → IsGarbageList z) x.2 (garbage (test x.0) x.0 refl x.1);
   rightly = λ y m. let x = Includes-map_cases change_of objects y m in subst (λ (z : Object). StandsRightly next z) x.2 (rightly (test x.0) x.0 refl x.1);
   unhandled = unhandled;
-  unsaved = λ y m. let x = Includes-map_cases change_of objects y m in subst (λ (z : Object). IsFound z.place → ¬ Includes (references (entries_of after 1)) z.serial) x.2 (unsaved (test x.0) x.0 refl x.1);
+  unsaved = λ y m. let x = Includes-map_cases change_of objects y m in subst (λ (z : Object). IsFound z.place → ¬ Includes (references (entries_of after 1))
+      z.serial) x.2 (unsaved (test x.0) x.0 refl x.1);
 }
   where
     change_of : Object → Object
@@ -175,13 +179,15 @@ changed f test objects phase next serial code same unhandled moves h = record {
     unsaved false x t m found k = h.unsaved x m found (subst (λ es. Includes (references es) x.serial) same k)
 
 -- they change places, marks or referents
-pub moved : (f : Object → Object) (test : Object → Bool) (objects : List Object) (phase next : CollectPhase) → Keeps f → ¬ Includes (handles next) 1 → Moves f test objects phase next → AreApart objects phase
+pub moved : (f : Object → Object) (test : Object → Bool) (objects : List Object) (phase next : CollectPhase) → Keeps f → ¬ Includes (handles next) 1
+    → Moves f test objects phase next → AreApart objects phase
     → AreApart (map (λ x. if test x then f x else x) objects) next
 moved f test objects phase next keeps unhandled moves h =
     changed f test objects phase next keeps.serial keeps.code (entries_kept (λ x. if test x then f x else x) (kept_if f keeps test) objects 1) unhandled moves h
 
 -- a weak reference is cleared
-pub lost_apart : (weak : ℕ) (objects : List Object) (phase : CollectPhase) → ((x : Object) → StandsRightly phase x → StandsRightly phase (with_referent None x)) → AreApart objects phase → AreApart (loses_referent weak objects) phase
+pub lost_apart : (weak : ℕ) (objects : List Object) (phase : CollectPhase) → ((x : Object) → StandsRightly phase x → StandsRightly phase (with_referent None x))
+    → AreApart objects phase → AreApart (loses_referent weak objects) phase
 lost_apart weak objects phase still h = moved (with_referent None) (λ x. x.serial == weak) objects phase phase (record { serial = λ x. refl; code = λ x. refl; entries = λ x. refl }) h.unhandled
     (record {
       untracked = λ x m t one e. e;

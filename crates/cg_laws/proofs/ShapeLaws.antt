@@ -37,22 +37,58 @@ put_later w x key v y = go (is_dict y && not (is_tracked y) && (may_track w key 
 -- The stack and the budget stay, serials rise, and at most one object is made.
 shape_leaves : (w : World) (command : Command) (e : Effect) → Shape w command e → LeavesStack w e
 shape_leaves w command e (Binds name v own hand) = record { stack = refl; budget = refl; outcome = refl; rises = λ r. r; serial = omega arith }
-shape_leaves w command e (Makes name kind class entries referent own parts) = record { stack = refl; budget = refl; outcome = refl; rises = λ r. Rises-new 1 w.next_serial w.objects _ refl r; serial = omega arith }
-shape_leaves w command e (Edits wants x entries given h mutable edit) = record { stack = refl; budget = refl; outcome = refl; rises = λ r. Rises-change (with_entries entries) (λ y. refl) x.serial 1 w.next_serial w.objects r; serial = omega arith }
-shape_leaves w command e (Puts x key v h mutable hand_key hand room) = record { stack = refl; budget = refl; outcome = refl; rises = λ r. Rises-change (λ y. tracked_by w key v (with_entries (put x.entries key v) y)) (λ y. (put_later w x key v y).serial) x.serial 1 w.next_serial w.objects r; serial = omega arith }
+shape_leaves w command e (Makes name kind class entries referent own parts) = record {
+  stack = refl;
+  budget = refl;
+  outcome = refl;
+  rises = λ r. Rises-new 1 w.next_serial w.objects _ refl r;
+  serial = omega arith;
+}
+shape_leaves w command e (Edits wants x entries given h mutable edit) = record {
+  stack = refl;
+  budget = refl;
+  outcome = refl;
+  rises = λ r. Rises-change
+      (with_entries entries) (λ y. refl) x.serial 1 w.next_serial w.objects r;
+  serial = omega arith;
+}
+shape_leaves w command e (Puts x key v h mutable hand_key hand room) = record {
+  stack = refl;
+  budget = refl;
+  outcome = refl;
+  rises = λ r. Rises-change
+      (λ y. tracked_by w key v (with_entries (put x.entries key v) y)) (λ y. (put_later w x key v y).serial) x.serial 1 w.next_serial w.objects r;
+  serial =
+      omega arith;
+}
 shape_leaves w command e (Shows v hand) = record { stack = refl; budget = refl; outcome = refl; rises = λ r. r; serial = omega arith }
 shape_leaves w command e (Tells line tells) = record { stack = refl; budget = refl; outcome = refl; rises = λ r. r; serial = omega arith }
 shape_leaves w command e Stays = record { stack = refl; budget = refl; outcome = refl; rises = λ r. r; serial = omega arith }
 shape_leaves w command e (Sets numbers own keeps) = record { stack = refl; budget = refl; outcome = refl; rises = λ r. r; serial = omega arith }
-shape_leaves w command e (Freezes is) = record { stack = refl; budget = refl; outcome = refl; rises = λ r. Rises-map (λ x. with_place (frozen x.place) x) (λ x. refl) 1 w.next_serial w.objects r; serial = omega arith }
-shape_leaves w command e (Unfreezes is) = record { stack = refl; budget = refl; outcome = refl; rises = λ r. Rises-map (λ x. with_place (unfrozen x.place) x) (λ x. refl) 1 w.next_serial w.objects r; serial = omega arith }
+shape_leaves w command e (Freezes is) = record {
+  stack = refl;
+  budget = refl;
+  outcome = refl;
+  rises = λ r. Rises-map (λ x. with_place (frozen x.place) x)
+      (λ x. refl) 1 w.next_serial w.objects r;
+  serial = omega arith;
+}
+shape_leaves w command e (Unfreezes is) = record {
+  stack = refl;
+  budget = refl;
+  outcome = refl;
+  rises = λ r. Rises-map (λ x. with_place (unfrozen x.place) x)
+      (λ x. refl) 1 w.next_serial w.objects r;
+  serial = omega arith;
+}
 shape_leaves w command e (StartsFrame f h) = tt
 shape_leaves w command e (StartsCollection g low) = tt
 shape_leaves w command e Ends = tt
 shape_leaves w command e (Inspects lines calm there) = record { stack = refl; budget = refl; outcome = refl; rises = λ r. r; serial = omega arith }
 shape_leaves w command e (AsksWhy x h calm) = tt
 
-pub changes_leave : (w : World) (command : Command) (wants_memory : Bool) (lines : List Event) (given_up : List ℕ) (after : World) → Shape w command (Changes wants_memory lines given_up after) → Leaves w after
+pub changes_leave : (w : World) (command : Command) (wants_memory : Bool) (lines : List Event) (given_up : List ℕ) (after : World)
+    → Shape w command (Changes wants_memory lines given_up after) → Leaves w after
 changes_leave w command wants_memory lines given_up after s = shape_leaves w command (Changes wants_memory lines given_up after) s
 
 pub effect_leaves : (w : World) (command : Command) → Each (LeavesStack w) (effect w command)
@@ -96,9 +132,13 @@ ComeBy w command Quits = Unit {0}
 
 pub shape_comes : (w : World) (command : Command) (e : Effect) → Shape w command e → ComeBy w command e
 shape_comes w command e (Binds name v own hand) = λ y m. inl (y, m, later_refl y)
-shape_comes w command e (Makes name kind class entries referent own parts) = λ y m. either (Includes-append_cases w.objects (_ ∷ []) y m) (λ k. inl (y, k, later_refl y)) (λ k. either k (λ i. inr (subst (λ (z : Object). IsMadeBy command z.code z.class) i parts.by)) (λ n. absurd n))
-shape_comes w command e (Edits wants x entries given h mutable edit) = λ y m. inl ((change_alters (with_entries entries) (λ z. record { serial = refl; code = refl; class = refl; referent = inl refl }) x.serial w.objects).origin y m)
-shape_comes w command e (Puts x key v h mutable hand_key hand room) = λ y m. inl ((change_alters (λ z. tracked_by w key v (with_entries (put x.entries key v) z)) (put_later w x key v) x.serial w.objects).origin y m)
+shape_comes w command e (Makes name kind class entries referent own parts) = λ y m. either (Includes-append_cases w.objects (_ ∷ []) y m)
+    (λ k. inl (y, k, later_refl y)) (λ k. either k (λ i. inr (subst (λ (z : Object). IsMadeBy command z.code z.class) i parts.by)) (λ n. absurd n))
+shape_comes w command e (Edits wants x entries given h mutable edit) =
+    λ y m. inl ((change_alters (with_entries entries) (λ z. record { serial = refl; code = refl; class = refl; referent = inl refl }) x.serial w.objects).origin
+    y m)
+shape_comes w command e (Puts x key v h mutable hand_key hand room) =
+    λ y m. inl ((change_alters (λ z. tracked_by w key v (with_entries (put x.entries key v) z)) (put_later w x key v) x.serial w.objects).origin y m)
 shape_comes w command e (Shows v hand) = λ y m. inl (y, m, later_refl y)
 shape_comes w command e (Tells line tells) = λ y m. inl (y, m, later_refl y)
 shape_comes w command e Stays = λ y m. inl (y, m, later_refl y)
@@ -190,8 +230,18 @@ module _ (w : World) (command : Command) where
     names = λ u m. inl m;
   }
   shape_of_hand e (Puts x key v h mutable hand_key hand room) = record { gives = value_given x key h.member h.hand; prints = λ line m. absurd m; names = λ u m. inl m }
-  shape_of_hand e (Shows v hand) = record { gives = λ o m. absurd m; prints = one_line (Value v) (λ line. (o : ℕ) → Includes (named line) o → IsPrinted w command o) (λ o m. inr (inl (subst (IsAtHand w command) (held_ref v o m) hand))); names = λ u m. inl m }
-  shape_of_hand e (Tells line tells) = record { gives = λ o m. absurd m; prints = one_line line (λ other. (o : ℕ) → Includes (named other) o → IsPrinted w command o) (λ o m. absurd (no_serials line tells o m)); names = λ u m. inl m }
+  shape_of_hand e (Shows v hand) = record {
+    gives = λ o m. absurd m;
+    prints = one_line (Value v) (λ line. (o : ℕ) → Includes (named line) o
+        → IsPrinted w command o) (λ o m. inr (inl (subst (IsAtHand w command) (held_ref v o m) hand)));
+    names = λ u m. inl m;
+  }
+  shape_of_hand e (Tells line tells) = record {
+    gives = λ o m. absurd m;
+    prints = one_line line (λ other. (o : ℕ) → Includes (named other) o
+        → IsPrinted w command o) (λ o m. absurd (no_serials line tells o m));
+    names = λ u m. inl m;
+  }
   shape_of_hand e Stays = record { gives = λ o m. absurd m; prints = λ line m. absurd m; names = λ u m. inl m }
   shape_of_hand e (Sets numbers own keeps) = record { gives = λ o m. absurd m; prints = λ line m. absurd m; names = λ u m. inl m }
   shape_of_hand e (Freezes is) = record { gives = λ o m. absurd m; prints = λ line m. absurd m; names = λ u m. inl m }

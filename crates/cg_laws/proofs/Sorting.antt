@@ -33,7 +33,8 @@ serial_same false x = refl
 may_untrack : (g : ℕ) (chosen : Object → Bool) (objects : List Object) (o : ℕ) → may (untrack g chosen objects) o ≡ true → may objects o ≡ true
 may_untrack g chosen [] o h = h
 may_untrack g chosen (x ∷ objects) o h =
-    go (x.serial == o) (subst (λ s. unwrap_or (option_map may_be_tracked (cond (s == o) (Some (untracked_if b x)) (object_at (untrack g chosen objects) o))) false ≡ true) (serial_same b x) h) (may_untrack g chosen objects o)
+    go (x.serial == o) (subst (λ s. unwrap_or (option_map may_be_tracked (cond (s == o) (Some (untracked_if b x)) (object_at (untrack g chosen objects) o)))
+    false ≡ true) (serial_same b x) h) (may_untrack g chosen objects o)
   where
     b : Bool
     b = is_at (Gen g) x && chosen x
@@ -74,11 +75,14 @@ plain_sorts script g w = record {
     at_most = λ x m e. let parts = true_and _ _ e in let tests = true_and _ _ parts.1 in
         (survives-Survives w (Gen g) x.serial parts.0, and_from _ _ tests.0 (none_untrack g (plain_chosen g w) w.objects x tests.1));
   };
-  survivors = λ x m r. ap (λ b. if b then survivor_place g (untrack g (plain_chosen g w) w.objects) (untracked_if (plain_chosen g w x) x) else if set_aside script w (Gen g) x.serial then Legacy else Cand) (Survives-survives w (Gen g) x.serial r);
+  survivors = λ x m r. ap (λ b. if b then survivor_place g (untrack g (plain_chosen g w) w.objects) (untracked_if (plain_chosen g w x) x)
+      else if set_aside script w (Gen g) x.serial then Legacy else Cand) (Survives-survives w (Gen g) x.serial r);
   set_aside = λ x m r.
-      ap (λ b. if b then survivor_place g (untrack g (plain_chosen g w) w.objects) (untracked_if (plain_chosen g w x) x) else if set_aside script w (Gen g) x.serial then Legacy else Cand) (IsGarbage-garbage w (Gen g) x.serial (Reach-inside r))
+      ap (λ b. if b then survivor_place g (untrack g (plain_chosen g w) w.objects) (untracked_if (plain_chosen g w x) x) else if set_aside script w (Gen g)
+      x.serial then Legacy else Cand) (IsGarbage-garbage w (Gen g) x.serial (Reach-inside r))
       ∙ ap (λ b. if b then Legacy else Cand) (IsSetAside-set_aside script w (Gen g) x.serial r);
   condemned = λ x m k n.
-      ap (λ b. if b then survivor_place g (untrack g (plain_chosen g w) w.objects) (untracked_if (plain_chosen g w x) x) else if set_aside script w (Gen g) x.serial then Legacy else Cand) (IsGarbage-garbage w (Gen g) x.serial k)
+      ap (λ b. if b then survivor_place g (untrack g (plain_chosen g w) w.objects) (untracked_if (plain_chosen g w x) x) else if set_aside script w (Gen g)
+      x.serial then Legacy else Cand) (IsGarbage-garbage w (Gen g) x.serial k)
       ∙ ap (λ b. if b then Legacy else Cand) (either (cases_Bool (set_aside script w (Gen g) x.serial)) (λ e. absurd (n (set_aside-IsSetAside script w (Gen g) x.serial e))) (λ e. e));
 }

@@ -50,12 +50,14 @@ survivor_sorted g objects x = go (not (is_tracked x) || (g == 2) && is_dict x &&
 pub names_of : (objects : List Object) (s o : ℕ) → Includes (references (entries_of objects s)) o → (z : Object) × Includes objects z × (z.serial ≡ s) × Includes (references z.entries) o
 names_of objects s o = go (object_at objects s) refl
   where
-    go : (m : Option Object) → object_at objects s ≡ m → Includes (references (unwrap_or (option_map (λ (x : Object). x.entries) m) [])) o → (z : Object) × Includes objects z × (z.serial ≡ s) × Includes (references z.entries) o
+    go : (m : Option Object) → object_at objects s ≡ m → Includes (references (unwrap_or (option_map (λ (x : Object). x.entries) m) [])) o → (z : Object)
+        × Includes objects z × (z.serial ≡ s) × Includes (references z.entries) o
     go None e k = absurd k
     go (Some z) e k = let f = found_at objects s z e in (z, f.0, f.1, k)
 
 -- the holdings of some objects, and of the others
-parted_holdings : (p : Object → Bool) (objects : List Object) (o : ℕ) → occurrences o (entry_holdings (graph_of objects)) ≡ occurrences o (entry_holdings (graph_of (filter p objects))) + occurrences o (entry_holdings (graph_of (filter (λ x. not (p x)) objects)))
+parted_holdings : (p : Object → Bool) (objects : List Object) (o : ℕ) → occurrences o (entry_holdings (graph_of objects))
+    ≡ occurrences o (entry_holdings (graph_of (filter p objects))) + occurrences o (entry_holdings (graph_of (filter (λ x. not (p x)) objects)))
 parted_holdings p [] o = refl
 parted_holdings p (x ∷ objects) o = go (p x) (parted_holdings p objects o)
   where
@@ -66,21 +68,31 @@ parted_holdings p (x ∷ objects) o = go (p x) (parted_holdings p objects o)
     outside = filter (λ y. not (p y)) objects
 
     go : (b : Bool) → occurrences o (entry_holdings (graph_of objects)) ≡ occurrences o (entry_holdings (graph_of inside)) + occurrences o (entry_holdings (graph_of outside))
-        → occurrences o (entry_holdings (graph_of (x ∷ objects))) ≡ occurrences o (entry_holdings (graph_of (cond b (x ∷ inside) inside))) + occurrences o (entry_holdings (graph_of (cond (not b) (x ∷ outside) outside)))
+        → occurrences o (entry_holdings (graph_of (x ∷ objects))) ≡ occurrences o (entry_holdings (graph_of (cond b (x ∷ inside) inside))) + occurrences o
+        (entry_holdings (graph_of (cond (not b) (x ∷ outside) outside)))
     go true k = omega (arith, k, occurrences-append o (references x.entries) (entry_holdings (graph_of inside)), occurrences-append o (references x.entries) (entry_holdings (graph_of objects)))
     go false k = omega (arith, k, occurrences-append o (references x.entries) (entry_holdings (graph_of outside)), occurrences-append o (references x.entries) (entry_holdings (graph_of objects)))
 
 -- an object that one in another place names survives
-named_survives : (w : World) (p : Place) (x z : Object) → Includes (objects_at w.objects p) x → Includes w.objects z → is_at p z ≡ false → Includes (references z.entries) x.serial → Survives w p x.serial
+named_survives : (w : World) (p : Place) (x z : Object) → Includes (objects_at w.objects p) x → Includes w.objects z → is_at p z ≡ false
+    → Includes (references z.entries) x.serial → Survives w p x.serial
 named_survives w p x z m n apart names =
     let outside = filter (λ y. not (is_at p y)) w.objects in
     let more = present x.serial (entry_holdings (graph_of outside)) (entry_held outside z x.serial (Includes-filter (λ y. not (is_at p y)) w.objects z (ap not apart) n) names) in
     let parted = parted_holdings (is_at p) w.objects x.serial in
-    first (omega (arith, more, parted, occurrences-append x.serial (name_holdings w.names ++ (1 ∷ []) ++ entry_holdings (graph_of w.objects)) (flat_map holds w.stack), occurrences-append x.serial (name_holdings w.names ++ (1 ∷ [])) (entry_holdings (graph_of w.objects))))
+    first (omega (
+      arith,
+      more,
+      parted,
+      occurrences-append x.serial (name_holdings w.names ++ (1 ∷ []) ++ entry_holdings (graph_of w.objects))
+          (flat_map holds w.stack),
+      occurrences-append x.serial (name_holdings w.names ++ (1 ∷ [])) (entry_holdings (graph_of w.objects)),
+    ))
     (Includes-map (λ (y : Object). y.serial) (objects_at w.objects p) x m)
 
 -- each member of a generation is sorted
-places_sorted : (script : Script) (g : ℕ) (w : World) (chosen : Object → Bool) (places : Object → Place) → Sorts script g w chosen places → (x : Object) → Includes (objects_at w.objects (Gen g)) x → IsSorted (places x)
+places_sorted : (script : Script) (g : ℕ) (w : World) (chosen : Object → Bool) (places : Object → Place) → Sorts script g w chosen places → (x : Object)
+    → Includes (objects_at w.objects (Gen g)) x → IsSorted (places x)
 places_sorted script g w chosen places sorts x m = go (survives w (Gen g) x.serial) refl (set_aside script w (Gen g) x.serial) refl
   where
     go : (b : Bool) → survives w (Gen g) x.serial ≡ b → (a : Bool) → set_aside script w (Gen g) x.serial ≡ a → IsSorted (places x)

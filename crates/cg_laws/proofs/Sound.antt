@@ -66,7 +66,19 @@ starts script spec w u sound running less = go (u.budget == 0) refl
     lives = ap alive running
 
     go : (b : Bool) → (u.budget == 0) ≡ b
-        → (let t : Transition = if b then (BudgetSpent ∷ [], record u { outcome = BudgetIsSpent }) else (Enter spec.sort spec.subject ∷ [], record u { budget = u.budget - 1; stack = Framed (record { sort = spec.sort; subject = spec.subject; function = spec.func; commands = body_of script spec.proc }) ∷ u.stack }) in Moves script w t.1)
+        → (let t : Transition = if b then (BudgetSpent ∷ [], record u { outcome = BudgetIsSpent }) else (
+          Enter spec.sort spec.subject ∷ [],
+          record u {
+            budget = u.budget - 1;
+            stack = Framed (record {
+              sort = spec.sort;
+              subject = spec.subject;
+              function = spec.func;
+              commands = body_of script
+                  spec.proc;
+            }) ∷ u.stack;
+          },
+        ) in Moves script w t.1)
     go true e =
         let fewer : commands_left script (record u { outcome = BudgetIsSpent }) < commands_left script w = omega (arith, lives, less.commands) in record {
           sound = record { rises = sound.rises; bottom = sound.bottom; single = sound.single };
@@ -74,7 +86,8 @@ starts script spec w u sound running less = go (u.budget == 0) refl
         }
     go false e =
         let paid = pays u.budget (all_bodies script) (length (body_of script spec.proc)) (body_below (procedures script.items) spec.proc) (eqb-false u.budget 0 e) in
-        let fewer : alive u.outcome + 2 * ((u.budget - 1) * suc (all_bodies script)) + (2 * length (body_of script spec.proc) + tally commands_in u.stack) + bound_names u.names < commands_left script w = omega (arith, less.commands, paid) in record {
+        let fewer : alive u.outcome + 2 * ((u.budget - 1) * suc (all_bodies script)) + (2 * length (body_of script spec.proc) + tally commands_in u.stack) +
+        bound_names u.names < commands_left script w = omega (arith, less.commands, paid) in record {
           sound = record { rises = sound.rises; bottom = sound.bottom; single = omega (arith, sound.single) };
           lower = by_commands fewer (omega (arith, fewer, less.size)) (omega (arith, less.entries)) (omega (arith, less.referents)) (omega (arith, less.weight));
         }
@@ -97,8 +110,24 @@ pub record CountsNothing (tops below : List Activity) : Type 0 where
 
 pub plain_counts : (tops below : List Activity) → IsPlain tops → CountsNothing tops below
 plain_counts [] below h = record { commands = refl; collections = refl; starting = refl; rank = refl; left = λ objects. refl; bottom = λ b. b }
-plain_counts (Releasing references ∷ tops) below h = let k = plain_counts tops below h in record { commands = omega (arith, k.commands); collections = omega (arith, k.collections); starting = k.starting; rank = omega (arith, k.rank); left = λ objects. omega (arith, k.left objects); bottom = k.bottom }
-plain_counts (Dying d ∷ tops) below h = let k = plain_counts tops below h in record { commands = omega (arith, k.commands); collections = omega (arith, k.collections); starting = k.starting; rank = omega (arith, k.rank); left = λ objects. omega (arith, k.left objects); bottom = k.bottom }
+plain_counts (Releasing references ∷ tops) below h = let k = plain_counts tops below h in record {
+  commands = omega (arith, k.commands);
+  collections = omega (arith, k.collections);
+  starting = k.starting;
+  rank = omega (arith, k.rank);
+  left = λ objects. omega (arith, k.left objects);
+  bottom =
+      k.bottom;
+}
+plain_counts (Dying d ∷ tops) below h = let k = plain_counts tops below h in record {
+  commands = omega (arith, k.commands);
+  collections = omega (arith, k.collections);
+  starting = k.starting;
+  rank = omega (arith, k.rank);
+  left = λ objects. omega (arith, k.left objects);
+  bottom =
+      k.bottom;
+}
 plain_counts (_ ∷ tops) below h = absurd h
 
 pub due_less : (b c s : Bool) → (b ≡ true → c ≡ true) → due_rank b s ≤ due_rank c s

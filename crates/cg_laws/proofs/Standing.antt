@@ -69,7 +69,8 @@ module _ (w : World) (h : HasOrder w) where
       let x = Includes-map_cases (λ (z : Object). z.serial) w.objects weak lives in
       h.entries_live x.0 x.1 g (entries x.0 x.1 x.2)
 
-  pub function_lives : (sort : FrameSort) (o : ℕ) (function : Option ℕ) (below : List Activity) → ((s : ℕ) → Includes (call_holds sort function ++ flat_map holds below) s → Includes (flat_map holds w.stack) s)
+  pub function_lives : (sort : FrameSort) (o : ℕ) (function : Option ℕ) (below : List Activity)
+      → ((s : ℕ) → Includes (call_holds sort function ++ flat_map holds below) s → Includes (flat_map holds w.stack) s)
       → KnowsFunction w.objects sort o function below → (g : ℕ) → function ≡ Some g → AreFunctions w.objects g × Includes (serials w.objects) g
   function_lives Del o function below held k g e = absurd (let no : None ≡ Some g = sym k ∙ e in cc)
   function_lives Legacy o function below held k g e = absurd (let no : None ≡ Some g = sym k ∙ e in cc)
@@ -99,7 +100,8 @@ rests_in_order script w objects o Detaching h = tt
 rests_in_order script w objects o Emptying h = tt
 
 -- A step keeps this of the activities below it.
-module _ (script : Script) (w : World) (a : Activity) (below : List Activity) (after : World) (top : w.stack ≡ a ∷ below) (rises : Rises 1 w.next_serial w.objects) (h : HasOrder w) (l : LeavesIt w below after) (b : LeavesBelow w a below after) where
+module _ (script : Script) (w : World) (a : Activity) (below : List Activity) (after : World) (top : w.stack ≡ a ∷ below)
+    (rises : Rises 1 w.next_serial w.objects) (h : HasOrder w) (l : LeavesIt w below after) (b : LeavesBelow w a below after) where
   functions_kept : (g : ℕ) → Includes (serials w.objects) g → AreFunctions w.objects g → AreFunctions after.objects g
   functions_kept g lives all y m e = either (l.from y m)
       (λ k. let code : y.code ≡ k.was.code = k.later.code in let same : is_function y ≡ is_function k.was = cc in same ∙ all k.was k.member (sym k.later.serial ∙ e))
@@ -108,7 +110,8 @@ module _ (script : Script) (w : World) (a : Activity) (below : List Activity) (a
   entries_kept : (weak g : ℕ) → Includes (all_waits below) weak → HoldsIn w.objects weak g → HoldsIn after.objects weak g
   entries_kept weak g waits entries y m e = let x = b.waiting weak waits y m e in subst (λ es. Includes (references es) g) (sym x.3) (entries x.0 x.1 (x.2 ∙ e))
 
-  frame_kept : (sort : FrameSort) (o : ℕ) (function : Option ℕ) (under : List Activity) → ((s : ℕ) → Includes (call_holds sort function ++ flat_map holds under) s → Includes (flat_map holds w.stack) s) → ((s : ℕ) → Includes (all_waits under) s → Includes (all_waits below) s)
+  frame_kept : (sort : FrameSort) (o : ℕ) (function : Option ℕ) (under : List Activity) → ((s : ℕ) → Includes (call_holds sort function ++ flat_map holds under)
+      s → Includes (flat_map holds w.stack) s) → ((s : ℕ) → Includes (all_waits under) s → Includes (all_waits below) s)
       → KnowsFunction w.objects sort o function under → KnowsFunction after.objects sort o function under
   frame_kept Del o function under held waits k = k
   frame_kept Legacy o function under held waits k = k
@@ -122,7 +125,8 @@ module _ (script : Script) (w : World) (a : Activity) (below : List Activity) (a
   )
   frame_kept Call o function under held waits k = (k.0, functions_kept o (function_lives w h Call o function under held k o k.0).1 k.1)
 
-  one_kept : (c : Activity) (under : List Activity) → ((s : ℕ) → Includes (flat_map holds (c ∷ under)) s → Includes (flat_map holds w.stack) s) → ((s : ℕ) → Includes (all_waits under) s → Includes (all_waits below) s)
+  one_kept : (c : Activity) (under : List Activity) → ((s : ℕ) → Includes (flat_map holds (c ∷ under)) s → Includes (flat_map holds w.stack) s)
+      → ((s : ℕ) → Includes (all_waits under) s → Includes (all_waits below) s)
       → ((d : Death) → c ≡ Dying d → Rests script w d.object d.phase) → IsKnown w.objects c under → IsKnown after.objects c under
   one_kept (TopLevel commands) under held waits resting k = tt
   one_kept (Framed f) under held waits resting k = frame_kept f.sort f.subject f.function under held waits k

@@ -45,28 +45,33 @@ greatest_first low high (x ∷ xs) r weak weaks e q m = go (reverse (serials xs)
         let within = lives_within (suc x.serial) high xs first r.1 (Includes-reverse (serials xs) first (subst (λ ys. Includes ys first) (sym f) (inl refl))) in
         either m (λ i. omega (arith, i, same, within.0)) (λ k. let less = ih first front f k in omega (arith, less, same))
 
-first_newest : (high : ℕ) (objects : List Object) → Rises 1 high objects → (o weak : ℕ) (weaks : List ℕ) → weak_references objects o ≡ weak ∷ weaks → (q : ℕ) → Includes (weak_references objects o) q → q ≤ weak
+first_newest : (high : ℕ) (objects : List Object) → Rises 1 high objects → (o weak : ℕ) (weaks : List ℕ) → weak_references objects o ≡ weak ∷ weaks → (q : ℕ)
+    → Includes (weak_references objects o) q → q ≤ weak
 first_newest high objects r o weak weaks e q m =
     greatest_first 1 high (filter (is_reference_to o) objects) (Rises-filter (is_reference_to o) 1 high objects r) weak weaks e q (Includes-reverse (serials (filter (is_reference_to o) objects)) q m)
 
 -- a weak reference that still refers after another is cleared referred before, and is not that one
 still_refers : (objects : List Object) (weak o q : ℕ) → Includes (weak_references (loses_referent weak objects) o) q → Includes (weak_references objects o) q × (q ≢ weak)
 still_refers objects weak o q m =
-    let y = Includes-map_cases (λ (x : Object). x.serial) (filter (is_reference_to o) (loses_referent weak objects)) q (Includes-reverse (serials (filter (is_reference_to o) (loses_referent weak objects))) q m) in
+    let y = Includes-map_cases (λ (x : Object). x.serial) (filter (is_reference_to o) (loses_referent weak objects)) q
+    (Includes-reverse (serials (filter (is_reference_to o) (loses_referent weak objects))) q m) in
     let kept = Includes-filter_cases (is_reference_to o) (loses_referent weak objects) y.0 y.1 in
     let x = Includes-map_cases (λ x. if x.serial == weak then with_referent None x else x) objects y.0 kept.0 in
     let found = one x.0 x.1 (x.0.serial == weak) refl (subst (λ z. is_reference_to o z ≡ true) (sym x.2) kept.1) in
     subst (λ s. Includes (weak_references objects o) s × (s ≢ weak)) (ap (λ (z : Object). z.serial) x.2 ∙ y.2) found
   where
-    one : (x : Object) → Includes objects x → (b : Bool) → (x.serial == weak) ≡ b → is_reference_to o (if b then with_referent None x else x) ≡ true → Includes (weak_references objects o) (if b then with_referent None x else x).serial × ((if b then with_referent None x else x).serial ≢ weak)
+    one : (x : Object) → Includes objects x → (b : Bool) → (x.serial == weak) ≡ b → is_reference_to o (if b then with_referent None x else x) ≡ true
+        → Includes (weak_references objects o) (if b then with_referent None x else x).serial × ((if b then with_referent None x else x).serial ≢ weak)
     one x m true e t = absurd (let no : false ≡ true = t in cc)
     one x m false e t = (
-      Includes-reversed (serials (filter (is_reference_to o) objects)) x.serial (Includes-map (λ (z : Object). z.serial) (filter (is_reference_to o) objects) x (Includes-filter (is_reference_to o) objects x t m)),
+      Includes-reversed (serials (filter (is_reference_to o) objects)) x.serial (Includes-map (λ (z : Object). z.serial) (filter (is_reference_to o) objects) x
+          (Includes-filter (is_reference_to o) objects x t m)),
       eqb-false x.serial weak e,
     )
 
 -- the newest is cleared, and perhaps waits
-still_newer : (high : ℕ) (objects : List Object) → Rises 1 high objects → (o weak : ℕ) (weaks waiting : List ℕ) → weak_references objects o ≡ weak ∷ weaks → AreNewer objects o waiting → (t : Bool) → AreNewer (loses_referent weak objects) o (waiting ++ (if t then weak ∷ [] else []))
+still_newer : (high : ℕ) (objects : List Object) → Rises 1 high objects → (o weak : ℕ) (weaks waiting : List ℕ) → weak_references objects o ≡ weak ∷ weaks
+    → AreNewer objects o waiting → (t : Bool) → AreNewer (loses_referent weak objects) o (waiting ++ (if t then weak ∷ [] else []))
 still_newer high objects r o weak weaks waiting e newer t v q m k = either (Includes-append_cases waiting (if t then weak ∷ [] else []) v m) (λ i. newer v q i old.0) (new t)
   where
     old : Includes (weak_references objects o) q × (q ≢ weak)
@@ -89,7 +94,8 @@ module _ (w : World) (rises : Rises 1 w.next_serial w.objects) (h : HasOrder w) 
   all_functions : (f : ℕ) → HasFunction w.objects f → AreFunctions w.objects f
   all_functions f z x m e = let same : x ≡ z.0 = same_object 1 w.next_serial w.objects x z.0 rises m z.1 (e ∙ sym z.2) in ap is_function same ∙ z.3
 
-  by_entries : (x : Object) → Includes w.objects x → x.serial ≡ weak → (m : Option ℕ) → callback_in x.entries ≡ m → Includes (references x.entries) (unwrap_or m 0) × AreFunctions w.objects (unwrap_or m 0)
+  by_entries : (x : Object) → Includes w.objects x → x.serial ≡ weak → (m : Option ℕ) → callback_in x.entries ≡ m → Includes (references x.entries)
+      (unwrap_or m 0) × AreFunctions w.objects (unwrap_or m 0)
   by_entries x m same None e = absurd ((h.waiting weak waits x m same).callback e)
   by_entries x m same (Some f) e =
       let held = callback_first x.entries f e in
@@ -111,7 +117,8 @@ abbrev pub Stays : List Activity → World → Type 0
 Stays below next = AreKnown next.objects below → IsAllKnown next
 
 -- a started frame has a known function
-pub starts_known : (script : Script) (spec : FrameSpec) (u : World) (below : List Activity) → KnowsFunction u.objects spec.sort spec.subject spec.func u.stack → Stays below u → Stays below (start_frame script spec u).1
+pub starts_known : (script : Script) (spec : FrameSpec) (u : World) (below : List Activity) → KnowsFunction u.objects spec.sort spec.subject spec.func u.stack
+    → Stays below u → Stays below (start_frame script spec u).1
 starts_known script spec u below knows h = starts_either (λ lines. Stays below) script spec u h (λ some r. (knows, h r))
 
 fresh_in_order : (objects : List Object) (o : ℕ) (phase : DyingPhase) → ClearsNone phase → ClearsInOrder objects o phase
@@ -134,7 +141,8 @@ module _ (script : Script) (below : List Activity) (v : World) (rises : Rises 1 
   tops_known after top tops (TopGoesOn b a c held) k r = continues_known after b a c k r
   tops_known after top tops (GivesReferences b a references few c held) k r = (tt, continues_known after b a c k r)
 
-  frame_known : (after : List Object) (top a : Activity) (spec : FrameSpec) → FrameOf script v.objects after top a spec → HasChanged top [] [] v.objects after → HasOrder (on top below v) → KnowsFunction after spec.sort spec.subject spec.func (a ∷ below)
+  frame_known : (after : List Object) (top a : Activity) (spec : FrameSpec) → FrameOf script v.objects after top a spec → HasChanged top [] [] v.objects after
+      → HasOrder (on top below v) → KnowsFunction after spec.sort spec.subject spec.func (a ∷ below)
   frame_known after top a spec (OfFinalizer o p e marks) c h = refl
   frame_known after top a spec (OfLegacy o p e) c h = refl
   frame_known after top a spec (OfCallback weak p waits held) c h = (
@@ -146,7 +154,12 @@ module _ (script : Script) (below : List Activity) (v : World) (rises : Rises 1 
           let code : y.code ≡ x.0.code = x.2.code in
           let same : is_function y ≡ is_function x.0 = cc in
           same ∙ callback_functions (on top below v) rises h weak waits_there x.0 x.1 (sym x.2.serial ∙ e);
-      held = either held (λ m. inl (Includes-append_left (holds a) (flat_map holds below) called m)) (λ m. inr (Includes-append_left (waits_of a) (all_waits below) weak m.0, subst (λ os. HoldsIn os weak called) (sym m.1) (callback_held (on top below v) rises h weak waits_there)));
+      held = either held (λ m. inl (Includes-append_left (holds a) (flat_map holds below) called m))
+          (λ m. inr (
+            Includes-append_left (waits_of a) (all_waits below) weak m.0,
+            subst (λ os. HoldsIn os weak called) (sym m.1)
+                (callback_held (on top below v) rises h weak waits_there),
+          ));
     },
   )
     where
@@ -158,4 +171,5 @@ module _ (script : Script) (below : List Activity) (v : World) (rises : Rises 1 
 
   pub advance_known : (top : Activity) (lines : List Event) (after : World) → Advance script v top below lines after → HasOrder (on top below v) → IsKnown v.objects top below → Stays below after
   advance_known top lines after (Plainly tops objects numbers ls t c n none) h k = tops_known objects top tops t k
-  advance_known top lines after (WithFrame spec a objects s c held m) h k = starts_known script spec (record v { objects = objects; stack = a ∷ below }) below (frame_known objects top a spec s m h) (continues_known objects top a c k)
+  advance_known top lines after (WithFrame spec a objects s c held m) h k = starts_known script spec (record v { objects = objects; stack = a ∷ below }) below
+      (frame_known objects top a spec s m h) (continues_known objects top a c k)

@@ -14,11 +14,15 @@ abbrev pub begun_frame : Script → FrameSpec → Activity
 begun_frame script spec = Framed (record { sort = spec.sort; subject = spec.subject; function = spec.func; commands = body_of script spec.proc })
 
 pub starts_either : (R : List Event → World → Type 0) (script : Script) (spec : FrameSpec) (u : World) → R (BudgetSpent ∷ []) (record u { outcome = BudgetIsSpent })
-    → ((u.budget ≡ 0 → ⊥) → R (Enter spec.sort spec.subject ∷ []) (record u { budget = u.budget - 1; stack = begun_frame script spec ∷ u.stack })) → (let t : Transition = start_frame script spec u in R t.0 t.1)
+    → ((u.budget ≡ 0 → ⊥) → R (Enter spec.sort spec.subject ∷ []) (record u { budget = u.budget - 1; stack = begun_frame script spec ∷ u.stack }))
+    → (let t : Transition = start_frame script spec u in R t.0 t.1)
 starts_either R script spec u spent enters = go (u.budget == 0) refl
   where
     go : (b : Bool) → (u.budget == 0) ≡ b
-        → (let t : Transition = if b then (BudgetSpent ∷ [], record u { outcome = BudgetIsSpent }) else (Enter spec.sort spec.subject ∷ [], record u { budget = u.budget - 1; stack = begun_frame script spec ∷ u.stack }) in R t.0 t.1)
+        → (let t : Transition = if b then (BudgetSpent ∷ [], record u { outcome = BudgetIsSpent }) else (
+          Enter spec.sort spec.subject ∷ [],
+          record u { budget = u.budget - 1; stack = begun_frame script spec ∷ u.stack },
+        ) in R t.0 t.1)
     go true e = spent
     go false e = enters (eqb-false u.budget 0 e)
 

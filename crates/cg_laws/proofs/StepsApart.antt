@@ -78,7 +78,8 @@ module _ (objects : List Object) (x : Object) (had : IsOfCollection x.place → 
   still_stands (AfterTurn o) h = in_late_phase h
   still_stands Ending h = (in_late_phase (λ y m. (h y m).0), was_not Cand tt (λ y m. (h y m).1))
 
-module _ (w : World) (a : Activity) (below : List Activity) (after : World) (top : w.stack ≡ a ∷ below) (none : is_collection a ≡ false) (rises : Rises 1 w.next_serial w.objects) (l : LeavesBelow w a below after) (p : IsPlain w.objects below after) (h : IsApart w) where
+module _ (w : World) (a : Activity) (below : List Activity) (after : World) (top : w.stack ≡ a ∷ below) (none : is_collection a ≡ false)
+    (rises : Rises 1 w.next_serial w.objects) (l : LeavesBelow w a below after) (p : IsPlain w.objects below after) (h : IsApart w) where
   had : (x : Object) → Includes after.objects x → IsOfCollection x.place → HadItsPlace w.objects x
   had x m k = l.places none x m k
 
@@ -99,5 +100,6 @@ module _ (w : World) (a : Activity) (below : List Activity) (after : World) (top
     unsaved = λ x m k.
         let y = had x m (found_is_apart x.place k) in
         let free = h.unsaved y.0 y.1 (subst IsFound y.3 k) in
-        entries_name_not after.objects x.serial (names_no_more w.objects after.objects p.list x.serial (objects_name_not w.next_serial w.objects x.serial rises (subst (λ s. ¬ Includes (references (entries_of w.objects 1)) s) y.2 free)));
+        entries_name_not after.objects x.serial (names_no_more w.objects after.objects p.list x.serial (objects_name_not w.next_serial w.objects x.serial rises
+        (subst (λ s. ¬ Includes (references (entries_of w.objects 1)) s) y.2 free)));
   }

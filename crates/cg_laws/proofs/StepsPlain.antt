@@ -45,7 +45,8 @@ pub record IsPlain (objects : List Object) (below : List Activity) (after : Worl
   pub list : KeepsList objects after.objects
 
 starts_plain : (script : Script) (spec : FrameSpec) (objects : List Object) (below : List Activity) (u : World) → IsPlain objects below u → IsPlain objects below (start_frame script spec u).1
-starts_plain script spec objects below u h = starts_either (λ lines. IsPlain objects below) script spec u (record { stack = h.stack; list = h.list }) (λ some. record { stack = with_alone (begun_frame script spec) below u.stack refl h.stack; list = h.list })
+starts_plain script spec objects below u h = starts_either (λ lines. IsPlain objects below) script spec u (record { stack = h.stack; list = h.list })
+    (λ some. record { stack = with_alone (begun_frame script spec) below u.stack refl h.stack; list = h.list })
 
 -- a dying object is not the garbage list
 finalizes_other : (script : Script) (below : List Activity) (v : World) (top : Activity) (o : ℕ) → Finalizes top o → Calm script (on top below v) → o ≢ 1
@@ -67,9 +68,24 @@ module _ (script : Script) (below : List Activity) (v : World) (top : Activity) 
   changed_list tops lines before after (ChangesEach f test objects aside) = λ y m e.
       let x = asides top tops lines f test objects aside y m in
       let i : x.0.serial ≡ 1 = sym x.2.later.serial ∙ e in
-      record { was = x.0; member = x.1; serial = i; code = x.2.later.code; place = list_place x.0 y x.2.moved i; names = λ o h. subst (λ es. ¬ Includes (references es) o) (sym x.2.entries) (h x.0 x.1 i) }
+      record {
+        was = x.0;
+        member = x.1;
+        serial = i;
+        code = x.2.later.code;
+        place = list_place x.0 y x.2.moved i;
+        names = λ o h. subst (λ es. ¬ Includes (references es) o) (sym x.2.entries) (h x.0 x.1 i);
+      }
   changed_list tops lines before after (LosesEntries es s objects owns fewer) = list_kept (with_entries es) s objects (λ x. refl) (λ x m i e.
-      record { was = x; member = m; serial = e; code = refl; place = λ p. p; names = λ o h k. entries_name_not objects o h (subst (λ n. Includes (references (entries_of objects n)) o) (sym i ∙ e) (fewer_references es (entries_of objects s) fewer o k)) })
+      record {
+        was = x;
+        member = m;
+        serial = e;
+        code = refl;
+        place = λ p. p;
+        names = λ o h k. entries_name_not objects o h
+            (subst (λ n. Includes (references (entries_of objects n)) o) (sym i ∙ e) (fewer_references es (entries_of objects s) fewer o k));
+      })
   changed_list tops lines before after (GetsEntry o objects is) = absurd (no_collection_here is)
   changed_list tops lines before after (LosesObject o objects owns line) = without_kept o objects
   changed_list tops lines before after (Followed first now last h k) = list_trans first now last (changed_list tops lines first now h) (changed_list tops lines now last k)
@@ -84,14 +100,26 @@ tops_alone : (before after : List Object) (top : Activity) (tops below : List Ac
 tops_alone before after top tops below (TopEnds a gone) none = below_alone below
 tops_alone before after top tops below (GivesFunction f references few) none = with_alone (Releasing references) below below refl (below_alone below)
 tops_alone before after top tops below (GivesReference o references) none = with_alone (Releasing references) below below refl (below_alone below)
-tops_alone before after top tops below (BeginsDeath o references) none = with_alone (Dying (record { object = o; phase = Finalizer })) below (Releasing references ∷ below) refl (with_alone (Releasing references) below below refl (below_alone below))
+tops_alone before after top tops below (BeginsDeath o references) none = with_alone (Dying (record { object = o; phase = Finalizer })) below
+    (Releasing references ∷ below) refl (with_alone (Releasing references) below below refl (below_alone below))
 tops_alone before after top tops below (TopGoesOn t a c held) none = with_alone a below below (continues_alone before after t a c ∙ none) (below_alone below)
-tops_alone before after top tops below (GivesReferences t a references few c held) none = with_alone (Releasing references) below (a ∷ below) refl (with_alone a below below (continues_alone before after t a c ∙ none) (below_alone below))
+tops_alone before after top tops below (GivesReferences t a references few c held) none = with_alone (Releasing references) below (a ∷ below) refl
+    (with_alone a below below (continues_alone before after t a c ∙ none) (below_alone below))
 
-advance_plain : (script : Script) (below : List Activity) (v : World) (top : Activity) → Calm script (on top below v) → (lines : List Event) (after : World) → Advance script v top below lines after → is_collection top ≡ false → IsPlain v.objects below after
-advance_plain script below v top c lines after (Plainly tops objects numbers ls t h n shown) none = record { stack = tops_alone v.objects objects top tops below t none; list = changed_list script below v top none c tops ls v.objects objects h }
+advance_plain : (script : Script) (below : List Activity) (v : World) (top : Activity) → Calm script (on top below v) → (lines : List Event) (after : World)
+    → Advance script v top below lines after → is_collection top ≡ false → IsPlain v.objects below after
+advance_plain script below v top c lines after (Plainly tops objects numbers ls t h n shown) none = record {
+  stack = tops_alone v.objects objects top tops below
+      t none;
+  list = changed_list script below v top none c tops ls v.objects objects h;
+}
 advance_plain script below v top c lines after (WithFrame spec a objects s g held h) none =
-    starts_plain script spec v.objects below (record v { objects = objects; stack = a ∷ below }) (record { stack = tops_alone v.objects objects top (a ∷ []) below (TopGoesOn top a g held) none; list = changed_list script below v top none c [] [] v.objects objects h })
+    starts_plain script spec v.objects below (record v { objects = objects; stack = a ∷ below })
+    (record {
+      stack = tops_alone v.objects objects top (a ∷ []) below (TopGoesOn top a g held) none;
+      list = changed_list script below v top none c [] []
+          v.objects objects h;
+    })
 
 -- commands are no collection
 no_collection : (a : Activity) → HasCommands a → is_collection a ≡ false
@@ -107,7 +135,8 @@ free_below (ShuttingDown started) below h e = e
 free_below a below h e = absurd h
 
 -- a new collection where there is none
-begins_alone : (a : Activity) (g : ℕ) (asked : Bool) (below : List Activity) (w : World) → HasCommands a → list_any is_collection below ≡ false → StartsAlone below (new_collection g asked w ∷ a ∷ below)
+begins_alone : (a : Activity) (g : ℕ) (asked : Bool) (below : List Activity) (w : World) → HasCommands a → list_any is_collection below ≡ false
+    → StartsAlone below (new_collection g asked w ∷ a ∷ below)
 begins_alone a g asked below w h free c m = either m (λ e. inr (free, phase e)) (λ k. with_alone a below below (no_collection a h) (below_alone below) c k)
   where
     phase : new_collection g asked w ≡ Collecting c → c.phase ≡ Start
@@ -149,15 +178,19 @@ StepIsPlain w events after = IsPlainUnder w.objects w.stack after
 abbrev IsReady : Script → World → Type 0
 IsReady script w = HasGarbageList w.objects × (1 < w.next_serial) × Calm script w × HasBottom w.stack
 
-command_plain : (script : Script) (command : Command) (b a : Activity) (below : List Activity) (v : World) → HasCommands a → HasGarbageList v.objects → 1 < v.next_serial → CommandSteps script StepIsPlain (on b below v) command (on a below v) a below
+command_plain : (script : Script) (command : Command) (b a : Activity) (below : List Activity) (v : World) → HasCommands a → HasGarbageList v.objects
+    → 1 < v.next_serial → CommandSteps script StepIsPlain (on b below v) command (on a below v) a below
 command_plain script command b a below v ha garbage made = record {
   stays = λ lines answers none. unchanged script a below v ha garbage made a ha;
   stops = λ lines answers none. emptied_plain script a below v ha garbage made a ha;
   changes = λ wants_memory lines given_up after shape none. record {
-    stack = with_alone (Releasing given_up) below after.stack refl (subst (StartsAlone below) (sym (changes_leave (on a below v) command wants_memory lines given_up after shape).stack) (commands_alone script a below v ha garbage made));
+    stack = with_alone (Releasing given_up) below after.stack refl
+        (subst (StartsAlone below) (sym (changes_leave (on a below v) command wants_memory lines given_up after shape).stack)
+        (commands_alone script a below v ha garbage made));
     list = shape_kept (on a below v) garbage made command (Changes wants_memory lines given_up after) shape;
   };
-  calls = λ f k none. starts_plain script (record { sort = CallFrame; proc = procedure_of (on a below v) f.serial; subject = f.serial; func = Some f.serial }) v.objects below (on a below v) (unchanged script a below v ha garbage made a ha);
+  calls = λ f k none. starts_plain script (record { sort = CallFrame; proc = procedure_of (on a below v) f.serial; subject = f.serial; func = Some f.serial })
+      v.objects below (on a below v) (unchanged script a below v ha garbage made a ha);
   asks = λ g low e none. record { stack = begins_alone a g true below (on a below v) ha (free_below a below ha e); list = same_list v.objects };
 }
 
@@ -170,7 +203,8 @@ steps_plain script = record {
   starts_due = λ a below v ha g e k none. record { stack = begins_alone a g false below (on a below v) ha (free_below a below ha (due_alone (on a below v) g e)); list = same_list v.objects };
   ends = λ a lines below v last k none. record { stack = with_alone a below below (no_collection a (last_has (on a below v) a lines last)) (below_alone below); list = same_list v.objects };
   shuts_down = λ below v k none. record { stack = with_alone (ShuttingDown false) below below refl (below_alone below); list = same_list v.objects };
-  gives_up = λ name below v e k. (command_plain script (Del name) (ShuttingDown false) (ShuttingDown false) below v tt k.0 k.1).changes false [] _ _ (del_shaped (on (ShuttingDown false) below v) name);
+  gives_up = λ name below v e k. (command_plain script (Del name) (ShuttingDown false) (ShuttingDown false) below v tt k.0 k.1).changes false [] _ _
+      (del_shaped (on (ShuttingDown false) below v) name);
   collects_last = λ below v k none. record { stack = begins_alone (ShuttingDown true) 2 false below (on (ShuttingDown false) below v) tt (none_below below k.3); list = same_list v.objects };
   commands = λ command a b below v takes hb k. command_plain script command a b below v hb k.0 k.1;
   frame_ends = λ f below v left k. advance_plain script below v (Framed f) k.2 _ _ (frame_end_advances script f below v);
@@ -179,5 +213,6 @@ steps_plain script = record {
   collects = λ c below v events after step k. advance_plain script below v (Collecting c) k.2 events after (phase_advances script c below v c.phase events after step);
 }
 
-pub step_plain : (script : Script) (w : World) (events : List Event) (after : World) → Step script w events after → HasGarbageList w.objects → 1 < w.next_serial → Calm script w → HasBottom w.stack → IsPlainUnder w.objects w.stack after
+pub step_plain : (script : Script) (w : World) (events : List Event) (after : World) → Step script w events after → HasGarbageList w.objects → 1 < w.next_serial
+    → Calm script w → HasBottom w.stack → IsPlainUnder w.objects w.stack after
 step_plain script w events after step garbage made c bottom = any_step script (IsReady script) StepIsPlain (steps_plain script) w events after step (garbage, made, c, bottom)

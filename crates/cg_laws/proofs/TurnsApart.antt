@@ -51,7 +51,8 @@ longer s x = with_entries (x.entries ++ item (Ref s) ∷ []) x
 saved_names : (s : ℕ) (objects : List Object) (o : ℕ) → Includes (references (entries_of (saved s objects) 1)) o → Includes (references (entries_of objects 1)) o ⊎ (s ≡ o)
 saved_names s objects o m = go (object_at objects 1) (subst (λ k. Includes (references (unwrap_or (option_map (λ (x : Object). x.entries) k) [])) o) (changed_at (longer s) (λ x. refl) 1 objects) m)
   where
-    go : (k : Option Object) → Includes (references (unwrap_or (option_map (λ (x : Object). x.entries) (option_map (longer s) k)) [])) o → Includes (references (unwrap_or (option_map (λ (x : Object). x.entries) k) [])) o ⊎ (s ≡ o)
+    go : (k : Option Object) → Includes (references (unwrap_or (option_map (λ (x : Object). x.entries) (option_map (longer s) k)) [])) o
+        → Includes (references (unwrap_or (option_map (λ (x : Object). x.entries) k) [])) o ⊎ (s ≡ o)
     go None n = absurd n
     go (Some x) n = either (references-append x.entries (item (Ref s) ∷ []) o n) (λ k. inl k) (λ k. either k (λ e. inr e) (λ a. absurd a))
 
@@ -101,7 +102,9 @@ saved_placed s p o [] = refl
 saved_placed s p o (x ∷ objects) = λ i. one (x.serial == 1) refl (x.serial == o) refl i ∷ saved_placed s p o objects i
   where
     one : (a : Bool) → (x.serial == 1) ≡ a → (b : Bool) → (x.serial == o) ≡ b
-        → ◌≡◌ {A = Object} (if (if b then with_place p x else x).serial == 1 then longer s (if b then with_place p x else x) else (if b then with_place p x else x)) (if (if a then longer s x else x).serial == o then with_place p (if a then longer s x else x) else (if a then longer s x else x))
+        → ◌≡◌ {A = Object} (if (if b then with_place p x else x).serial == 1 then longer s (if b then with_place p x else x)
+        else (if b then with_place p x else x)) (if (if a then longer s x else x).serial == o then with_place p (if a then longer s x else x)
+        else (if a then longer s x else x))
     one true t true u = ap (λ k. if k then longer s (with_place p x) else with_place p x) t ∙ sym (ap (λ k. if k then with_place p (longer s x) else longer s x) u)
     one true t false u = ap (λ k. if k then longer s x else x) t ∙ sym (ap (λ k. if k then with_place p (longer s x) else longer s x) u)
     one false t true u = ap (λ k. if k then longer s (with_place p x) else with_place p x) t ∙ sym (ap (λ k. if k then with_place p x else x) u)
@@ -140,7 +143,8 @@ module _ (script : Script) (c : Collection) (below : List Activity) (v : World) 
 
   -- none that moved is found
   older_gone : (o : ℕ) (y : Object) → Includes (change (with_place place) o v.objects) y → IsFound y.place → o ≢ y.serial
-  older_gone o y m = let x = Includes-map_cases (λ x. if x.serial == o then with_place place x else x) v.objects y m in subst (λ (z : Object). IsFound z.place → o ≢ z.serial) x.2 (one (x.0.serial == o) x.0 refl)
+  older_gone o y m = let x = Includes-map_cases (λ x. if x.serial == o then with_place place x else x) v.objects y m in subst (λ (z : Object). IsFound z.place
+      → o ≢ z.serial) x.2 (one (x.0.serial == o) x.0 refl)
     where
       one : (b : Bool) (x : Object) → (x.serial == o) ≡ b → IsFound (if b then with_place place x else x).place → o ≢ (if b then with_place place x else x).serial
       one true x t found = absurd found
@@ -158,15 +162,22 @@ module _ (script : Script) (c : Collection) (below : List Activity) (v : World) 
       kept : World
       kept = with_objects (change (with_place place) x.serial (saved x.serial v.objects)) (at Turns)
 
-      go : (b t : Bool) → (let s : Transition = if b then (GcSaved x.serial ∷ [], collection_at c Turns below kept) else if t then ([], collection_at c Turns below (with_change (with_place place) x.serial (at Turns))) else ([], collection_at c (Turn x.serial) below (at Turns)) in IsApart s.1)
-      go true t = goes_to c Turns below kept alone (subst (λ os. AreApart os Turns) (saved_placed x.serial place x.serial v.objects) (saved_apart x.serial (change (with_place place) x.serial v.objects) (older_gone x.serial) older_now))
+      go : (b t : Bool) → (let s : Transition = if b then (GcSaved x.serial ∷ [], collection_at c Turns below kept) else if t
+          then ([], collection_at c Turns below (with_change (with_place place) x.serial (at Turns)))
+          else ([], collection_at c (Turn x.serial) below (at Turns)) in IsApart s.1)
+      go true t = goes_to c Turns below kept alone (subst (λ os. AreApart os Turns) (saved_placed x.serial place x.serial v.objects)
+          (saved_apart x.serial (change (with_place place) x.serial v.objects) (older_gone x.serial) older_now))
       go false true = goes_to c Turns below (with_change (with_place place) x.serial (at Turns)) alone older_now
       go false false = goes_to c (Turn x.serial) below v alone (restands Turns (Turn x.serial) v.objects (λ k. either k no_root (λ n. n)) (λ y m k. k) h)
 
   pub turns_apart : (events : List Event) (after : World) → TurnsStep c below (at Turns) events after → AreApart v.objects Turns → IsApart after
   turns_apart events after (inl step) h = to after _ step.yields.1 (turn_apart step.object (Includes-map (λ (z : Object). z.serial) (objects_at v.objects Cand) step.object step.member) h)
   turns_apart events after (inr step) h = to after _ step.1.1 (goes_to c Ending below v alone (restands Turns Ending v.objects (λ k. k)
-      (λ x m k. (k, λ e. subst (λ xs. Includes xs x.serial) step.0 (Includes-map (λ (z : Object). z.serial) (objects_at v.objects Cand) x (Includes-filter (is_at Cand) v.objects x (ap (λ p. same_place p Cand) e) m)))) h))
+      (λ x m k. (
+        k,
+        λ e. subst (λ xs. Includes xs x.serial) step.0 (Includes-map (λ (z : Object). z.serial) (objects_at v.objects Cand) x
+            (Includes-filter (is_at Cand) v.objects x (ap (λ p. same_place p Cand) e) m)),
+      )) h))
 
   pub empties_apart : (o : ℕ) (m : Option Entry) → AreApart v.objects (Turn o) → IsApart (empties c o below (at (Turn o)) m).1
   empties_apart o None h = gives_up_apart (o ∷ []) (at (AfterTurn o)) (goes_to c (AfterTurn o) below v alone (restands (Turn o) (AfterTurn o) v.objects h.unhandled (λ x m k. k) h))

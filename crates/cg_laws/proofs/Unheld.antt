@@ -122,7 +122,8 @@ rests_after script w after o AfterLegacy k h = (k.mortal h.0, k.finalizers h.0 h
 rests_after script w after o Detaching k h = h
 rests_after script w after o Emptying k h = (k.mortal h.0, k.forgotten h.0 h.1)
 
-pub resting_after : (script : Script) (w after : World) (below : List Activity) → ((d : Death) → Includes below (Dying d) → Keeps script w after d.object) → AreResting script w below → AreResting script after below
+pub resting_after : (script : Script) (w after : World) (below : List Activity) → ((d : Death) → Includes below (Dying d) → Keeps script w after d.object)
+    → AreResting script w below → AreResting script after below
 resting_after script w after below k h d m = rests_after script w after d.object d.phase (k d m) (h d m)
 
 pub altered_keeps : (script : Script) (w after : World) (o : ℕ) → Alters w.objects after.objects → (Mortal w.objects o → Forgotten w o → Forgotten after o) → Keeps script w after o
@@ -132,7 +133,8 @@ altered_keeps script w after o alters forgotten = record {
   forgotten = forgotten;
 }
 
-pub same_objects : (script : Script) (w after : World) (o : ℕ) → after.names ≡ w.names → after.objects ≡ w.objects → (¬ Includes (flat_map holds w.stack) o → ¬ Includes (flat_map holds after.stack) o) → Keeps script w after o
+pub same_objects : (script : Script) (w after : World) (o : ℕ) → after.names ≡ w.names → after.objects ≡ w.objects → (¬ Includes (flat_map holds w.stack) o
+    → ¬ Includes (flat_map holds after.stack) o) → Keeps script w after o
 same_objects script w after o names objects stack =
     let alters : Alters w.objects after.objects = subst (λ os. Alters w.objects os) (sym objects) (alters_refl w.objects) in
     altered_keeps script w after o alters (λ m. still_forgotten w after o names alters (subst (λ os. AreQuiet o os) (sym objects)) stack)
@@ -147,7 +149,8 @@ top_free a below o k m = k (Includes-append_left (holds a) (flat_map holds below
 pub pushed_free : (a : Activity) (below : List Activity) (o : ℕ) → ¬ Includes (holds a) o → ¬ Includes (flat_map holds below) o → ¬ Includes (flat_map holds (a ∷ below)) o
 pushed_free a below o h k m = either (Includes-append_cases (holds a) (flat_map holds below) o m) h k
 
-pub turned_free : (a b : Activity) (below : List Activity) (o : ℕ) → (¬ Includes (holds a) o → ¬ Includes (holds b) o) → ¬ Includes (flat_map holds (a ∷ below)) o → ¬ Includes (flat_map holds (b ∷ below)) o
+pub turned_free : (a b : Activity) (below : List Activity) (o : ℕ) → (¬ Includes (holds a) o → ¬ Includes (holds b) o) → ¬ Includes (flat_map holds (a ∷ below))
+    o → ¬ Includes (flat_map holds (b ∷ below)) o
 turned_free a b below o h k = pushed_free b below o (h (top_free a below o k)) (popped_free a below o k)
 
 -- each hold of a member is one of the stack

@@ -43,7 +43,8 @@ member_apart objects o p s tracked q m =
     let kept = Includes-filter_cases (is_at p) objects x.0 x.1 in
     λ e. quiet_apart o p x.0 tracked kept.1 (q x.0 kept.0) (x.2 ∙ e)
 
-moved_quiet : (o : ℕ) (p : Place) (places : Object → Place) (objects : List Object) → same_place Untracked p ≡ false → AreQuiet o objects → AreQuiet o (map (λ x. if is_at p x then with_place (places x) x else x) objects)
+moved_quiet : (o : ℕ) (p : Place) (places : Object → Place) (objects : List Object) → same_place Untracked p ≡ false → AreQuiet o objects
+    → AreQuiet o (map (λ x. if is_at p x then with_place (places x) x else x) objects)
 moved_quiet o p places objects tracked q = test_quiet o (λ x. with_place (places x) x) (is_at p) (λ x e k. record {
   entries = k.entries;
   untracked = λ i. absurd (quiet_apart o p x tracked e k i);
@@ -77,7 +78,8 @@ pub all_lose_alters : (wanted : Object → Bool) (weaks : List ℕ) (objects aft
 all_lose_alters wanted weaks = all_lose_by Alters alterations wanted weaks (λ weak m. lost_alters weak)
 
 all_lose_quiet : (o : ℕ) (wanted : Object → Bool) (weaks : List ℕ) (objects after : List Object) → AllLose wanted objects weaks after → AreQuiet o objects → AreQuiet o after
-all_lose_quiet o wanted weaks = all_lose_by (λ before after. AreQuiet o before → AreQuiet o after) (record { same = λ objects q. q; trans = λ before now after h k q. k (h q) }) wanted weaks (λ weak m. lost_quiet o weak)
+all_lose_quiet o wanted weaks = all_lose_by (λ before after. AreQuiet o before → AreQuiet o after)
+    (record { same = λ objects q. q; trans = λ before now after h k q. k (h q) }) wanted weaks (λ weak m. lost_quiet o weak)
 
 reached_inside : {Held Inside : ℕ → Type 0} (arrows : List Edge) (o : ℕ) → Reach Held Inside arrows o → Inside o
 reached_inside arrows o (first held inside) = inside
@@ -94,18 +96,23 @@ module _ (script : Script) (c : Collection) (below : List Activity) (v : World) 
 
   -- what a step keeps of the deaths below
   abbrev KeepsQuiet : CollectPhase → CollectPhase → List Object → Type 0
-  KeepsQuiet phase next objects = (d : Death) → Includes below (Dying d) → Mortal v.objects d.object → Forgotten (at phase) d.object → AreQuiet d.object objects × ¬ Includes (collect_holds next) d.object
+  KeepsQuiet phase next objects = (d : Death) → Includes below (Dying d) → Mortal v.objects d.object → Forgotten (at phase) d.object → AreQuiet d.object objects
+      × ¬ Includes (collect_holds next) d.object
 
-  keeps_forgotten : (phase next : CollectPhase) (e : Collection) (objects : List Object) (numbers : Numbers) → Alters v.objects objects → (p : ℕ) → AreQuiet p objects → ¬ Includes (collect_holds next) p → Forgotten (at phase) p → Forgotten (to e next objects numbers) p
+  keeps_forgotten : (phase next : CollectPhase) (e : Collection) (objects : List Object) (numbers : Numbers) → Alters v.objects objects → (p : ℕ)
+      → AreQuiet p objects → ¬ Includes (collect_holds next) p → Forgotten (at phase) p → Forgotten (to e next objects numbers) p
   keeps_forgotten phase next e objects numbers alters p quiet free f =
       still_forgotten (at phase) (to e next objects numbers) p refl alters (λ q. quiet)
       (turned_free (Collecting (record c { phase = phase })) (Collecting (record e { phase = next })) below p (λ h. free)) f
 
-  below_rest : (phase next : CollectPhase) (e : Collection) (objects : List Object) (numbers : Numbers) → Alters v.objects objects → Calm script (at phase) → KeepsQuiet phase next objects → AreResting script (to e next objects numbers) below
+  below_rest : (phase next : CollectPhase) (e : Collection) (objects : List Object) (numbers : Numbers) → Alters v.objects objects → Calm script (at phase)
+      → KeepsQuiet phase next objects → AreResting script (to e next objects numbers) below
   below_rest phase next e objects numbers alters calm keeps = resting_after script (at phase) (to e next objects numbers) below
-      (λ d m. altered_keeps script (at phase) (to e next objects numbers) d.object alters (λ l f. let k = keeps d m l f in keeps_forgotten phase next e objects numbers alters d.object k.0 k.1 f)) calm.stack.1
+      (λ d m. altered_keeps script (at phase) (to e next objects numbers) d.object alters (λ l f. let k = keeps d m l f in keeps_forgotten phase next e objects
+      numbers alters d.object k.0 k.1 f)) calm.stack.1
 
-  goes_to : (phase next : CollectPhase) (e : Collection) (objects : List Object) (numbers : Numbers) → Alters v.objects objects → Calm script (at phase) → KeepsQuiet phase next objects → GivenUp next below → Calm script (to e next objects numbers)
+  goes_to : (phase next : CollectPhase) (e : Collection) (objects : List Object) (numbers : Numbers) → Alters v.objects objects → Calm script (at phase)
+      → KeepsQuiet phase next objects → GivenUp next below → Calm script (to e next objects numbers)
   goes_to phase next e objects numbers alters calm keeps given = record {
     referred = referred_after v.objects objects alters calm.referred;
     over = (given, calm.over.1);
@@ -131,7 +138,8 @@ module _ (script : Script) (c : Collection) (below : List Activity) (v : World) 
       after = push (Releasing given_up) (to c next objects v.numbers)
 
   calls : (phase next : CollectPhase) (spec : FrameSpec) (objects : List Object) → Alters v.objects objects → Calm script (at phase) → KeepsQuiet phase next objects → GivenUp next below
-      → IsLocalHeld spec.sort spec.subject (to c next objects v.numbers).stack → ((p : ℕ) → ¬ Includes (call_holds spec.sort spec.func) p) → Calm script (start_frame script spec (to c next objects v.numbers)).1
+      → IsLocalHeld spec.sort spec.subject (to c next objects v.numbers).stack → ((p : ℕ) → ¬ Includes (call_holds spec.sort spec.func) p)
+      → Calm script (start_frame script spec (to c next objects v.numbers)).1
   calls phase next spec objects alters calm keeps given local none =
       starts_calm script spec (to c next objects v.numbers) (referred_after v.objects objects alters calm.referred) (given, calm.over.1)
       (λ d m. either m (λ e. cc) (λ k. below_rest phase next c objects v.numbers alters calm keeps d k)) local (λ p l f. none p)
@@ -155,33 +163,44 @@ module _ (script : Script) (c : Collection) (below : List Activity) (v : World) 
       now = map (λ x. with_place (merged_place g x.place) x) v.objects
 
       alters : Alters v.objects (sorted g step.places now)
-      alters = alters_trans v.objects now (sorted g step.places now) (map_alters (λ x. with_place (merged_place g x.place) x) (λ x. place_later (merged_place g x.place) x) v.objects) (moved_alters (Gen g) step.places now)
+      alters = alters_trans v.objects now (sorted g step.places now) (map_alters (λ x. with_place (merged_place g x.place) x)
+          (λ x. place_later (merged_place g x.place) x) v.objects) (moved_alters (Gen g) step.places now)
 
       quiet : (p : ℕ) → AreQuiet p v.objects → AreQuiet p (sorted g step.places now)
-      quiet p q = moved_quiet p (Gen g) step.places now refl (map_quiet p (λ x. with_place (merged_place g x.place) x) (λ x k. record { entries = k.entries; untracked = λ i. ap (merged_place g) (k.untracked i); refers_to_none = k.refers_to_none }) v.objects q)
+      quiet p q = moved_quiet p (Gen g) step.places now refl (map_quiet p (λ x. with_place (merged_place g x.place) x)
+          (λ x k. record { entries = k.entries; untracked = λ i. ap (merged_place g) (k.untracked i); refers_to_none = k.refers_to_none }) v.objects q)
 
   lost_one : (r : Option ℕ) (f : ℕ → Bool) → unwrap_or (option_map f r) false ≡ true → r ≢ None
   lost_one r f e none = let no : false ≡ true = sym (ap (λ m. unwrap_or (option_map f m) false) none) ∙ e in cc
 
-  clears_calm : (waiting : List ℕ) (events : List Event) (after : World) → ClearsOne (profile_of script.items) c waiting below (at (WeakClearing waiting)) events after → Calm script (at (WeakClearing waiting)) → Calm script after
+  clears_calm : (waiting : List ℕ) (events : List Event) (after : World) → ClearsOne (profile_of script.items) c waiting below (at (WeakClearing waiting))
+      events after → Calm script (at (WeakClearing waiting)) → Calm script after
   clears_calm waiting events after step calm = moves_to after _ step.yields.1 (go (waits v.objects step.weak))
     where
       lost : List Object
       lost = loses_referent step.weak v.objects
 
       apart : (p : ℕ) → Mortal v.objects p → step.weak ≢ p
-      apart p l e = lost_one step.newest.object.referent _ (refers_early (profile_of script.items) v.objects step.newest.object step.newest.to_lose) (l.refers_to_none step.newest.object step.newest.member (step.newest.is ∙ e))
+      apart p l e = lost_one step.newest.object.referent _ (refers_early (profile_of script.items) v.objects step.newest.object step.newest.to_lose)
+          (l.refers_to_none step.newest.object step.newest.member (step.newest.is ∙ e))
 
       held : (p : ℕ) → Mortal v.objects p → ¬ Includes waiting p → ¬ Includes (waiting ++ step.weak ∷ []) p
       held p l free m = either (Includes-append_cases waiting (step.weak ∷ []) p m) free (λ k. either k (apart p l) (λ n. n))
 
-      go : (b : Bool) → Calm script (if b then collection_at c (WeakClearing (waiting ++ step.weak ∷ [])) below (with_objects (change (with_place Pend) step.weak lost) (at (WeakClearing waiting))) else collection_at c (WeakClearing waiting) below (with_objects lost (at (WeakClearing waiting))))
+      go : (b : Bool) → Calm script (if b then collection_at c (WeakClearing (waiting ++ step.weak ∷ [])) below
+          (with_objects (change (with_place Pend) step.weak lost) (at (WeakClearing waiting))) else collection_at c (WeakClearing waiting) below
+          (with_objects lost (at (WeakClearing waiting))))
       go true = goes_to (WeakClearing waiting) (WeakClearing (waiting ++ step.weak ∷ [])) c (change (with_place Pend) step.weak lost) v.numbers
           (alters_trans v.objects lost (change (with_place Pend) step.weak lost) (lost_alters step.weak v.objects) (place_alters Pend step.weak lost)) calm
-          (λ d m l f. (place_quiet d.object step.weak Pend (apart d.object l) lost (lost_quiet d.object step.weak v.objects f.unheld.quiet), held d.object l (turn_holds (WeakClearing waiting) d.object f))) tt
-      go false = goes_to (WeakClearing waiting) (WeakClearing waiting) c lost v.numbers (lost_alters step.weak v.objects) calm (λ d m l f. (lost_quiet d.object step.weak v.objects f.unheld.quiet, turn_holds (WeakClearing waiting) d.object f)) tt
+          (λ d m l f. (
+            place_quiet d.object step.weak Pend (apart d.object l) lost (lost_quiet d.object step.weak v.objects f.unheld.quiet),
+            held d.object l (turn_holds (WeakClearing waiting) d.object f),
+          )) tt
+      go false = goes_to (WeakClearing waiting) (WeakClearing waiting) c lost v.numbers (lost_alters step.weak v.objects) calm
+          (λ d m l f. (lost_quiet d.object step.weak v.objects f.unheld.quiet, turn_holds (WeakClearing waiting) d.object f)) tt
 
-  clearing_calm : (waiting : List ℕ) (events : List Event) (after : World) → WeakClearingStep (profile_of script.items) c waiting below (at (WeakClearing waiting)) events after → Calm script (at (WeakClearing waiting)) → Calm script after
+  clearing_calm : (waiting : List ℕ) (events : List Event) (after : World) → WeakClearingStep (profile_of script.items) c waiting below
+      (at (WeakClearing waiting)) events after → Calm script (at (WeakClearing waiting)) → Calm script after
   clearing_calm waiting events after (inl step) calm = clears_calm waiting events after step calm
   clearing_calm waiting events after (inr step) calm = moves_to after _ step.1.1 (turns_to (WeakClearing waiting) (WeakCalling waiting) (λ p h. h) tt calm)
 
@@ -189,7 +208,13 @@ module _ (script : Script) (c : Collection) (below : List Activity) (v : World) 
   calls_back_calm [] calm = turns_to (WeakCalling []) Finalizing (λ p h. h) tt calm
   calls_back_calm (weak ∷ waiting) calm =
       let callback = unwrap_or (callback_of v.objects weak) 0 in
-      calls (WeakCalling (weak ∷ waiting)) (AfterCallback weak waiting) (record { sort = Callback; proc = procedure_of (at (WeakCalling (weak ∷ waiting))) callback; subject = weak; func = Some callback }) v.objects (alters_refl v.objects) calm
+      calls (WeakCalling (weak ∷ waiting)) (AfterCallback weak waiting) (record {
+        sort = Callback;
+        proc = procedure_of (at (WeakCalling (weak ∷ waiting)))
+            callback;
+        subject = weak;
+        func = Some callback;
+      }) v.objects (alters_refl v.objects) calm
       (λ d m l f. (f.unheld.quiet, turn_holds (WeakCalling (weak ∷ waiting)) d.object f)) tt (inl refl) (λ p k. k)
 
   after_callback_calm : (weak : ℕ) (waiting : List ℕ) → Calm script (at (AfterCallback weak waiting)) → Calm script (push (Releasing (weak ∷ [])) (at (AfterRelease weak waiting)))
@@ -200,8 +225,10 @@ module _ (script : Script) (c : Collection) (below : List Activity) (v : World) 
       (held_where_dying script (at (AfterCallback weak waiting)) below weak calm.stack.1 (λ f. turn_holds (AfterCallback weak waiting) weak f (inl refl)))
 
   -- an object that was given up moves to the older generation, if it lives
-  older_quiet : (phase : CollectPhase) (o : ℕ) (p : Place) → IsHeldWhereDying o below → (d : Death) → Includes below (Dying d) → Forgotten (at phase) d.object → AreQuiet d.object (change (with_place p) o v.objects)
-  older_quiet phase o p given d m f = place_quiet d.object o p (λ e. popped_free (Collecting (record c { phase = phase })) below d.object f.unheld.stack (subst (Includes (flat_map holds below)) e (given d m (sym e)))) v.objects f.unheld.quiet
+  older_quiet : (phase : CollectPhase) (o : ℕ) (p : Place) → IsHeldWhereDying o below → (d : Death) → Includes below (Dying d) → Forgotten (at phase) d.object
+      → AreQuiet d.object (change (with_place p) o v.objects)
+  older_quiet phase o p given d m f = place_quiet d.object o p (λ e. popped_free (Collecting (record c { phase = phase })) below d.object f.unheld.stack
+      (subst (Includes (flat_map holds below)) e (given d m (sym e)))) v.objects f.unheld.quiet
 
   after_release_calm : (weak : ℕ) (waiting : List ℕ) → Calm script (at (AfterRelease weak waiting)) → Calm script (after_release c weak waiting below (at (AfterRelease weak waiting))).1
   after_release_calm weak waiting calm = go (is_in_map v.objects weak)
@@ -209,33 +236,48 @@ module _ (script : Script) (c : Collection) (below : List Activity) (v : World) 
       place : Place
       place = Gen (older c.generation)
 
-      go : (b : Bool) → (let t : Transition = if b then ([], collection_at c (WeakCalling waiting) below (with_change (with_place place) weak (at (AfterRelease weak waiting)))) else ([], collection_at (record c { collected = c.collected + 1 }) (WeakCalling waiting) below (at (AfterRelease weak waiting))) in Calm script t.1)
+      go : (b : Bool) → (let t : Transition = if b
+          then ([], collection_at c (WeakCalling waiting) below (with_change (with_place place) weak (at (AfterRelease weak waiting))))
+          else ([], collection_at (record c { collected = c.collected + 1 }) (WeakCalling waiting) below (at (AfterRelease weak waiting))) in Calm script t.1)
       go true = goes_to (AfterRelease weak waiting) (WeakCalling waiting) c (change (with_place place) weak v.objects) v.numbers (place_alters place weak v.objects) calm
           (λ d m l f. (older_quiet (AfterRelease weak waiting) weak place calm.over.0 d m f, turn_holds (AfterRelease weak waiting) d.object f)) tt
-      go false = goes_to (AfterRelease weak waiting) (WeakCalling waiting) (record c { collected = c.collected + 1 }) v.objects v.numbers (alters_refl v.objects) calm (λ d m l f. (f.unheld.quiet, turn_holds (AfterRelease weak waiting) d.object f)) tt
+      go false = goes_to (AfterRelease weak waiting) (WeakCalling waiting) (record c { collected = c.collected + 1 }) v.objects v.numbers
+          (alters_refl v.objects) calm (λ d m l f. (f.unheld.quiet, turn_holds (AfterRelease weak waiting) d.object f)) tt
 
   looks_at_calm : (o : ℕ) (m : Option ℕ) → IsMemberOf (at Finalizing) Cand o → Calm script (at Finalizing) → Calm script (looks_at script c o below (at Finalizing) m).1
   looks_at_calm o None member calm = goes_to Finalizing Finalizing c (change (with_place Seen) o v.objects) v.numbers (place_alters Seen o v.objects) calm
       (λ d m l f. (place_quiet d.object o Seen (member_apart v.objects d.object Cand o refl f.unheld.quiet member) v.objects f.unheld.quiet, λ k. k)) tt
   looks_at_calm o (Some p) member calm =
-      calls Finalizing (AfterFinalizing o) (record { sort = Del; proc = p; subject = o; func = None }) (change seen o v.objects) (change_alters seen (λ x. record { serial = refl; code = refl; class = refl; referent = inl refl }) o v.objects) calm
-      (λ d m l f. let apart = member_apart v.objects d.object Cand o refl f.unheld.quiet member in
-      (test_quiet d.object seen (λ x. x.serial == o) (λ x e k. record { entries = k.entries; untracked = λ i. absurd (apart (sym (eqb-true x.serial o e) ∙ i)); refers_to_none = k.refers_to_none }) v.objects f.unheld.quiet, λ k. either k apart (λ n. n)))
+      calls Finalizing (AfterFinalizing o) (record { sort = Del; proc = p; subject = o; func = None }) (change seen o v.objects)
+      (change_alters seen (λ x. record { serial = refl; code = refl; class = refl; referent = inl refl }) o v.objects) calm
+      (λ d m l f. let apart = member_apart v.objects d.object Cand o refl f.unheld.quiet member in (
+        test_quiet d.object seen (λ x. x.serial == o) (λ x e k. record {
+          entries = k.entries;
+          untracked = λ i. absurd (apart (sym (eqb-true x.serial o e) ∙ i));
+          refers_to_none = k.refers_to_none;
+        }) v.objects f.unheld.quiet,
+        λ k. either k apart (λ n. n),
+      ))
       tt (inl refl) (λ p k. k)
     where
       seen : Object → Object
       seen x = marked (with_place Seen x)
 
   finalizing_calm : (events : List Event) (after : World) → FinalizingStep script c below (at Finalizing) events after → Calm script (at Finalizing) → Calm script after
-  finalizing_calm events after (inl step) calm = moves_to after _ step.yields.1 (looks_at_calm step.object (option_and_then (finalizer_to_run script) (object_at v.objects step.object)) step.condemned calm)
-  finalizing_calm events after (inr step) calm = moves_to after _ step.1.1 (goes_to Finalizing Split c (map (λ x. if is_at Seen x then with_place Cand x else x) v.objects) v.numbers (moved_alters Seen (λ x. Cand) v.objects) calm
+  finalizing_calm events after (inl step) calm = moves_to after _ step.yields.1 (looks_at_calm step.object (option_and_then (finalizer_to_run script)
+      (object_at v.objects step.object)) step.condemned calm)
+  finalizing_calm events after (inr step) calm = moves_to after _ step.1.1 (goes_to Finalizing Split c (map (λ x. if is_at Seen x then with_place Cand x else x)
+      v.objects) v.numbers (moved_alters Seen (λ x. Cand) v.objects) calm
       (λ d m l f. (moved_quiet d.object Seen (λ x. Cand) v.objects refl f.unheld.quiet, λ k. k)) tt)
 
   after_finalizing_calm : (o : ℕ) → Calm script (at (AfterFinalizing o)) → Calm script (push (Releasing (o ∷ [])) (at Finalizing))
-  after_finalizing_calm o calm = gives_up (AfterFinalizing o) Finalizing (o ∷ []) v.objects (alters_refl v.objects) calm (λ d m l f. (f.unheld.quiet, λ k. k)) (λ p f. turn_holds (AfterFinalizing o) p f) tt
+  after_finalizing_calm o calm = gives_up (AfterFinalizing o) Finalizing (o ∷ []) v.objects (alters_refl v.objects) calm (λ d m l f. (f.unheld.quiet, λ k. k))
+      (λ p f. turn_holds (AfterFinalizing o) p f) tt
 
   split_calm : (events : List Event) (after : World) → SplitStep c below (at Split) events after → Calm script (at Split) → Calm script after
-  split_calm events after step calm = moves_to after _ step.world (goes_to Split Turns (record c { collected = c.collected + length (serials_at step.objects Cand) }) step.objects v.numbers alters calm (λ d m l f. (quiet d.object f.unheld.quiet, λ k. k)) tt)
+  split_calm events after step calm = moves_to after _ step.world
+      (goes_to Split Turns (record c { collected = c.collected + length (serials_at step.objects Cand) }) step.objects v.numbers alters calm
+      (λ d m l f. (quiet d.object f.unheld.quiet, λ k. k)) tt)
     where
       place : Place
       place = Gen (older c.generation)
@@ -244,7 +286,8 @@ module _ (script : Script) (c : Collection) (below : List Activity) (v : World) 
       now = get_older c.generation step.alive v.objects
 
       alters : Alters v.objects step.objects
-      alters = alters_trans v.objects now step.objects (if_alters (with_place place) (place_later place) (λ x. includes step.alive x.serial) v.objects) (all_lose_alters (loses_at_split now) step.cleared now step.objects step.lose)
+      alters = alters_trans v.objects now step.objects (if_alters (with_place place) (place_later place) (λ x. includes step.alive x.serial) v.objects)
+          (all_lose_alters (loses_at_split now) step.cleared now step.objects step.lose)
 
       member : (s : ℕ) → includes step.alive s ≡ true → IsMemberOf (at Split) Cand s
       member s e = reached_inside _ s ((step.survivors s).0 (Includes-of step.alive s e))
@@ -268,11 +311,19 @@ module _ (script : Script) (c : Collection) (below : List Activity) (v : World) 
       older_now : World
       older_now = collection_at c Turns below (with_change (with_place place) x.serial (at Turns))
 
-      go : (b t : Bool) → (let s : Transition = if b then (GcSaved x.serial ∷ [], collection_at c Turns below (with_objects (change (with_place place) x.serial (saved x.serial v.objects)) (at Turns))) else if t then ([], older_now) else ([], collection_at c (Turn x.serial) below (at Turns)) in Calm script s.1)
+      go : (b t : Bool) → (let s : Transition = if b
+          then (GcSaved x.serial ∷ [], collection_at c Turns below (with_objects (change (with_place place) x.serial (saved x.serial v.objects)) (at Turns)))
+          else if t then ([], older_now) else ([], collection_at c (Turn x.serial) below (at Turns)) in Calm script s.1)
       go true t = goes_to Turns Turns c (change (with_place place) x.serial (saved x.serial v.objects)) v.numbers
-          (alters_trans v.objects (saved x.serial v.objects) (change (with_place place) x.serial (saved x.serial v.objects)) (saved_alters x.serial v.objects) (place_alters place x.serial (saved x.serial v.objects))) calm
-          (λ d m l f. (place_quiet d.object x.serial place (apart d.object f.unheld.quiet) (saved x.serial v.objects) (saved_quiet d.object x.serial v.objects (apart d.object f.unheld.quiet) f.unheld.quiet), λ k. k)) tt
-      go false true = goes_to Turns Turns c (change (with_place place) x.serial v.objects) v.numbers (place_alters place x.serial v.objects) calm (λ d m l f. (place_quiet d.object x.serial place (apart d.object f.unheld.quiet) v.objects f.unheld.quiet, λ k. k)) tt
+          (alters_trans v.objects (saved x.serial v.objects) (change (with_place place) x.serial (saved x.serial v.objects)) (saved_alters x.serial v.objects)
+          (place_alters place x.serial (saved x.serial v.objects))) calm
+          (λ d m l f. (
+            place_quiet d.object x.serial place (apart d.object f.unheld.quiet) (saved x.serial v.objects) (saved_quiet d.object x.serial v.objects
+                (apart d.object f.unheld.quiet) f.unheld.quiet),
+            λ k. k,
+          )) tt
+      go false true = goes_to Turns Turns c (change (with_place place) x.serial v.objects) v.numbers (place_alters place x.serial v.objects) calm
+          (λ d m l f. (place_quiet d.object x.serial place (apart d.object f.unheld.quiet) v.objects f.unheld.quiet, λ k. k)) tt
       go false false = goes_to Turns (Turn x.serial) c v.objects v.numbers (alters_refl v.objects) calm (λ d m l f. (f.unheld.quiet, λ k. either k (apart d.object f.unheld.quiet) (λ n. n))) tt
 
   turns_calm : (events : List Event) (after : World) → TurnsStep c below (at Turns) events after → Calm script (at Turns) → Calm script after
@@ -284,20 +335,25 @@ module _ (script : Script) (c : Collection) (below : List Activity) (v : World) 
       gives_up (Turn o) (AfterTurn o) (o ∷ []) v.objects (alters_refl v.objects) calm (λ d m l f. (f.unheld.quiet, λ k. k)) (λ p f. turn_holds (Turn o) p f)
       (held_where_dying script (at (Turn o)) below o calm.stack.1 (λ f. turn_holds (Turn o) o f (inl refl)))
   empties_calm o (Some entry) e calm =
-      gives_up (Turn o) (Turn o) (entry_references entry) (change (with_entries (without_last (entries_of v.objects o))) o v.objects) (entries_alter (without_last (entries_of v.objects o)) o v.objects) calm
+      gives_up (Turn o) (Turn o) (entry_references entry) (change (with_entries (without_last (entries_of v.objects o))) o v.objects)
+      (entries_alter (without_last (entries_of v.objects o)) o v.objects) calm
       (λ d m l f. (entries_quiet d.object o (without_last (entries_of v.objects o)) (shorter_free v.objects o d.object f.unheld.quiet) v.objects f.unheld.quiet, turn_holds (Turn o) d.object f))
       (λ p f. last_free v.objects o p entry f.unheld.quiet e) tt
 
   after_turn_calm : (o : ℕ) → Calm script (at (AfterTurn o)) → Calm script (after_turn c o below (at (AfterTurn o))).1
   after_turn_calm o calm =
       let place = Gen (older c.generation) in
-      goes_to (AfterTurn o) Turns c (change (with_place place) o v.objects) v.numbers (place_alters place o v.objects) calm (λ d m l f. (older_quiet (AfterTurn o) o place calm.over.0 d m f, λ k. k)) tt
+      goes_to (AfterTurn o) Turns c (change (with_place place) o v.objects) v.numbers (place_alters place o v.objects) calm
+      (λ d m l f. (older_quiet (AfterTurn o) o place calm.over.0 d m f, λ k. k)) tt
 
   end_calm : (events : List Event) (after : World) → EndStep script c below (at Ending) events after → Calm script (at Ending) → Calm script after
   end_calm events after step calm = moves_to after now step.world (record {
     referred = referred_after v.objects now.objects alters calm.referred;
     over = calm.over.1;
-    stack = resting_stack script now below (resting_after script (at Ending) now below (λ d m. altered_keeps script (at Ending) now d.object alters (λ l f. still_forgotten (at Ending) now d.object refl alters (λ q. moved_quiet d.object Legacy (λ x. place) kept refl (all_saved_quiet d.object step.keeps v.objects (free d.object q) q)) (popped_free (Collecting (record c { phase = Ending })) below d.object) f)) calm.stack.1);
+    stack = resting_stack script now below (resting_after script (at Ending) now below (λ d m. altered_keeps script (at Ending) now d.object alters
+        (λ l f. still_forgotten (at Ending) now d.object refl alters (λ q. moved_quiet d.object Legacy (λ x. place) kept refl
+        (all_saved_quiet d.object step.keeps v.objects (free d.object q) q)) (popped_free (Collecting (record c { phase = Ending })) below d.object) f))
+        calm.stack.1);
   })
     where
       place : Place

@@ -49,8 +49,10 @@ module _ (script : Script) (w : World) (rises : Rises 1 w.next_serial w.objects)
 
   -- where an object comes from: it existed, or it is new
   pub data Comes (y : Object) : Type 0 where
-    was_there : (x : Object) → Includes w.objects x → IsLater x y → (y.entries ≡ x.entries) ⊎ (x.code ≢ Weak) × ((o : ℕ) → Forgotten w o → x.serial ≢ o) → (is_condemned y ≡ true → is_condemned x ≡ true) → (IsOfCollection y.place → x.place ≡ y.place) → Comes y
-    is_new : y.serial ≡ w.next_serial → is_condemned y ≡ false → ¬ IsOfCollection y.place → ((r : ℕ) → y.referent ≡ Some r → y.code ≡ Weak) → (y.code ≡ Weak → (f : ℕ) → Includes (references y.entries) f → HasFunction w.objects f) → Comes y
+    was_there : (x : Object) → Includes w.objects x → IsLater x y → (y.entries ≡ x.entries) ⊎ (x.code ≢ Weak) × ((o : ℕ) → Forgotten w o → x.serial ≢ o)
+        → (is_condemned y ≡ true → is_condemned x ≡ true) → (IsOfCollection y.place → x.place ≡ y.place) → Comes y
+    is_new : y.serial ≡ w.next_serial → is_condemned y ≡ false → ¬ IsOfCollection y.place → ((r : ℕ) → y.referent ≡ Some r → y.code ≡ Weak)
+        → (y.code ≡ Weak → (f : ℕ) → Includes (references y.entries) f → HasFunction w.objects f) → Comes y
 
   -- what a command does to the objects and to what is below it
   pub record Mild (after : World) (given_up : List ℕ) : Type 0 where
@@ -90,7 +92,8 @@ module _ (script : Script) (w : World) (rises : Rises 1 w.next_serial w.objects)
   given_name : (x : ℕ) → AreGiven (given_up_by w x)
   given_name x o f = name_free w.names x o f.unheld.names
 
-  changes_mild : (objects : List Object) (numbers : Numbers) (given_up : List ℕ) → Alters w.objects objects → ((o : ℕ) → Forgotten w o → AreQuiet o objects) → AreGiven given_up → ((y : Object) → Includes objects y → Comes y)
+  changes_mild : (objects : List Object) (numbers : Numbers) (given_up : List ℕ) → Alters w.objects objects → ((o : ℕ) → Forgotten w o → AreQuiet o objects)
+      → AreGiven given_up → ((y : Object) → Includes objects y → Comes y)
       → Mild (record w { objects = objects; numbers = numbers }) given_up
   changes_mild objects numbers given_up alters quiet given comes = record {
     referred = referred_after w.objects objects alters;
@@ -102,7 +105,9 @@ module _ (script : Script) (w : World) (rises : Rises 1 w.next_serial w.objects)
     comes = comes;
   }
 
-  comes_changed : (f : Object → Object) (x : Object) → Includes w.objects x → x.code ≢ Weak → ((o : ℕ) → Forgotten w o → x.serial ≢ o) → ((z : Object) → IsLater z (f z)) → ((z : Object) → is_condemned (f z) ≡ true → is_condemned z ≡ true) → ((z : Object) → IsOfCollection (f z).place → z.place ≡ (f z).place) → (y : Object) → Includes (change f x.serial w.objects) y → Comes y
+  comes_changed : (f : Object → Object) (x : Object) → Includes w.objects x → x.code ≢ Weak → ((o : ℕ) → Forgotten w o → x.serial ≢ o)
+      → ((z : Object) → IsLater z (f z)) → ((z : Object) → is_condemned (f z) ≡ true → is_condemned z ≡ true) → ((z : Object) → IsOfCollection (f z).place
+      → z.place ≡ (f z).place) → (y : Object) → Includes (change f x.serial w.objects) y → Comes y
   comes_changed f x m code apart later condemned places y n =
       let z = Includes-map_cases (λ z. if z.serial == x.serial then f z else z) w.objects y n in
       subst Comes z.2 (one z.0 z.1 (z.0.serial == x.serial) refl)
@@ -113,8 +118,10 @@ module _ (script : Script) (w : World) (rises : Rises 1 w.next_serial w.objects)
           was_there z k (later z) (inr (λ c. code (ap (λ (q : Object). q.code) (sym same) ∙ c), λ o f i. apart o f (ap (λ (q : Object). q.serial) (sym same) ∙ i))) (condemned z) (places z)
       one z k false e = was_there z k (later_refl z) (inl refl) (λ c. c) (λ c. refl)
 
-  sets_mild : (x : Object) (entries : List Entry) (given_up : List ℕ) → Includes w.objects x → x.code ≢ Weak → ((o : ℕ) → Forgotten w o → x.serial ≢ o) → ((o : ℕ) → Forgotten w o → HoldNone o entries) → AreGiven given_up → Mild (with_change (with_entries entries) x.serial w) given_up
-  sets_mild x entries given_up m code apart free given = changes_mild (change (with_entries entries) x.serial w.objects) w.numbers given_up (entries_alter entries x.serial w.objects) (λ o f. entries_quiet o x.serial entries (free o f) w.objects f.unheld.quiet) given
+  sets_mild : (x : Object) (entries : List Entry) (given_up : List ℕ) → Includes w.objects x → x.code ≢ Weak → ((o : ℕ) → Forgotten w o → x.serial ≢ o)
+      → ((o : ℕ) → Forgotten w o → HoldNone o entries) → AreGiven given_up → Mild (with_change (with_entries entries) x.serial w) given_up
+  sets_mild x entries given_up m code apart free given = changes_mild (change (with_entries entries) x.serial w.objects) w.numbers given_up
+      (entries_alter entries x.serial w.objects) (λ o f. entries_quiet o x.serial entries (free o f) w.objects f.unheld.quiet) given
       (comes_changed (with_entries entries) x m code apart (λ z. record { serial = refl; code = refl; class = refl; referent = inl refl }) (λ z k. k) (λ z k. refl))
 
   own_free : (x : Object) → Includes w.objects x → (o : ℕ) → Forgotten w o → HoldNone o x.entries
@@ -141,11 +148,14 @@ module _ (script : Script) (w : World) (rises : Rises 1 w.next_serial w.objects)
       go true = refl
       go false = refl
 
-  puts_mild : (x : Object) (key v : Val) → Includes w.objects x → x.code ≢ Weak → ((o : ℕ) → Forgotten w o → x.serial ≢ o) → IsKnown w over key → IsKnown w over v → Mild (with_change (λ y. tracked_by w key v (with_entries (put x.entries key v) y)) x.serial w) (references_of_value (value_at x.entries key))
+  puts_mild : (x : Object) (key v : Val) → Includes w.objects x → x.code ≢ Weak → ((o : ℕ) → Forgotten w o → x.serial ≢ o) → IsKnown w over key
+      → IsKnown w over v → Mild (with_change (λ y. tracked_by w key v (with_entries (put x.entries key v) y)) x.serial w)
+      (references_of_value (value_at x.entries key))
   puts_mild x key v m code apart known_key known_v =
       changes_mild (change put_in x.serial w.objects) w.numbers (references_of_value (value_at x.entries key)) (change_alters put_in put_later x.serial w.objects)
       (λ o f. test_quiet o put_in (λ y. y.serial == x.serial) (λ y e k. record {
-        entries = subst (λ es. ¬ Includes (references es) o) (sym (tracked_entries key v (with_entries (put x.entries key v) y))) (put_free x.entries key v o (own_free x m o f) (known_key o f) (known_v o f));
+        entries = subst (λ es. ¬ Includes (references es) o) (sym (tracked_entries key v (with_entries (put x.entries key v) y)))
+            (put_free x.entries key v o (own_free x m o f) (known_key o f) (known_v o f));
         untracked = λ i. absurd (apart o f (sym (eqb-true y.serial x.serial e) ∙ sym (put_later y).serial ∙ i));
         refers_to_none = λ i. absurd (apart o f (sym (eqb-true y.serial x.serial e) ∙ sym (put_later y).serial ∙ i));
       }) w.objects f.unheld.quiet)
@@ -170,14 +180,22 @@ module _ (script : Script) (w : World) (rises : Rises 1 w.next_serial w.objects)
   referent_is : (m : Option ℕ) (r : ℕ) → IsReferent m → m ≡ Some r → IsReferent (Some r)
   referent_is m r h e = subst IsReferent e h
 
-  makes_mild : (x : ℕ) (kind : KindCode) (class : Option ℕ) (entries : List Entry) (referent : Option ℕ) → ((o : ℕ) → Forgotten w o → HoldNone o entries) → IsReferent referent → ((r : ℕ) → referent ≡ Some r → kind ≡ Weak) → (kind ≡ Weak → (f : ℕ) → Includes (references entries) f → HasFunction w.objects f) → Mild (bound (with_new w kind class entries referent) x (Some (Ref w.next_serial))) (given_up_by w x)
+  makes_mild : (x : ℕ) (kind : KindCode) (class : Option ℕ) (entries : List Entry) (referent : Option ℕ) → ((o : ℕ) → Forgotten w o → HoldNone o entries)
+      → IsReferent referent → ((r : ℕ) → referent ≡ Some r → kind ≡ Weak) → (kind ≡ Weak → (f : ℕ) → Includes (references entries) f → HasFunction w.objects f)
+      → Mild (bound (with_new w kind class entries referent) x (Some (Ref w.next_serial))) (given_up_by w x)
   makes_mild x kind class entries referent free refers code functions = record {
     referred = referred;
     mortal = λ o l. record { lives = lives o l.lives; refers_to_none = λ y m e. either (old y m) (λ k. l.refers_to_none y k e) (λ i. absurd (not_new o (inr l) y i e)) };
     finalizers = λ o l h y m e. either (old y m) (λ k. h y k e) (λ i. absurd (not_new o (inr l) y i e));
     forgotten = λ o l f. record {
       unheld = record {
-        quiet = λ y m. either (old y m) (λ k. f.unheld.quiet y k) (λ i. subst (IsQuiet o) i (record { entries = free o f; untracked = λ e. absurd (not_new o l new refl e); refers_to_none = λ e. absurd (not_new o l new refl e) }));
+        quiet = λ y m. either (old y m) (λ k. f.unheld.quiet y k)
+            (λ i. subst (IsQuiet o) i (record {
+              entries = free o f;
+              untracked = λ e. absurd (not_new o l new refl e);
+              refers_to_none = λ e. absurd
+                  (not_new o l new refl e);
+            }));
         names = bound_free w.names x o (Some (Ref w.next_serial)) (λ m. either m (λ e. not_new o l new refl e) (λ n. n)) f.unheld.names;
         root = f.unheld.root;
         stack = f.unheld.stack;
@@ -201,7 +219,8 @@ module _ (script : Script) (w : World) (rises : Rises 1 w.next_serial w.objects)
           subst (Includes (serials (w.objects ++ new ∷ []))) y.2 (Includes-map (λ (z : Object). z.serial) (w.objects ++ new ∷ []) y.0 (Includes-append_left w.objects (new ∷ []) y.0 y.1))
 
       not_new : (o : ℕ) → (¬ Includes (serials (w.objects ++ new ∷ [])) o) ⊎ Mortal w.objects o → (y : Object) → new ≡ y → y.serial ≢ o
-      not_new o (inl gone) y i e = gone (subst (Includes (serials (w.objects ++ new ∷ []))) (ap (λ (z : Object). z.serial) i ∙ e) (Includes-map (λ (z : Object). z.serial) (w.objects ++ new ∷ []) new (Includes-append_right w.objects (new ∷ []) new (inl refl))))
+      not_new o (inl gone) y i e = gone (subst (Includes (serials (w.objects ++ new ∷ []))) (ap (λ (z : Object). z.serial) i ∙ e)
+          (Includes-map (λ (z : Object). z.serial) (w.objects ++ new ∷ []) new (Includes-append_right w.objects (new ∷ []) new (inl refl))))
       not_new o (inr l) y i e =
           let within = lives_within 1 w.next_serial w.objects o rises l.lives in
           let same : w.next_serial ≡ o = ap (λ (z : Object). z.serial) i ∙ e in
@@ -220,10 +239,17 @@ module _ (script : Script) (w : World) (rises : Rises 1 w.next_serial w.objects)
           (λ k. let z = h y k r e in (z.0, Includes-append_left w.objects (new ∷ []) z.0 z.1, z.2, z.3))
           (λ i. let z = referent_is referent r refers (ap (λ (z : Object). z.referent) i ∙ e) in (z.0, Includes-append_left w.objects (new ∷ []) z.0 z.1, z.2, z.3))
 
-  places_mild : (f : Place → Place) (numbers : Numbers) → f Untracked ≡ Untracked → ((p : Place) (x : Object) → is_condemned (with_place (f p) x) ≡ true → is_condemned (with_place p x) ≡ true) → ((p : Place) → IsOfCollection (f p) → p ≡ f p) → Mild (record w { objects = replaced f w; numbers = numbers }) []
+  places_mild : (f : Place → Place) (numbers : Numbers) → f Untracked ≡ Untracked → ((p : Place) (x : Object) → is_condemned (with_place (f p) x) ≡ true
+      → is_condemned (with_place p x) ≡ true) → ((p : Place) → IsOfCollection (f p) → p ≡ f p) → Mild (record w { objects = replaced f w; numbers = numbers })
+      []
   places_mild f numbers still condemned places = changes_mild (replaced f w) numbers [] (map_alters (λ x. with_place (f x.place) x) (λ x. place_later (f x.place) x) w.objects)
-      (λ o g. map_quiet o (λ x. with_place (f x.place) x) (λ x k. record { entries = k.entries; untracked = λ i. ap f (k.untracked i) ∙ still; refers_to_none = k.refers_to_none }) w.objects g.unheld.quiet) (λ o g k. k)
-      (λ y m. let x = Includes-map_cases (λ x. with_place (f x.place) x) w.objects y m in subst Comes x.2 (was_there x.0 x.1 (place_later (f x.0.place) x.0) (inl refl) (condemned x.0.place x.0) (places x.0.place)))
+      (λ o g. map_quiet o (λ x. with_place (f x.place) x) (λ x k. record {
+        entries = k.entries;
+        untracked = λ i. ap f (k.untracked i) ∙ still;
+        refers_to_none = k.refers_to_none;
+      }) w.objects g.unheld.quiet) (λ o g k. k)
+      (λ y m. let x = Includes-map_cases (λ x. with_place (f x.place) x) w.objects y m in subst Comes x.2 (was_there x.0 x.1 (place_later (f x.0.place) x.0)
+      (inl refl) (condemned x.0.place x.0) (places x.0.place)))
 
   frozen_place : (p : Place) → IsOfCollection (frozen p) → p ≡ frozen p
   frozen_place (Gen i) c = absurd c
@@ -259,21 +285,30 @@ module _ (script : Script) (w : World) (rises : Rises 1 w.next_serial w.objects)
   bound_known command None hand o f k = k
   bound_known command (Some u) hand o f k = option_free _ o (hand_known command u (hand u refl) o f) k
 
-  referent_found : (command : Command) (kind : KindCode) (referent : Option ℕ) → ((r : ℕ) → referent ≡ Some r → (kind ≡ Weak) × ((z : Object) × HasObject w command has_weak_references z × (z.serial ≡ r))) → IsReferent referent
+  referent_found : (command : Command) (kind : KindCode) (referent : Option ℕ) → ((r : ℕ) → referent ≡ Some r → (kind ≡ Weak)
+      × ((z : Object) × HasObject w command has_weak_references z × (z.serial ≡ r))) → IsReferent referent
   referent_found command kind None refers = tt
   referent_found command kind (Some r) refers = let z = (refers r refl).1 in (z.0, z.1.member, z.2, z.1.passes, λ o f e. object_apart command has_weak_references z.0 z.1 o f (z.2 ∙ e))
 
   edited_free : (command : Command) (x : Object) (entries : List Entry) (given_up : List ℕ) → Includes w.objects x → IsEdit w command x entries given_up → (o : ℕ) → Forgotten w o → HoldNone o entries
-  edited_free command x entries given_up m edit o f = all_free o entries (λ e k. either (edit.come e k) (λ was i. own_free x m o f (references_of_member x.entries e o was i)) (λ new. hand_free command e new.1 new.2 o f))
+  edited_free command x entries given_up m edit o f =
+      all_free o entries (λ e k. either (edit.come e k) (λ was i. own_free x m o f (references_of_member x.entries e o was i))
+      (λ new. hand_free command e new.1 new.2 o f))
 
   edited_given : (command : Command) (x : Object) (entries : List Entry) (given_up : List ℕ) → Includes w.objects x → IsEdit w command x entries given_up → AreGiven given_up
-  edited_given command x entries given_up m edit o f k = either edit.given (λ none. subst (λ os. Includes os o) none k) (λ some. own_free x m o f (references_of_member x.entries some.0 o some.1 (subst (λ os. Includes os o) some.2 k)))
+  edited_given command x entries given_up m edit o f k = either edit.given (λ none. subst (λ os. Includes os o) none k)
+      (λ some. own_free x m o f (references_of_member x.entries some.0 o some.1 (subst (λ os. Includes os o) some.2 k)))
 
   pub shape_mild : (command : Command) (e : Effect) → Shape w command e → IsMild e
-  shape_mild command e (Binds name v own hand) = names_mild (slice_set w.names name v) w.numbers (given_up_by w name) (λ o f. bound_free w.names name o v (bound_known command v hand o f) f.unheld.names) (given_name name)
-  shape_mild command e (Makes name kind class entries referent own parts) = makes_mild name kind class entries referent (λ o f. all_free o entries (λ e m. let i = parts.items e m in hand_free command e i.0 i.1 o f)) (referent_found command kind referent parts.refers) (λ r i. (parts.refers r i).0) (λ e. (parts.callbacks e).1)
-  shape_mild command e (Edits wants x entries given h mutable edit) = sets_mild x entries given h.member (mutable_code x mutable) (object_apart command (λ y. true) x h) (edited_free command x entries given h.member edit) (edited_given command x entries given h.member edit)
-  shape_mild command e (Puts x key v h mutable hand_key hand room) = puts_mild x key v h.member (mutable_code x mutable) (object_apart command (λ y. is_dict y || is_instance y) x h) (hand_known command key hand_key) (hand_known command v hand)
+  shape_mild command e (Binds name v own hand) = names_mild (slice_set w.names name v) w.numbers (given_up_by w name) (λ o f. bound_free w.names name o v
+      (bound_known command v hand o f) f.unheld.names) (given_name name)
+  shape_mild command e (Makes name kind class entries referent own parts) = makes_mild name kind class entries referent
+      (λ o f. all_free o entries (λ e m. let i = parts.items e m in hand_free command e i.0 i.1 o f)) (referent_found command kind referent parts.refers)
+      (λ r i. (parts.refers r i).0) (λ e. (parts.callbacks e).1)
+  shape_mild command e (Edits wants x entries given h mutable edit) = sets_mild x entries given h.member (mutable_code x mutable)
+      (object_apart command (λ y. true) x h) (edited_free command x entries given h.member edit) (edited_given command x entries given h.member edit)
+  shape_mild command e (Puts x key v h mutable hand_key hand room) = puts_mild x key v h.member (mutable_code x mutable)
+      (object_apart command (λ y. is_dict y || is_instance y) x h) (hand_known command key hand_key) (hand_known command v hand)
   shape_mild command e (Shows v hand) = numbers_mild w.numbers
   shape_mild command e (Tells line tells) = numbers_mild w.numbers
   shape_mild command e Stays = numbers_mild w.numbers

@@ -44,7 +44,8 @@ module _ (script : Script) (o : ℕ) (below : List Activity) (v : World) (rises 
   other : (phase : DyingPhase) → Calm script (at phase) → (d : Death) → Includes below (Dying d) → d.object ≢ o
   other phase c d m = not_dying o below d c.over.0 m
 
-  turn_free : (phase next : DyingPhase) (p : ℕ) → (¬ Includes (dying_holds o phase) p → ¬ Includes (dying_holds o next) p) → ¬ Includes (flat_map holds (at phase).stack) p → ¬ Includes (flat_map holds (Dying (record { object = o; phase = next }) ∷ below)) p
+  turn_free : (phase next : DyingPhase) (p : ℕ) → (¬ Includes (dying_holds o phase) p → ¬ Includes (dying_holds o next) p)
+      → ¬ Includes (flat_map holds (at phase).stack) p → ¬ Includes (flat_map holds (Dying (record { object = o; phase = next }) ∷ below)) p
   turn_free phase next p h = turned_free (dying_now phase) (dying_now next) below p h
 
   -- The deaths below are unchanged.
@@ -68,7 +69,8 @@ module _ (script : Script) (o : ℕ) (below : List Activity) (v : World) (rises 
 
   calls : (phase next : DyingPhase) (spec : FrameSpec) (objects : List Object) → Alters v.objects objects → Calm script (at phase)
       → ((d : Death) → Includes below (Dying d) → Mortal v.objects d.object → Forgotten (at phase) d.object → AreQuiet d.object objects × ¬ Includes (dying_holds o next) d.object)
-      → Rests script (to next objects) o next → IsLocalHeld spec.sort spec.subject (to next objects).stack → ((p : ℕ) → ¬ Includes (call_holds spec.sort spec.func) p) → Calm script (start_frame script spec (to next objects)).1
+      → Rests script (to next objects) o next → IsLocalHeld spec.sort spec.subject (to next objects).stack
+      → ((p : ℕ) → ¬ Includes (call_holds spec.sort spec.func) p) → Calm script (start_frame script spec (to next objects)).1
   calls phase next spec objects alters c keeps rests local none =
       starts_calm script spec (to next objects) (referred_after v.objects objects alters c.referred) c.over
       (λ d m. either m (λ e. subst (λ (x : Death). Rests script (to next objects) x.object x.phase) (death_is d e) rests) (λ k. below_rest phase next objects alters c keeps d k))
@@ -78,7 +80,8 @@ module _ (script : Script) (o : ℕ) (below : List Activity) (v : World) (rises 
       death_is d e = cc
 
   -- what the objects below keep where only the death's own object moves
-  placed_quiet : (phase : DyingPhase) (p : Place) → Calm script (at phase) → (d : Death) → Includes below (Dying d) → Forgotten (at phase) d.object → AreQuiet d.object (change (with_place p) o v.objects)
+  placed_quiet : (phase : DyingPhase) (p : Place) → Calm script (at phase) → (d : Death) → Includes below (Dying d) → Forgotten (at phase) d.object
+      → AreQuiet d.object (change (with_place p) o v.objects)
   placed_quiet phase p c d m f = place_quiet d.object o p (λ e. other phase c d m (sym e)) v.objects f.unheld.quiet
 
   abbrev revived : Object → Object
@@ -88,7 +91,9 @@ module _ (script : Script) (o : ℕ) (below : List Activity) (v : World) (rises 
   revived_alters = change_alters revived (λ x. record { serial = refl; code = refl; class = refl; referent = inl refl }) o v.objects
 
   revived_quiet : (p : ℕ) → o ≢ p → AreQuiet p v.objects → AreQuiet p (change revived o v.objects)
-  revived_quiet p apart q = test_quiet p revived (λ x. x.serial == o) (λ x e k. record { entries = k.entries; untracked = λ i. absurd (apart (sym (eqb-true x.serial o e) ∙ i)); refers_to_none = k.refers_to_none }) v.objects q
+  revived_quiet p apart q = test_quiet p revived (λ x. x.serial == o)
+      (λ x e k. record { entries = k.entries; untracked = λ i. absurd (apart (sym (eqb-true x.serial o e) ∙ i)); refers_to_none = k.refers_to_none }) v.objects
+      q
 
   mortal : (phase : DyingPhase) → Unheld (at phase) o → Includes (serials v.objects) o → Mortal v.objects o
   mortal phase h lives = record { lives = lives; refers_to_none = λ x m e. (h.quiet x m).refers_to_none e }
@@ -126,7 +131,11 @@ module _ (script : Script) (o : ℕ) (below : List Activity) (v : World) (rises 
         where
           one : (x : Object) → Includes v.objects x → (b : Bool) → (x.serial == o) ≡ b → IsQuiet o (if b then with_place Untracked x else x)
           one x m true e = record { entries = free.entries x m; untracked = λ i. refl; refers_to_none = λ i. mortal.refers_to_none x m i }
-          one x m false e = record { entries = free.entries x m; untracked = λ i. absurd (let no : true ≡ false = sym (eq-eqb x.serial o i) ∙ e in cc); refers_to_none = λ i. mortal.refers_to_none x m i }
+          one x m false e = record {
+            entries = free.entries x m;
+            untracked = λ i. absurd (let no : true ≡ false = sym (eq-eqb x.serial o i) ∙ e in cc);
+            refers_to_none = λ i. mortal.refers_to_none x m i;
+          }
 
       unheld : HeldByNone (at next) o → Unheld (to next objects) o
       unheld free = record { quiet = quiet free; names = free.names; root = free.root; stack = free.stack }
@@ -135,25 +144,33 @@ module _ (script : Script) (o : ℕ) (below : List Activity) (v : World) (rises 
       ended = record {
         referred = c.referred;
         over = c.over.1;
-        stack = resting_stack script (with_stack below v) below (resting_after script (at phase) (with_stack below v) below (λ d m. same_objects script (at phase) (with_stack below v) d.object refl refl (popped_free (dying_now phase) below d.object)) c.stack.1);
+        stack = resting_stack script (with_stack below v) below (resting_after script (at phase) (with_stack below v) below
+            (λ d m. same_objects script (at phase) (with_stack below v) d.object refl refl (popped_free (dying_now phase) below d.object)) c.stack.1);
       }
 
-      go : (b : Bool) → (in_degree (at next) o == 0) ≡ b → (let t : Transition = if b then ([], with_change (with_place Untracked) o (at next)) else (Alive o ∷ [], with_stack below (at phase)) in Calm script t.1)
-      go true e = goes_to phase next objects (place_alters Untracked o v.objects) c (λ d m l f. (untracked_quiet d.object o v.objects f.unheld.quiet, none d.object)) (stands (unheld (none_holds (at next) o (eqb-true (in_degree (at next) o) 0 e))))
+      go : (b : Bool) → (in_degree (at next) o == 0) ≡ b → (let t : Transition = if b then ([], with_change (with_place Untracked) o (at next))
+          else (Alive o ∷ [], with_stack below (at phase)) in Calm script t.1)
+      go true e = goes_to phase next objects (place_alters Untracked o v.objects) c (λ d m l f. (
+        untracked_quiet d.object o v.objects f.unheld.quiet,
+        none d.object,
+      )) (stands (unheld (none_holds (at next) o (eqb-true (in_degree (at next) o) 0 e))))
       go false e = ended
 
   keeps_lost : (phase next : DyingPhase) (weak : ℕ) → ((p : ℕ) → Mortal v.objects p → ¬ Includes (dying_holds o phase) p → ¬ Includes (dying_holds o next) p)
-      → (d : Death) → Includes below (Dying d) → Mortal v.objects d.object → Forgotten (at phase) d.object → AreQuiet d.object (loses_referent weak v.objects) × ¬ Includes (dying_holds o next) d.object
+      → (d : Death) → Includes below (Dying d) → Mortal v.objects d.object → Forgotten (at phase) d.object → AreQuiet d.object (loses_referent weak v.objects)
+      × ¬ Includes (dying_holds o next) d.object
   keeps_lost phase next weak free d m l f = (lost_quiet d.object weak v.objects f.unheld.quiet, free d.object l (top_free (dying_now phase) below d.object f.unheld.stack))
 
-  waits_free : (y : Object) (weak p : ℕ) (b : Bool) (waiting : List ℕ) → (y.serial ≡ p → y.referent ≡ None) → y.serial ≡ weak → is_some y.referent ≡ true → ¬ Includes waiting p → ¬ Includes (waiting ++ (if b then weak ∷ [] else [])) p
+  waits_free : (y : Object) (weak p : ℕ) (b : Bool) (waiting : List ℕ) → (y.serial ≡ p → y.referent ≡ None) → y.serial ≡ weak → is_some y.referent ≡ true
+      → ¬ Includes waiting p → ¬ Includes (waiting ++ (if b then weak ∷ [] else [])) p
   waits_free y weak p b waiting refers same some free m = either (Includes-append_cases waiting (if b then weak ∷ [] else []) p m) free (new b)
     where
       new : (t : Bool) → ¬ Includes (if t then weak ∷ [] else []) p
       new true k = either k (λ e. some_not_none y.referent some (refers (same ∙ e))) (λ n. n)
       new false k = k
 
-  clearing_calm : (waiting weaks : List ℕ) → weak_references_if has_weak_references v.objects o ≡ weaks → Calm script (at (Clearing waiting)) → Calm script (clear_one o waiting below (at (Clearing waiting)) weaks).1
+  clearing_calm : (waiting weaks : List ℕ) → weak_references_if has_weak_references v.objects o ≡ weaks → Calm script (at (Clearing waiting))
+      → Calm script (clear_one o waiting below (at (Clearing waiting)) weaks).1
   clearing_calm waiting [] e c =
       goes_to (Clearing waiting) (Calling waiting) v.objects (alters_refl v.objects) c (λ d m l f. (f.unheld.quiet, top_free (dying_now (Clearing waiting)) below d.object f.unheld.stack))
       (record { unheld = unheld; unreferred = unreferred }, λ h. mortal (Clearing waiting) c.stack.0.0 (c.stack.0.1 h))
@@ -168,7 +185,8 @@ module _ (script : Script) (o : ℕ) (below : List Activity) (v : World) (rises 
   clearing_calm waiting (weak ∷ weaks) e c =
       goes_to (Clearing waiting) next (loses_referent weak v.objects) (lost_alters weak v.objects) c
       (keeps_lost (Clearing waiting) next weak (λ p l free. waits_free y.0 weak p calls_back waiting (l.refers_to_none y.0 y.1) y.2 y.3 free)) (
-        still_unheld (at (Clearing waiting)) (to next (loses_referent weak v.objects)) o refl (lost_quiet o weak v.objects) (turn_free (Clearing waiting) next o (λ free. waits_free y.0 weak o calls_back waiting (c.stack.0.0.quiet y.0 y.1).refers_to_none y.2 y.3 free)) c.stack.0.0,
+        still_unheld (at (Clearing waiting)) (to next (loses_referent weak v.objects)) o refl (lost_quiet o weak v.objects) (turn_free (Clearing waiting) next o
+            (λ free. waits_free y.0 weak o calls_back waiting (c.stack.0.0.quiet y.0 y.1).refers_to_none y.2 y.3 free)) c.stack.0.0,
         λ h. lives_after v.objects (loses_referent weak v.objects) (lost_alters weak v.objects) o (found_referent has_weak_references v.objects o weak weaks e),
       )
     where
@@ -189,7 +207,8 @@ module _ (script : Script) (o : ℕ) (below : List Activity) (v : World) (rises 
       calls (Calling (weak ∷ waiting)) next (record { sort = Callback; proc = procedure_of (at (Calling (weak ∷ waiting))) callback; subject = weak; func = Some callback }) objects alters c
       (λ d m l f. (entries_quiet d.object weak [] (λ k. k) v.objects f.unheld.quiet, held d.object l f.unheld.quiet (top_free (dying_now (Calling (weak ∷ waiting))) below d.object f.unheld.stack))) (
         mortal_after v.objects objects alters o lives,
-        still_forgotten (at (Calling (weak ∷ waiting))) (to next objects) o refl alters (entries_quiet o weak [] (λ k. k) v.objects) (turn_free (Calling (weak ∷ waiting)) next o (held o lives c.stack.0.0.unheld.quiet)) c.stack.0.0,
+        still_forgotten (at (Calling (weak ∷ waiting))) (to next objects) o refl alters (entries_quiet o weak [] (λ k. k) v.objects)
+            (turn_free (Calling (weak ∷ waiting)) next o (held o lives c.stack.0.0.unheld.quiet)) c.stack.0.0,
       )
       (inr (inl refl)) (λ p k. k)
     where
@@ -215,7 +234,12 @@ module _ (script : Script) (o : ℕ) (below : List Activity) (v : World) (rises 
   after_call_calm weak callback waiting c = record {
     referred = c.referred;
     over = (tt, c.over);
-    stack = (tt, λ d m. either m (λ e. subst (λ (x : Death). Rests script after x.object x.phase) (death_is d e) (c.stack.0.0, forgotten o c.stack.0.1)) (λ k. resting_after script before after below (λ e n. altered_keeps script before after e.object (alters_refl v.objects) (λ l f. forgotten e.object f)) c.stack.1 d k));
+    stack = (
+      tt,
+      λ d m. either m (λ e. subst (λ (x : Death). Rests script after x.object x.phase) (death_is d e) (c.stack.0.0, forgotten o c.stack.0.1))
+          (λ k. resting_after script before after below (λ e n. altered_keeps script before after e.object (alters_refl v.objects) (λ l f. forgotten e.object f))
+          c.stack.1 d k),
+    );
   }
     where
       before : World
@@ -263,7 +287,8 @@ module _ (script : Script) (o : ℕ) (below : List Activity) (v : World) (rises 
   detaching_calm (weak ∷ weaks) e c =
       goes_to Detaching Detaching (loses_referent weak v.objects) (lost_alters weak v.objects) c (keeps_lost Detaching Detaching weak (λ p l free. free)) (
         still_unheld (at Detaching) (to Detaching (loses_referent weak v.objects)) o refl (lost_quiet o weak v.objects) (λ k. k) c.stack.0.0,
-        either c.stack.0.1 (λ has. inl (finalizers_after script v.objects (loses_referent weak v.objects) (lost_alters weak v.objects) o has)) (λ none. inr (unreferred_after v.objects (loses_referent weak v.objects) (lost_alters weak v.objects) o none)),
+        either c.stack.0.1 (λ has. inl (finalizers_after script v.objects (loses_referent weak v.objects) (lost_alters weak v.objects) o has))
+            (λ none. inr (unreferred_after v.objects (loses_referent weak v.objects) (lost_alters weak v.objects) o none)),
       )
 
   emptying_calm : (m : Option Entry) → last_entry (entries_of v.objects o) ≡ m → Calm script (at Emptying) → Calm script (empty_one o below (at Emptying) m).1
@@ -302,7 +327,12 @@ module _ (script : Script) (o : ℕ) (below : List Activity) (v : World) (rises 
   emptying_calm (Some entry) e c = record {
     referred = referred_after v.objects objects alters c.referred;
     over = (tt, c.over);
-    stack = (tt, λ d m. either m (λ i. subst (λ (x : Death). Rests script after x.object x.phase) (death_is d i) (lives, forgotten o c.stack.0)) (λ k. resting_after script (at Emptying) after below (λ f n. altered_keeps script (at Emptying) after f.object alters (λ l g. forgotten f.object g)) c.stack.1 d k));
+    stack = (
+      tt,
+      λ d m. either m (λ i. subst (λ (x : Death). Rests script after x.object x.phase) (death_is d i) (lives, forgotten o c.stack.0))
+          (λ k. resting_after script (at Emptying) after below (λ f n. altered_keeps script (at Emptying) after f.object alters (λ l g. forgotten f.object g))
+          c.stack.1 d k),
+    );
   }
     where
       objects : List Object
@@ -331,6 +361,7 @@ module _ (script : Script) (o : ℕ) (below : List Activity) (v : World) (rises 
   dying_calm (Calling waiting) c = calling_calm waiting c
   dying_calm (AfterCall weak callback waiting) c = after_call_calm weak callback waiting c
   dying_calm LegacyFinalizer c = legacy_calm (option_and_then (legacy_of script) (object_at v.objects o)) refl c
-  dying_calm AfterLegacy c = after_frame_calm AfterLegacy Detaching c.stack.0.0 (λ p k. k) (λ h. (h, inl (finalizers_after script v.objects (change (with_place Untracked) o v.objects) (place_alters Untracked o v.objects) o c.stack.0.1))) c
+  dying_calm AfterLegacy c = after_frame_calm AfterLegacy Detaching c.stack.0.0 (λ p k. k)
+      (λ h. (h, inl (finalizers_after script v.objects (change (with_place Untracked) o v.objects) (place_alters Untracked o v.objects) o c.stack.0.1))) c
   dying_calm Detaching c = detaching_calm (weak_references_if (has_finalizers script) v.objects o) refl c
   dying_calm Emptying c = emptying_calm (last_entry (entries_of v.objects o)) refl c

@@ -47,21 +47,29 @@ on_top script w (ShuttingDown started) h = tt
 on_top script w a h = absurd h
 
 module _ (script : Script) (below : List Activity) (v : World) where
-  pub turned : (a b : Activity) → HasCommands b → (IsOver a below → IsOver b below) → ((o : ℕ) → ¬ Includes (holds a) o → ¬ Includes (holds b) o) → Calm script (with_stack (a ∷ below) v) → Calm script (with_stack (b ∷ below) v)
+  pub turned : (a b : Activity) → HasCommands b → (IsOver a below → IsOver b below) → ((o : ℕ) → ¬ Includes (holds a) o → ¬ Includes (holds b) o)
+      → Calm script (with_stack (a ∷ below) v) → Calm script (with_stack (b ∷ below) v)
   turned a b h over free c = record {
     referred = c.referred;
     over = (over c.over.0, c.over.1);
-    stack = (on_top script (with_stack (b ∷ below) v) b h, resting_after script (with_stack (a ∷ below) v) (with_stack (b ∷ below) v) below (λ d m. same_objects script (with_stack (a ∷ below) v) (with_stack (b ∷ below) v) d.object refl refl (turned_free a b below d.object (free d.object))) c.stack.1);
+    stack = (
+      on_top script (with_stack (b ∷ below) v) b h,
+      resting_after script (with_stack (a ∷ below) v) (with_stack (b ∷ below) v) below
+          (λ d m. same_objects script (with_stack (a ∷ below) v) (with_stack (b ∷ below) v) d.object refl refl (turned_free a b below d.object (free d.object)))
+          c.stack.1,
+    );
   }
 
-  collects : (a : Activity) (g : ℕ) (asked : Bool) → HasCommands a → Calm script (with_stack (a ∷ below) v) → Calm script (push (new_collection g asked (with_stack (a ∷ below) v)) (with_stack (a ∷ below) v))
+  collects : (a : Activity) (g : ℕ) (asked : Bool) → HasCommands a → Calm script (with_stack (a ∷ below) v)
+      → Calm script (push (new_collection g asked (with_stack (a ∷ below) v)) (with_stack (a ∷ below) v))
   collects a g asked h c = record {
     referred = c.referred;
     over = (tt, c.over);
     stack = (
       tt,
       resting_after script (with_stack (a ∷ below) v) (push (new_collection g asked (with_stack (a ∷ below) v)) (with_stack (a ∷ below) v)) (a ∷ below)
-          (λ d m. same_objects script (with_stack (a ∷ below) v) (push (new_collection g asked (with_stack (a ∷ below) v)) (with_stack (a ∷ below) v)) d.object refl refl (pushed_free (new_collection g asked (with_stack (a ∷ below) v)) (a ∷ below) d.object (λ k. k)))
+          (λ d m. same_objects script (with_stack (a ∷ below) v) (push (new_collection g asked (with_stack (a ∷ below) v)) (with_stack (a ∷ below) v)) d.object
+          refl refl (pushed_free (new_collection g asked (with_stack (a ∷ below) v)) (a ∷ below) d.object (λ k. k)))
           (all_rest script (with_stack (a ∷ below) v) a below h c.stack.1),
     );
   }
@@ -101,7 +109,8 @@ module _ (script : Script) (a : Activity) (below : List Activity) (v : World) (h
   command_calm w command = record {
     stays = λ lines answers. c;
     stops = λ lines answers. emptied_calm script below v a h c;
-    changes = λ wants_memory lines given_up after shape. changes after given_up (changes_leave (on a below v) command wants_memory lines given_up after shape) (shape_mild script (on a below v) rises c.over command (Changes wants_memory lines given_up after) shape);
+    changes = λ wants_memory lines given_up after shape. changes after given_up (changes_leave (on a below v) command wants_memory lines given_up after shape)
+        (shape_mild script (on a below v) rises c.over command (Changes wants_memory lines given_up after) shape);
     calls = λ f k. starts_calm script (record { sort = CallFrame; proc = procedure_of (on a below v) f.serial; subject = f.serial; func = Some f.serial }) (on a below v) c.referred c.over resting tt
         (λ o l g i. either i (shape_mild script (on a below v) rises c.over command (Calls f.serial) (StartsFrame f k) o g) (λ n. n));
     asks = λ g low e. collects script below v a g true h c;
@@ -113,10 +122,15 @@ keeps_calm script = record {
   ends = λ a lines below v last k. record {
     referred = k.1.referred;
     over = k.1.over;
-    stack = (on_top script _ a (last_has (on a below v) a lines last), resting_after script (on a below v) (record (on a below v) { outcome = Ended }) below (λ d m. same_objects script (on a below v) (record (on a below v) { outcome = Ended }) d.object refl refl (λ i. i)) k.1.stack.1);
+    stack = (
+      on_top script _ a (last_has (on a below v) a lines last),
+      resting_after script (on a below v) (record (on a below v) { outcome = Ended }) below
+          (λ d m. same_objects script (on a below v) (record (on a below v) { outcome = Ended }) d.object refl refl (λ i. i)) k.1.stack.1,
+    );
   };
   shuts_down = λ below v k. turned script below v (TopLevel []) (ShuttingDown false) tt (λ i. i) (λ o i. i) k.1;
-  gives_up = λ name below v e k. (command_calm script (ShuttingDown false) below v tt k.0.rises k.1 (on (ShuttingDown false) below v) (Del name)).changes false [] _ _ (del_shaped (on (ShuttingDown false) below v) name);
+  gives_up = λ name below v e k. (command_calm script (ShuttingDown false) below v tt k.0.rises k.1 (on (ShuttingDown false) below v) (Del name)).changes false
+      [] _ _ (del_shaped (on (ShuttingDown false) below v) name);
   collects_last = λ below v k. collects script below v (ShuttingDown true) 2 false tt (turned script below v (ShuttingDown false) (ShuttingDown true) tt (λ i. i) (λ o i. i) k.1);
   commands = λ command a b below v takes hb k. command_calm script b below v hb k.0.rises (taken_calm script below v command a b takes k.1) (on a below v) command;
   frame_ends = λ f below v left k. frame_end_calm script f below v k.1;
@@ -141,7 +155,8 @@ calm_after script w (step ∷ steps) sound calm run =
     calm_after script step.world steps (step_falls script w step.events step.world run.0 sound).0 (step_calm script w step.events step.world run.0 sound calm) run.1
 
 -- a death in a world with the invariant
-stands_unheld : (script : Script) (w : World) (o : ℕ) (phase : DyingPhase) → Includes w.stack (Dying (record { object = o; phase = phase })) → Stands script w o phase → IsHeldInItsFramesAlone o phase (holdings w)
+stands_unheld : (script : Script) (w : World) (o : ℕ) (phase : DyingPhase) → Includes w.stack (Dying (record { object = o; phase = phase }))
+    → Stands script w o phase → IsHeldInItsFramesAlone o phase (holdings w)
 stands_unheld script w o Finalizer m h = unheld_degree w o h
 stands_unheld script w o AfterFinalizer m h = λ e. (none_holds w o e).stack (held_by_member w.stack (Dying (record { object = o; phase = AfterFinalizer })) o m (inl refl))
 stands_unheld script w o (Clearing waiting) m h = unheld_degree w o h.0

@@ -31,7 +31,8 @@ no_weak x g e = let no : ListKind ≡ Weak = sym g.list ∙ e in cc
 root_waits_not : (w : World) → IsOrderly w → ((x : Object) → Includes w.objects x → x.serial ≡ 1 → IsGarbageList x) → ¬ Includes (all_waits w.stack) 1
 root_waits_not w orderly garbage m =
     let root = Includes-append_right (name_holdings w.names) (1 ∷ []) 1 (inl refl) in
-    let held = Includes-append_left (name_holdings w.names ++ (1 ∷ []) ++ entry_holdings (graph_of w.objects)) (flat_map holds w.stack) 1 (Includes-append_left (name_holdings w.names ++ (1 ∷ [])) (entry_holdings (graph_of w.objects)) 1 root) in
+    let held = Includes-append_left (name_holdings w.names ++ (1 ∷ []) ++ entry_holdings (graph_of w.objects)) (flat_map holds w.stack) 1
+    (Includes-append_left (name_holdings w.names ++ (1 ∷ [])) (entry_holdings (graph_of w.objects)) 1 root) in
     let x = Includes-map_cases (λ (z : Object). z.serial) w.objects 1 (orderly.held_live 1 held) in
     no_weak x.0 (garbage x.0 x.1 x.2) (orderly.waiting 1 m x.0 x.1 x.2).code
 
@@ -67,7 +68,8 @@ module _ (script : Script) (c : Collection) (below : List Activity) (v : World) 
   to after next e h = subst IsApart (sym e) h
 
   -- a weak reference is cleared, and may wait
-  clears_apart : (waiting : List ℕ) (events : List Event) (after : World) → ClearsOne (profile_of script.items) c waiting below (at (WeakClearing waiting)) events after → IsOrderly (at (WeakClearing waiting)) → AreApart v.objects (WeakClearing waiting) → IsApart after
+  clears_apart : (waiting : List ℕ) (events : List Event) (after : World) → ClearsOne (profile_of script.items) c waiting below (at (WeakClearing waiting))
+      events after → IsOrderly (at (WeakClearing waiting)) → AreApart v.objects (WeakClearing waiting) → IsApart after
   clears_apart waiting events after step orderly h = to after _ step.yields.1 (go (waits v.objects step.weak))
     where
       weak : ℕ
@@ -98,13 +100,16 @@ module _ (script : Script) (c : Collection) (below : List Activity) (v : World) 
             found = λ x m t k n. k;
           }) lost_now
 
-      go : (b : Bool) → IsApart (if b then collection_at c (WeakClearing (waiting ++ weak ∷ [])) below (with_objects (change (with_place Pend) weak lost) (at (WeakClearing waiting))) else collection_at c (WeakClearing waiting) below (with_objects lost (at (WeakClearing waiting))))
+      go : (b : Bool) → IsApart (if b then collection_at c (WeakClearing (waiting ++ weak ∷ [])) below (with_objects (change (with_place Pend) weak lost)
+          (at (WeakClearing waiting))) else collection_at c (WeakClearing waiting) below (with_objects lost (at (WeakClearing waiting))))
       go true = goes_to c (WeakClearing (waiting ++ weak ∷ [])) below (with_objects (change (with_place Pend) weak lost) (at (WeakClearing waiting))) alone pending_now
       go false = goes_to c (WeakClearing waiting) below (with_objects lost (at (WeakClearing waiting))) alone lost_now
 
-  pub clearing_apart : (waiting : List ℕ) (events : List Event) (after : World) → WeakClearingStep (profile_of script.items) c waiting below (at (WeakClearing waiting)) events after → IsOrderly (at (WeakClearing waiting)) → AreApart v.objects (WeakClearing waiting) → IsApart after
+  pub clearing_apart : (waiting : List ℕ) (events : List Event) (after : World) → WeakClearingStep (profile_of script.items) c waiting below
+      (at (WeakClearing waiting)) events after → IsOrderly (at (WeakClearing waiting)) → AreApart v.objects (WeakClearing waiting) → IsApart after
   clearing_apart waiting events after (inl step) orderly h = clears_apart waiting events after step orderly h
-  clearing_apart waiting events after (inr step) orderly h = to after _ step.1.1 (goes_to c (WeakCalling waiting) below v alone (restands (WeakClearing waiting) (WeakCalling waiting) v.objects (λ k. k) (λ x m k. k) h))
+  clearing_apart waiting events after (inr step) orderly h = to after _ step.1.1 (goes_to c (WeakCalling waiting) below v alone
+      (restands (WeakClearing waiting) (WeakCalling waiting) v.objects (λ k. k) (λ x m k. k) h))
 
   -- callbacks
   pub calls_back_apart : (waiting : List ℕ) → IsOrderly (at (WeakCalling waiting)) → AreApart v.objects (WeakCalling waiting) → IsApart (calls_back script c waiting below (at (WeakCalling waiting))).1
@@ -112,13 +117,15 @@ module _ (script : Script) (c : Collection) (below : List Activity) (v : World) 
   calls_back_apart (weak ∷ waiting) orderly h =
       let callback = unwrap_or (callback_of v.objects weak) 0 in
       starts_apart script (record { sort = Callback; proc = procedure_of (at (WeakCalling (weak ∷ waiting))) callback; subject = weak; func = Some callback }) (at (AfterCallback weak waiting))
-      (goes_to c (AfterCallback weak waiting) below v alone (restands (WeakCalling (weak ∷ waiting)) (AfterCallback weak waiting) v.objects (λ m. no_root (either m (λ e. e) (λ n. absurd n))) (λ x m k. k) h))
+      (goes_to c (AfterCallback weak waiting) below v alone (restands (WeakCalling (weak ∷ waiting)) (AfterCallback weak waiting) v.objects
+      (λ m. no_root (either m (λ e. e) (λ n. absurd n))) (λ x m k. k) h))
     where
       no_root : weak ≢ 1
       no_root e = root_waits_not (at (WeakCalling (weak ∷ waiting))) orderly h.garbage (inl e)
 
   pub after_callback_apart : (weak : ℕ) (waiting : List ℕ) → AreApart v.objects (AfterCallback weak waiting) → IsApart (push (Releasing (weak ∷ [])) (at (AfterRelease weak waiting)))
-  after_callback_apart weak waiting h = gives_up_apart (weak ∷ []) (at (AfterRelease weak waiting)) (goes_to c (AfterRelease weak waiting) below v alone (restands (AfterCallback weak waiting) (AfterRelease weak waiting) v.objects h.unhandled (λ x m k. k) h))
+  after_callback_apart weak waiting h = gives_up_apart (weak ∷ []) (at (AfterRelease weak waiting)) (goes_to c (AfterRelease weak waiting) below v alone
+      (restands (AfterCallback weak waiting) (AfterRelease weak waiting) v.objects h.unhandled (λ x m k. k) h))
 
   pub after_release_apart : (weak : ℕ) (waiting : List ℕ) → AreApart v.objects (AfterRelease weak waiting) → IsApart (after_release c weak waiting below (at (AfterRelease weak waiting))).1
   after_release_apart weak waiting h = go (is_in_map v.objects weak) refl
@@ -138,6 +145,10 @@ module _ (script : Script) (c : Collection) (below : List Activity) (v : World) 
             found = λ x m t k n. k;
           }) h
 
-      go : (b : Bool) → is_in_map v.objects weak ≡ b → (let t : Transition = if b then ([], collection_at c (WeakCalling waiting) below (with_change (with_place place) weak (at (AfterRelease weak waiting)))) else ([], collection_at (record c { collected = c.collected + 1 }) (WeakCalling waiting) below (at (AfterRelease weak waiting))) in IsApart t.1)
+      go : (b : Bool) → is_in_map v.objects weak ≡ b
+          → (let t : Transition = if b
+          then ([], collection_at c (WeakCalling waiting) below (with_change (with_place place) weak (at (AfterRelease weak waiting))))
+          else ([], collection_at (record c { collected = c.collected + 1 }) (WeakCalling waiting) below (at (AfterRelease weak waiting))) in IsApart t.1)
       go true e = goes_to c (WeakCalling waiting) below (with_change (with_place place) weak (at (AfterRelease weak waiting))) alone lives
-      go false e = goes_to (record c { collected = c.collected + 1 }) (WeakCalling waiting) below v alone (restands (AfterRelease weak waiting) (WeakCalling waiting) v.objects (λ k. k) (λ x m k. others x (none_at v.objects weak x e m) k) h)
+      go false e = goes_to (record c { collected = c.collected + 1 }) (WeakCalling waiting) below v alone (restands (AfterRelease weak waiting)
+          (WeakCalling waiting) v.objects (λ k. k) (λ x m k. others x (none_at v.objects weak x e m) k) h)

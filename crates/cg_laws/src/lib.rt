@@ -1,7 +1,8 @@
 //! What holds in every run of the machine.
 //!
-//! Each law is the contract of a function that does nothing. The layer above relies on `worlds_stay_kept`: every world of
-//! a run satisfies all the laws, and so does every world that a step leads to.
+//! Each law is the contract of a function that does nothing. The layer above relies on
+//! `worlds_stay_kept`: every world of a run satisfies all the laws, and so does every world that a
+//! step leads to.
 #![tactic(auto)]
 
 mod laws;

@@ -317,7 +317,8 @@ pub record EndStep (script : Script) (c : Collection) (below : List Activity) (w
   pub told_order : SameMembers told (serials_at w.objects Legacy)
   pub keeps : List ℕ
   pub keeps_order : SameMembers keeps (serials (filter (is_saved script c) w.objects))
-  pub lines : events ≡ lines_if (has_flag c.flags uncollectable) (map GcUncollectable told) ++ map GcSaved keeps ++ GcStop c.generation c.collected (length told) ∷ lines_if c.asked (Collected (c.collected + length told) ∷ [])
+  pub lines : events ≡ lines_if (has_flag c.flags uncollectable) (map GcUncollectable told) ++ map GcSaved keeps ++ GcStop c.generation c.collected
+      (length told) ∷ lines_if c.asked (Collected (c.collected + length told) ∷ [])
   pub world : after ≡ with_stack below (replaced_place Legacy (Gen (older c.generation)) (with_objects (all_saved keeps w.objects) w))
 
 -- what a collection may do at each phase

@@ -119,7 +119,11 @@ effect w (Collect generation) = do
   Ok (Collects g)
 effect w Enable = sets_numbers w (record w.numbers { enabled = true })
 effect w Disable = sets_numbers w (record w.numbers { enabled = false })
-effect w (Threshold zero one two) = sets_numbers w (record w.numbers { zero_threshold = zero; one_threshold = unwrap_or one w.numbers.one_threshold; two_threshold = unwrap_or two w.numbers.two_threshold })
+effect w (Threshold zero one two) = sets_numbers w (record w.numbers {
+  zero_threshold = zero;
+  one_threshold = unwrap_or one w.numbers.one_threshold;
+  two_threshold = unwrap_or two w.numbers.two_threshold;
+})
 effect w (Flags bits) = sets_numbers w (record w.numbers { flags = bits })
 effect w Freeze = Ok (Changes false [] [] (record w { objects = replaced frozen w; numbers = record w.numbers { zero_count = 0; one_count = 0; two_count = 0 } }))
 effect w Unfreeze = Ok (Changes false [] [] (record w { objects = replaced unfrozen w }))

@@ -18,12 +18,13 @@ pub enum FrameSort {
 #[derive(Clone, Copy, Debug, PartialEq, Eq, Drop)]
 pub struct FrameSpec {
     pub sort: FrameSort,
-    /// The procedure that runs: the one of the subject's class for a finalizer or legacy finalizer, else the
-    /// function's.
+    /// The procedure that runs: the one of the subject's class for a finalizer or legacy finalizer,
+    /// else the function's.
     pub proc: u32,
     /// The serial in the line `enter`.
     pub subject: u64,
-    /// The function whose cells the frame sees. `None` exactly for finalizers and legacy finalizers.
+    /// The function whose cells the frame sees. `None` exactly for finalizers and legacy
+    /// finalizers.
     pub func: Option<u64>,
 }
 

@@ -13,8 +13,8 @@ const ROOM: usize = 1100;
 /// Room for the line of an event.
 pub type LineText = ArrayString<ROOM>;
 
-/// The line of an event, with its line feed. A text that it prints must be one of `names`, with at most 1,024
-/// bytes.
+/// The line of an event, with its line feed. A text that it prints must be one of `names`, with at
+/// most 1,024 bytes.
 pub fn line_of(event: &Event, names: &Names) -> LineText
     requires { IsPrintable names.now event.now }
     ensures { result.bytes ≡ line names.now event.now }
@@ -34,7 +34,8 @@ pub fn push_line(text: &mut LineText, event: &Event, names: &Names)
     text.push_str("\n");
 }
 
-/// Writes a line without its line feed into an empty text. One call for each form, all into the same buffer.
+/// Writes a line without its line feed into an empty text. One call for each form, all into the
+/// same buffer.
 fn push_words(text: &mut ArrayString<ROOM>, event: &Event, names: &Names)
     requires empty { text.old.bytes ≡ [] }
     requires printable { IsPrintable names.now event.now }
@@ -120,7 +121,8 @@ fn counted(text: &mut ArrayString<ROOM>, words: &str, number: u64)
 fn three(text: &mut ArrayString<ROOM>, words: &str, first: u64, second: u64, third: u64)
     requires empty { text.old.bytes ≡ [] }
     requires few { length words.now ≤ 100 }
-    ensures bytes { text.new.bytes ≡ words.now ++ number_text first ++ number_text second ++ number_text third }
+    ensures bytes { text.new.bytes ≡ words.now ++ number_text first ++ number_text second
+        ++ number_text third }
     ensures short { length text.new.bytes ≤ 400 }
 {
     counted(text, words, first);
@@ -131,7 +133,8 @@ fn three(text: &mut ArrayString<ROOM>, words: &str, first: u64, second: u64, thi
 fn four(text: &mut ArrayString<ROOM>, words: &str, first: u64, second: u64, third: u64, fourth: u64)
     requires empty { text.old.bytes ≡ [] }
     requires few { length words.now ≤ 100 }
-    ensures bytes { text.new.bytes ≡ words.now ++ number_text first ++ number_text second ++ number_text third ++ number_text fourth }
+    ensures bytes { text.new.bytes ≡ words.now ++ number_text first ++ number_text second
+        ++ number_text third ++ number_text fourth }
     ensures short { length text.new.bytes ≤ 500 }
 {
     three(text, words, first, second, third);

@@ -3,8 +3,8 @@ use bitflags::{Flag, Flags};
 
 /// A set of debug flags: contracts see its bits as a number, `bits_of`.
 ///
-/// `Flagset::from_bits` of the trait `Flags` makes it from bits, and returns None exactly if a bit other than 1, 2, 4
-/// and 32 is set. `Flagset::from_bits_retain` accepts any bits.
+/// `Flagset::from_bits` of the trait `Flags` makes it from bits, and returns None exactly if a bit
+/// other than 1, 2, 4 and 32 is set. `Flagset::from_bits_retain` accepts any bits.
 #[derive(Clone, Copy, Debug, PartialEq, Eq)]
 pub struct Flagset(u32);
 

@@ -5,8 +5,8 @@ ghost use Rattle.cg_machine.specs.Collect.{stats, collectable, uncollectable, sa
 ghost use Rattle.cg_policy.specs.Flagset.{flag_table};
 ghost use Rattle.cg_policy.specs.Laws.{FollowsMachine};
 
-/// A collection is due exactly if it is in the machine. Where the machine has no name for the numbers after a call,
-/// they are those after its own step or command.
+/// A collection is due exactly if it is in the machine. Where the machine has no name for the
+/// numbers after a call, they are those after its own step or command.
 pub fn policies_follow_the_machine()
     ensures { FollowsMachine }
 {}

@@ -1,7 +1,7 @@
 //! When a collection is due, of which generation, and how it changes the counters.
 //!
-//! The layers above rest on one contract: a `Policy` is the machine's record of numbers and whether a collection is
-//! running, and each call changes that record exactly as the machine does.
+//! The layers above rest on one contract: a `Policy` is the machine's record of numbers and whether
+//! a collection is running, and each call changes that record exactly as the machine does.
 //!
 //! - `policy`: counts, thresholds and the rules of `gc.set_threshold`.
 //! - `flagset`: the debug flags of `gc.set_debug`.

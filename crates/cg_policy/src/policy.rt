@@ -12,8 +12,9 @@ use std::marker::Model;
 
 /// The counts of generations 0, 1 and 2. (`gc.get_count`.)
 ///
-/// Count 0 rises and falls with objects made and freed since the last collection. Each other count is the number of
-/// collections of the generation before it since its own or an older one was collected.
+/// Count 0 rises and falls with objects made and freed since the last collection. Each other count
+/// is the number of collections of the generation before it since its own or an older one was
+/// collected.
 #[derive(Clone, Copy, Debug, PartialEq, Eq, Drop)]
 pub struct Counts {
     pub zero: u64,
@@ -35,8 +36,9 @@ struct Thresholds {
 pub struct Policy {
     counts: Counts,
     thresholds: Thresholds,
-    // The objects that survived collections of generation 1 since the last of generation 2. An object counts again at
-    // each collection it survives, so the number of objects does not bound this sum, and 64 bits might not suffice.
+    // The objects that survived collections of generation 1 since the last of generation 2. An
+    // object counts again at each collection it survives, so the number of objects does not bound
+    // this sum, and 64 bits might not suffice.
     pending: u128,
     // The objects that survived the last collection of generation 2.
     total: u64,
@@ -69,9 +71,11 @@ impl Model for Policy {
 }
 
 impl Policy {
-    /// The policy of a new run: the machine's initial numbers, no debug flags, and no collection running.
+    /// The policy of a new run: the machine's initial numbers, no debug flags, and no collection
+    /// running.
     ///
-    /// Collecting is enabled, and the thresholds are CPython's 700, 10 and 10. (`gc.get_threshold`.)
+    /// Collecting is enabled, and the thresholds are CPython's 700, 10 and 10.
+    /// (`gc.get_threshold`.)
     pub fn new() -> Policy
         ensures { result ≡ record { numbers = first_numbers; running = false } }
     {
@@ -111,10 +115,10 @@ impl Policy {
 
     /// The generation of the collection that is due, 0 to 2, and None exactly if none is due.
     ///
-    /// One is due if collecting is enabled, none is running, threshold 0 is not 0, and count 0 is above it
-    /// (`gc.set_threshold`). The generation is the greatest whose count is above its threshold, but 2 is skipped if
-    /// fewer objects are pending than a quarter of the total, rounded down (developer guide, "collecting the oldest
-    /// generation").
+    /// One is due if collecting is enabled, none is running, threshold 0 is not 0, and count 0 is
+    /// above it (`gc.set_threshold`). The generation is the greatest whose count is above its
+    /// threshold, but 2 is skipped if fewer objects are pending than a quarter of the total,
+    /// rounded down (developer guide, "collecting the oldest generation").
     #[inline(always)]
     pub fn due(&self) -> Option<u8>
         ensures { result ≡ due_of self.now }
@@ -126,7 +130,8 @@ impl Policy {
         }
     }
 
-    // Whether the numbers alone make a collection due. Tests the count first, since it usually decides.
+    // Whether the numbers alone make a collection due. Tests the count first, since it usually
+    // decides.
     #[inline(always)]
     fn has_enough(&self) -> bool
         ensures { result ≡ is_due self.now.numbers }
@@ -151,13 +156,16 @@ impl Policy {
         }
     }
 
-    /// A collection of a generation, 0 to 2, begins: its count and the younger ones become 0, the next one rises by 1,
-    /// and a collection is running. (Developer guide, "generations".)
+    /// A collection of a generation, 0 to 2, begins: its count and the younger ones become 0, the
+    /// next one rises by 1, and a collection is running. (Developer guide, "generations".)
     pub fn begin(&mut self, generation: u8)
         requires generation { generation ≤ 2 }
         requires idle { self.old.running ≡ false }
         requires bounded { IsBounded (begun generation self.old.numbers) }
-        ensures { self.new ≡ record { numbers = begun generation self.old.numbers; running = true } }
+        ensures { self.new ≡ record {
+          numbers = begun generation self.old.numbers;
+          running = true;
+        } }
     {
         self.counts.zero = 0;
         match generation {
@@ -174,8 +182,9 @@ impl Policy {
         self.running = true;
     }
 
-    /// `n` objects survived a collection of a generation. After generation 1 they are added to pending; after
-    /// generation 2 pending is 0 and they are the total. (Developer guide, "collecting the oldest generation".)
+    /// `n` objects survived a collection of a generation. After generation 1 they are added to
+    /// pending; after generation 2 pending is 0 and they are the total. (Developer guide,
+    /// "collecting the oldest generation".)
     pub fn survived(&mut self, generation: u8, n: u64)
         requires { IsBounded (survived generation n self.old.numbers) }
         ensures { self.new ≡ with_numbers (survived generation n self.old.numbers) self.old }
@@ -235,8 +244,8 @@ impl Policy {
         self.enabled = on;
     }
 
-    /// Sets the thresholds of generations 0, 1 and 2; a missing one is kept. Threshold 0 set to 0 disables automatic
-    /// collections. (`gc.set_threshold`.)
+    /// Sets the thresholds of generations 0, 1 and 2; a missing one is kept. Threshold 0 set to 0
+    /// disables automatic collections. (`gc.set_threshold`.)
     pub fn set_threshold(&mut self, first: u32, second: Option<u32>, third: Option<u32>)
         ensures { self.new
             ≡ with_numbers (with_thresholds first second third self.old.numbers) self.old }

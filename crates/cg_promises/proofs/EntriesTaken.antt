@@ -42,7 +42,8 @@ changed_lengthens : (top : Activity) (tops : List Activity) (lines : List Event)
 changed_lengthens top tops lines = changed_came (Longer (Owns top)) (longer_order (Owns top)) top tops lines (λ x y k. (sym k.later.serial, inl (same_entries x y k.entries)))
     (λ objects s es owns fewer x m e. (refl, inr (subst (Owns top) (sym e) owns))) (λ is o x e. (refl, inl (item (Ref o) ∷ [], refl)))
 
-advance_lengthens : (script : Script) (v : World) (top : Activity) (below : List Activity) (lines : List Event) (after : World) → Advance script v top below lines after → Lengthens (Owns top) v.objects after.objects
+advance_lengthens : (script : Script) (v : World) (top : Activity) (below : List Activity) (lines : List Event) (after : World) → Advance script v top below
+    lines after → Lengthens (Owns top) v.objects after.objects
 advance_lengthens script v top below lines after (Plainly tops objects numbers ls t c n shown) = changed_lengthens top tops ls v.objects objects c
 advance_lengthens script v top below lines after (WithFrame spec a objects s c held m) =
     let l = changed_lengthens top [] [] v.objects objects m in
@@ -73,12 +74,17 @@ owned_by_collection top n (OfEmptied o) c e = absurd (cc)
 owned_by_collection top n (OfCalled o weak waiting) c e = absurd (cc)
 
 pub released_lengthens : (refs : List ℕ) (below : List Activity) (script : Script) (v : World) → Lengthens Nowhere v.objects (released refs below (with_stack (Releasing refs ∷ below) v)).1.objects
-released_lengthens refs below script v = owned_only (Owns (Releasing refs)) Nowhere v.objects _ (λ n o. owned_by_release (Releasing refs) n o refs refl) (advance_lengthens script v (Releasing refs) below _ _ (released_advances script refs below v))
+released_lengthens refs below script v = owned_only (Owns (Releasing refs)) Nowhere v.objects _ (λ n o. owned_by_release (Releasing refs) n o refs refl)
+    (advance_lengthens script v (Releasing refs) below _ _ (released_advances script refs below v))
 
-pub dying_takes : (script : Script) (o : ℕ) (below : List Activity) (v : World) (phase : DyingPhase) → Lengthens (λ n. (o ≡ n) ⊎ CallsBack phase n) v.objects (dying script o phase below (death_at o phase below v)).1.objects
-dying_takes script o below v phase = owned_only (Owns (Dying (record { object = o; phase = phase }))) (λ n. (o ≡ n) ⊎ CallsBack phase n) v.objects _ (λ n owns. owned_by_death (Dying (record { object = o; phase = phase })) n owns (record { object = o; phase = phase }) refl)
+pub dying_takes : (script : Script) (o : ℕ) (below : List Activity) (v : World) (phase : DyingPhase) → Lengthens (λ n. (o ≡ n) ⊎ CallsBack phase n) v.objects
+    (dying script o phase below (death_at o phase below v)).1.objects
+dying_takes script o below v phase = owned_only (Owns (Dying (record { object = o; phase = phase }))) (λ n. (o ≡ n) ⊎ CallsBack phase n) v.objects _
+    (λ n owns. owned_by_death (Dying (record { object = o; phase = phase })) n owns (record { object = o; phase = phase }) refl)
     (advance_lengthens script v (Dying (record { object = o; phase = phase })) below _ _ (dying_advances script o below v phase))
 
-pub phase_takes : (script : Script) (c : Collection) (below : List Activity) (v : World) (phase : CollectPhase) (events : List Event) (after : World) → PhaseStep script c phase below (collection_at c phase below v) events after → Lengthens (λ n. phase ≡ Turn n) v.objects after.objects
-phase_takes script c below v phase events after step = owned_only (Owns (Collecting (record c { phase = phase }))) (λ n. phase ≡ Turn n) v.objects after.objects (λ n owns. owned_by_collection (Collecting (record c { phase = phase })) n owns (record c { phase = phase }) refl)
+pub phase_takes : (script : Script) (c : Collection) (below : List Activity) (v : World) (phase : CollectPhase) (events : List Event) (after : World)
+    → PhaseStep script c phase below (collection_at c phase below v) events after → Lengthens (λ n. phase ≡ Turn n) v.objects after.objects
+phase_takes script c below v phase events after step = owned_only (Owns (Collecting (record c { phase = phase }))) (λ n. phase ≡ Turn n) v.objects after.objects
+    (λ n owns. owned_by_collection (Collecting (record c { phase = phase })) n owns (record c { phase = phase }) refl)
     (advance_lengthens script v (Collecting (record c { phase = phase })) below events after (phase_advances script c below v phase events after step))

@@ -116,11 +116,13 @@ abbrev pub Fewer : Object → Object → Type 0
 Fewer x y = Lessens x y × (x.place ≡ Cand → y.place ≡ Cand)
 
 abbrev pub Comes : List ℕ → List Object → ℕ → Object → Type 0
-Comes members before next y = ((x : Object) × Includes before x × IsLesser x y × (Fewer x y ⊎ (¬ Includes members x.serial) × IsClean members y)) ⊎ (y.serial ≡ next) × IsClean members y × ((o : ℕ) → Includes members o → y.referent ≢ Some o)
+Comes members before next y = ((x : Object) × Includes before x × IsLesser x y × (Fewer x y ⊎ (¬ Includes members x.serial) × IsClean members y))
+    ⊎ (y.serial ≡ next) × IsClean members y × ((o : ℕ) → Includes members o → y.referent ≢ Some o)
 
 -- the same, except for condemned objects
 abbrev pub Loose : List ℕ → List Object → ℕ → Object → Type 0
-Loose members before next y = ((x : Object) × Includes before x × IsLesser x y × (Lessens x y ⊎ (¬ Includes members x.serial) × IsClean members y)) ⊎ (y.serial ≡ next) × IsClean members y × ((o : ℕ) → Includes members o → y.referent ≢ Some o)
+Loose members before next y = ((x : Object) × Includes before x × IsLesser x y × (Lessens x y ⊎ (¬ Includes members x.serial) × IsClean members y))
+    ⊎ (y.serial ≡ next) × IsClean members y × ((o : ℕ) → Includes members o → y.referent ≢ Some o)
 
 pub loosen : (members : List ℕ) (before : List Object) (next : ℕ) (y : Object) → Comes members before next y → Loose members before next y
 loosen members before next y (inl x) = inl (x.0, x.1, x.2, either x.3 (λ f. inl f.0) (λ c. inr c))
@@ -170,7 +172,11 @@ pub untracked_apart : Untracked ≢ Legacy
 untracked_apart e = cc
 
 pub lost_shrinks : (weak : ℕ) (objects : List Object) → Shrinks objects (loses_referent weak objects)
-lost_shrinks weak objects = change_shrinks (with_referent None) (record { lesser = λ x. record { later = record { serial = refl; code = refl; class = refl; referent = inr refl }; finalized = λ e. e; place = λ e. e }; fewer = λ x. (λ n k. k, λ e. e) }) weak objects
+lost_shrinks weak objects = change_shrinks (with_referent None)
+    (record {
+      lesser = λ x. record { later = record { serial = refl; code = refl; class = refl; referent = inr refl }; finalized = λ e. e; place = λ e. e };
+      fewer = λ x. (λ n k. k, λ e. e);
+    }) weak objects
 
 pub none_out : (members : List ℕ) → TellsStill members []
 none_out members = (λ event m. absurd m, λ event m. absurd m)
@@ -183,8 +189,11 @@ pub one_still : (members : List ℕ) (event : Event) → is_stop event ≡ false
 one_still members event still h = (one_out members event h, λ e m. either m (λ i. subst (λ x. is_stop x ≡ false) i still) (λ none. absurd none))
 
 module _ (script : Script) (members : List ℕ) where
-  pub goes_sealed : (before after : List Object) (names now : List (Option Val)) (stack to : List Activity) (next later : ℕ) → next ≤ later → ((y : Object) → Includes after y → Loose members before next y) → ((o : ℕ) → Includes members o → ¬ Includes (name_holdings now) o)
-      → ((a : Activity) → Includes to a → Fits members a) → list_any is_collection to ≡ true → (Clears members stack → Clears members to) → ((y : Object) → Includes after y → Includes members y.serial → Excused to y) → Sealed script members before names stack next → Sealed script members after now to later
+  pub goes_sealed : (before after : List Object) (names now : List (Option Val)) (stack to : List Activity) (next later : ℕ) → next ≤ later
+      → ((y : Object) → Includes after y → Loose members before next y) → ((o : ℕ) → Includes members o → ¬ Includes (name_holdings now) o)
+      → ((a : Activity) → Includes to a → Fits members a) → list_any is_collection to ≡ true → (Clears members stack → Clears members to)
+      → ((y : Object) → Includes after y → Includes members y.serial → Excused to y) → Sealed script members before names stack next
+      → Sealed script members after now to later
   goes_sealed before after names now stack to next later more comes unnamed fits collecting under excused h = record {
     made = λ o m. omega (arith, h.made o m, more);
     above = h.above;
@@ -202,25 +211,33 @@ module _ (script : Script) (members : List ℕ) where
   }
 
   -- an object that lost references or stays condemned is still excused
-  pub still_excused : (stack to : List Activity) (x y : Object) → IsLesser x y → Lessens x y → (x.place ≡ Cand → NotAfter stack x.serial → Excused to y) → (list_any (is_death_of x.serial) stack ≡ true → list_any (is_death_of x.serial) to ≡ true) → Excused stack x → Excused to y
+  pub still_excused : (stack to : List Activity) (x y : Object) → IsLesser x y → Lessens x y → (x.place ≡ Cand → NotAfter stack x.serial → Excused to y)
+      → (list_any (is_death_of x.serial) stack ≡ true → list_any (is_death_of x.serial) to ≡ true) → Excused stack x → Excused to y
   still_excused stack to x y l fewer cand deaths (inl e) = inl (l.later.code ∙ e)
   still_excused stack to x y l fewer cand deaths (inr (inl bare)) = inr (inl (λ n k. bare n (fewer n k)))
   still_excused stack to x y l fewer cand deaths (inr (inr (inl e))) = inr (inr (inl (subst (λ s. list_any (is_death_of s) to ≡ true) (sym l.later.serial) (deaths e))))
   still_excused stack to x y l fewer cand deaths (inr (inr (inr w))) = cand w.0 w.1
 
-  pub comes_excused : (before after : List Object) (names : List (Option Val)) (stack to : List Activity) (next : ℕ) → ((y : Object) → Includes after y → Comes members before next y) → ((n : ℕ) → NotAfter stack n → NotAfter to n)
-      → ((n : ℕ) → Includes members n → list_any (is_death_of n) stack ≡ true → list_any (is_death_of n) to ≡ true) → Sealed script members before names stack next → (y : Object) → Includes after y → Includes members y.serial → Excused to y
+  pub comes_excused : (before after : List Object) (names : List (Option Val)) (stack to : List Activity) (next : ℕ) → ((y : Object) → Includes after y
+      → Comes members before next y) → ((n : ℕ) → NotAfter stack n → NotAfter to n)
+      → ((n : ℕ) → Includes members n → list_any (is_death_of n) stack ≡ true → list_any (is_death_of n) to ≡ true) → Sealed script members before names stack
+      next → (y : Object) → Includes after y → Includes members y.serial → Excused to y
   comes_excused before after names stack to next comes turns deaths h y m k = either (comes y m)
       (λ x. let inside = subst (Includes members) x.2.later.serial k in either x.3
-      (λ fewer. still_excused stack to x.0 y x.2 fewer.0 (λ e w. inr (inr (inr (fewer.1 e, subst (NotAfter to) (sym x.2.later.serial) (turns x.0.serial w))))) (deaths x.0.serial inside) (h.excused x.0 x.1 inside))
+      (λ fewer. still_excused stack to x.0 y x.2 fewer.0 (λ e w. inr (inr (inr (fewer.1 e, subst (NotAfter to) (sym x.2.later.serial) (turns x.0.serial w)))))
+      (deaths x.0.serial inside) (h.excused x.0 x.1 inside))
       (λ clean. absurd (clean.0 inside)))
       (λ new. let low = h.made y.serial k in absurd (let e = new.0 in omega (arith, low, e)))
 
   -- objects lose references, and the stack goes on
-  pub shrinks_sealed : (before after : List Object) (names : List (Option Val)) (stack to : List Activity) (next : ℕ) → ((y : Object) → Includes after y → Comes members before next y) → ((a : Activity) → Includes to a → Fits members a) → list_any is_collection to ≡ true → (Clears members stack → Clears members to)
+  pub shrinks_sealed : (before after : List Object) (names : List (Option Val)) (stack to : List Activity) (next : ℕ) → ((y : Object) → Includes after y
+      → Comes members before next y) → ((a : Activity) → Includes to a → Fits members a) → list_any is_collection to ≡ true → (Clears members stack
+      → Clears members to)
       → ((n : ℕ) → NotAfter stack n → NotAfter to n) → ((n : ℕ) → Includes members n → list_any (is_death_of n) stack ≡ true → list_any (is_death_of n) to ≡ true)
       → Sealed script members before names stack next → Sealed script members after names to next
-  shrinks_sealed before after names stack to next comes fits collecting under turns deaths h = goes_sealed before after names names stack to next next (omega arith) (λ y m. loosen members before next y (comes y m)) h.unnamed fits collecting under (comes_excused before after names stack to next comes turns deaths h) h
+  shrinks_sealed before after names stack to next comes fits collecting under turns deaths h = goes_sealed before after names names stack to next next
+      (omega arith) (λ y m. loosen members before next y (comes y m)) h.unnamed fits collecting under (comes_excused before after names stack to next comes
+      turns deaths h) h
 
   pub shrunk : (before after : List Object) (next : ℕ) → Shrinks before after → (y : Object) → Includes after y → Comes members before next y
   shrunk before after next shrinks y m = let x = shrinks y m in inl (x.0, x.1, x.2, inl x.3)
@@ -229,55 +246,69 @@ module _ (script : Script) (members : List ℕ) where
   not_after : (a b : Activity) (below : List Activity) → is_collection b ≡ false → (n : ℕ) → NotAfter (a ∷ below) n → NotAfter (b ∷ below) n
   not_after a b below none n h c m = either m (λ e. absurd (let no : false ≡ true = sym none ∙ ap is_collection e in cc)) (λ k. h c (inr k))
 
-  pub turn_sealed : (a b : Activity) (below : List Activity) (before after : List Object) (names : List (Option Val)) (next : ℕ) → ((y : Object) → Includes after y → Comes members before next y) → Fits members b → is_collection a ≡ false → is_collection b ≡ false → ((n : ℕ) → Includes members n → is_death_of n a ≡ is_death_of n b)
+  pub turn_sealed : (a b : Activity) (below : List Activity) (before after : List Object) (names : List (Option Val)) (next : ℕ)
+      → ((y : Object) → Includes after y → Comes members before next y) → Fits members b → is_collection a ≡ false → is_collection b ≡ false
+      → ((n : ℕ) → Includes members n → is_death_of n a ≡ is_death_of n b)
       → Sealed script members before names (a ∷ below) next → Sealed script members after names (b ∷ below) next
   turn_sealed a b below before after names next comes fit none also same h = shrinks_sealed before after names (a ∷ below) (b ∷ below) next comes
       (λ x m. either m (λ e. subst (Fits members) e fit) (λ k. h.stack_fits x (inr k))) (subst (λ t. (t || list_any is_collection below) ≡ true) (none ∙ sym also) h.collecting)
       (λ k. subst (λ t. ClearsIf t ((d : Activity) → Includes below d → IsOutOf members d) (Clears members below)) (none ∙ sym also) k)
       (not_after a b below also) (λ n m e. subst (λ t. (t || list_any (is_death_of n) below) ≡ true) (same n m) e) h
 
-  pub push_sealed : (a : Activity) (stack : List Activity) (objects : List Object) (names : List (Option Val)) (next : ℕ) → Fits members a → is_collection a ≡ false → Sealed script members objects names stack next → Sealed script members objects names (a ∷ stack) next
+  pub push_sealed : (a : Activity) (stack : List Activity) (objects : List Object) (names : List (Option Val)) (next : ℕ) → Fits members a → is_collection a
+      ≡ false → Sealed script members objects names stack next → Sealed script members objects names (a ∷ stack) next
   push_sealed a stack objects names next fit none h = shrinks_sealed objects objects names stack (a ∷ stack) next (shrunk objects objects next (same_shrinks objects))
       (λ x m. either m (λ e. subst (Fits members) e fit) (h.stack_fits x)) (or_right (is_collection a) (list_any is_collection stack) h.collecting)
       (λ k. subst (λ t. ClearsIf t ((d : Activity) → Includes stack d → IsOutOf members d) (Clears members stack)) (sym none) k)
       (λ n w c m. either m (λ e. absurd (let no : false ≡ true = sym none ∙ ap is_collection e in cc)) (λ k. w c k)) (λ n m e. or_right (is_death_of n a) (list_any (is_death_of n) stack) e) h
 
-  pub pop_sealed : (a : Activity) (below : List Activity) (before after : List Object) (names : List (Option Val)) (next : ℕ) → ((y : Object) → Includes after y → Comes members before next y) → is_collection a ≡ false → ((n : ℕ) → Includes members n → Includes (serials after) n → is_death_of n a ≡ false)
+  pub pop_sealed : (a : Activity) (below : List Activity) (before after : List Object) (names : List (Option Val)) (next : ℕ) → ((y : Object) → Includes after y
+      → Comes members before next y) → is_collection a ≡ false → ((n : ℕ) → Includes members n → Includes (serials after) n → is_death_of n a ≡ false)
       → Sealed script members before names (a ∷ below) next → Sealed script members after names below next
-  pop_sealed a below before after names next comes none apart h = goes_sealed before after names names (a ∷ below) below next next (omega arith) (λ y m. loosen members before next y (comes y m)) h.unnamed (λ x m. h.stack_fits x (inr m)) (subst (λ t. (t || list_any is_collection below) ≡ true) none h.collecting)
+  pop_sealed a below before after names next comes none apart h = goes_sealed before after names names (a ∷ below) below next next (omega arith)
+      (λ y m. loosen members before next y (comes y m)) h.unnamed (λ x m. h.stack_fits x (inr m)) (subst (λ t. (t || list_any is_collection below) ≡ true) none
+      h.collecting)
       (λ k. subst (λ t. ClearsIf t ((d : Activity) → Includes below d → IsOutOf members d) (Clears members below)) none k) excused h
     where
       excused : (y : Object) → Includes after y → Includes members y.serial → Excused below y
       excused y m k = either (comes y m)
           (λ x. let inside = subst (Includes members) x.2.later.serial k in either x.3
           (λ fewer. still_excused (a ∷ below) below x.0 y x.2 fewer.0 (λ e w. inr (inr (inr (fewer.1 e, λ c i. subst (λ s. c.phase ≢ AfterTurn s) (sym x.2.later.serial) (w c (inr i))))))
-          (λ e. subst (λ t. (t || list_any (is_death_of x.0.serial) below) ≡ true) (apart x.0.serial inside (subst (Includes (serials after)) x.2.later.serial (Includes-map (λ (z : Object). z.serial) after y m))) e) (h.excused x.0 x.1 inside))
+          (λ e. subst (λ t. (t || list_any (is_death_of x.0.serial) below) ≡ true) (apart x.0.serial inside (subst (Includes (serials after)) x.2.later.serial
+          (Includes-map (λ (z : Object). z.serial) after y m))) e) (h.excused x.0 x.1 inside))
           (λ clean. absurd (clean.0 inside)))
           (λ new. let low = h.made y.serial k in absurd (let e = new.0 in omega (arith, low, e)))
 
   -- one object moves, and is excused for another reason
-  pub place_sealed : (f : Object → Object) (o : ℕ) (objects : List Object) (names : List (Option Val)) (stack : List Activity) (next : ℕ) → ((x : Object) → IsLesser x (f x)) → ((x : Object) → (f x).entries ≡ x.entries)
-      → ((x : Object) → Includes objects x → x.serial ≡ o → Includes members x.serial → Excused stack (f x)) → Sealed script members objects names stack next → Sealed script members (change f o objects) names stack next
-  place_sealed f o objects names stack next lesser same other h = goes_sealed objects (change f o objects) names names stack stack next next (omega arith) comes h.unnamed h.stack_fits h.collecting (λ k. k) excused h
+  pub place_sealed : (f : Object → Object) (o : ℕ) (objects : List Object) (names : List (Option Val)) (stack : List Activity) (next : ℕ)
+      → ((x : Object) → IsLesser x (f x)) → ((x : Object) → (f x).entries ≡ x.entries)
+      → ((x : Object) → Includes objects x → x.serial ≡ o → Includes members x.serial → Excused stack (f x)) → Sealed script members objects names stack next
+      → Sealed script members (change f o objects) names stack next
+  place_sealed f o objects names stack next lesser same other h = goes_sealed objects (change f o objects) names names stack stack next next (omega arith) comes
+      h.unnamed h.stack_fits h.collecting (λ k. k) excused h
     where
       lessens : (b : Bool) (x : Object) → IsLesser x (if b then f x else x) × Lessens x (if b then f x else x)
       lessens true x = (lesser x, λ n k. subst (λ es. Includes (references es) n) (same x) k)
       lessens false x = (record { later = record { serial = refl; code = refl; class = refl; referent = inl refl }; finalized = λ e. e; place = λ e. e }, λ n k. k)
 
       comes : (y : Object) → Includes (change f o objects) y → Loose members objects next y
-      comes y m = let x = Includes-map_cases (λ x. if x.serial == o then f x else x) objects y m in subst (Loose members objects next) x.2 (let l = lessens (x.0.serial == o) x.0 in inl (x.0, x.1, l.0, inl l.1))
+      comes y m = let x = Includes-map_cases (λ x. if x.serial == o then f x else x) objects y m in subst (Loose members objects next) x.2
+          (let l = lessens (x.0.serial == o) x.0 in inl (x.0, x.1, l.0, inl l.1))
 
       one : (b : Bool) (x : Object) → (x.serial == o) ≡ b → Includes objects x → (let y : Object = if b then f x else x in Includes members y.serial → Excused stack y)
       one true x t m k = other x m (eqb-true x.serial o t) (subst (Includes members) (lesser x).later.serial k)
       one false x t m k = h.excused x m k
 
       excused : (y : Object) → Includes (change f o objects) y → Includes members y.serial → Excused stack y
-      excused y m k = let x = Includes-map_cases (λ x. if x.serial == o then f x else x) objects y m in subst (Excused stack) x.2 (one (x.0.serial == o) x.0 refl x.1 (subst (λ (z : Object). Includes members z.serial) (sym x.2) k))
+      excused y m k = let x = Includes-map_cases (λ x. if x.serial == o then f x else x) objects y m in subst (Excused stack) x.2
+          (one (x.0.serial == o) x.0 refl x.1 (subst (λ (z : Object). Includes members z.serial) (sym x.2) k))
 
   -- the changed objects are no members
-  pub others_come : (f : Object → Object) (o : ℕ) (before : List Object) (names : List (Option Val)) (stack : List Activity) (next : ℕ) → ((x : Object) → IsLesser x (f x)) → ((x : Object) → (f x).entries ≡ x.entries) → (¬ Includes members o) → Sealed script members before names stack next
+  pub others_come : (f : Object → Object) (o : ℕ) (before : List Object) (names : List (Option Val)) (stack : List Activity) (next : ℕ)
+      → ((x : Object) → IsLesser x (f x)) → ((x : Object) → (f x).entries ≡ x.entries) → (¬ Includes members o) → Sealed script members before names stack next
       → (y : Object) → Includes (change f o before) y → Comes members before next y
-  others_come f o before names stack next lesser same out h y m = let x = Includes-map_cases (λ x. if x.serial == o then f x else x) before y m in subst (Comes members before next) x.2 (one (x.0.serial == o) x.0 refl x.1)
+  others_come f o before names stack next lesser same out h y m = let x = Includes-map_cases (λ x. if x.serial == o then f x else x) before y m
+      in subst (Comes members before next) x.2 (one (x.0.serial == o) x.0 refl x.1)
     where
       one : (b : Bool) (x : Object) → (x.serial == o) ≡ b → Includes before x → Comes members before next (if b then f x else x)
       one true x t k = let away : ¬ Includes members x.serial = subst (λ n. ¬ Includes members n) (sym (eqb-true x.serial o t)) out in
@@ -287,9 +318,14 @@ module _ (script : Script) (members : List ℕ) where
   pub placed_lesser : (p : Place) → p ≢ Legacy → (x : Object) → IsLesser x (with_place p x)
   placed_lesser p apart x = record { later = record { serial = refl; code = refl; class = refl; referent = inl refl }; finalized = λ e. e; place = λ e. absurd (apart e) }
 
-  pub starts_sealed : (spec : FrameSpec) (u : World) → (¬ Includes members spec.subject) → ((g : ℕ) → spec.func ≡ Some g → ¬ Includes members g) → Sealed script members u.objects u.names u.stack u.next_serial → (let s : Transition = start_frame script spec u in Passes script members s.0 s.1)
+  pub starts_sealed : (spec : FrameSpec) (u : World) → (¬ Includes members spec.subject) → ((g : ℕ) → spec.func ≡ Some g → ¬ Includes members g)
+      → Sealed script members u.objects u.names u.stack u.next_serial → (let s : Transition = start_frame script spec u in Passes script members s.0 s.1)
   starts_sealed spec u subject function h = starts_either (Passes script members) script spec u (record { sealed = h; lines = one_still members BudgetSpent refl (λ n m. absurd m) })
-      (λ some. record { sealed = push_sealed (begun_frame script spec) u.stack u.objects u.names u.next_serial (subject, function) refl h; lines = one_still members (Enter spec.sort spec.subject) refl (λ n m k. absurd (either m (λ e. subject (subst (Includes members) (sym e) k)) (λ no. no))) })
+      (λ some. record {
+        sealed = push_sealed (begun_frame script spec) u.stack u.objects u.names u.next_serial (subject, function) refl h;
+        lines = one_still members (Enter spec.sort spec.subject) refl (λ n m k. absurd (either m (λ e. subject (subst (Includes members) (sym e) k))
+            (λ no. no)));
+      })
 
   pub yields_sealed : (t : Transition) (events : List Event) (after : World) → Yields t events after → Passes script members t.0 t.1 → Passes script members events after
   yields_sealed t events after step h = subst (λ es. Passes script members es after) (sym step.0) (subst (Passes script members t.0) (sym step.1) h)

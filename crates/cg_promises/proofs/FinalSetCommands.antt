@@ -100,7 +100,8 @@ module _ (script : Script) (members : List ℕ) (w : World) (h : Sealed script m
   local_out None v out e = none_out_of v e
   local_out (Some s) v out e = same_out (Ref s) v e (λ o m k. let same : s ≡ o = cc in out s refl (subst (Includes members) (sym same) m))
 
-  subject_out : (pick : FrameSort → ℕ → Option ℕ) → ((sort : FrameSort) (o s : ℕ) → pick sort o ≡ Some s → o ≡ s) → (m : Option Frame) → frame_on w.stack ≡ m → (s : ℕ) → option_and_then (λ (f : Frame). pick f.sort f.subject) m ≡ Some s → ¬ Includes members s
+  subject_out : (pick : FrameSort → ℕ → Option ℕ) → ((sort : FrameSort) (o s : ℕ) → pick sort o ≡ Some s → o ≡ s) → (m : Option Frame) → frame_on w.stack ≡ m
+      → (s : ℕ) → option_and_then (λ (f : Frame). pick f.sort f.subject) m ≡ Some s → ¬ Includes members s
   subject_out pick is None at s e = absurd (let no : None ≡ Some s = e in cc)
   subject_out pick is (Some f) at s e = subst (λ n. ¬ Includes members n) (is f.sort f.subject s e) (h.stack_fits (Framed f) (frame_member w.stack f at)).0
 
@@ -111,11 +112,14 @@ module _ (script : Script) (members : List ℕ) (w : World) (h : Sealed script m
       go None at k = none_out_of v k
       go (Some entry) at k = same_out entry.val v k (λ o m. entry_val entry o (got_free (entries_of w.objects s) i o entry at (entries_clean s out o m)))
 
-  function_out : (g : Option ℕ) (i : ℕ) (v : Val) → ((s : ℕ) → g ≡ Some s → ¬ Includes members s) → option_and_then (λ o. option_map (λ (e : Entry). e.val) (slice_get (entries_of w.objects o) i)) g ≡ Some v → IsOut v
+  function_out : (g : Option ℕ) (i : ℕ) (v : Val) → ((s : ℕ) → g ≡ Some s → ¬ Includes members s)
+      → option_and_then (λ o. option_map (λ (e : Entry). e.val) (slice_get (entries_of w.objects o) i)) g ≡ Some v → IsOut v
   function_out None i v out e = none_out_of v e
   function_out (Some s) i v out e = entry_out s i v (out s refl) e
 
-  cell_out : (m : Option Frame) → frame_on w.stack ≡ m → (i : ℕ) (v : Val) → option_and_then (λ (f : Frame). option_and_then (λ o. option_map (λ (e : Entry). e.val) (slice_get (entries_of w.objects o) i)) f.function) m ≡ Some v → IsOut v
+  cell_out : (m : Option Frame) → frame_on w.stack ≡ m → (i : ℕ) (v : Val)
+      → option_and_then (λ (f : Frame). option_and_then (λ o. option_map (λ (e : Entry). e.val) (slice_get (entries_of w.objects o) i)) f.function) m ≡ Some v
+      → IsOut v
   cell_out None at i v e = none_out_of v e
   cell_out (Some f) at i v e = function_out f.function i v (h.stack_fits (Framed f) (frame_member w.stack f at)).1 e
 
@@ -147,8 +151,11 @@ module _ (script : Script) (members : List ℕ) (w : World) (h : Sealed script m
   bound_out command None hand o m = λ k. k
   bound_out command (Some u) hand o m = option_free (reference_in u) o (hand_out command u (hand u refl) o m)
 
-  edited_out : (command : Command) (x : Object) (entries : List Entry) (given_up : List ℕ) → Includes w.objects x → (¬ Includes members x.serial) → IsEdit w command x entries given_up → (o : ℕ) → Includes members o → HoldNone o entries
-  edited_out command x entries given_up m out edit o i = all_free o entries (λ e k. either (edit.come e k) (λ was r. clean x m out o i (references_of_member x.entries e o was r)) (λ new. item_out command e new.1 new.2 o i))
+  edited_out : (command : Command) (x : Object) (entries : List Entry) (given_up : List ℕ) → Includes w.objects x → (¬ Includes members x.serial)
+      → IsEdit w command x entries given_up → (o : ℕ) → Includes members o → HoldNone o entries
+  edited_out command x entries given_up m out edit o i =
+      all_free o entries (λ e k. either (edit.come e k) (λ was r. clean x m out o i (references_of_member x.entries e o was r))
+      (λ new. item_out command e new.1 new.2 o i))
 
   pub record Opens (lines : List Event) (after : World) : Type 0 where
     pub next : w.next_serial ≤ after.next_serial
@@ -173,8 +180,10 @@ module _ (script : Script) (members : List ℕ) (w : World) (h : Sealed script m
   binds_open name v out = record { next = omega arith; names = λ o m. bound_free w.names name o v (out o m) (h.unnamed o m); comes = stays; told = none_out members }
 
   -- the changed object is no member
-  one_comes : (f : Object → Object) (s : ℕ) → (¬ Includes members s) → ((z : Object) → IsLesser z (f z)) → ((z : Object) → IsClean members (f z)) → (y : Object) → Includes (change f s w.objects) y → Comes members w.objects w.next_serial y
-  one_comes f s out lesser free y m = let x = Includes-map_cases (λ x. if x.serial == s then f x else x) w.objects y m in subst (Comes members w.objects w.next_serial) x.2 (go (x.0.serial == s) x.0 refl x.1)
+  one_comes : (f : Object → Object) (s : ℕ) → (¬ Includes members s) → ((z : Object) → IsLesser z (f z)) → ((z : Object) → IsClean members (f z)) → (y : Object)
+      → Includes (change f s w.objects) y → Comes members w.objects w.next_serial y
+  one_comes f s out lesser free y m = let x = Includes-map_cases (λ x. if x.serial == s then f x else x) w.objects y m
+      in subst (Comes members w.objects w.next_serial) x.2 (go (x.0.serial == s) x.0 refl x.1)
     where
       go : (b : Bool) (x : Object) → (x.serial == s) ≡ b → Includes w.objects x → Comes members w.objects w.next_serial (if b then f x else x)
       go true x t k = inl (x, k, lesser x, inr (subst (λ n. ¬ Includes members n) (sym (eqb-true x.serial s t)) out, free x))
@@ -197,11 +206,14 @@ module _ (script : Script) (members : List ℕ) (w : World) (h : Sealed script m
     told = none_out members;
   }
 
-  put_opens : (x : Object) (key v : Val) → Includes w.objects x → (¬ Includes members x.serial) → IsOut key → IsOut v → Opens [] (with_change (λ y. tracked_by w key v (with_entries (put x.entries key v) y)) x.serial w)
+  put_opens : (x : Object) (key v : Val) → Includes w.objects x → (¬ Includes members x.serial) → IsOut key → IsOut v
+      → Opens [] (with_change (λ y. tracked_by w key v (with_entries (put x.entries key v) y)) x.serial w)
   put_opens x key v m out known value_known = record {
     next = omega arith;
     names = h.unnamed;
-    comes = one_comes put_in x.serial out (λ z. (tracked (test (with_entries (put x.entries key v) z)) z).0) (λ z. (tracked (test (with_entries (put x.entries key v) z)) z).1 (λ o k. put_free x.entries key v o (clean x m out o k) (known o k) (value_known o k)));
+    comes = one_comes put_in x.serial out (λ z. (tracked (test (with_entries (put x.entries key v) z)) z).0)
+        (λ z. (tracked (test (with_entries (put x.entries key v) z)) z).1 (λ o k. put_free x.entries key v o (clean x m out o k) (known o k)
+        (value_known o k)));
     told = none_out members;
   }
     where
@@ -211,15 +223,27 @@ module _ (script : Script) (members : List ℕ) (w : World) (h : Sealed script m
       test : Object → Bool
       test y = is_dict y && not (is_tracked y) && (may_track w key || may_track w v)
 
-      tracked : (b : Bool) (y : Object) → (let z : Object = if b then with_place (Gen 0) (with_entries (put x.entries key v) y) else with_entries (put x.entries key v) y in IsLesser y z × (IsClean members (with_entries (put x.entries key v) y) → IsClean members z))
-      tracked true y = (record { later = record { serial = refl; code = refl; class = refl; referent = inl refl }; finalized = λ e. e; place = λ e. absurd (let no : Gen 0 ≡ Legacy = e in cc) }, λ c. c)
+      tracked : (b : Bool) (y : Object) → (let z : Object = if b then with_place (Gen 0) (with_entries (put x.entries key v) y)
+          else with_entries (put x.entries key v) y in IsLesser y z × (IsClean members (with_entries (put x.entries key v) y) → IsClean members z))
+      tracked true y = (
+        record {
+          later = record { serial = refl; code = refl; class = refl; referent = inl refl };
+          finalized = λ e. e;
+          place = λ e. absurd (let no : Gen 0 ≡ Legacy = e in cc);
+        },
+        λ c. c,
+      )
       tracked false y = (record { later = record { serial = refl; code = refl; class = refl; referent = inl refl }; finalized = λ e. e; place = λ e. e }, λ c. c)
 
-  made_opens : (name : ℕ) (kind : KindCode) (class : Option ℕ) (entries : List Entry) (referent : Option ℕ) → ((o : ℕ) → Includes members o → HoldNone o entries) → ((o : ℕ) → Includes members o → referent ≢ Some o) → Opens (Made kind w.next_serial ∷ []) (bound (with_new w kind class entries referent) name (Some (Ref w.next_serial)))
+  made_opens : (name : ℕ) (kind : KindCode) (class : Option ℕ) (entries : List Entry) (referent : Option ℕ)
+      → ((o : ℕ) → Includes members o → HoldNone o entries) → ((o : ℕ) → Includes members o → referent ≢ Some o) → Opens (Made kind w.next_serial ∷ [])
+      (bound (with_new w kind class entries referent) name (Some (Ref w.next_serial)))
   made_opens name kind class entries referent free apart = record {
     next = omega arith;
     names = λ o m. bound_free w.names name o (Some (Ref w.next_serial)) (λ k. either k (not_next o m) (λ none. none)) (h.unnamed o m);
-    comes = λ y m. either (Includes-append_cases w.objects (fresh ∷ []) y m) (stays y) (λ k. either k (λ e. inr (subst (λ (z : Object). (z.serial ≡ w.next_serial) × IsClean members z × ((o : ℕ) → Includes members o → z.referent ≢ Some o)) e (refl, free, apart))) (λ none. absurd none));
+    comes = λ y m. either (Includes-append_cases w.objects (fresh ∷ []) y m) (stays y)
+        (λ k. either k (λ e. inr (subst (λ (z : Object). (z.serial ≡ w.next_serial) × IsClean members z × ((o : ℕ) → Includes members o → z.referent ≢ Some o))
+        e (refl, free, apart))) (λ none. absurd none));
     told = one_still members (Made kind w.next_serial) refl (λ n m k. absurd (either m (not_next n k) (λ none. none)));
   }
     where
@@ -242,10 +266,13 @@ module _ (script : Script) (members : List ℕ) (w : World) (h : Sealed script m
 
   pub shape_opens : (command : Command) (e : Effect) → Shape w command e → DoesOpen e
   shape_opens command e (Binds name v own hand) = binds_open name v (bound_out command v hand)
-  shape_opens command e (Makes name kind class entries referent own parts) = made_opens name kind class entries referent (λ o m. all_free o entries (λ e k. let i = parts.items e k in item_out command e i.0 i.1 o m))
+  shape_opens command e (Makes name kind class entries referent own parts) = made_opens name kind class entries referent
+      (λ o m. all_free o entries (λ e k. let i = parts.items e k in item_out command e i.0 i.1 o m))
       (λ o m e. let z = (parts.refers o e).1 in object_out command has_weak_references z.0 z.1 (subst (Includes members) (sym z.2) m))
-  shape_opens command e (Edits wants x entries given found mutable edit) = let out = object_out command (λ y. true) x found in sets_open x.serial entries out (edited_out command x entries given found.member out edit)
-  shape_opens command e (Puts x key v found mutable hand_key hand room) = put_opens x key v found.member (object_out command (λ y. is_dict y || is_instance y) x found) (hand_out command key hand_key) (hand_out command v hand)
+  shape_opens command e (Edits wants x entries given found mutable edit) = let out = object_out command (λ y. true) x found in sets_open x.serial entries out
+      (edited_out command x entries given found.member out edit)
+  shape_opens command e (Puts x key v found mutable hand_key hand room) = put_opens x key v found.member (object_out command (λ y. is_dict y || is_instance y) x
+      found) (hand_out command key hand_key) (hand_out command v hand)
   shape_opens command e (Shows v hand) = prints_open (Value v) refl (λ n m k. option_free (reference_in v) n (hand_out command v hand n k) m)
   shape_opens command e (Tells line tells) = tells_open line tells
   shape_opens command e Stays = same _

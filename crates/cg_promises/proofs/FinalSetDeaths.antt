@@ -32,7 +32,8 @@ use Rattle.cg_laws.proofs.LinesNameLive.{without_gone, reversed_back}
 use Rattle.cg_promises.proofs.FinalSet.{Comes, Excused, Fewer, Fits, IsDone, IsLate, IsLesser, IsMeek, Passes, Sealed, Shrinks, change_shrinks, gen_apart, goes_sealed, loosen, lost_shrinks, none_out, one_still, others_come, place_sealed, placed_lesser, pop_sealed, push_sealed, same_shrinks, shrinks_sealed, shrunk, starts_sealed, still_excused, turn_sealed, untracked_apart, yields_sealed}
 
 -- a listed weak reference refers
-weak_refers : (test : Object → Bool) (objects : List Object) (o weak : ℕ) (weaks : List ℕ) → weak_references_if test objects o ≡ weak ∷ weaks → (x : Object) × Includes objects x × (x.serial ≡ weak) × (x.referent ≢ None)
+weak_refers : (test : Object → Bool) (objects : List Object) (o weak : ℕ) (weaks : List ℕ) → weak_references_if test objects o ≡ weak ∷ weaks → (x : Object)
+    × Includes objects x × (x.serial ≡ weak) × (x.referent ≢ None)
 weak_refers test objects o weak weaks e = go (unwrap_or (option_map test (object_at objects o)) false) e
   where
     refers : (r : Option ℕ) → unwrap_or (option_map (λ s. s == o) r) false ≡ true → r ≢ None
@@ -62,17 +63,26 @@ shortened_shrinks low high objects o r y m =
     one false x t k = (record { later = record { serial = refl; code = refl; class = refl; referent = inl refl }; finalized = λ e. e; place = λ e. e }, (λ n i. i, λ e. e))
 
 emptied_meek : IsMeek (with_entries [])
-emptied_meek = record { lesser = λ x. record { later = record { serial = refl; code = refl; class = refl; referent = inl refl }; finalized = λ e. e; place = λ e. e }; fewer = λ x. (λ n k. absurd k, λ e. e) }
+emptied_meek = record {
+  lesser = λ x. record {
+    later = record { serial = refl; code = refl; class = refl; referent = inl refl };
+    finalized = λ e. e;
+    place = λ e. e;
+  };
+  fewer = λ x. (λ n k. absurd k, λ e. e);
+}
 
 marked_lesser : (x : Object) → IsLesser x (marked (with_place (Gen 0) x))
 marked_lesser x = record { later = record { serial = refl; code = refl; class = refl; referent = inl refl }; finalized = λ e. refl; place = λ e. absurd (gen_apart 0 e) }
 
 module _ (script : Script) (members : List ℕ) where
-  pub frame_end_sealed : (f : Frame) (below : List Activity) (v : World) → Sealed script members v.objects v.names (Framed f ∷ below) v.next_serial → (let s : Transition = frame_end f (with_stack below v) in Passes script members s.0 s.1)
+  pub frame_end_sealed : (f : Frame) (below : List Activity) (v : World) → Sealed script members v.objects v.names (Framed f ∷ below) v.next_serial
+      → (let s : Transition = frame_end f (with_stack below v) in Passes script members s.0 s.1)
   frame_end_sealed f below v h = record { sealed = by_sort f.sort f.function; lines = one_still members Leave refl (λ n m. absurd m) }
     where
       rest : Sealed script members v.objects v.names below v.next_serial
-      rest = pop_sealed script members (Framed f) below v.objects v.objects v.names v.next_serial (shrunk script members v.objects v.objects v.next_serial (same_shrinks v.objects)) refl (λ n m l. refl) h
+      rest = pop_sealed script members (Framed f) below v.objects v.objects v.names v.next_serial (shrunk script members v.objects v.objects v.next_serial
+          (same_shrinks v.objects)) refl (λ n m l. refl) h
 
       by_sort : (sort : FrameSort) (function : Option ℕ) → (let u : World = gives_up_function sort function (with_stack below v) in Sealed script members u.objects u.names u.stack u.next_serial)
       by_sort Del function = rest
@@ -80,8 +90,13 @@ module _ (script : Script) (members : List ℕ) where
       by_sort Callback function = rest
       by_sort Call function = push_sealed script members (Releasing (option_to_list function)) below v.objects v.names v.next_serial tt refl rest
 
-  pub released_sealed : (refs : List ℕ) (below : List Activity) (v : World) → Sealed script members v.objects v.names (Releasing refs ∷ below) v.next_serial → (let s : Transition = released refs below (with_stack (Releasing refs ∷ below) v) in Passes script members s.0 s.1)
-  released_sealed [] below v h = record { sealed = pop_sealed script members (Releasing []) below v.objects v.objects v.names v.next_serial (shrunk script members v.objects v.objects v.next_serial (same_shrinks v.objects)) refl (λ n m l. refl) h; lines = none_out members }
+  pub released_sealed : (refs : List ℕ) (below : List Activity) (v : World) → Sealed script members v.objects v.names (Releasing refs ∷ below) v.next_serial
+      → (let s : Transition = released refs below (with_stack (Releasing refs ∷ below) v) in Passes script members s.0 s.1)
+  released_sealed [] below v h = record {
+    sealed = pop_sealed script members (Releasing []) below v.objects v.objects v.names v.next_serial
+        (shrunk script members v.objects v.objects v.next_serial (same_shrinks v.objects)) refl (λ n m l. refl) h;
+    lines = none_out members;
+  }
   released_sealed (o ∷ refs) below v h = either_way (Passes script members) (not (is_dying now o) && (in_degree now o == 0)) ([], begin_death o now) ([], now)
       (record {
         sealed = place_sealed script members dead o v.objects v.names (Dying (record { object = o; phase = Finalizer }) ∷ Releasing refs ∷ below) v.next_serial
@@ -99,7 +114,8 @@ module _ (script : Script) (members : List ℕ) where
       dead x = with_referent None (with_place Untracked x)
 
       less : Sealed script members v.objects v.names (Releasing refs ∷ below) v.next_serial
-      less = turn_sealed script members (Releasing (o ∷ refs)) (Releasing refs) below v.objects v.objects v.names v.next_serial (shrunk script members v.objects v.objects v.next_serial (same_shrinks v.objects)) tt refl refl (λ n m. refl) h
+      less = turn_sealed script members (Releasing (o ∷ refs)) (Releasing refs) below v.objects v.objects v.names v.next_serial
+          (shrunk script members v.objects v.objects v.next_serial (same_shrinks v.objects)) tt refl refl (λ n m. refl) h
 
   module _ (o : ℕ) (below : List Activity) (v : World) (rises : Rises 1 v.next_serial v.objects) where
     abbrev at : DyingPhase → World
@@ -123,14 +139,17 @@ module _ (script : Script) (members : List ℕ) where
     come : (objects : List Object) → Shrinks v.objects objects → Come objects
     come objects shrinks = shrunk script members v.objects objects v.next_serial shrinks
 
-    goes_to : (phase next : DyingPhase) (objects : List Object) → Come objects → ((n : ℕ) → Includes (dying_holds o next) n → ¬ Includes members n) → SealedAt phase → Sealed script members objects v.names (dying_now next ∷ below) v.next_serial
+    goes_to : (phase next : DyingPhase) (objects : List Object) → Come objects → ((n : ℕ) → Includes (dying_holds o next) n → ¬ Includes members n)
+        → SealedAt phase → Sealed script members objects v.names (dying_now next ∷ below) v.next_serial
     goes_to phase next objects comes fit h = turn_sealed script members (dying_now phase) (dying_now next) below v.objects objects v.names v.next_serial comes fit refl refl (λ n m. refl) h
 
-    silent : (phase next : DyingPhase) (objects : List Object) → Come objects → ((n : ℕ) → Includes (dying_holds o next) n → ¬ Includes members n) → SealedAt phase → Does ([], record v { objects = objects; stack = dying_now next ∷ below })
+    silent : (phase next : DyingPhase) (objects : List Object) → Come objects → ((n : ℕ) → Includes (dying_holds o next) n → ¬ Includes members n)
+        → SealedAt phase → Does ([], record v { objects = objects; stack = dying_now next ∷ below })
     silent phase next objects comes fit h = record { sealed = goes_to phase next objects comes fit h; lines = none_out members }
 
     -- o is no member
-    changed : (phase : DyingPhase) (f : Object → Object) → ((x : Object) → IsLesser x (f x)) → ((x : Object) → (f x).entries ≡ x.entries) → (¬ Includes members o) → SealedAt phase → Come (change f o v.objects)
+    changed : (phase : DyingPhase) (f : Object → Object) → ((x : Object) → IsLesser x (f x)) → ((x : Object) → (f x).entries ≡ x.entries)
+        → (¬ Includes members o) → SealedAt phase → Come (change f o v.objects)
     changed phase f lesser kept out h = others_come script members f o v.objects v.names (dying_now phase ∷ below) v.next_serial lesser kept out h
 
     held : (phase : DyingPhase) → SealedAt phase → (n : ℕ) → Includes (dying_holds o phase) n → ¬ Includes members n
@@ -160,13 +179,25 @@ module _ (script : Script) (members : List ℕ) where
 
     finalizer_sealed : (m : Option ℕ) → option_and_then (finalizer_to_run script) (object_at v.objects o) ≡ m → SealedAt Finalizer → Does (run_finalizer script o below (at Finalizer) m)
     finalizer_sealed None e h = silent Finalizer (Clearing []) v.objects same (λ n m. absurd m) h
-    finalizer_sealed (Some p) e h = let out = to_run_out Finalizer p h e in starts_sealed script members (record { sort = Del; proc = p; subject = o; func = None }) (death_at o AfterFinalizer below (with_change (λ x. marked (with_place (Gen 0) x)) o (at Finalizer)))
-        out (λ g k. absurd (let no : None ≡ Some g = k in cc)) (goes_to Finalizer AfterFinalizer (change (λ x. marked (with_place (Gen 0) x)) o v.objects) (changed Finalizer (λ x. marked (with_place (Gen 0) x)) marked_lesser (λ x. refl) out h) (own out) h)
+    finalizer_sealed (Some p) e h = let out = to_run_out Finalizer p h e in starts_sealed script members (record {
+      sort = Del;
+      proc = p;
+      subject = o;
+      func = None;
+    }) (death_at o AfterFinalizer below (with_change (λ x. marked (with_place (Gen 0) x)) o (at Finalizer)))
+        out (λ g k. absurd (let no : None ≡ Some g = k in cc)) (goes_to Finalizer AfterFinalizer (change (λ x. marked (with_place (Gen 0) x)) o v.objects)
+        (changed Finalizer (λ x. marked (with_place (Gen 0) x)) marked_lesser (λ x. refl) out h) (own out) h)
 
     legacy_sealed : (m : Option ℕ) → option_and_then (legacy_of script) (object_at v.objects o) ≡ m → SealedAt LegacyFinalizer → Does (run_legacy script o below (at LegacyFinalizer) m)
     legacy_sealed None e h = silent LegacyFinalizer Detaching v.objects same (λ n m. absurd m) h
-    legacy_sealed (Some p) e h = let out = legacy_out LegacyFinalizer p h e in starts_sealed script members (record { sort = LegacyFrame; proc = p; subject = o; func = None }) (death_at o AfterLegacy below (with_change (with_place (Gen 0)) o (at LegacyFinalizer)))
-        out (λ g k. absurd (let no : None ≡ Some g = k in cc)) (goes_to LegacyFinalizer AfterLegacy (change (with_place (Gen 0)) o v.objects) (changed LegacyFinalizer (with_place (Gen 0)) (placed_lesser script members (Gen 0) (gen_apart 0)) (λ x. refl) out h) (own out) h)
+    legacy_sealed (Some p) e h = let out = legacy_out LegacyFinalizer p h e in starts_sealed script members (record {
+      sort = LegacyFrame;
+      proc = p;
+      subject = o;
+      func = None;
+    }) (death_at o AfterLegacy below (with_change (with_place (Gen 0)) o (at LegacyFinalizer)))
+        out (λ g k. absurd (let no : None ≡ Some g = k in cc)) (goes_to LegacyFinalizer AfterLegacy (change (with_place (Gen 0)) o v.objects)
+        (changed LegacyFinalizer (with_place (Gen 0)) (placed_lesser script members (Gen 0) (gen_apart 0)) (λ x. refl) out h) (own out) h)
 
     apart : (¬ Includes members o) → (n : ℕ) → Includes members n → (o == n) ≡ false
     apart out n m = go (o == n) refl
@@ -176,14 +207,20 @@ module _ (script : Script) (members : List ℕ) where
         go false t = refl
 
     after_frame_sealed : (phase next : DyingPhase) → Includes (dying_holds o phase) o → dying_holds o next ≡ [] → SealedAt phase → Does (after_frame o next below (at phase))
-    after_frame_sealed phase next holds none h = either_way (Passes script members) (in_degree (at next) o == 0) ([], with_change (with_place Untracked) o (at next)) (Alive o ∷ [], with_stack below (at phase))
-        (silent phase next (change (with_place Untracked) o v.objects) (changed phase (with_place Untracked) (placed_lesser script members Untracked untracked_apart) (λ x. refl) (held phase h o holds) h) (λ n m. absurd (subst (λ ns. Includes ns n) none m)) h)
+    after_frame_sealed phase next holds none h = either_way (Passes script members) (in_degree (at next) o == 0) (
+      [],
+      with_change (with_place Untracked) o
+          (at next),
+    ) (Alive o ∷ [], with_stack below (at phase))
+        (silent phase next (change (with_place Untracked) o v.objects) (changed phase (with_place Untracked) (placed_lesser script members Untracked
+        untracked_apart) (λ x. refl) (held phase h o holds) h) (λ n m. absurd (subst (λ ns. Includes ns n) none m)) h)
         (record {
           sealed = pop_sealed script members (dying_now phase) below v.objects v.objects v.names v.next_serial same refl (λ n m l. apart (held phase h o holds) n m) h;
           lines = one_still members (Alive o) refl (λ n m k. absurd (either m (λ e. held phase h o holds (subst (Includes members) (sym e) k)) (λ no. no)));
         })
 
-    cleared : (phase next : DyingPhase) (test : Object → Bool) (weak : ℕ) (weaks : List ℕ) → weak_references_if test v.objects o ≡ weak ∷ weaks → ((n : ℕ) → Includes (dying_holds o next) n → (¬ Includes members weak) → ¬ Includes members n) → SealedAt phase
+    cleared : (phase next : DyingPhase) (test : Object → Bool) (weak : ℕ) (weaks : List ℕ) → weak_references_if test v.objects o ≡ weak ∷ weaks
+        → ((n : ℕ) → Includes (dying_holds o next) n → (¬ Includes members weak) → ¬ Includes members n) → SealedAt phase
         → Does (Cleared weak ∷ [], record v { objects = loses_referent weak v.objects; stack = dying_now next ∷ below })
     cleared phase next test weak weaks e fit h = record {
       sealed = goes_to phase next (loses_referent weak v.objects) (come (loses_referent weak v.objects) (lost_shrinks weak v.objects)) (λ n m. fit n m out) h;
@@ -193,16 +230,19 @@ module _ (script : Script) (members : List ℕ) where
         out : ¬ Includes members weak
         out k = let x = weak_refers test v.objects o weak weaks e in x.3 (h.inside x.0 x.1 (subst (Includes members) (sym x.2) k)).refers_to_none
 
-    clearing_sealed : (waiting weaks : List ℕ) → weak_references_if has_weak_references v.objects o ≡ weaks → SealedAt (Clearing waiting) → Does (clear_one o waiting below (at (Clearing waiting)) weaks)
+    clearing_sealed : (waiting weaks : List ℕ) → weak_references_if has_weak_references v.objects o ≡ weaks → SealedAt (Clearing waiting)
+        → Does (clear_one o waiting below (at (Clearing waiting)) weaks)
     clearing_sealed waiting [] e h = silent (Clearing waiting) (Calling waiting) v.objects same (held (Clearing waiting) h) h
-    clearing_sealed waiting (weak ∷ weaks) e h = cleared (Clearing waiting) (Clearing (waiting ++ (if is_some (callback_of v.objects weak) then weak ∷ [] else []))) has_weak_references weak weaks e fit h
+    clearing_sealed waiting (weak ∷ weaks) e h = cleared (Clearing waiting) (Clearing (waiting ++ (if is_some (callback_of v.objects weak) then weak ∷ []
+        else []))) has_weak_references weak weaks e fit h
       where
         perhaps : (b : Bool) (n : ℕ) → Includes (if b then weak ∷ [] else []) n → weak ≡ n
         perhaps true n m = either m (λ i. i) (λ no. absurd no)
         perhaps false n m = absurd m
 
         fit : (n : ℕ) → Includes (waiting ++ (if is_some (callback_of v.objects weak) then weak ∷ [] else [])) n → (¬ Includes members weak) → ¬ Includes members n
-        fit n m out = either (Includes-append_cases waiting (if is_some (callback_of v.objects weak) then weak ∷ [] else []) n m) (held (Clearing waiting) h n) (λ k i. out (subst (Includes members) (sym (perhaps (is_some (callback_of v.objects weak)) n k)) i))
+        fit n m out = either (Includes-append_cases waiting (if is_some (callback_of v.objects weak) then weak ∷ [] else []) n m) (held (Clearing waiting) h n)
+            (λ k i. out (subst (Includes members) (sym (perhaps (is_some (callback_of v.objects weak)) n k)) i))
 
     -- the callback of a weak reference outside the set is outside too
     callback_out : (phase : DyingPhase) (weak : ℕ) → SealedAt phase → (¬ Includes members weak) → ¬ Includes members (unwrap_or (callback_of v.objects weak) 0)
@@ -225,9 +265,16 @@ module _ (script : Script) (members : List ℕ) where
         let callback = unwrap_or (callback_of v.objects weak) 0 in
         let out = held (Calling (weak ∷ waiting)) h in
         let free = callback_out (Calling (weak ∷ waiting)) weak h (out weak (inl refl)) in
-        starts_sealed script members (record { sort = Callback; proc = procedure_of (at (Calling (weak ∷ waiting))) callback; subject = weak; func = Some callback }) (death_at o (AfterCall weak callback waiting) below (with_change (with_entries []) weak (at (Calling (weak ∷ waiting)))))
+        starts_sealed script members (record {
+          sort = Callback;
+          proc = procedure_of (at (Calling (weak ∷ waiting))) callback;
+          subject = weak;
+          func = Some callback;
+        }) (death_at o (AfterCall weak callback waiting) below (with_change (with_entries []) weak (at (Calling (weak ∷ waiting)))))
         (out weak (inl refl)) (λ g e. let s : callback ≡ g = cc in subst (λ n. ¬ Includes members n) s free)
-        (goes_to (Calling (weak ∷ waiting)) (AfterCall weak callback waiting) (change (with_entries []) weak v.objects) (come (change (with_entries []) weak v.objects) (change_shrinks (with_entries []) emptied_meek weak v.objects)) (λ n m. either m (λ e. subst (λ z. ¬ Includes members z) e free) (out n)) h)
+        (goes_to (Calling (weak ∷ waiting)) (AfterCall weak callback waiting) (change (with_entries []) weak v.objects)
+        (come (change (with_entries []) weak v.objects) (change_shrinks (with_entries []) emptied_meek weak v.objects))
+        (λ n m. either m (λ e. subst (λ z. ¬ Includes members z) e free) (out n)) h)
 
     detaching_sealed : (weaks : List ℕ) → weak_references_if (has_finalizers script) v.objects o ≡ weaks → SealedAt Detaching → Does (detach_one o below (at Detaching) weaks)
     detaching_sealed [] e h = silent Detaching Emptying v.objects same (λ n m. absurd m) h
@@ -242,11 +289,16 @@ module _ (script : Script) (members : List ℕ) where
 
     emptying_sealed : (m : Option Entry) → SealedAt Emptying → Does (empty_one o below (at Emptying) m)
     emptying_sealed None h = record {
-      sealed = pop_sealed script members (dying_now Emptying) below v.objects (without o v.objects) v.names v.next_serial (λ y m. same y (Includes-filter_cases (λ x. not (x.serial == o)) v.objects y m).0) refl (λ n m l. gone n l) h;
+      sealed = pop_sealed script members (dying_now Emptying) below v.objects (without o v.objects) v.names v.next_serial
+          (λ y m. same y (Includes-filter_cases (λ x. not (x.serial == o)) v.objects y m).0) refl (λ n m l. gone n l) h;
       lines = one_still members (Free o) refl (λ n m k. either m (λ e. ap (λ p. Free p) e) (λ no. absurd no));
     }
     emptying_sealed (Some entry) h = record {
-      sealed = push_sealed script members (Releasing (entry_references entry)) (dying_now Emptying ∷ below) (change (with_entries (without_last (entries_of v.objects o))) o v.objects) v.names v.next_serial tt refl (goes_to Emptying Emptying (change (with_entries (without_last (entries_of v.objects o))) o v.objects) (come (change (with_entries (without_last (entries_of v.objects o))) o v.objects) (shortened_shrinks 1 v.next_serial v.objects o rises)) (λ n m. absurd m) h);
+      sealed = push_sealed script members (Releasing (entry_references entry)) (dying_now Emptying ∷ below)
+          (change (with_entries (without_last (entries_of v.objects o))) o v.objects) v.names v.next_serial tt refl
+          (goes_to Emptying Emptying (change (with_entries (without_last (entries_of v.objects o))) o v.objects)
+          (come (change (with_entries (without_last (entries_of v.objects o))) o v.objects) (shortened_shrinks 1 v.next_serial v.objects o rises))
+          (λ n m. absurd m) h);
       lines = none_out members;
     }
 
@@ -256,7 +308,8 @@ module _ (script : Script) (members : List ℕ) where
     dying_sealed (Clearing waiting) h = clearing_sealed waiting (weak_references_if has_weak_references v.objects o) refl h
     dying_sealed (Calling waiting) h = calling_sealed waiting h
     dying_sealed (AfterCall weak callback waiting) h = record {
-      sealed = push_sealed script members (Releasing (callback ∷ weak ∷ [])) (dying_now (Calling waiting) ∷ below) v.objects v.names v.next_serial tt refl (goes_to (AfterCall weak callback waiting) (Calling waiting) v.objects same (λ n m. held (AfterCall weak callback waiting) h n (inr (inr m))) h);
+      sealed = push_sealed script members (Releasing (callback ∷ weak ∷ [])) (dying_now (Calling waiting) ∷ below) v.objects v.names v.next_serial tt refl
+          (goes_to (AfterCall weak callback waiting) (Calling waiting) v.objects same (λ n m. held (AfterCall weak callback waiting) h n (inr (inr m))) h);
       lines = none_out members;
     }
     dying_sealed LegacyFinalizer h = legacy_sealed (option_and_then (legacy_of script) (object_at v.objects o)) refl h
@@ -273,8 +326,10 @@ module _ (script : Script) (members : List ℕ) where
     SealedIn phase = Sealed script members v.objects v.names (Collecting (record c { phase = phase }) ∷ below) v.next_serial
 
     -- the collection goes on where its turn gave none up
-    goes_in : (phase next : CollectPhase) (objects : List Object) → ((y : Object) → Includes objects y → Comes members v.objects v.next_serial y) → IsLate next → ((o : ℕ) → next ≢ AfterTurn o) → SealedIn phase → Sealed script members objects v.names (Collecting (record c { phase = next }) ∷ below) v.next_serial
-    goes_in phase next objects comes late turning h = shrinks_sealed script members v.objects objects v.names (Collecting (record c { phase = phase }) ∷ below) (Collecting (record c { phase = next }) ∷ below) v.next_serial comes
+    goes_in : (phase next : CollectPhase) (objects : List Object) → ((y : Object) → Includes objects y → Comes members v.objects v.next_serial y) → IsLate next
+        → ((o : ℕ) → next ≢ AfterTurn o) → SealedIn phase → Sealed script members objects v.names (Collecting (record c { phase = next }) ∷ below) v.next_serial
+    goes_in phase next objects comes late turning h = shrinks_sealed script members v.objects objects v.names (Collecting (record c { phase = phase }) ∷ below)
+        (Collecting (record c { phase = next }) ∷ below) v.next_serial comes
         (λ x m. either m (λ e. subst (Fits members) e (late, clears)) (λ k. h.stack_fits x (inr k))) refl (λ k. k)
         (λ n w d m. either m (λ e. let same_one : record c { phase = next } ≡ d = cc in subst (λ (z : Collection). z.phase ≢ AfterTurn n) same_one (turning n)) (λ k. w d (inr k))) (λ n m e. e) h
 
@@ -282,9 +337,12 @@ module _ (script : Script) (members : List ℕ) where
     none_now = shrunk script members v.objects v.objects v.next_serial (same_shrinks v.objects)
 
     -- one that has had its turn moves to the older generation
-    got_older : (phase : CollectPhase) (o : ℕ) → ((x : Object) → Includes v.objects x → x.serial ≡ o → Includes members x.serial → Excused (Collecting (record c { phase = phase }) ∷ below) (with_place (Gen (older c.generation)) x)) → SealedIn phase
+    got_older : (phase : CollectPhase) (o : ℕ) → ((x : Object) → Includes v.objects x → x.serial ≡ o → Includes members x.serial
+        → Excused (Collecting (record c { phase = phase }) ∷ below) (with_place (Gen (older c.generation)) x)) → SealedIn phase
         → Sealed script members (change (with_place (Gen (older c.generation))) o v.objects) v.names (Collecting (record c { phase = phase }) ∷ below) v.next_serial
-    got_older phase o excused h = place_sealed script members (with_place (Gen (older c.generation))) o v.objects v.names (Collecting (record c { phase = phase }) ∷ below) v.next_serial (placed_lesser script members (Gen (older c.generation)) (gen_apart (older c.generation))) (λ x. refl) excused h
+    got_older phase o excused h = place_sealed script members (with_place (Gen (older c.generation))) o v.objects v.names
+        (Collecting (record c { phase = phase }) ∷ below) v.next_serial (placed_lesser script members (Gen (older c.generation))
+        (gen_apart (older c.generation))) (λ x. refl) excused h
 
     turn_taken : (x : Object) → Includes v.objects x → SealedIn Turns → (let t : Transition = takes_turn c x below (standing Turns) in Passes script members t.0 t.1)
     turn_taken x m h = go (has_flag c.flags save_all) (is_tuple x) clears refl
@@ -297,46 +355,84 @@ module _ (script : Script) (members : List ℕ) where
         tuple_code Func t = absurd (let no : false ≡ true = t in cc)
         tuple_code Weak t = absurd (let no : false ≡ true = t in cc)
 
-        go : (s t : Bool) → s ≡ false → is_tuple x ≡ t → (let next : Transition = if s then (GcSaved x.serial ∷ [], collection_at c Turns below (with_objects (change (with_place (Gen (older c.generation))) x.serial (saved x.serial v.objects)) (standing Turns)))
-            else if t then ([], collection_at c Turns below (with_change (with_place (Gen (older c.generation))) x.serial (standing Turns))) else ([], collection_at c (Turn x.serial) below (standing Turns)) in Passes script members next.0 next.1)
+        go : (s t : Bool) → s ≡ false → is_tuple x ≡ t
+            → (let next : Transition = if s
+            then (
+              GcSaved x.serial ∷ [],
+              collection_at c Turns below (with_objects (change (with_place (Gen (older c.generation))) x.serial
+                  (saved x.serial v.objects)) (standing Turns)),
+            )
+            else if t then ([], collection_at c Turns below (with_change (with_place (Gen (older c.generation))) x.serial (standing Turns)))
+            else ([], collection_at c (Turn x.serial) below (standing Turns)) in Passes script members next.0 next.1)
         go true t e k = absurd (let no : true ≡ false = e in cc)
-        go false true e k = record { sealed = got_older Turns x.serial (λ z i s n. inl (ap (λ (y : Object). y.code) (same_object 1 v.next_serial v.objects z x rises i m s) ∙ tuple_code x.code k)) h; lines = none_out members }
+        go false true e k = record {
+          sealed = got_older Turns x.serial
+              (λ z i s n. inl (ap (λ (y : Object). y.code) (same_object 1 v.next_serial v.objects z x rises i m s) ∙ tuple_code x.code k)) h;
+          lines =
+              none_out members;
+        }
         go false false e k = record { sealed = goes_in Turns (Turn x.serial) v.objects none_now tt (λ o e. cc) h; lines = none_out members }
 
     turned : (o : ℕ) → last_entry (entries_of v.objects o) ≡ None → SealedIn (Turn o) → SealedIn (AfterTurn o)
-    turned o empty h = goes_sealed script members v.objects v.objects v.names v.names (Collecting (record c { phase = Turn o }) ∷ below) (Collecting (record c { phase = AfterTurn o }) ∷ below) v.next_serial v.next_serial (omega arith) (λ y m. loosen members v.objects v.next_serial y (none_now y m)) h.unnamed
+    turned o empty h = goes_sealed script members v.objects v.objects v.names v.names (Collecting (record c { phase = Turn o }) ∷ below)
+        (Collecting (record c { phase = AfterTurn o }) ∷ below) v.next_serial v.next_serial (omega arith) (λ y m. loosen members v.objects v.next_serial y
+        (none_now y m)) h.unnamed
         (λ x m. either m (λ e. subst (Fits members) e (tt, clears)) (λ k. h.stack_fits x (inr k))) refl (λ k. k) (λ y m k. go (y.serial == o) y refl m k) h
       where
         go : (b : Bool) (y : Object) → (y.serial == o) ≡ b → Includes v.objects y → Includes members y.serial → Excused (Collecting (record c { phase = AfterTurn o }) ∷ below) y
-        go true y t m k = inr (inl (λ n i. let none = sym (entries_of_member 1 v.next_serial v.objects y o rises m (eqb-true y.serial o t)) ∙ last_none (entries_of v.objects o) empty in subst (λ es. Includes (references es) n) none i))
-        go false y t m k = still_excused script members (Collecting (record c { phase = Turn o }) ∷ below) (Collecting (record c { phase = AfterTurn o }) ∷ below) y y (record { later = record { serial = refl; code = refl; class = refl; referent = inl refl }; finalized = λ e. e; place = λ e. e }) (λ n i. i)
-            (λ e w. inr (inr (inr (e, λ d i. either i (λ s. let same_one : record c { phase = AfterTurn o } ≡ d = cc in subst (λ (z : Collection). z.phase ≢ AfterTurn y.serial) same_one (λ p. let same_turn : o ≡ y.serial = cc in let no : true ≡ false = sym (eq-eqb y.serial o (sym same_turn)) ∙ t in cc)) (λ k. w d (inr k))))))
+        go true y t m k = inr (inl (λ n i. let none = sym (entries_of_member 1 v.next_serial v.objects y o rises m (eqb-true y.serial o t))
+            ∙ last_none (entries_of v.objects o) empty in subst (λ es. Includes (references es) n) none i))
+        go false y t m k = still_excused script members (Collecting (record c { phase = Turn o }) ∷ below) (Collecting (record c { phase = AfterTurn o })
+            ∷ below) y y (record { later = record { serial = refl; code = refl; class = refl; referent = inl refl }; finalized = λ e. e; place = λ e. e }) (λ n
+            i. i)
+            (λ e w. inr (inr (inr (
+              e,
+              λ d i. either i (λ s. let same_one : record c { phase = AfterTurn o } ≡ d = cc
+                  in subst (λ (z : Collection). z.phase ≢ AfterTurn y.serial) same_one (λ p. let same_turn : o ≡ y.serial = cc in let no : true
+                  ≡ false = sym (eq-eqb y.serial o (sym same_turn)) ∙ t in cc)) (λ k. w d (inr k)),
+            ))))
             (λ e. e) (h.excused y m k)
 
-    empties_sealed : (o : ℕ) (m : Option Entry) → last_entry (entries_of v.objects o) ≡ m → SealedIn (Turn o) → (let t : Transition = empties c o below (standing (Turn o)) m in Passes script members t.0 t.1)
-    empties_sealed o None e h = record { sealed = push_sealed script members (Releasing (o ∷ [])) (Collecting (record c { phase = AfterTurn o }) ∷ below) v.objects v.names v.next_serial tt refl (turned o e h); lines = none_out members }
+    empties_sealed : (o : ℕ) (m : Option Entry) → last_entry (entries_of v.objects o) ≡ m → SealedIn (Turn o)
+        → (let t : Transition = empties c o below (standing (Turn o)) m in Passes script members t.0 t.1)
+    empties_sealed o None e h = record {
+      sealed = push_sealed script members (Releasing (o ∷ [])) (Collecting (record c { phase = AfterTurn o }) ∷ below)
+          v.objects v.names v.next_serial tt refl (turned o e h);
+      lines = none_out members;
+    }
     empties_sealed o (Some entry) e h = record {
-      sealed = push_sealed script members (Releasing (entry_references entry)) (Collecting (record c { phase = Turn o }) ∷ below) (change (with_entries (without_last (entries_of v.objects o))) o v.objects) v.names v.next_serial tt refl
-          (goes_in (Turn o) (Turn o) (change (with_entries (without_last (entries_of v.objects o))) o v.objects) (shrunk script members v.objects (change (with_entries (without_last (entries_of v.objects o))) o v.objects) v.next_serial (shortened_shrinks 1 v.next_serial v.objects o rises)) tt (λ p e. cc) h);
+      sealed = push_sealed script members (Releasing (entry_references entry)) (Collecting (record c { phase = Turn o }) ∷ below)
+          (change (with_entries (without_last (entries_of v.objects o))) o v.objects) v.names v.next_serial tt refl
+          (goes_in (Turn o) (Turn o) (change (with_entries (without_last (entries_of v.objects o))) o v.objects)
+          (shrunk script members v.objects (change (with_entries (without_last (entries_of v.objects o))) o v.objects) v.next_serial
+          (shortened_shrinks 1 v.next_serial v.objects o rises)) tt (λ p e. cc) h);
       lines = none_out members;
     }
 
     -- after its turn, the one excused as condemned is another
-    after_sealed : (o : ℕ) → SealedIn (AfterTurn o) → Sealed script members (change (with_place (Gen (older c.generation))) o v.objects) v.names (Collecting (record c { phase = Turns }) ∷ below) v.next_serial
-    after_sealed o h = turn_on (got_older (AfterTurn o) o (λ x m e k. still_excused script members (Collecting (record c { phase = AfterTurn o }) ∷ below) (Collecting (record c { phase = AfterTurn o }) ∷ below) x (with_place (Gen (older c.generation)) x) (placed_lesser script members (Gen (older c.generation)) (gen_apart (older c.generation)) x) (λ n i. i)
+    after_sealed : (o : ℕ) → SealedIn (AfterTurn o) → Sealed script members (change (with_place (Gen (older c.generation))) o v.objects) v.names
+        (Collecting (record c { phase = Turns }) ∷ below) v.next_serial
+    after_sealed o h = turn_on (got_older (AfterTurn o) o (λ x m e k. still_excused script members (Collecting (record c { phase = AfterTurn o }) ∷ below)
+        (Collecting (record c { phase = AfterTurn o }) ∷ below) x (with_place (Gen (older c.generation)) x)
+        (placed_lesser script members (Gen (older c.generation)) (gen_apart (older c.generation)) x) (λ n i. i)
         (λ p w. absurd (w (record c { phase = AfterTurn o }) (inl refl) (ap (λ n. AfterTurn n) (sym e)))) (λ d. d) (h.excused x m k)) h)
       where
         older_now : List Object
         older_now = change (with_place (Gen (older c.generation))) o v.objects
 
-        turn_on : Sealed script members older_now v.names (Collecting (record c { phase = AfterTurn o }) ∷ below) v.next_serial → Sealed script members older_now v.names (Collecting (record c { phase = Turns }) ∷ below) v.next_serial
-        turn_on k = shrinks_sealed script members older_now older_now v.names (Collecting (record c { phase = AfterTurn o }) ∷ below) (Collecting (record c { phase = Turns }) ∷ below) v.next_serial (shrunk script members older_now older_now v.next_serial (same_shrinks older_now))
+        turn_on : Sealed script members older_now v.names (Collecting (record c { phase = AfterTurn o }) ∷ below) v.next_serial
+            → Sealed script members older_now v.names (Collecting (record c { phase = Turns }) ∷ below) v.next_serial
+        turn_on k = shrinks_sealed script members older_now older_now v.names (Collecting (record c { phase = AfterTurn o }) ∷ below)
+            (Collecting (record c { phase = Turns }) ∷ below) v.next_serial (shrunk script members older_now older_now v.next_serial (same_shrinks older_now))
             (λ x m. either m (λ e. subst (Fits members) e (tt, clears)) (λ i. k.stack_fits x (inr i))) refl (λ i. i)
             (λ n w d m. either m (λ e. let same_one : record c { phase = Turns } ≡ d = cc in subst (λ (z : Collection). z.phase ≢ AfterTurn n) same_one (λ p. cc)) (λ i. w d (inr i))) (λ n m e. e) k
 
-    pub late_sealed : (phase : CollectPhase) (events : List Event) (after : World) → IsLate phase → phase ≢ Ending → PhaseStep script c phase below (standing phase) events after → SealedIn phase → Passes script members events after
-    late_sealed Turns events after late going (inl step) h = yields_sealed script members _ events after step.yields (turn_taken step.object (Includes-filter_cases (is_at Cand) v.objects step.object step.member).0 h)
-    late_sealed Turns events after late going (inr step) h = yields_sealed script members _ events after step.1 (record { sealed = goes_in Turns Ending v.objects none_now tt (λ o e. cc) h; lines = none_out members })
+    pub late_sealed : (phase : CollectPhase) (events : List Event) (after : World) → IsLate phase → phase ≢ Ending → PhaseStep script c phase below
+        (standing phase) events after → SealedIn phase → Passes script members events after
+    late_sealed Turns events after late going (inl step) h = yields_sealed script members _ events after step.yields
+        (turn_taken step.object (Includes-filter_cases (is_at Cand) v.objects step.object step.member).0 h)
+    late_sealed Turns events after late going (inr step) h = yields_sealed script members _ events after step.1
+        (record { sealed = goes_in Turns Ending v.objects none_now tt (λ o e. cc) h; lines = none_out members })
     late_sealed (Turn o) events after late going step h = yields_sealed script members _ events after step (empties_sealed o (last_entry (entries_of v.objects o)) refl h)
     late_sealed (AfterTurn o) events after late going step h = yields_sealed script members _ events after step (record { sealed = after_sealed o h; lines = none_out members })
     late_sealed Ending events after late going step h = absurd (going refl)

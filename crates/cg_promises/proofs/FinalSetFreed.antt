@@ -47,7 +47,8 @@ held_in n [] m = absurd m
 held_in n (a ∷ stack) m = either (Includes-append_cases (holds a) (flat_map holds stack) n m) (λ k. (a, inl refl, k)) (λ k. let b = held_in n stack k in (b.0, inr b.1, b.2))
 
 -- at the end of the collection no member lives
-module _ (script : Script) (members : List ℕ) (k : ℕ) (c : Collection) (below : List Activity) (v : World) (ending : c.phase ≡ Ending) (top : v.stack ≡ Collecting c ∷ below) (rises : Rises 1 v.next_serial v.objects) (sealed : IsSealedWorld script members v) (minded : IsMinded k v)
+module _ (script : Script) (members : List ℕ) (k : ℕ) (c : Collection) (below : List Activity) (v : World) (ending : c.phase ≡ Ending) (top : v.stack
+    ≡ Collecting c ∷ below) (rises : Rises 1 v.next_serial v.objects) (sealed : IsSealedWorld script members v) (minded : IsMinded k v)
     (apart : (x : Object) → Includes v.objects x → x.place ≢ Cand) where
   under : (b : Activity) → Includes below b → IsOutOf members b
   under = subst (Clears members) top sealed.under
@@ -69,7 +70,8 @@ module _ (script : Script) (members : List ℕ) (k : ℕ) (c : Collection) (belo
     stack_none = not_held x.serial k;
   }))
     where
-      holder : ((z : Object) → Includes v.objects z → Includes members z.serial → v.next_serial ≤ z.serial + fuel → ⊥) → (y : Object) → Includes v.objects y → Includes (references y.entries) x.serial → Includes members y.serial → Excused v.stack y → ⊥
+      holder : ((z : Object) → Includes v.objects z → Includes members z.serial → v.next_serial ≤ z.serial + fuel → ⊥) → (y : Object) → Includes v.objects y
+          → Includes (references y.entries) x.serial → Includes members y.serial → Excused v.stack y → ⊥
       holder rest y i r inside (inl tuple) = let low = (minded.single y i).1 tuple x.serial r in rest y i inside (omega (arith, low, high))
       holder rest y i r inside (inr (inl bare)) = bare x.serial r
       holder rest y i r inside (inr (inr (inl dies))) = not_dying y.serial inside dies
@@ -79,10 +81,12 @@ module _ (script : Script) (members : List ℕ) (k : ℕ) (c : Collection) (belo
   none_lives o k m = let x = Includes-map_cases (λ (z : Object). z.serial) v.objects o m in none_from v.next_serial x.0 x.1 (subst (Includes members) (sym x.2) k) (omega arith)
 
 -- a living object stays or is freed
-run_lasts : (script : Script) (w : World) (steps : List StepTaken) → Run script w steps → Fit script w → (n : ℕ) → Includes (serials w.objects) n → Includes (serials (last_world w steps).objects) n ⊎ Includes (events_of steps) (Free n)
+run_lasts : (script : Script) (w : World) (steps : List StepTaken) → Run script w steps → Fit script w → (n : ℕ) → Includes (serials w.objects) n
+    → Includes (serials (last_world w steps).objects) n ⊎ Includes (events_of steps) (Free n)
 run_lasts script w [] run fit n m = inl m
 run_lasts script w (step ∷ steps) run fit n m = either ((step_goes script w step.events step.world run.0 fit).lasts n m)
-    (λ l. either (run_lasts script step.world steps run.1 (step_fit script w step.events step.world run.0 fit) n l) (λ k. inl k) (λ k. inr (Includes-append_right step.events (events_of steps) (Free n) k)))
+    (λ l. either (run_lasts script step.world steps run.1 (step_fit script w step.events step.world run.0 fit) n l) (λ k. inl k)
+    (λ k. inr (Includes-append_right step.events (events_of steps) (Free n) k)))
     (λ f. inr (Includes-append_left step.events (events_of steps) (Free n) f))
 
 pub final_set_freed : FinalSetIsFreed
@@ -98,7 +102,8 @@ final_set_freed script budget before split during stop known run splits none mor
     let fit_last = run_fit script split.world during rest.1 fit_now in
     let sealed = (sealed_after script (final_set split) split.world during rest.1 fit_now none (starts_sealed_world script budget before split front rest.0 splits)).0 in
     let ends = (step_keeps_on script (final_set split) w stop.events stop.world last.0 fit_last sealed).ends more in
-    let minded = subst (IsMinded (length script.names)) same (minded_after script known (opening script budget) (before ++ split ∷ during) all (opening_fit script budget) (opening_origin script budget) (opening_minded script known budget)) in
+    let minded = subst (IsMinded (length script.names)) same (minded_after script known (opening script budget) (before ++ split ∷ during) all
+    (opening_fit script budget) (opening_origin script budget) (opening_minded script known budget)) in
     let apart : IsApart w = subst IsApart same (runs_apart script budget (before ++ split ∷ during) all) in
     let late = λ (x : Object) (m : Includes w.objects x). stands_late ends.0 ends.3 x (apart.phases ends.0 (subst (λ st. Includes st (Collecting ends.0)) (sym ends.2) (inl refl)) x m) in
     either (run_lasts script split.world during rest.1 fit_now o (filter_lives _ split.world.objects o k))

@@ -35,7 +35,8 @@ pub alone_below : (c : Collection) (below : List Activity) → tally collections
 alone_below c below h d m = let more = member_le collections_in below (Collecting d) m in omega (arith, h, more)
 
 -- each step keeps the condemned objects without finalizers to run
-other_step : (script : Script) (w : World) (a : Activity) (below : List Activity) (events : List Event) (after : World) → w.stack ≡ a ∷ below → is_collection a ≡ false → Step script w events after → Fit script w → IsApart w → Primed script w.objects w.stack → Primed script after.objects after.stack
+other_step : (script : Script) (w : World) (a : Activity) (below : List Activity) (events : List Event) (after : World) → w.stack ≡ a ∷ below → is_collection a
+    ≡ false → Step script w events after → Fit script w → IsApart w → Primed script w.objects w.stack → Primed script after.objects after.stack
 other_step script w a below events after top none step fit apart h =
     let stack : IsStack script w (a ∷ below) = subst (IsStack script w) top fit.calm.stack in
     let left : LeavesUnder w (a ∷ below) after = subst (λ st. LeavesUnder w st after) top (step_leaves script w events after step fit.sound fit.calm fit.order) in
@@ -45,14 +46,16 @@ other_step script w a below events after top none step fit apart h =
     other_primed script w after fit.sound.rises (step_goes script w events after step fit).follows (leaves.places none)
     (λ c m. either ((plain none).stack c m) (λ k. inl (subst (λ st. Includes st (Collecting c)) (sym top) (inr k))) (λ k. inr k.1)) h
 
-collect_step : (script : Script) (w : World) (c : Collection) (below : List Activity) (events : List Event) (after : World) → w.stack ≡ Collecting c ∷ below → Step script w events after → Fit script w → IsApart w → Primed script w.objects w.stack → Primed script after.objects after.stack
+collect_step : (script : Script) (w : World) (c : Collection) (below : List Activity) (events : List Event) (after : World) → w.stack ≡ Collecting c ∷ below
+    → Step script w events after → Fit script w → IsApart w → Primed script w.objects w.stack → Primed script after.objects after.stack
 collect_step script w c below events after top step fit apart h =
     phase_primed script c below w fit.sound.rises (alone_below c below (subst (λ st. tally collections_in st ≤ 1) top fit.sound.single)) c.phase events after
     (apart.phases c (subst (λ st. Includes st (Collecting c)) (sym top) (inl refl)))
     (subst (λ st. StepOf script (with_stack st w) st events after) top step.step)
     (subst (λ st. Primed script w.objects st) top h)
 
-step_primed : (script : Script) (w : World) (stack : List Activity) (events : List Event) (after : World) → w.stack ≡ stack → Step script w events after → Fit script w → IsApart w → Primed script w.objects w.stack → Primed script after.objects after.stack
+step_primed : (script : Script) (w : World) (stack : List Activity) (events : List Event) (after : World) → w.stack ≡ stack → Step script w events after
+    → Fit script w → IsApart w → Primed script w.objects w.stack → Primed script after.objects after.stack
 step_primed script w [] events after top step fit apart h = absurd (subst (λ st. StepOf script w st events after) top step.step)
 step_primed script w (TopLevel commands ∷ below) events after top step fit apart h = other_step script w (TopLevel commands) below events after top refl step fit apart h
 step_primed script w (Framed f ∷ below) events after top step fit apart h = other_step script w (Framed f) below events after top refl step fit apart h
@@ -61,7 +64,8 @@ step_primed script w (Releasing refs ∷ below) events after top step fit apart 
 step_primed script w (Dying d ∷ below) events after top step fit apart h = other_step script w (Dying d) below events after top refl step fit apart h
 step_primed script w (Collecting c ∷ below) events after top step fit apart h = collect_step script w c below events after top step fit apart h
 
-primed_after : (script : Script) (w : World) (steps : List StepTaken) → ((more : List StepTaken) → Run script w more → IsApart (last_world w more)) → Run script w steps → Fit script w → Primed script w.objects w.stack → (let last : World = last_world w steps in Primed script last.objects last.stack)
+primed_after : (script : Script) (w : World) (steps : List StepTaken) → ((more : List StepTaken) → Run script w more → IsApart (last_world w more))
+    → Run script w steps → Fit script w → Primed script w.objects w.stack → (let last : World = last_world w steps in Primed script last.objects last.stack)
 primed_after script w [] apart run fit h = h
 primed_after script w (step ∷ steps) apart run fit h = primed_after script step.world steps (λ more goes. apart (step ∷ more) (run.0, goes)) run.1 (step_fit script w step.events step.world run.0 fit)
     (step_primed script w w.stack step.events step.world refl run.0 fit (apart [] tt) h)
@@ -73,29 +77,32 @@ opening_primed script budget = record {
 }
 
 -- the step of the second reachability pass
-module _ (script : Script) (budget : ℕ) (before : List StepTaken) (split : StepTaken) (run : Run script (opening script budget) before) (step : Step script (last_world (opening script budget) before) split.events split.world) (splits : Splits (last_world (opening script budget) before)) where
-  abbrev w : World
-  w = last_world (opening script budget) before
+module _ (script : Script) (budget : ℕ) (before : List StepTaken) (split : StepTaken) (run : Run script (opening script budget) before)
+    (step : Step script (last_world (opening script budget) before) split.events split.world) (splits : Splits (last_world (opening script budget) before))
+  where
+    abbrev w : World
+    w = last_world (opening script budget) before
 
-  fit : Fit script w
-  fit = run_fit script (opening script budget) before run (opening_fit script budget)
+    fit : Fit script w
+    fit = run_fit script (opening script budget) before run (opening_fit script budget)
 
-  abbrev c : Collection
-  c = record splits.collection { phase = Split }
+    abbrev c : Collection
+    c = record splits.collection { phase = Split }
 
-  top : w.stack ≡ Collecting c ∷ splits.below
-  top = splits.top ∙ ap (λ p. Collecting (record splits.collection { phase = p }) ∷ splits.below) splits.phase
+    top : w.stack ≡ Collecting c ∷ splits.below
+    top = splits.top ∙ ap (λ p. Collecting (record splits.collection { phase = p }) ∷ splits.below) splits.phase
 
-  split_step : SplitStep c splits.below (with_stack (Collecting c ∷ splits.below) w) split.events split.world
-  split_step = subst (λ st. StepOf script (with_stack st w) st split.events split.world) top step.step
+    split_step : SplitStep c splits.below (with_stack (Collecting c ∷ splits.below) w) split.events split.world
+    split_step = subst (λ st. StepOf script (with_stack st w) st split.events split.world) top step.step
 
-  pub starts_sealed_world : IsSealedWorld script (final_set split) split.world
-  starts_sealed_world = subst (λ (after : World). IsSealedWorld script (serials_at after.objects Cand) after) (sym split_step.world)
-      (split_sealed script c splits.below w fit.sound.rises (alone_below c splits.below (subst (λ st. tally collections_in st ≤ 1) top fit.sound.single)) splits.clears
-      (subst (λ st. HasOrder (with_stack st w)) top fit.order) (subst AreOver top fit.calm.over) (subst (AreKnown w.objects) top (known script budget before run))
-      (subst (λ st. Primed script w.objects st) top (primed_after script (opening script budget) before (λ more goes. runs_apart script budget more goes) run (opening_fit script budget) (opening_primed script budget)))
-      (subst (λ st. IsStack script (with_stack st w) st) top fit.calm.stack).1
-      split.events split.world split_step)
+    pub starts_sealed_world : IsSealedWorld script (final_set split) split.world
+    starts_sealed_world = subst (λ (after : World). IsSealedWorld script (serials_at after.objects Cand) after) (sym split_step.world)
+        (split_sealed script c splits.below w fit.sound.rises (alone_below c splits.below (subst (λ st. tally collections_in st ≤ 1) top fit.sound.single)) splits.clears
+        (subst (λ st. HasOrder (with_stack st w)) top fit.order) (subst AreOver top fit.calm.over) (subst (AreKnown w.objects) top (known script budget before run))
+        (subst (λ st. Primed script w.objects st) top (primed_after script (opening script budget) before (λ more goes. runs_apart script budget more goes) run
+        (opening_fit script budget) (opening_primed script budget)))
+        (subst (λ st. IsStack script (with_stack st w) st) top fit.calm.stack).1
+        split.events split.world split_step)
 
 pub sealing : Sealing
 sealing script budget before split during run splits none x m k =
@@ -114,7 +121,8 @@ only_frees script budget before split during next run splits none event n m i k 
     let fit_before = run_fit script (opening script budget) before front (opening_fit script budget) in
     let fit_now = step_fit script (last_world (opening script budget) before) split.events split.world rest.0 fit_before in
     let first = rest.1 in
-    let last = subst (λ v. Run script v (next ∷ [])) (last_world-append (opening script budget) before (split ∷ during)) (run_back script (opening script budget) (before ++ split ∷ during) (next ∷ []) run) in
+    let last = subst (λ v. Run script v (next ∷ [])) (last_world-append (opening script budget) before (split ∷ during))
+    (run_back script (opening script budget) (before ++ split ∷ during) (next ∷ []) run) in
     let ends = sealed_after script (final_set split) split.world during first fit_now none (starts_sealed_world script budget before split front rest.0 splits) in
     let keeps = step_keeps_on script (final_set split) (last_world split.world during) next.events next.world last.0 (run_fit script split.world during first fit_now) ends.0 in
     either (of_both during next event m) (λ a. ends.1 event a n i k) (λ b. keeps.lines event b n i k)

@@ -72,16 +72,21 @@ module _ (script : Script) (members : List ℕ) (c : Collection) (below : List A
 
   end_out : (events : List Event) (after : World) → EndStep script c below (collection_at c Ending below v) events after → TellsOut members events
   end_out events after step = subst (TellsOut members) (sym step.lines)
-      (both_out (lines_if (has_flag c.flags uncollectable) (map GcUncollectable step.told) ++ map GcSaved step.keeps) (GcStop c.generation c.collected (length step.told) ∷ lines_if c.asked (Collected (c.collected + length step.told) ∷ []))
+      (both_out (lines_if (has_flag c.flags uncollectable) (map GcUncollectable step.told) ++ map GcSaved step.keeps)
+      (GcStop c.generation c.collected (length step.told) ∷ lines_if c.asked (Collected (c.collected + length step.told) ∷ []))
       (both_out (lines_if (has_flag c.flags uncollectable) (map GcUncollectable step.told)) (map GcSaved step.keeps)
-      (if_out (has_flag c.flags uncollectable) (map GcUncollectable step.told) (each_out GcUncollectable step.told one_name (λ n m. aside_out (is_at Legacy) (λ x t. place_is x.place Legacy t) n (same_lives step.told (serials_at v.objects Legacy) step.told_order n m))))
-      (each_out GcSaved step.keeps one_name (λ n m. aside_out (is_saved script c) (λ x t. place_is x.place Legacy (true_and (is_at Legacy x) _ t).0) n (same_lives step.keeps (serials (filter (is_saved script c) v.objects)) step.keeps_order n m))))
-      (both_out (GcStop c.generation c.collected (length step.told) ∷ []) (lines_if c.asked (Collected (c.collected + length step.told) ∷ [])) (one_out members (GcStop c.generation c.collected (length step.told)) (λ n m. absurd m))
+      (if_out (has_flag c.flags uncollectable) (map GcUncollectable step.told) (each_out GcUncollectable step.told one_name
+      (λ n m. aside_out (is_at Legacy) (λ x t. place_is x.place Legacy t) n (same_lives step.told (serials_at v.objects Legacy) step.told_order n m))))
+      (each_out GcSaved step.keeps one_name (λ n m. aside_out (is_saved script c) (λ x t. place_is x.place Legacy (true_and (is_at Legacy x) _ t).0) n
+      (same_lives step.keeps (serials (filter (is_saved script c) v.objects)) step.keeps_order n m))))
+      (both_out (GcStop c.generation c.collected (length step.told) ∷ []) (lines_if c.asked (Collected (c.collected + length step.told) ∷ []))
+      (one_out members (GcStop c.generation c.collected (length step.told)) (λ n m. absurd m))
       (if_out c.asked (Collected (c.collected + length step.told) ∷ []) (one_out members (Collected (c.collected + length step.told)) (λ n m. absurd m)))))
 
 pub stops : (front : List Event) (g m n : ℕ) (back : List Event) (events : List Event) → events ≡ front ++ GcStop g m n ∷ back → count_by is_stop events ≡ 0 → ⊥
 stops front g m n back events e none =
-    let all : count_by is_stop (front ++ GcStop g m n ∷ back) ≡ count_by is_stop front + count_by is_stop (GcStop g m n ∷ back) = sum_by-append (λ x. cond (is_stop x) 1 0) front (GcStop g m n ∷ back) in
+    let all : count_by is_stop (front ++ GcStop g m n ∷ back) ≡ count_by is_stop front + count_by is_stop (GcStop g m n ∷ back) =
+    sum_by-append (λ x. cond (is_stop x) 1 0) front (GcStop g m n ∷ back) in
     let one : count_by is_stop (GcStop g m n ∷ back) ≡ 1 + count_by is_stop back = sum_by-cons (λ x. cond (is_stop x) 1 0) (GcStop g m n) back in
     let zero_now : count_by is_stop (front ++ GcStop g m n ∷ back) ≡ 0 = ap (count_by is_stop) (sym e) ∙ none in
     omega (arith, all, one, zero_now)
@@ -103,11 +108,17 @@ none_stops (event ∷ events) h =
 passes : (script : Script) (members : List ℕ) (stack : List Activity) (events : List Event) (after : World) → Passes script members events after → Keeping script members stack events after
 passes script members stack events after p = record { lines = p.lines.0; sealed = λ e. p.sealed; ends = λ more. let none = none_stops events p.lines.1 in absurd (omega (arith, more, none)) }
 
-collect_keeps : (script : Script) (members : List ℕ) (c : Collection) (below : List Activity) (v : World) → Rises 1 v.next_serial v.objects → has_flag c.flags save_all ≡ false → (phase : CollectPhase) (events : List Event) (after : World) → IsLate phase
-    → PhaseStep script c phase below (collection_at c phase below v) events after → Sealed script members v.objects v.names (Collecting (record c { phase = phase }) ∷ below) v.next_serial → Keeping script members (Collecting (record c { phase = phase }) ∷ below) events after
-collect_keeps script members c below v rises clears Turns events after late step h = passes script members (Collecting (record c { phase = Turns }) ∷ below) events after (late_sealed script members c below v rises clears Turns events after late (λ e. cc) step h)
-collect_keeps script members c below v rises clears (Turn o) events after late step h = passes script members (Collecting (record c { phase = Turn o }) ∷ below) events after (late_sealed script members c below v rises clears (Turn o) events after late (λ e. cc) step h)
-collect_keeps script members c below v rises clears (AfterTurn o) events after late step h = passes script members (Collecting (record c { phase = AfterTurn o }) ∷ below) events after (late_sealed script members c below v rises clears (AfterTurn o) events after late (λ e. cc) step h)
+collect_keeps : (script : Script) (members : List ℕ) (c : Collection) (below : List Activity) (v : World) → Rises 1 v.next_serial v.objects
+    → has_flag c.flags save_all ≡ false → (phase : CollectPhase) (events : List Event) (after : World) → IsLate phase
+    → PhaseStep script c phase below (collection_at c phase below v) events after → Sealed script members v.objects v.names
+    (Collecting (record c { phase = phase }) ∷ below) v.next_serial → Keeping script members (Collecting (record c { phase = phase }) ∷ below) events after
+collect_keeps script members c below v rises clears Turns events after late step h = passes script members (Collecting (record c { phase = Turns }) ∷ below)
+    events after (late_sealed script members c below v rises clears Turns events after late (λ e. cc) step h)
+collect_keeps script members c below v rises clears (Turn o) events after late step h = passes script members (Collecting (record c { phase = Turn o }) ∷ below)
+    events after (late_sealed script members c below v rises clears (Turn o) events after late (λ e. cc) step h)
+collect_keeps script members c below v rises clears (AfterTurn o) events after late step h =
+    passes script members (Collecting (record c { phase = AfterTurn o }) ∷ below) events after (late_sealed script members c below v rises clears (AfterTurn o)
+    events after late (λ e. cc) step h)
 collect_keeps script members c below v rises clears Ending events after late step h = record {
   lines = end_out script members c below v (Collecting (record c { phase = Ending }) ∷ below) h events after step;
   sealed = λ none. absurd (stops _ c.generation c.collected (length step.told) _ events step.lines none);
@@ -133,7 +144,8 @@ module _ (script : Script) (members : List ℕ) where
     SealedOn a = Sealed script members v.objects v.names (a ∷ below) v.next_serial
 
     turned : (a b : Activity) → Fits members b → is_collection a ≡ false → is_collection b ≡ false → ((n : ℕ) → is_death_of n a ≡ is_death_of n b) → SealedOn a → SealedOn b
-    turned a b fits none also same h = turn_sealed script members a b below v.objects v.objects v.names v.next_serial (shrunk script members v.objects v.objects v.next_serial (same_shrinks v.objects)) fits none also (λ n m. same n) h
+    turned a b fits none also same h = turn_sealed script members a b below v.objects v.objects v.names v.next_serial (shrunk script members v.objects v.objects
+        v.next_serial (same_shrinks v.objects)) fits none also (λ n m. same n) h
 
     emptied_sealed : (a : Activity) → HasCommands a → SealedOn a → SealedOn (emptied a)
     emptied_sealed (TopLevel commands) ha h = turned (TopLevel commands) (TopLevel []) tt refl refl (λ n. refl) h
@@ -152,9 +164,11 @@ module _ (script : Script) (members : List ℕ) where
       opened : (lines : List Event) (given : List ℕ) (next : World) → next.stack ≡ a ∷ below → Opens script members now h lines next → Passes script members lines (push (Releasing given) next)
       opened lines given next same o = record {
         sealed = push_sealed script members (Releasing given) next.stack next.objects next.names next.next_serial tt refl
-            (goes_sealed script members v.objects next.objects v.names next.names (a ∷ below) next.stack v.next_serial next.next_serial o.next (λ y m. loosen members v.objects v.next_serial y (o.comes y m)) o.names
+            (goes_sealed script members v.objects next.objects v.names next.names (a ∷ below) next.stack v.next_serial next.next_serial o.next
+            (λ y m. loosen members v.objects v.next_serial y (o.comes y m)) o.names
             (λ b m. h.stack_fits b (subst (λ st. Includes st b) same m)) (subst (λ st. list_any is_collection st ≡ true) (sym same) h.collecting) (λ k. subst (Clears members) (sym same) k)
-            (comes_excused script members v.objects next.objects v.names (a ∷ below) next.stack v.next_serial o.comes (λ n w. subst (λ st. NotAfter st n) (sym same) w) (λ n m e. subst (λ st. list_any (is_death_of n) st ≡ true) (sym same) e) h) h);
+            (comes_excused script members v.objects next.objects v.names (a ∷ below) next.stack v.next_serial o.comes (λ n w. subst (λ st. NotAfter st n)
+            (sym same) w) (λ n m e. subst (λ st. list_any (is_death_of n) st ≡ true) (sym same) e) h) h);
         lines = o.told;
       }
 
@@ -166,9 +180,11 @@ module _ (script : Script) (members : List ℕ) where
         stays = λ lines answers. keeps lines now (record { sealed = h; lines = answers_out lines answers });
         stops = λ lines answers. keeps lines (on (emptied a) below v) (record { sealed = emptied_sealed a ha h; lines = answers_out lines answers });
         changes = λ wants_memory lines given_up after shape. keeps lines (push (Releasing given_up) after)
-            (opened lines given_up after (changes_leave now command wants_memory lines given_up after shape).stack (shape_opens script members now h command (Changes wants_memory lines given_up after) shape));
+            (opened lines given_up after (changes_leave now command wants_memory lines given_up after shape).stack (shape_opens script members now h command
+            (Changes wants_memory lines given_up after) shape));
         calls = λ f k. let out = shape_opens script members now h command (Calls f.serial) (StartsFrame f k) in
-            keeps _ _ (starts_sealed script members (record { sort = CallFrame; proc = procedure_of now f.serial; subject = f.serial; func = Some f.serial }) now out (λ g e. let s : f.serial ≡ g = cc in subst (λ n. ¬ Includes members n) s out) h);
+            keeps _ _ (starts_sealed script members (record { sort = CallFrame; proc = procedure_of now f.serial; subject = f.serial; func = Some f.serial })
+            now out (λ g e. let s : f.serial ≡ g = cc in subst (λ n. ¬ Includes members n) s out) h);
         asks = λ g low e. absurd (let no : true ≡ false = sym h.collecting ∙ e in cc);
       }
 
@@ -187,7 +203,8 @@ module _ (script : Script) (members : List ℕ) where
   keeps_sealed = record {
     starts_due = λ a below v ha g e k. absurd (let no : Some g ≡ None = sym e ∙ due_none (on a below v) k.1.collecting in cc);
     ends = λ a lines below v last k. passes script members (a ∷ below) lines (record (on a below v) { outcome = Ended }) (record { sealed = k.1; lines = last_out (on a below v) a lines last });
-    shuts_down = λ below v k. passes script members (TopLevel [] ∷ below) [] (on (ShuttingDown false) below v) (record { sealed = turned below v (TopLevel []) (ShuttingDown false) tt refl refl (λ n. refl) k.1; lines = none_out members });
+    shuts_down = λ below v k. passes script members (TopLevel [] ∷ below) [] (on (ShuttingDown false) below v)
+        (record { sealed = turned below v (TopLevel []) (ShuttingDown false) tt refl refl (λ n. refl) k.1; lines = none_out members });
     gives_up = λ name below v e k. (command_keeps below v (ShuttingDown false) (ShuttingDown false) tt k.1 (Del name)).changes false [] _ _ (del_shaped (on (ShuttingDown false) below v) name);
     collects_last = λ below v k. absurd (let no : true ≡ false = sym k.1.collecting ∙ ap (list_any is_collection) k.0.1 in cc);
     commands = λ command a b below v takes hb k. command_keeps below v a b hb (taken_sealed below v command a b takes k.1) command;
@@ -199,13 +216,16 @@ module _ (script : Script) (members : List ℕ) where
 
 -- neither the first steps of a run nor the others stop
 pub none_first : (xs ys : List Event) → count_by is_stop (xs ++ ys) ≡ 0 → (count_by is_stop xs ≡ 0) × (count_by is_stop ys ≡ 0)
-none_first xs ys e = let all : count_by is_stop (xs ++ ys) ≡ count_by is_stop xs + count_by is_stop ys = sum_by-append (λ x. cond (is_stop x) 1 0) xs ys in (omega (arith, all, e), omega (arith, all, e))
+none_first xs ys e = let all : count_by is_stop (xs ++ ys) ≡ count_by is_stop xs + count_by is_stop ys = sum_by-append (λ x. cond (is_stop x) 1 0) xs ys
+    in (omega (arith, all, e), omega (arith, all, e))
 
 module _ (script : Script) (members : List ℕ) where
   pub step_keeps_on : (w : World) (events : List Event) (after : World) → Step script w events after → Fit script w → IsSealedWorld script members w → Keeping script members w.stack events after
-  step_keeps_on w events after step fit h = any_step script (λ u. (Rises 1 u.next_serial u.objects × HasBottom u.stack) × IsSealedWorld script members u) (StepKeeps script members) (keeps_sealed script members) w events after step ((fit.sound.rises, fit.sound.bottom), h)
+  step_keeps_on w events after step fit h = any_step script (λ u. (Rises 1 u.next_serial u.objects × HasBottom u.stack) × IsSealedWorld script members u)
+      (StepKeeps script members) (keeps_sealed script members) w events after step ((fit.sound.rises, fit.sound.bottom), h)
 
-  pub sealed_after : (w : World) (steps : List StepTaken) → Run script w steps → Fit script w → count_by is_stop (events_of steps) ≡ 0 → IsSealedWorld script members w → IsSealedWorld script members (last_world w steps) × TellsOut members (events_of steps)
+  pub sealed_after : (w : World) (steps : List StepTaken) → Run script w steps → Fit script w → count_by is_stop (events_of steps) ≡ 0
+      → IsSealedWorld script members w → IsSealedWorld script members (last_world w steps) × TellsOut members (events_of steps)
   sealed_after w [] run fit none h = (h, (none_out members).0)
   sealed_after w (step ∷ steps) run fit none h =
       let both = none_first step.events (events_of steps) none in

@@ -39,12 +39,19 @@ pub less_held : (p : Object → Bool) (objects : List Object) (o : ℕ) → occu
 less_held p [] o = omega arith
 less_held p (x ∷ objects) o = go (p x) (less_held p objects o)
   where
-    go : (b : Bool) → occurrences o (entry_holdings (graph_of (filter p objects))) ≤ occurrences o (entry_holdings (graph_of objects)) → occurrences o (entry_holdings (graph_of (cond b (x ∷ filter p objects) (filter p objects)))) ≤ occurrences o (entry_holdings (graph_of (x ∷ objects)))
-    go true k = omega (arith, k, occurrences-append o (references x.entries) (entry_holdings (graph_of (filter p objects))), occurrences-append o (references x.entries) (entry_holdings (graph_of objects)))
+    go : (b : Bool) → occurrences o (entry_holdings (graph_of (filter p objects))) ≤ occurrences o (entry_holdings (graph_of objects))
+        → occurrences o (entry_holdings (graph_of (cond b (x ∷ filter p objects) (filter p objects)))) ≤ occurrences o (entry_holdings (graph_of (x ∷ objects)))
+    go true k = omega (
+      arith,
+      k,
+      occurrences-append o (references x.entries) (entry_holdings (graph_of (filter p objects))),
+      occurrences-append o (references x.entries) (entry_holdings (graph_of objects)),
+    )
     go false k = omega (arith, k, occurrences-append o (references x.entries) (entry_holdings (graph_of objects)))
 
 -- with one that does not pass, there are more holds
-pub more_held : (p : Object → Bool) (objects : List Object) (y : Object) (o : ℕ) → Includes objects y → p y ≡ false → Includes (references y.entries) o → occurrences o (entry_holdings (graph_of (filter p objects))) < occurrences o (entry_holdings (graph_of objects))
+pub more_held : (p : Object → Bool) (objects : List Object) (y : Object) (o : ℕ) → Includes objects y → p y ≡ false → Includes (references y.entries) o
+    → occurrences o (entry_holdings (graph_of (filter p objects))) < occurrences o (entry_holdings (graph_of objects))
 more_held p [] y o m t k = absurd m
 more_held p (x ∷ objects) y o (inl e) t k = go (p x) (ap p e ∙ t)
   where
@@ -56,8 +63,14 @@ more_held p (x ∷ objects) y o (inl e) t k = go (p x) (ap p e ∙ t)
     go false i = omega (arith, here, less_held p objects o, occurrences-append o (references x.entries) (entry_holdings (graph_of objects)))
 more_held p (x ∷ objects) y o (inr m) t k = go (p x) (more_held p objects y o m t k)
   where
-    go : (b : Bool) → occurrences o (entry_holdings (graph_of (filter p objects))) < occurrences o (entry_holdings (graph_of objects)) → occurrences o (entry_holdings (graph_of (cond b (x ∷ filter p objects) (filter p objects)))) < occurrences o (entry_holdings (graph_of (x ∷ objects)))
-    go true k = omega (arith, k, occurrences-append o (references x.entries) (entry_holdings (graph_of (filter p objects))), occurrences-append o (references x.entries) (entry_holdings (graph_of objects)))
+    go : (b : Bool) → occurrences o (entry_holdings (graph_of (filter p objects))) < occurrences o (entry_holdings (graph_of objects))
+        → occurrences o (entry_holdings (graph_of (cond b (x ∷ filter p objects) (filter p objects)))) < occurrences o (entry_holdings (graph_of (x ∷ objects)))
+    go true k = omega (
+      arith,
+      k,
+      occurrences-append o (references x.entries) (entry_holdings (graph_of (filter p objects))),
+      occurrences-append o (references x.entries) (entry_holdings (graph_of objects)),
+    )
     go false k = omega (arith, k, occurrences-append o (references x.entries) (entry_holdings (graph_of objects)))
 
 abbrev pub edge : ℕ → ℕ → Edge
@@ -66,7 +79,8 @@ edge a b = record { from = a; to = b }
 pub edge_of : (xs : List Object) (y : Object) (o : ℕ) → Includes xs y → Includes (references y.entries) o → Includes (edges (graph_of xs)) (record { from = y.serial; to = o })
 edge_of [] y o m k = absurd m
 edge_of (x ∷ xs) y o (inl e) k = Includes-append_left (map (edge x.serial) (references x.entries)) (edges (graph_of xs)) (edge y.serial o)
-    (subst (λ (z : Object). Includes (map (edge x.serial) (references x.entries)) (edge z.serial o)) e (Includes-map (edge x.serial) (references x.entries) o (subst (λ (z : Object). Includes (references z.entries) o) (sym e) k)))
+    (subst (λ (z : Object). Includes (map (edge x.serial) (references x.entries)) (edge z.serial o)) e (Includes-map (edge x.serial) (references x.entries) o
+    (subst (λ (z : Object). Includes (references z.entries) o) (sym e) k)))
 edge_of (x ∷ xs) y o (inr m) k = Includes-append_right (map (edge x.serial) (references x.entries)) (edges (graph_of xs)) (edge y.serial o) (edge_of xs y o m k)
 
 -- A member that is held from outside the condemned objects survives.
@@ -74,7 +88,8 @@ module _ (w : World) (x : Object) (m : Includes (objects_at w.objects Cand) x) w
   inside : Includes (serials_at w.objects Cand) x.serial
   inside = Includes-map (λ (z : Object). z.serial) (objects_at w.objects Cand) x m
 
-  parts : occurrences x.serial (holdings w) ≡ occurrences x.serial (name_holdings w.names) + occurrences x.serial (1 ∷ []) + occurrences x.serial (entry_holdings (graph_of w.objects)) + occurrences x.serial (flat_map holds w.stack)
+  parts : occurrences x.serial (holdings w) ≡ occurrences x.serial (name_holdings w.names) + occurrences x.serial (1 ∷ []) + occurrences x.serial
+      (entry_holdings (graph_of w.objects)) + occurrences x.serial (flat_map holds w.stack)
   parts = let a = occurrences-append x.serial (name_holdings w.names ++ (1 ∷ []) ++ entry_holdings (graph_of w.objects)) (flat_map holds w.stack) in
       let b = occurrences-append x.serial (name_holdings w.names ++ (1 ∷ [])) (entry_holdings (graph_of w.objects)) in
       let c = occurrences-append x.serial (name_holdings w.names) (1 ∷ []) in omega (arith, a, b, c)
@@ -101,7 +116,8 @@ record Tracks (x y : Object) : Type 0 where
 same_tracks : (x : Object) → Tracks x x
 same_tracks x = record { later = later_refl x; entries = refl; finalized = refl; place = refl }
 
-lose_back : (wanted : Object → Bool) (weaks : List ℕ) (objects after : List Object) → AllLose wanted objects weaks after → (y : Object) → Includes after y → (x : Object) × Includes objects x × Tracks x y
+lose_back : (wanted : Object → Bool) (weaks : List ℕ) (objects after : List Object) → AllLose wanted objects weaks after → (y : Object) → Includes after y
+    → (x : Object) × Includes objects x × Tracks x y
 lose_back wanted [] objects after lose y m = (y, subst (λ os. Includes os y) lose.1 m, same_tracks y)
 lose_back wanted (weak ∷ weaks) objects after lose y m =
     let z = lose_back wanted weaks (loses_referent weak objects) after lose.1 y m in
@@ -117,11 +133,13 @@ lose_none : (wanted : Object → Bool) (weaks : List ℕ) (objects after : List 
 lose_none wanted [] objects after lose = subst (NoneLeft wanted) (sym lose.1) lose.0
 lose_none wanted (weak ∷ weaks) objects after lose = lose_none wanted weaks (loses_referent weak objects) after lose.1
 
-module _ (script : Script) (c : Collection) (below : List Activity) (v : World) (rises : Rises 1 v.next_serial v.objects) (alone : NoneCollects below) (clears : has_flag c.flags save_all ≡ false) where
+module _ (script : Script) (c : Collection) (below : List Activity) (v : World) (rises : Rises 1 v.next_serial v.objects) (alone : NoneCollects below)
+    (clears : has_flag c.flags save_all ≡ false) where
   abbrev now : World
   now = collection_at c Split below v
 
-  module _ (order : HasOrder now) (over : AreOver now.stack) (known : AreKnown v.objects now.stack) (primed : Primed script v.objects now.stack) (resting : AreResting script now below) (events : List Event) (after : World) (step : SplitStep c below now events after) where
+  module _ (order : HasOrder now) (over : AreOver now.stack) (known : AreKnown v.objects now.stack) (primed : Primed script v.objects now.stack)
+      (resting : AreResting script now below) (events : List Event) (after : World) (step : SplitStep c below now events after) where
     abbrev aged : List Object
     aged = get_older c.generation step.alive v.objects
 
@@ -144,7 +162,8 @@ module _ (script : Script) (c : Collection) (below : List Activity) (v : World) 
 
     -- where an object comes from: it moved to the older generation, or is where it was
     abbrev Comes : Object → Object → Type 0
-    Comes x y = IsLater x y × (y.entries ≡ x.entries) × (y.finalized ≡ x.finalized) × ((includes step.alive x.serial ≡ true) × (y.place ≡ Gen (older c.generation)) ⊎ (includes step.alive x.serial ≡ false) × (y.place ≡ x.place))
+    Comes x y = IsLater x y × (y.entries ≡ x.entries) × (y.finalized ≡ x.finalized) × ((includes step.alive x.serial ≡ true)
+        × (y.place ≡ Gen (older c.generation)) ⊎ (includes step.alive x.serial ≡ false) × (y.place ≡ x.place))
 
     back : (y : Object) → Includes step.objects y → (x : Object) × Includes v.objects x × Comes x y
     back y m =
@@ -200,9 +219,11 @@ module _ (script : Script) (c : Collection) (below : List Activity) (v : World) 
     unreferred y m o k e =
         let d = dead_of o k in
         let stays : includes step.alive d.object.serial ≡ false = not_includes d.object.serial d.dead in
-        let member : Includes aged d.object = subst (Includes aged) (ap (λ b. if b then with_place (Gen (older c.generation)) d.object else d.object) stays) (Includes-map (λ x. if includes step.alive x.serial then with_place (Gen (older c.generation)) x else x) v.objects d.object d.member) in
+        let member : Includes aged d.object = subst (Includes aged) (ap (λ b. if b then with_place (Gen (older c.generation)) d.object else d.object) stays)
+        (Includes-map (λ x. if includes step.alive x.serial then with_place (Gen (older c.generation)) x else x) v.objects d.object d.member) in
         let found : object_at aged o ≡ Some d.object = subst (λ n. object_at aged n ≡ Some d.object) d.serial (at_member 1 v.next_serial aged d.object rises_aged member) in
-        let loses : loses_at_split aged y ≡ true = ap (λ r. unwrap_or (option_map (λ n. is_final_in aged n || is_at Cand y) r) false) e ∙ or_left (is_final_in aged o) (is_at Cand y) (ap (λ r. unwrap_or (option_map (is_at Cand) r) false) found ∙ at_cand d.object d.place) in
+        let loses : loses_at_split aged y ≡ true = ap (λ r. unwrap_or (option_map (λ n. is_final_in aged n || is_at Cand y) r) false) e
+        ∙ or_left (is_final_in aged o) (is_at Cand y) (ap (λ r. unwrap_or (option_map (is_at Cand) r) false) found ∙ at_cand d.object d.place) in
         let no : true ≡ false = sym loses ∙ lose_none (loses_at_split aged) step.cleared aged step.objects step.lose y m in cc
       where
         rises_aged : Rises 1 v.next_serial aged
@@ -231,7 +252,8 @@ module _ (script : Script) (c : Collection) (below : List Activity) (v : World) 
     lost_own : (y : Object) → Includes step.objects y → y.place ≡ Cand → (r : Option ℕ) → y.referent ≡ r → y.referent ≡ None
     lost_own y m place None e = e
     lost_own y m place (Some r) e =
-        let loses : loses_at_split aged y ≡ true = ap (λ q. unwrap_or (option_map (λ n. is_final_in aged n || is_at Cand y) q) false) e ∙ or_right (is_final_in aged r) (is_at Cand y) (at_cand y place) in
+        let loses : loses_at_split aged y ≡ true = ap (λ q. unwrap_or (option_map (λ n. is_final_in aged n || is_at Cand y) q) false) e
+        ∙ or_right (is_final_in aged r) (is_at Cand y) (at_cand y place) in
         absurd (let no : true ≡ false = sym loses ∙ lose_none (loses_at_split aged) step.cleared aged step.objects step.lose y m in cc)
 
     done_of : (y : Object) → Includes step.objects y → Includes members y.serial → IsDone script y
@@ -249,12 +271,14 @@ module _ (script : Script) (c : Collection) (below : List Activity) (v : World) 
         }
 
     -- the frames below
-    frame_fits : (sort : FrameSort) (subject : ℕ) (function : Option ℕ) (rest : List Activity) → IsLocalHeld sort subject rest → KnowsFunction v.objects sort subject function rest → ((n : ℕ) → Includes (call_holds sort function ++ flat_map holds rest) n → Includes (flat_map holds now.stack) n)
+    frame_fits : (sort : FrameSort) (subject : ℕ) (function : Option ℕ) (rest : List Activity) → IsLocalHeld sort subject rest → KnowsFunction v.objects sort
+        subject function rest → ((n : ℕ) → Includes (call_holds sort function ++ flat_map holds rest) n → Includes (flat_map holds now.stack) n)
         → ((n : ℕ) → Includes (all_waits rest) n → Includes (all_waits now.stack) n) → (¬ Includes members subject) × ((g : ℕ) → function ≡ Some g → ¬ Includes members g)
     frame_fits Del subject function rest local knows held waits = (held_out subject (held subject local), λ g e. absurd (let no : None ≡ Some g = sym knows ∙ e in cc))
     frame_fits LegacyFrame subject function rest local knows held waits = (held_out subject (held subject local), λ g e. absurd (let no : None ≡ Some g = sym knows ∙ e in cc))
     frame_fits Call subject function rest local knows held waits =
-        let out = held_out subject (held subject (Includes-append_left (option_to_list function) (flat_map holds rest) subject (subst (λ f. Includes (option_to_list f) subject) (sym knows.0) (inl refl)))) in
+        let out = held_out subject (held subject (Includes-append_left (option_to_list function) (flat_map holds rest) subject
+        (subst (λ f. Includes (option_to_list f) subject) (sym knows.0) (inl refl)))) in
         (out, λ g e. let both : Some subject ≡ Some g = sym knows.0 ∙ e in let same : subject ≡ g = cc in subst (λ n. ¬ Includes members n) same out)
     frame_fits Callback subject function rest local knows held waits = (
       held_out subject (held subject local),
@@ -274,14 +298,18 @@ module _ (script : Script) (c : Collection) (below : List Activity) (v : World) 
                 go true t = absurd ((order.condemned z m (or_left (is_at Cand z) _ t)).0 (subst (Includes (all_waits now.stack)) (sym e) waits))
                 go false t = refl
 
-    frames_fit : (stack : List Activity) → AreOver stack → AreKnown v.objects stack → ((n : ℕ) → Includes (flat_map holds stack) n → Includes (flat_map holds now.stack) n) → ((n : ℕ) → Includes (all_waits stack) n → Includes (all_waits now.stack) n)
+    frames_fit : (stack : List Activity) → AreOver stack → AreKnown v.objects stack → ((n : ℕ) → Includes (flat_map holds stack) n
+        → Includes (flat_map holds now.stack) n) → ((n : ℕ) → Includes (all_waits stack) n → Includes (all_waits now.stack) n)
         → (f : Frame) → Includes stack (Framed f) → Fits members (Framed f)
     frames_fit [] over known held waits f m = absurd m
-    frames_fit (a ∷ rest) over known held waits f (inl e) = here (subst (λ b. IsOver b rest) e over.0) (subst (λ b. IsKnown v.objects b rest) e known.0) (subst (λ b. (n : ℕ) → Includes (flat_map holds (b ∷ rest)) n → Includes (flat_map holds now.stack) n) e held)
+    frames_fit (a ∷ rest) over known held waits f (inl e) = here (subst (λ b. IsOver b rest) e over.0) (subst (λ b. IsKnown v.objects b rest) e known.0)
+        (subst (λ b. (n : ℕ) → Includes (flat_map holds (b ∷ rest)) n → Includes (flat_map holds now.stack) n) e held)
       where
-        here : IsLocalHeld f.sort f.subject rest → KnowsFunction v.objects f.sort f.subject f.function rest → ((n : ℕ) → Includes (call_holds f.sort f.function ++ flat_map holds rest) n → Includes (flat_map holds now.stack) n) → Fits members (Framed f)
+        here : IsLocalHeld f.sort f.subject rest → KnowsFunction v.objects f.sort f.subject f.function rest
+            → ((n : ℕ) → Includes (call_holds f.sort f.function ++ flat_map holds rest) n → Includes (flat_map holds now.stack) n) → Fits members (Framed f)
         here local knows held = frame_fits f.sort f.subject f.function rest local knows held (λ n m. waits n (Includes-append_right (waits_of a) (all_waits rest) n m))
-    frames_fit (a ∷ rest) over known held waits f (inr m) = frames_fit rest over.1 known.1 (λ n i. held n (Includes-append_right (holds a) (flat_map holds rest) n i)) (λ n i. waits n (Includes-append_right (waits_of a) (all_waits rest) n i)) f m
+    frames_fit (a ∷ rest) over known held waits f (inr m) = frames_fit rest over.1 known.1 (λ n i. held n (Includes-append_right (holds a) (flat_map holds rest)
+        n i)) (λ n i. waits n (Includes-append_right (waits_of a) (all_waits rest) n i)) f m
 
     below_fits : (a : Activity) → Includes below a → Fits members a
     below_fits (TopLevel commands) m = tt
@@ -297,7 +325,8 @@ module _ (script : Script) (c : Collection) (below : List Activity) (v : World) 
         (λ gone. let q = dead_of d.object k in let no : Untracked ≡ Cand = sym ((gone.unheld.quiet q.object q.member).untracked q.serial) ∙ q.place in cc)
 
     turns : (n : ℕ) → NotAfter (Collecting (record c { collected = c.collected + length (serials_at step.objects Cand); phase = Turns }) ∷ below) n
-    turns n b m = either m (λ e. let same_one : record c { collected = c.collected + length (serials_at step.objects Cand); phase = Turns } ≡ b = cc in subst (λ (z : Collection). z.phase ≢ AfterTurn n) same_one (λ p. cc)) (λ i. absurd (alone b i))
+    turns n b m = either m (λ e. let same_one : record c { collected = c.collected + length (serials_at step.objects Cand); phase = Turns } ≡ b = cc
+        in subst (λ (z : Collection). z.phase ≢ AfterTurn n) same_one (λ p. cc)) (λ i. absurd (alone b i))
 
     pub split_sealed : Sealed script members step.objects v.names (Collecting (record c { collected = c.collected + length (serials_at step.objects Cand); phase = Turns }) ∷ below) v.next_serial
     split_sealed = record {

@@ -126,9 +126,12 @@ module _ (objects : List Object) (next : ℕ) where
   one_told event h e (inl i) = subst (IsTold objects next) i h
   one_told event h e (inr n) = absurd n
 
-  pub tells : (events : List Event) (after : World) → ((event : Event) → Includes events event → IsTold objects next event) → Old objects after.objects → next ≤ after.next_serial → Goes objects next events after
+  pub tells : (events : List Event) (after : World) → ((event : Event) → Includes events event → IsTold objects next event) → Old objects after.objects
+      → next ≤ after.next_serial → Goes objects next events after
   tells events after told old serial = record { follows = λ y m. inl (old.origin y m); serial = serial; told = inl told; lasts = λ n m. inl (old.lasts n m) }
 
-  pub starts_told : (script : Script) (spec : FrameSpec) (u : World) → Old objects u.objects → next ≤ u.next_serial → Enters spec.sort objects u.objects spec.subject → (let s : Transition = start_frame script spec u in Goes objects next s.0 s.1)
-  starts_told script spec u old serial enters = starts_either (Goes objects next) script spec u (tells (BudgetSpent ∷ []) (record u { outcome = BudgetIsSpent }) (one_told BudgetSpent (tt, λ n m. absurd m)) old serial)
+  pub starts_told : (script : Script) (spec : FrameSpec) (u : World) → Old objects u.objects → next ≤ u.next_serial → Enters spec.sort objects u.objects
+      spec.subject → (let s : Transition = start_frame script spec u in Goes objects next s.0 s.1)
+  starts_told script spec u old serial enters = starts_either (Goes objects next) script spec u (tells (BudgetSpent ∷ []) (record u { outcome = BudgetIsSpent })
+      (one_told BudgetSpent (tt, λ n m. absurd m)) old serial)
       (λ some. record { follows = λ y m. inl (old.origin y m); serial = serial; told = inr (Enter spec.sort spec.subject, refl, enters); lasts = λ n m. inl (old.lasts n m) })

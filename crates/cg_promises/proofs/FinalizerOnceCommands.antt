@@ -69,14 +69,18 @@ module _ (w : World) where
       tracked_marks false y = record { serial = refl; code = refl; class = refl; finalized = λ e. e }
 
       put_marks : (y : Object) → Marks y (put_in y)
-      put_marks y = let m = tracked_marks (is_dict y && not (is_tracked y) && (may_track w key || may_track w v)) (with_entries (put x.entries key v) y) in record { serial = m.serial; code = m.code; class = m.class; finalized = m.finalized }
+      put_marks y = let m = tracked_marks (is_dict y && not (is_tracked y) && (may_track w key || may_track w v)) (with_entries (put x.entries key v) y)
+          in record { serial = m.serial; code = m.code; class = m.class; finalized = m.finalized }
 
-  made_tells : (name : ℕ) (kind : KindCode) (class : Option ℕ) (entries : List Entry) (referent : Option ℕ) → Goes w.objects w.next_serial (Made kind w.next_serial ∷ []) (bound (with_new w kind class entries referent) name (Some (Ref w.next_serial)))
+  made_tells : (name : ℕ) (kind : KindCode) (class : Option ℕ) (entries : List Entry) (referent : Option ℕ) → Goes w.objects w.next_serial
+      (Made kind w.next_serial ∷ []) (bound (with_new w kind class entries referent) name (Some (Ref w.next_serial)))
   made_tells name kind class entries referent = record {
-    follows = λ y m. either (Includes-append_cases w.objects (fresh ∷ []) y m) (λ k. inl ((same_old w.objects).origin y k)) (λ k. either k (λ e. inr (subst (λ (z : Object). z.serial ≡ w.next_serial) e refl)) (λ n. absurd n));
+    follows = λ y m. either (Includes-append_cases w.objects (fresh ∷ []) y m) (λ k. inl ((same_old w.objects).origin y k))
+        (λ k. either k (λ e. inr (subst (λ (z : Object). z.serial ≡ w.next_serial) e refl)) (λ n. absurd n));
     serial = omega arith;
     told = inl (one_told w.objects w.next_serial (Made kind w.next_serial) (tt, λ n m. either m (λ e. inr (sym e)) (λ k. absurd k)));
-    lasts = λ n m. let x = Includes-map_cases (λ (z : Object). z.serial) w.objects n m in inl (subst (Includes (serials (w.objects ++ fresh ∷ []))) x.2 (Includes-map (λ (z : Object). z.serial) (w.objects ++ fresh ∷ []) x.0 (Includes-append_left w.objects (fresh ∷ []) x.0 x.1)));
+    lasts = λ n m. let x = Includes-map_cases (λ (z : Object). z.serial) w.objects n m in inl (subst (Includes (serials (w.objects ++ fresh ∷ []))) x.2
+        (Includes-map (λ (z : Object). z.serial) (w.objects ++ fresh ∷ []) x.0 (Includes-append_left w.objects (fresh ∷ []) x.0 x.1)));
   }
     where
       fresh : Object

@@ -49,12 +49,19 @@ module _ (script : Script) (below : List Activity) (v : World) where
   answers_told (Collected n ∷ []) k event m = one_told v.objects v.next_serial (Collected n) (tt, λ o i. absurd i) event m
   answers_told lines k event m = absurd k
 
-  command_told : (b : Activity) (command : Command) (a : Activity) → Rises 1 v.next_serial v.objects → Calm script (on a below v) → HasOrder (on a below v) → CommandSteps script StepTells (on b below v) command (on a below v) a below
+  command_told : (b : Activity) (command : Command) (a : Activity) → Rises 1 v.next_serial v.objects → Calm script (on a below v) → HasOrder (on a below v)
+      → CommandSteps script StepTells (on b below v) command (on a below v) a below
   command_told b command a rises c h = record {
     stays = λ lines answers. unchanged a lines (answers_told lines answers);
     stops = λ lines answers. unchanged (emptied a) lines (answers_told lines answers);
-    changes = λ wants_memory lines given_up after shape. let t = does (Changes wants_memory lines given_up after) shape in record { follows = t.follows; serial = t.serial; told = t.told; lasts = t.lasts };
-    calls = λ f k. starts_told v.objects v.next_serial script (record { sort = CallFrame; proc = procedure_of (on a below v) f.serial; subject = f.serial; func = Some f.serial }) (on a below v) (same_old v.objects) (omega arith) (does (Calls f.serial) (StartsFrame f k));
+    changes = λ wants_memory lines given_up after shape. let t = does (Changes wants_memory lines given_up after) shape
+        in record { follows = t.follows; serial = t.serial; told = t.told; lasts = t.lasts };
+    calls = λ f k. starts_told v.objects v.next_serial script (record {
+      sort = CallFrame;
+      proc = procedure_of (on a below v) f.serial;
+      subject = f.serial;
+      func = Some f.serial;
+    }) (on a below v) (same_old v.objects) (omega arith) (does (Calls f.serial) (StartsFrame f k));
     asks = λ g low e. quiet v.objects v.next_serial (push (new_collection g true (on a below v)) (on a below v)) (same_old v.objects) (omega arith);
   }
     where
@@ -80,15 +87,20 @@ held a below v k n m = k.order.stack_lives n (Includes-append_left (holds a) (fl
 tells_steps : (script : Script) → Steps script (Fit script) StepTells
 tells_steps script = record {
   starts_due = λ a below v ha g e k. quiet v.objects v.next_serial (push (new_collection g false (on a below v)) (on a below v)) (same_old v.objects) (omega arith);
-  ends = λ a lines below v last k. tells v.objects v.next_serial lines (record (on a below v) { outcome = Ended }) (last_told v.objects v.next_serial (on a below v) a lines last) (same_old v.objects) (omega arith);
+  ends = λ a lines below v last k. tells v.objects v.next_serial lines (record (on a below v) { outcome = Ended }) (last_told v.objects v.next_serial
+      (on a below v) a lines last) (same_old v.objects) (omega arith);
   shuts_down = λ below v k. quiet v.objects v.next_serial (on (ShuttingDown false) below v) (same_old v.objects) (omega arith);
-  gives_up = λ name below v e k. let w : World = on (ShuttingDown false) below v in quiet v.objects v.next_serial (push (Releasing (given_up_by w name)) (bound w name None)) (same_old v.objects) (omega arith);
+  gives_up = λ name below v e k. let w : World = on (ShuttingDown false) below v in quiet v.objects v.next_serial (push (Releasing (given_up_by w name))
+      (bound w name None)) (same_old v.objects) (omega arith);
   collects_last = λ below v k. quiet v.objects v.next_serial (push (new_collection 2 false (on (ShuttingDown false) below v)) (on (ShuttingDown true) below v)) (same_old v.objects) (omega arith);
-  commands = λ command a b below v takes hb k. command_told script below v a command b k.sound.rises (taken_calm script below v command a b takes k.calm) (taken_orderly command a b below v takes k.order);
+  commands = λ command a b below v takes hb k. command_told script below v a command b k.sound.rises (taken_calm script below v command a b takes k.calm)
+      (taken_orderly command a b below v takes k.order);
   frame_ends = λ f below v left k. advance_told script v (Framed f) (λ n d. absurd d) (held (Framed f) below v k) below _ _ (frame_end_advances script f below v);
   releases = λ references below v k. advance_told script v (Releasing references) (λ n d. absurd d) (held (Releasing references) below v k) below _ _ (released_advances script references below v);
-  dies = λ d below v k. advance_told script v (Dying d) (λ n e. subst (Includes (serials v.objects)) e (k.order.deaths_live d (inl refl))) (held (Dying d) below v k) below _ _ (dying_advances script d.object below v d.phase);
-  collects = λ c below v events after step k. advance_told script v (Collecting c) (λ n d. absurd d) (held (Collecting c) below v k) below events after (phase_advances script c below v c.phase events after step);
+  dies = λ d below v k. advance_told script v (Dying d) (λ n e. subst (Includes (serials v.objects)) e (k.order.deaths_live d (inl refl)))
+      (held (Dying d) below v k) below _ _ (dying_advances script d.object below v d.phase);
+  collects = λ c below v events after step k. advance_told script v (Collecting c) (λ n d. absurd d) (held (Collecting c) below v k) below events after
+      (phase_advances script c below v c.phase events after step);
 }
 
 pub step_goes : (script : Script) (w : World) (events : List Event) (after : World) → Step script w events after → Fit script w → Goes w.objects w.next_serial events after

@@ -22,7 +22,8 @@ plain_line after top (Enter sort n) h = h
 plain_line after top (Free n) h = h
 plain_line after top event h = tt
 
-module _ (script : Script) (v : World) (top : Activity) (lives : (n : ℕ) → IsDeathOf top n → Includes (serials v.objects) n) (held : (n : ℕ) → Includes (holds top) n → Includes (serials v.objects) n) where
+module _ (script : Script) (v : World) (top : Activity) (lives : (n : ℕ) → IsDeathOf top n → Includes (serials v.objects) n) (held : (n : ℕ)
+    → Includes (holds top) n → Includes (serials v.objects) n) where
   origin : (tops : List Activity) (lines : List Event) (objects : List Object) → HasChanged top tops lines v.objects objects → Origin v.objects objects
   origin tops lines objects c y m =
       let x = changed_becomes top tops lines v.objects objects c y m in
@@ -33,8 +34,15 @@ module _ (script : Script) (v : World) (top : Activity) (lives : (n : ℕ) → I
   lines_told objects lines (Frees o dies gone) = inr (Free o, refl, (lives o dies, gone))
 
   frame_told : (objects : List Object) (a : Activity) (spec : FrameSpec) → FrameOf script v.objects objects top a spec → Enters spec.sort v.objects objects spec.subject
-  frame_told objects a spec (OfFinalizer o p e marked) = let x = found_with (finalizer_to_run script) v.objects o p e in record { object = x.0; member = x.1; serial = x.2; unmarked = (to_run script x.0 p x.3).0; marked = marked }
-  frame_told objects a spec (OfLegacy o p e) = let x = found_with (legacy_of script) v.objects o p e in subst (Includes (serials v.objects)) x.2 (Includes-map (λ (z : Object). z.serial) v.objects x.0 x.1)
+  frame_told objects a spec (OfFinalizer o p e marked) = let x = found_with (finalizer_to_run script) v.objects o p e in record {
+    object = x.0;
+    member = x.1;
+    serial = x.2;
+    unmarked = (to_run script x.0 p x.3).0;
+    marked = marked;
+  }
+  frame_told objects a spec (OfLegacy o p e) = let x = found_with (legacy_of script) v.objects o p e in subst (Includes (serials v.objects)) x.2
+      (Includes-map (λ (z : Object). z.serial) v.objects x.0 x.1)
   frame_told objects a spec (OfCallback weak p waits goes) = held weak (waits_are_held top weak waits)
 
   pub advance_told : (below : List Activity) (lines : List Event) (after : World) → Advance script v top below lines after → Goes v.objects v.next_serial lines after

@@ -92,7 +92,8 @@ same_linger = (came Lingers lingers).same
 linger_trans : (before now after : List Object) → Linger before now → Linger now after → Linger before after
 linger_trans = (came Lingers lingers).trans
 
-if_linger : (f : Object → Object) (test : Object → Bool) (objects : List Object) → ((x : Object) → Marks x (f x)) → ((x : Object) → Includes objects x → test x ≡ true → IsWanted (f x).place → IsWanted x.place) → Linger objects (map (λ x. if test x then f x else x) objects)
+if_linger : (f : Object → Object) (test : Object → Bool) (objects : List Object) → ((x : Object) → Marks x (f x)) → ((x : Object) → Includes objects x → test x
+    ≡ true → IsWanted (f x).place → IsWanted x.place) → Linger objects (map (λ x. if test x then f x else x) objects)
 if_linger f test objects marks wanted = came_if Lingers lingers.same f test objects (λ x m t. record { wanted = wanted x m t; marks = marks x })
 
 placed_marks : (p : Place) (x : Object) → Marks x (with_place p x)
@@ -156,7 +157,8 @@ module _ (script : Script) (g : ℕ) (w : World) (rises : Rises 1 w.next_serial 
           absurd (subst IsWanted (sorts.set_aside x member aside) wanted)
 
 -- an activity other than a collection is pushed
-pub over_primed : (script : Script) (a : Activity) (objects : List Object) (stack : List Activity) → ((c : Collection) → a ≢ Collecting c) → Primed script objects stack → Primed script objects (a ∷ stack)
+pub over_primed : (script : Script) (a : Activity) (objects : List Object) (stack : List Activity) → ((c : Collection) → a ≢ Collecting c)
+    → Primed script objects stack → Primed script objects (a ∷ stack)
 over_primed script a objects stack apart h = record { no_legacy = h.no_legacy; ran = λ c m. either m (λ e. absurd (apart c e)) (h.ran c) }
 
 starts_primed : (script : Script) (spec : FrameSpec) (u : World) → Primed script u.objects u.stack → (let s : Transition = start_frame script spec u in Primed script s.1.objects s.1.stack)
@@ -175,16 +177,19 @@ module _ (script : Script) (c : Collection) (below : List Activity) (v : World) 
   to : (after next : World) → after ≡ next → IsPrimed next → IsPrimed after
   to after next e h = subst IsPrimed (sym e) h
 
-  stands : (d : Collection) (phase : CollectPhase) (objects : List Object) → HaveNoLegacy script objects → RanAt script phase objects → Primed script objects (Collecting (record d { phase = phase }) ∷ below)
+  stands : (d : Collection) (phase : CollectPhase) (objects : List Object) → HaveNoLegacy script objects → RanAt script phase objects
+      → Primed script objects (Collecting (record d { phase = phase }) ∷ below)
   stands d phase objects legacy ran = record {
     no_legacy = legacy;
     ran = λ b m. either m (λ e. let same : record d { phase = phase } ≡ b = cc in subst (λ (z : Collection). RanAt script z.phase objects) same ran) (λ k. absurd (alone b k));
   }
 
-  goes : (phase : CollectPhase) (d : Collection) (next : CollectPhase) (objects : List Object) → Linger v.objects objects → RanAt script next objects → PrimedIn phase → Primed script objects (Collecting (record d { phase = next }) ∷ below)
+  goes : (phase : CollectPhase) (d : Collection) (next : CollectPhase) (objects : List Object) → Linger v.objects objects → RanAt script next objects
+      → PrimedIn phase → Primed script objects (Collecting (record d { phase = next }) ∷ below)
   goes phase d next objects l ran h = stands d next objects (linger_legacy script v.objects objects l h.no_legacy) ran
 
-  gives : (refs : List ℕ) (phase next : CollectPhase) (objects : List Object) → Linger v.objects objects → RanAt script next objects → PrimedIn phase → Primed script objects (Releasing refs ∷ Collecting (record c { phase = next }) ∷ below)
+  gives : (refs : List ℕ) (phase next : CollectPhase) (objects : List Object) → Linger v.objects objects → RanAt script next objects → PrimedIn phase
+      → Primed script objects (Releasing refs ∷ Collecting (record c { phase = next }) ∷ below)
   gives refs phase next objects l ran h = over_primed script (Releasing refs) objects (Collecting (record c { phase = next }) ∷ below) (λ d e. cc) (goes phase c next objects l ran h)
 
   same : Linger v.objects v.objects
@@ -208,34 +213,49 @@ module _ (script : Script) (c : Collection) (below : List Activity) (v : World) 
           (h.no_legacy x.0 x.1 (merged_wanted c.generation x.0.place (subst (λ (z : Object). IsWanted z.place) (sym x.2) w))))
 
       one : (b : Bool) (x : Object) → is_at (Gen c.generation) x ≡ b → Includes now x → (let z : Object = if b then with_place (step.places x) x else x in IsWanted z.place → legacy_of script z ≡ None)
-      one true x t m w = legacy_later script x (with_place (step.places x) x) (placed_marks (step.places x) x) (condemned_legacy script c.generation (merged c.generation (at Start)) rises_now step.chosen step.places step.sorts x m t w)
+      one true x t m w = legacy_later script x (with_place (step.places x) x) (placed_marks (step.places x) x) (condemned_legacy script c.generation
+          (merged c.generation (at Start)) rises_now step.chosen step.places step.sorts x m t w)
       one false x t m w = now_legacy x m w
 
       legacy : HaveNoLegacy script (sorted c.generation step.places now)
       legacy y m w = let x = Includes-map_cases (λ x. if is_at (Gen c.generation) x then with_place (step.places x) x else x) now y m in
           subst (λ z. legacy_of script z ≡ None) x.2 (one (is_at (Gen c.generation) x.0) x.0 refl x.1 (subst (λ (z : Object). IsWanted z.place) (sym x.2) w))
 
-  weak_clearing_primed : (waiting : List ℕ) (events : List Event) (after : World) → WeakClearingStep (profile_of script.items) c waiting below (at (WeakClearing waiting)) events after → PrimedIn (WeakClearing waiting) → IsPrimed after
+  weak_clearing_primed : (waiting : List ℕ) (events : List Event) (after : World) → WeakClearingStep (profile_of script.items) c waiting below
+      (at (WeakClearing waiting)) events after → PrimedIn (WeakClearing waiting) → IsPrimed after
   weak_clearing_primed waiting events after (inl step) h = to after _ step.yields.1 (go (waits v.objects step.weak))
     where
       lost : List Object
       lost = loses_referent step.weak v.objects
 
-      go : (t : Bool) → IsPrimed (if t then collection_at c (WeakClearing (waiting ++ step.weak ∷ [])) below (with_objects (change (with_place Pend) step.weak lost) (at (WeakClearing waiting))) else collection_at c (WeakClearing waiting) below (with_objects lost (at (WeakClearing waiting))))
-      go true = goes (WeakClearing waiting) c (WeakClearing (waiting ++ step.weak ∷ [])) _ (linger_trans v.objects lost _ (lost_linger step.weak v.objects) (place_linger Pend (λ w. w) step.weak lost)) tt h
+      go : (t : Bool) → IsPrimed (if t then collection_at c (WeakClearing (waiting ++ step.weak ∷ [])) below
+          (with_objects (change (with_place Pend) step.weak lost) (at (WeakClearing waiting))) else collection_at c (WeakClearing waiting) below
+          (with_objects lost (at (WeakClearing waiting))))
+      go true = goes (WeakClearing waiting) c (WeakClearing (waiting ++ step.weak ∷ [])) _ (linger_trans v.objects lost _ (lost_linger step.weak v.objects)
+          (place_linger Pend (λ w. w) step.weak lost)) tt h
       go false = goes (WeakClearing waiting) c (WeakClearing waiting) lost (lost_linger step.weak v.objects) tt h
   weak_clearing_primed waiting events after (inr step) h = to after _ step.1.1 (goes (WeakClearing waiting) c (WeakCalling waiting) v.objects same tt h)
 
-  weak_calling_primed : (waiting : List ℕ) → ((x : Object) → Includes v.objects x → x.place ≢ Seen) → PrimedIn (WeakCalling waiting) → IsPrimed (calls_back script c waiting below (at (WeakCalling waiting))).1
+  weak_calling_primed : (waiting : List ℕ) → ((x : Object) → Includes v.objects x → x.place ≢ Seen) → PrimedIn (WeakCalling waiting)
+      → IsPrimed (calls_back script c waiting below (at (WeakCalling waiting))).1
   weak_calling_primed [] unseen h = goes (WeakCalling []) c Finalizing v.objects same (λ x m e. absurd (unseen x m e)) h
   weak_calling_primed (weak ∷ waiting) unseen h =
       let callback = unwrap_or (callback_of v.objects weak) 0 in
-      starts_primed script (record { sort = Callback; proc = procedure_of (at (WeakCalling (weak ∷ waiting))) callback; subject = weak; func = Some callback }) (at (AfterCallback weak waiting)) (goes (WeakCalling (weak ∷ waiting)) c (AfterCallback weak waiting) v.objects same tt h)
+      starts_primed script (record { sort = Callback; proc = procedure_of (at (WeakCalling (weak ∷ waiting))) callback; subject = weak; func = Some callback })
+      (at (AfterCallback weak waiting)) (goes (WeakCalling (weak ∷ waiting)) c (AfterCallback weak waiting) v.objects same tt h)
 
   after_release_primed : (weak : ℕ) (waiting : List ℕ) → PrimedIn (AfterRelease weak waiting) → IsPrimed (after_release c weak waiting below (at (AfterRelease weak waiting))).1
   after_release_primed weak waiting h = go (is_in_map v.objects weak)
     where
-      go : (t : Bool) → (let s : Transition = if t then ([], collection_at c (WeakCalling waiting) below (with_change (with_place (Gen (older c.generation))) weak (at (AfterRelease weak waiting)))) else ([], collection_at (record c { collected = c.collected + 1 }) (WeakCalling waiting) below (at (AfterRelease weak waiting))) in IsPrimed s.1)
+      go : (t : Bool) → (let s : Transition = if t then (
+        [],
+        collection_at c (WeakCalling waiting) below (with_change (with_place (Gen (older c.generation)))
+            weak (at (AfterRelease weak waiting))),
+      ) else (
+        [],
+        collection_at (record c { collected = c.collected + 1 }) (WeakCalling waiting) below (at
+            (AfterRelease weak waiting)),
+      ) in IsPrimed s.1)
       go true = goes (AfterRelease weak waiting) c (WeakCalling waiting) _ (place_linger (Gen (older c.generation)) gen_out weak v.objects) tt h
       go false = goes (AfterRelease weak waiting) (record c { collected = c.collected + 1 }) (WeakCalling waiting) v.objects same tt h
 
@@ -246,8 +266,10 @@ module _ (script : Script) (c : Collection) (below : List Activity) (v : World) 
       let same_one : z.0 ≡ x = same_object 1 v.next_serial v.objects z.0 x rises z.1 m (z.3 ∙ sym (eqb-true x.serial o t)) in
       subst (λ (y : Object). IsWanted y.place) same_one (subst IsWanted (sym (place_is z.0.place Cand z.2)) tt))
 
-  seen_ran : (f : Object → Object) (o : ℕ) → ((x : Object) → Marks x (f x)) → ((x : Object) → Includes v.objects x → x.serial ≡ o → Ran script (f x)) → RanAt script Finalizing v.objects → RanAt script Finalizing (change f o v.objects)
-  seen_ran f o marks ran h y m e = let x = Includes-map_cases (λ x. if x.serial == o then f x else x) v.objects y m in subst (Ran script) x.2 (one (x.0.serial == o) x.0 refl x.1 (ap (λ (z : Object). z.place) x.2 ∙ e))
+  seen_ran : (f : Object → Object) (o : ℕ) → ((x : Object) → Marks x (f x)) → ((x : Object) → Includes v.objects x → x.serial ≡ o → Ran script (f x))
+      → RanAt script Finalizing v.objects → RanAt script Finalizing (change f o v.objects)
+  seen_ran f o marks ran h y m e = let x = Includes-map_cases (λ x. if x.serial == o then f x else x) v.objects y m in subst (Ran script) x.2
+      (one (x.0.serial == o) x.0 refl x.1 (ap (λ (z : Object). z.place) x.2 ∙ e))
     where
       one : (b : Bool) (x : Object) → (x.serial == o) ≡ b → Includes v.objects x → (if b then f x else x).place ≡ Seen → Ran script (if b then f x else x)
       one true x t k i = ran x k (eqb-true x.serial o t)
@@ -255,16 +277,21 @@ module _ (script : Script) (c : Collection) (below : List Activity) (v : World) 
 
   -- what has no finalizer to run
   none_to_run : (o : ℕ) → option_and_then (finalizer_to_run script) (object_at v.objects o) ≡ None → (x : Object) → Includes v.objects x → x.serial ≡ o → Ran script x
-  none_to_run o e x m s some = by_mark x.finalized refl (subst (λ r. option_and_then (finalizer_to_run script) r ≡ None) (subst (λ n. object_at v.objects n ≡ Some x) s (at_member 1 v.next_serial v.objects x rises m)) e)
+  none_to_run o e x m s some = by_mark x.finalized refl (subst (λ r. option_and_then (finalizer_to_run script) r ≡ None)
+      (subst (λ n. object_at v.objects n ≡ Some x) s (at_member 1 v.next_serial v.objects x rises m)) e)
     where
       by_mark : (b : Bool) → x.finalized ≡ b → (if x.finalized then None else finalizer_of script x) ≡ None → x.finalized ≡ true
       by_mark true t k = t
-      by_mark false t k = absurd (let none : finalizer_of script x ≡ None = subst (λ (b : Bool). (if b then None else finalizer_of script x) ≡ None) t k in let no : false ≡ true = ap (λ r. is_some r) (sym none) ∙ some in cc)
+      by_mark false t k = absurd (let none : finalizer_of script x ≡ None = subst (λ (b : Bool). (if b then None else finalizer_of script x) ≡ None) t k
+          in let no : false ≡ true = ap (λ r. is_some r) (sym none) ∙ some in cc)
 
-  looks_at_primed : (o : ℕ) (r : Option ℕ) → option_and_then (finalizer_to_run script) (object_at v.objects o) ≡ r → IsMemberOf (at Finalizing) Cand o → PrimedIn Finalizing → IsPrimed (looks_at script c o below (at Finalizing) r).1
+  looks_at_primed : (o : ℕ) (r : Option ℕ) → option_and_then (finalizer_to_run script) (object_at v.objects o) ≡ r → IsMemberOf (at Finalizing) Cand o
+      → PrimedIn Finalizing → IsPrimed (looks_at script c o below (at Finalizing) r).1
   looks_at_primed o None e member h = goes Finalizing c Finalizing _ (looked_at (with_place Seen) o (placed_marks Seen) member)
-      (seen_ran (with_place Seen) o (placed_marks Seen) (λ x m s. ran_later script x (with_place Seen x) (placed_marks Seen x) (none_to_run o e x m s)) (h.ran (record c { phase = Finalizing }) (inl refl))) h
-  looks_at_primed o (Some p) e member h = starts_primed script (record { sort = Del; proc = p; subject = o; func = None }) (collection_at c (AfterFinalizing o) below (with_change seen o (at Finalizing)))
+      (seen_ran (with_place Seen) o (placed_marks Seen) (λ x m s. ran_later script x (with_place Seen x) (placed_marks Seen x) (none_to_run o e x m s))
+      (h.ran (record c { phase = Finalizing }) (inl refl))) h
+  looks_at_primed o (Some p) e member h = starts_primed script (record { sort = Del; proc = p; subject = o; func = None }) (collection_at c (AfterFinalizing o)
+      below (with_change seen o (at Finalizing)))
       (goes Finalizing c (AfterFinalizing o) _ (looked_at seen o seen_marks member) (seen_ran seen o seen_marks (λ x m s some. refl) (h.ran (record c { phase = Finalizing }) (inl refl))) h)
     where
       seen : Object → Object
@@ -274,19 +301,24 @@ module _ (script : Script) (c : Collection) (below : List Activity) (v : World) 
       seen_marks x = record { serial = refl; code = refl; class = refl; finalized = λ k. refl }
 
   finalizing_primed : (events : List Event) (after : World) → FinalizingStep script c below (at Finalizing) events after → PrimedIn Finalizing → IsPrimed after
-  finalizing_primed events after (inl step) h = to after _ step.yields.1 (looks_at_primed step.object (option_and_then (finalizer_to_run script) (object_at v.objects step.object)) refl step.condemned h)
-  finalizing_primed events after (inr step) h = to after _ step.1.1 (goes Finalizing c Split _ (if_linger (with_place Cand) (is_at Seen) v.objects (placed_marks Cand) (λ x m t w. subst IsWanted (sym (place_is x.place Seen t)) tt)) ran h)
+  finalizing_primed events after (inl step) h = to after _ step.yields.1 (looks_at_primed step.object (option_and_then (finalizer_to_run script)
+      (object_at v.objects step.object)) refl step.condemned h)
+  finalizing_primed events after (inr step) h = to after _ step.1.1 (goes Finalizing c Split _ (if_linger (with_place Cand) (is_at Seen) v.objects
+      (placed_marks Cand) (λ x m t w. subst IsWanted (sym (place_is x.place Seen t)) tt)) ran h)
     where
       one : (b : Bool) (x : Object) → is_at Seen x ≡ b → Includes v.objects x → (if b then with_place Cand x else x).place ≡ Cand → Ran script (if b then with_place Cand x else x)
       one true x t m e = ran_later script x (with_place Cand x) (placed_marks Cand x) (h.ran (record c { phase = Finalizing }) (inl refl) x m (place_is x.place Seen t))
-      one false x t m e = absurd (subst (λ os. Includes os x.serial) step.0 (Includes-map (λ (z : Object). z.serial) (objects_at v.objects Cand) x (Includes-filter (is_at Cand) v.objects x (ap (λ q. same_place q Cand) e) m)))
+      one false x t m e = absurd (subst (λ os. Includes os x.serial) step.0 (Includes-map (λ (z : Object). z.serial) (objects_at v.objects Cand) x
+          (Includes-filter (is_at Cand) v.objects x (ap (λ q. same_place q Cand) e) m)))
 
       ran : RanAt script Split (map (λ x. if is_at Seen x then with_place Cand x else x) v.objects)
-      ran y m e = let x = Includes-map_cases (λ x. if is_at Seen x then with_place Cand x else x) v.objects y m in subst (Ran script) x.2 (one (is_at Seen x.0) x.0 refl x.1 (ap (λ (z : Object). z.place) x.2 ∙ e))
+      ran y m e = let x = Includes-map_cases (λ x. if is_at Seen x then with_place Cand x else x) v.objects y m in subst (Ran script) x.2
+          (one (is_at Seen x.0) x.0 refl x.1 (ap (λ (z : Object). z.place) x.2 ∙ e))
 
   split_primed : (events : List Event) (after : World) → SplitStep c below (at Split) events after → PrimedIn Split → IsPrimed after
   split_primed events after step h = to after _ step.world (goes Split (record c { collected = c.collected + length (serials_at step.objects Cand) }) Turns step.objects
-      (linger_trans v.objects now step.objects (if_linger (with_place (Gen (older c.generation))) (λ x. includes step.alive x.serial) v.objects (placed_marks (Gen (older c.generation))) (λ x m t w. absurd w)) (all_lose_linger (loses_at_split now) step.cleared now step.objects step.lose)) tt h)
+      (linger_trans v.objects now step.objects (if_linger (with_place (Gen (older c.generation))) (λ x. includes step.alive x.serial) v.objects
+      (placed_marks (Gen (older c.generation))) (λ x m t w. absurd w)) (all_lose_linger (loses_at_split now) step.cleared now step.objects step.lose)) tt h)
     where
       now : List Object
       now = get_older c.generation step.alive v.objects
@@ -294,9 +326,16 @@ module _ (script : Script) (c : Collection) (below : List Activity) (v : World) 
   turn_taken : (x : Object) → PrimedIn Turns → IsPrimed (takes_turn c x below (at Turns)).1
   turn_taken x h = go (has_flag c.flags save_all) (is_tuple x)
     where
-      go : (s t : Bool) → (let next : Transition = if s then (GcSaved x.serial ∷ [], collection_at c Turns below (with_objects (change (with_place (Gen (older c.generation))) x.serial (saved x.serial v.objects)) (at Turns)))
-          else if t then ([], collection_at c Turns below (with_change (with_place (Gen (older c.generation))) x.serial (at Turns))) else ([], collection_at c (Turn x.serial) below (at Turns)) in IsPrimed next.1)
-      go true t = goes Turns c Turns _ (linger_trans v.objects (saved x.serial v.objects) _ (all_saved_linger (x.serial ∷ []) v.objects) (place_linger (Gen (older c.generation)) gen_out x.serial (saved x.serial v.objects))) tt h
+      go : (s t : Bool) → (let next : Transition = if s
+          then (
+            GcSaved x.serial ∷ [],
+            collection_at c Turns below (with_objects (change (with_place (Gen (older c.generation))) x.serial
+                (saved x.serial v.objects)) (at Turns)),
+          )
+          else if t then ([], collection_at c Turns below (with_change (with_place (Gen (older c.generation))) x.serial (at Turns)))
+          else ([], collection_at c (Turn x.serial) below (at Turns)) in IsPrimed next.1)
+      go true t = goes Turns c Turns _ (linger_trans v.objects (saved x.serial v.objects) _ (all_saved_linger (x.serial ∷ []) v.objects)
+          (place_linger (Gen (older c.generation)) gen_out x.serial (saved x.serial v.objects))) tt h
       go false true = goes Turns c Turns _ (place_linger (Gen (older c.generation)) gen_out x.serial v.objects) tt h
       go false false = goes Turns c (Turn x.serial) v.objects same tt h
 
@@ -310,21 +349,24 @@ module _ (script : Script) (c : Collection) (below : List Activity) (v : World) 
 
   end_primed : (events : List Event) (after : World) → EndStep script c below (at Ending) events after → PrimedIn Ending → IsPrimed after
   end_primed events after step h = to after _ step.world (record {
-    no_legacy = linger_legacy script v.objects _ (linger_trans v.objects kept _ (all_saved_linger step.keeps v.objects) (if_linger (with_place (Gen (older c.generation))) (is_at Legacy) kept (placed_marks (Gen (older c.generation))) (λ x m t w. absurd w))) h.no_legacy;
+    no_legacy = linger_legacy script v.objects _ (linger_trans v.objects kept _ (all_saved_linger step.keeps v.objects)
+        (if_linger (with_place (Gen (older c.generation))) (is_at Legacy) kept (placed_marks (Gen (older c.generation))) (λ x m t w. absurd w))) h.no_legacy;
     ran = λ b m. absurd (alone b m);
   })
     where
       kept : List Object
       kept = all_saved step.keeps v.objects
 
-  pub phase_primed : (phase : CollectPhase) (events : List Event) (after : World) → ((x : Object) → Includes v.objects x → StandsRightly phase x) → PhaseStep script c phase below (at phase) events after → PrimedIn phase → IsPrimed after
+  pub phase_primed : (phase : CollectPhase) (events : List Event) (after : World) → ((x : Object) → Includes v.objects x → StandsRightly phase x)
+      → PhaseStep script c phase below (at phase) events after → PrimedIn phase → IsPrimed after
   phase_primed Start events after rightly step h = start_primed events after step h
   phase_primed (WeakClearing waiting) events after rightly step h = weak_clearing_primed waiting events after step h
   phase_primed (WeakCalling waiting) events after rightly step h = to after _ step.1 (weak_calling_primed waiting (λ x m. (rightly x m).seen) h)
   phase_primed (AfterCallback weak waiting) events after rightly step h = to after _ step.1 (gives (weak ∷ []) (AfterCallback weak waiting) (AfterRelease weak waiting) v.objects same tt h)
   phase_primed (AfterRelease weak waiting) events after rightly step h = to after _ step.1 (after_release_primed weak waiting h)
   phase_primed Finalizing events after rightly step h = finalizing_primed events after step h
-  phase_primed (AfterFinalizing o) events after rightly step h = to after _ step.1 (gives (o ∷ []) (AfterFinalizing o) Finalizing v.objects same (h.ran (record c { phase = AfterFinalizing o }) (inl refl)) h)
+  phase_primed (AfterFinalizing o) events after rightly step h = to after _ step.1 (gives (o ∷ []) (AfterFinalizing o) Finalizing v.objects same
+      (h.ran (record c { phase = AfterFinalizing o }) (inl refl)) h)
   phase_primed Split events after rightly step h = split_primed events after step h
   phase_primed Turns events after rightly step h = turns_primed events after step h
   phase_primed (Turn o) events after rightly step h = to after _ step.1 (empties_primed o (last_entry (entries_of v.objects o)) h)
@@ -332,7 +374,8 @@ module _ (script : Script) (c : Collection) (below : List Activity) (v : World) 
   phase_primed Ending events after rightly step h = end_primed events after step h
 
 -- another activity's step leaves condemned objects where they were
-module _ (script : Script) (w after : World) (rises : Rises 1 w.next_serial w.objects) (follows : Follows w.objects w.next_serial after.objects) (places : (y : Object) → Includes after.objects y → IsOfCollection y.place → HadItsPlace w.objects y) where
+module _ (script : Script) (w after : World) (rises : Rises 1 w.next_serial w.objects) (follows : Follows w.objects w.next_serial after.objects)
+    (places : (y : Object) → Includes after.objects y → IsOfCollection y.place → HadItsPlace w.objects y) where
   stood : (y : Object) → Includes after.objects y → IsOfCollection y.place → (x : Object) × Includes w.objects x × (x.place ≡ y.place) × Marks x y
   stood y m k = either (follows y m)
       (λ x. let had = places y m k in
@@ -369,7 +412,8 @@ module _ (script : Script) (w after : World) (rises : Rises 1 w.next_serial w.ob
   ran_at (AfterTurn o) h = tt
   ran_at Ending h = tt
 
-  pub other_primed : ((c : Collection) → Includes after.stack (Collecting c) → Includes w.stack (Collecting c) ⊎ (c.phase ≡ Start)) → Primed script w.objects w.stack → Primed script after.objects after.stack
+  pub other_primed : ((c : Collection) → Includes after.stack (Collecting c) → Includes w.stack (Collecting c) ⊎ (c.phase ≡ Start)) → Primed script w.objects
+      w.stack → Primed script after.objects after.stack
   other_primed stack h = record {
     no_legacy = λ y m k. let x = stood y m (wanted_apart y.place k) in legacy_later script x.0 y x.3 (h.no_legacy x.0 x.1 (subst IsWanted (sym x.2) k));
     ran = λ c m. either (stack c m) (λ k. ran_at c.phase (h.ran c k)) (λ e. subst (λ p. RanAt script p after.objects) (sym e) tt);

@@ -79,10 +79,19 @@ module _ (script : Script) (aside : ℕ → Type 0) (start : List Object) where
   pub abide_trans : (tops : List Activity) (before now after : List Object) → Abide tops before now → Abide tops now after → Abide tops before after
   abide_trans tops before now after h k x m a =
       let y = h x m a in
-      let z = k y.0 y.1 (subst aside (sym y.2.serial) a) in
-      (z.0, z.1, record { serial = z.2.serial ∙ y.2.serial; refers = λ o i. z.2.refers o (y.2.refers o i); legacy = z.2.legacy ∙ y.2.legacy; place = λ e. either (y.2.place e) (λ i. z.2.place i) (λ d. inr (subst (Dies tops) (sym z.2.serial) d)) })
+      let z = k y.0 y.1 (subst aside (sym y.2.serial) a) in (
+        z.0,
+        z.1,
+        record {
+          serial = z.2.serial ∙ y.2.serial;
+          refers = λ o i. z.2.refers o (y.2.refers o i);
+          legacy = z.2.legacy ∙ y.2.legacy;
+          place = λ e. either (y.2.place e) (λ i. z.2.place i) (λ d. inr (subst (Dies tops) (sym z.2.serial) d));
+        },
+      )
 
-  pub test_abide : (tops : List Activity) (f : Object → Object) (test : Object → Bool) (objects : List Object) → ((x : Object) → Includes objects x → test x ≡ true → aside x.serial → Abides tops x (f x)) → Abide tops objects (map (λ x. if test x then f x else x) objects)
+  pub test_abide : (tops : List Activity) (f : Object → Object) (test : Object → Bool) (objects : List Object) → ((x : Object) → Includes objects x → test x
+      ≡ true → aside x.serial → Abides tops x (f x)) → Abide tops objects (map (λ x. if test x then f x else x) objects)
   test_abide tops f test objects h x m a = (if test x then f x else x, Includes-map (λ x. if test x then f x else x) objects x m, one (test x) refl)
     where
       one : (b : Bool) → test x ≡ b → Abides tops x (if b then f x else x)

@@ -38,10 +38,13 @@ looked v o m =
     (x.0, x.1, ap (λ (q : Object). q.serial) x.2 ∙ z.3, subst (λ q. Includes (objects_at (merged 2 v).objects (Gen 2)) q) (sym x.2) (Includes-filter (is_at (Gen 2)) (merged 2 v).objects z.0 z.2 z.1))
 
 -- an uncollectable object has a legacy finalizer, or another uncollectable object refers to it
-pub legacy_first : (script : Script) (v : World) → Rises 1 v.next_serial v.objects → (o : ℕ) → has_legacy script (merged 2 v) o ≡ true → IsMemberOf (merged 2 v) (Gen 2) o → IsLegacy script (WasAside script v) v.objects o
+pub legacy_first : (script : Script) (v : World) → Rises 1 v.next_serial v.objects → (o : ℕ) → has_legacy script (merged 2 v) o ≡ true → IsMemberOf (merged 2 v)
+    (Gen 2) o → IsLegacy script (WasAside script v) v.objects o
 legacy_first script v rises o held inside =
     let x = looked v o inside in
-    let found : object_at (merged 2 v).objects o ≡ Some (in_merge 2 x.0) = subst (λ n. object_at (merged 2 v).objects n ≡ Some (in_merge 2 x.0)) x.2 (at_member 1 v.next_serial (merged 2 v).objects (in_merge 2 x.0) (Rises-map (in_merge 2) (λ q. refl) 1 v.next_serial v.objects rises) (Includes-map (in_merge 2) v.objects x.0 x.1)) in
+    let found : object_at (merged 2 v).objects o ≡ Some (in_merge 2 x.0) = subst (λ n. object_at (merged 2 v).objects n ≡ Some (in_merge 2 x.0)) x.2
+    (at_member 1 v.next_serial (merged 2 v).objects (in_merge 2 x.0) (Rises-map (in_merge 2) (λ q. refl) 1 v.next_serial v.objects rises)
+    (Includes-map (in_merge 2) v.objects x.0 x.1)) in
     (x.0, x.1, x.2, sym (ap (λ m. is_some (option_and_then (legacy_of script) m)) found) ∙ held)
 
 pub looked_edge : (v : World) (p o : ℕ) → Includes (edges (members_at (merged 2 v) (Gen 2))) (edge p o) → (x : Object) × Includes v.objects x × (x.serial ≡ p) × Includes (references x.entries) o
@@ -54,10 +57,12 @@ pub aside_by : (script : Script) (v : World) → Rises 1 v.next_serial v.objects
 aside_by script v rises o (first held inside) = inl (legacy_first script v rises o held inside.member)
 aside_by script v rises o (further path arrow inside) = inr (by _ path arrow)
   where
-    by : (p : ℕ) → WasAside script v p → Includes (edges (members_at (merged 2 v) (Gen 2))) (edge p o) → (x : Object) × Includes v.objects x × WasAside script v x.serial × Includes (references x.entries) o
+    by : (p : ℕ) → WasAside script v p → Includes (edges (members_at (merged 2 v) (Gen 2))) (edge p o) → (x : Object) × Includes v.objects x
+        × WasAside script v x.serial × Includes (references x.entries) o
     by p a arrow = let x = looked_edge v p o arrow in (x.0, x.1, subst (WasAside script v) (sym x.2) a, x.3)
 
-module _ (script : Script) (c : Collection) (below : List Activity) (v : World) (events : List Event) (after : World) (top : v.stack ≡ Collecting c ∷ below) (phase : c.phase ≡ Start) (complete : c.generation ≡ 2) (rises : Rises 1 v.next_serial v.objects)
+module _ (script : Script) (c : Collection) (below : List Activity) (v : World) (events : List Event) (after : World) (top : v.stack ≡ Collecting c ∷ below)
+    (phase : c.phase ≡ Start) (complete : c.generation ≡ 2) (rises : Rises 1 v.next_serial v.objects)
     (near : (x : Object) → Includes v.objects x → (x.place ≡ Untracked) ⊎ (is_at (Gen 2) (in_merge 2 x) ≡ true))
     (faded : (d : Death) → Includes v.stack (Dying d) → runs_own_frame d.phase ≡ false → (x : Object) → Includes v.objects x → x.serial ≡ d.object → x.place ≡ Untracked)
     (start : StartStep script v c below events after) (slack : IsSlackWorld v) (root : Includes (serials v.objects) 1) where

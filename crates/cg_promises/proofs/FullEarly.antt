@@ -63,21 +63,24 @@ module _ (script : Script) (kept garbage aside : ℕ → Type 0) (start : List O
     pub alike : AreAlike script start w.objects
     pub stands : StandAll w.objects
 
-  module _ (c : Collection) (v : World) (rises : Rises 1 v.next_serial v.objects) (same : v.names ≡ names) (alike : AreAlike script start v.objects) (stands : StandAll v.objects) (events : List Event) (after : World) (quiet : count_by is_enter events ≡ 0) (running : after.outcome ≡ Running) where
+  module _ (c : Collection) (v : World) (rises : Rises 1 v.next_serial v.objects) (same : v.names ≡ names) (alike : AreAlike script start v.objects)
+      (stands : StandAll v.objects) (events : List Event) (after : World) (quiet : count_by is_enter events ≡ 0) (running : after.outcome ≡ Running) where
     abbrev standing : CollectPhase → World
     standing phase = collection_at c phase below v
 
     to : (next : World) → after ≡ next → Early next → Early after
     to next e h = subst Early (sym e) h
 
-    at : (next : CollectPhase) (w : World) → IsEarly next → w.names ≡ v.names → w.stack ≡ Collecting (record c { phase = next }) ∷ below → AreAlike script v.objects w.objects → StandAll w.objects → Early w
+    at : (next : CollectPhase) (w : World) → IsEarly next → w.names ≡ v.names → w.stack ≡ Collecting (record c { phase = next }) ∷ below
+        → AreAlike script v.objects w.objects → StandAll w.objects → Early w
     at next w early n is a s = record { collection = record c { phase = next }; is = is; early = early; same = n ∙ same; alike = alike_trans script start v.objects w.objects alike a; stands = s }
 
     lost_alike : (weak : ℕ) → AreAlike script v.objects (loses_referent weak v.objects)
     lost_alike weak = test_alike script (with_referent None) (λ x. x.serial == weak) v.objects (λ x. record { serial = refl; entries = refl; legacy = refl })
 
     lost_stands : (weak : ℕ) → StandAll (loses_referent weak v.objects)
-    lost_stands weak = test_all (StandsSo kept garbage aside) (with_referent None) (λ x. x.serial == weak) v.objects (λ x m t p. stands_same kept garbage aside x (with_referent None x) refl refl p) stands
+    lost_stands weak = test_all (StandsSo kept garbage aside) (with_referent None) (λ x. x.serial == weak) v.objects (λ x m t p. stands_same kept garbage aside
+        x (with_referent None x) refl refl p) stands
 
     weak_clearing_early : (waiting : List ℕ) → WeakClearingStep (profile_of script.items) c waiting below (standing (WeakClearing waiting)) events after → Early after
     weak_clearing_early waiting (inl step) = to _ step.yields.1 (go (waits v.objects step.weak))
@@ -85,9 +88,12 @@ module _ (script : Script) (kept garbage aside : ℕ → Type 0) (start : List O
         lost : List Object
         lost = loses_referent step.weak v.objects
 
-        go : (t : Bool) → Early (if t then collection_at c (WeakClearing (waiting ++ step.weak ∷ [])) below (with_objects (change (with_place Pend) step.weak lost) (standing (WeakClearing waiting))) else collection_at c (WeakClearing waiting) below (with_objects lost (standing (WeakClearing waiting))))
+        go : (t : Bool) → Early (if t then collection_at c (WeakClearing (waiting ++ step.weak ∷ [])) below
+            (with_objects (change (with_place Pend) step.weak lost) (standing (WeakClearing waiting))) else collection_at c (WeakClearing waiting) below
+            (with_objects lost (standing (WeakClearing waiting))))
         go true = at (WeakClearing (waiting ++ step.weak ∷ [])) _ tt refl refl
-            (alike_trans script v.objects lost (change (with_place Pend) step.weak lost) (lost_alike step.weak) (test_alike script (with_place Pend) (λ x. x.serial == step.weak) lost (λ x. record { serial = refl; entries = refl; legacy = refl })))
+            (alike_trans script v.objects lost (change (with_place Pend) step.weak lost) (lost_alike step.weak) (test_alike script (with_place Pend)
+            (λ x. x.serial == step.weak) lost (λ x. record { serial = refl; entries = refl; legacy = refl })))
             (test_all (StandsSo kept garbage aside) (with_place Pend) (λ x. x.serial == step.weak) lost (λ x m t p. (Pending refl, λ a. inr refl)) (lost_stands step.weak))
         go false = at (WeakClearing waiting) _ tt refl refl (lost_alike step.weak) (lost_stands step.weak)
     weak_clearing_early waiting (inr step) = to _ step.1.1 (at (WeakCalling waiting) _ tt refl refl (alike_same script v.objects) stands)
@@ -103,14 +109,17 @@ module _ (script : Script) (kept garbage aside : ℕ → Type 0) (start : List O
         subst (λ (q : Object). q.place ≡ Cand) same (place_is z.0.place Cand z.2)
 
     looks_at_early : (o : ℕ) (m : Option ℕ) → Includes (serials_at v.objects Cand) o → Yields (looks_at script c o below (standing Finalizing) m) events after → Early after
-    looks_at_early o None i step = to _ step.1 (at Finalizing _ tt refl refl (test_alike script (with_place Seen) (λ x. x.serial == o) v.objects (λ x. record { serial = refl; entries = refl; legacy = refl }))
-        (test_all (StandsSo kept garbage aside) (with_place Seen) (λ x. x.serial == o) v.objects (λ x m t p. stands_wanted kept garbage aside x (with_place Seen x) refl (wanted_cand x.place (is_cand o i x m t)) tt p) stands))
+    looks_at_early o None i step = to _ step.1 (at Finalizing _ tt refl refl (test_alike script (with_place Seen) (λ x. x.serial == o) v.objects
+        (λ x. record { serial = refl; entries = refl; legacy = refl }))
+        (test_all (StandsSo kept garbage aside) (with_place Seen) (λ x. x.serial == o) v.objects (λ x m t p. stands_wanted kept garbage aside x
+        (with_place Seen x) refl (wanted_cand x.place (is_cand o i x m t)) tt p) stands))
     looks_at_early o (Some p) i step = absurd (starts_none script _ _ events after step quiet running)
 
     finalizing_early : FinalizingStep script c below (standing Finalizing) events after → Early after
     finalizing_early (inl step) = looks_at_early step.object (option_and_then (finalizer_to_run script) (object_at v.objects step.object)) step.condemned step.yields
     finalizing_early (inr step) = to _ step.1.1 (at Split _ tt refl refl (test_alike script (with_place Cand) (is_at Seen) v.objects (λ x. record { serial = refl; entries = refl; legacy = refl }))
-        (test_all (StandsSo kept garbage aside) (with_place Cand) (is_at Seen) v.objects (λ x m t p. stands_wanted kept garbage aside x (with_place Cand x) refl (wanted_seen x.place (place_is x.place Seen t)) tt p) stands))
+        (test_all (StandsSo kept garbage aside) (with_place Cand) (is_at Seen) v.objects (λ x m t p. stands_wanted kept garbage aside x (with_place Cand x) refl
+        (wanted_seen x.place (place_is x.place Seen t)) tt p) stands))
 
     phase_early : (phase : CollectPhase) → IsEarly phase → phase ≢ Split → PhaseStep script c phase below (standing phase) events after → Early after
     phase_early (WeakClearing waiting) early on step = weak_clearing_early waiting step
@@ -128,17 +137,21 @@ module _ (script : Script) (kept garbage aside : ℕ → Type 0) (start : List O
     pub at : Early (last_world w front)
     pub phase : at.collection.phase ≡ Split
 
-  one_early : (w : World) (events : List Event) (after : World) → Step script w events after → Fit script w → count_by is_enter events ≡ 0 → after.outcome ≡ Running → (h : Early w) → h.collection.phase ≢ Split → Early after
+  one_early : (w : World) (events : List Event) (after : World) → Step script w events after → Fit script w → count_by is_enter events ≡ 0 → after.outcome
+      ≡ Running → (h : Early w) → h.collection.phase ≢ Split → Early after
   one_early w events after step fit quiet running h on =
-      phase_early h.collection w fit.sound.rises h.same h.alike h.stands events after quiet running h.collection.phase h.early on (subst (λ st. StepOf script (with_stack st w) st events after) h.is step.step)
+      phase_early h.collection w fit.sound.rises h.same h.alike h.stands events after quiet running h.collection.phase h.early on
+      (subst (λ st. StepOf script (with_stack st w) st events after) h.is step.step)
 
   no_stop_yet : (w : World) (events : List Event) (after : World) → Step script w events after → (h : Early w) → 0 < count_by is_stop events → ⊥
   no_stop_yet w events after step h more = either (phase_quiet script h.collection below w events after (subst (λ st. StepOf script (with_stack st w) st events after) h.is step.step))
       (λ e. subst IsEarly e h.early) (λ q. let none = none_stops events q in omega (arith, none, more))
 
-  pub finds_split : (w : World) (steps : List StepTaken) (stop : StepTaken) → Run script w (steps ++ stop ∷ []) → Fit script w → count_by is_enter (events_of steps) ≡ 0 → 0 < count_by is_stop stop.events → Early w → FoundSplit w steps
+  pub finds_split : (w : World) (steps : List StepTaken) (stop : StepTaken) → Run script w (steps ++ stop ∷ []) → Fit script w
+      → count_by is_enter (events_of steps) ≡ 0 → 0 < count_by is_stop stop.events → Early w → FoundSplit w steps
   finds_split w [] stop run fit quiet more h = absurd (no_stop_yet w stop.events stop.world run.0 h more)
-  finds_split w (step ∷ steps) stop run fit quiet more h = go (is_split h.collection.phase) (λ next. finds_split step.world steps stop run.1 (step_fit script w step.events step.world run.0 fit) (enters_first step.events (events_of steps) quiet).1 more next)
+  finds_split w (step ∷ steps) stop run fit quiet more h = go (is_split h.collection.phase) (λ next. finds_split step.world steps stop run.1
+      (step_fit script w step.events step.world run.0 fit) (enters_first step.events (events_of steps) quiet).1 more next)
     where
       found : FoundSplit step.world steps → FoundSplit w (step ∷ steps)
       found r = record { front = step ∷ r.front; split = r.split; rest = r.rest; is = ap (λ l. step ∷ l) r.is; at = r.at; phase = r.phase }

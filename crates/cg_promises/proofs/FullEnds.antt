@@ -48,9 +48,11 @@ all_saved_place (o ∷ keeps) objects y m =
     let z = saved_place o objects x.0 x.1 in
     (z.0, z.1, z.2 ∙ x.2, z.3 ∙ x.3)
 
-module _ (script : Script) (v : World) (rises : Rises 1 v.next_serial v.objects) (members : List ℕ) (c : Collection) (below : List Activity) (u : World) (events : List Event) (z : World) (step : EndStep script c below u events z)
+module _ (script : Script) (v : World) (rises : Rises 1 v.next_serial v.objects) (members : List ℕ) (c : Collection) (below : List Activity) (u : World)
+    (events : List Event) (z : World) (step : EndStep script c below u events z)
     (kept_on : (o : ℕ) → IsReached v o → IsReached z o) (root : Includes (serials u.objects) 1) (wait : AllWait script (WasAside script v) v.objects u.objects [])
-    (rests : (y : Object) → Includes u.objects y → RestsSo (IsReached v) (WasAside script v) members y) (final : (y : Object) → Includes u.objects y → Includes members y.serial → IsNamed u.objects y.serial) where
+    (rests : (y : Object) → Includes u.objects y → RestsSo (IsReached v) (WasAside script v) members y) (final : (y : Object) → Includes u.objects y
+    → Includes members y.serial → IsNamed u.objects y.serial) where
   abbrev told : List Object
   told = all_saved step.keeps u.objects
 
@@ -119,7 +121,8 @@ module _ (script : Script) (v : World) (rises : Rises 1 v.next_serial v.objects)
       let both = go y.0 q.0 y.2 y.3 (is_at Legacy q.0) refl q.2 in
       (y.0, y.1, both.0, both.1)
     where
-      go : (y q : Object) → y.serial ≡ q.serial → y.place ≡ q.place → (b : Bool) → is_at Legacy q ≡ b → (if b then with_place (Gen (older c.generation)) q else q) ≡ x → (y.serial ≡ x.serial) × (y.place ≡ Untracked → x.place ≡ Untracked)
+      go : (y q : Object) → y.serial ≡ q.serial → y.place ≡ q.place → (b : Bool) → is_at Legacy q ≡ b → (if b then with_place (Gen (older c.generation)) q
+          else q) ≡ x → (y.serial ≡ x.serial) × (y.place ≡ Untracked → x.place ≡ Untracked)
       go y q s p true t e = (s ∙ ap (λ (r : Object). r.serial) e, λ i. absurd (let no : false ≡ true = sym (ap (λ k. same_place k Legacy) (sym p ∙ i)) ∙ t in cc))
       go y q s p false t e = (s ∙ ap (λ (r : Object). r.serial) e, λ i. sym (ap (λ (r : Object). r.place) e) ∙ sym p ∙ i)
 

@@ -26,7 +26,8 @@ use Rattle.cg_promises.proofs.Kept.{IsKeptBy}
 use Rattle.cg_promises.proofs.FinalSetStart.{edge}
 use Rattle.cg_promises.proofs.FinalizerOnceRuns.{Fit}
 
-module _ (script : Script) (c : Collection) (below : List Activity) (v : World) (events : List Event) (after : World) (top : v.stack ≡ Collecting c ∷ below) (phase : c.phase ≡ Start) (complete : c.generation ≡ 2) (rises : Rises 1 v.next_serial v.objects)
+module _ (script : Script) (c : Collection) (below : List Activity) (v : World) (events : List Event) (after : World) (top : v.stack ≡ Collecting c ∷ below)
+    (phase : c.phase ≡ Start) (complete : c.generation ≡ 2) (rises : Rises 1 v.next_serial v.objects)
     (near : (x : Object) → Includes v.objects x → (x.place ≡ Untracked) ⊎ (is_at (Gen 2) (in_merge 2 x) ≡ true))
     (faded : (d : Death) → Includes v.stack (Dying d) → runs_own_frame d.phase ≡ false → (x : Object) → Includes v.objects x → x.serial ≡ d.object → x.place ≡ Untracked)
     (start : StartStep script v c below events after) where
@@ -60,7 +61,8 @@ module _ (script : Script) (c : Collection) (below : List Activity) (v : World) 
       go true t =
           let at = Includes-filter (is_at (Gen 2)) objects_now (in_merge 2 x) t (Includes-map (in_merge 2) v.objects x m) in
           let lives_on = reached_survives v rises near faded x.serial path (Includes-map (λ (z : Object). z.serial) (objects_at objects_now (Gen 2)) (in_merge 2 x) at) in
-          ap (λ p. is_condemned (with_place p (in_merge 2 x))) (sorts.survivors (in_merge 2 x) at lives_on) ∙ survivor_uncondemned 2 (untrack 2 start.chosen objects_now) (untracked_if (start.chosen (in_merge 2 x)) (in_merge 2 x)) (in_merge 2 x)
+          ap (λ p. is_condemned (with_place p (in_merge 2 x))) (sorts.survivors (in_merge 2 x) at lives_on)
+          ∙ survivor_uncondemned 2 (untrack 2 start.chosen objects_now) (untracked_if (start.chosen (in_merge 2 x)) (in_merge 2 x)) (in_merge 2 x)
       go false f = either (near x m) (λ u. ap (λ p. is_condemned (with_place p x)) (ap (λ p. (in_merge 2 (with_place p x)).place) u)) (λ t. absurd (let no : true ≡ false = sym t ∙ f in cc))
 
   pub anew : (x : Object) → Includes v.objects x → Includes after.objects (place_anew (in_merge 2 x))
@@ -107,18 +109,29 @@ module _ (script : Script) (c : Collection) (below : List Activity) (v : World) 
       bare = λ a m. absurd m;
       turn = λ o m. absurd m;
       begun = λ e. cc;
-      lives = λ y m k. let x = from_anew y m in (y, m, record { serial = refl; refers = λ o i. i; clear = ap is_condemned (sym x.2) ∙ clear_anew x.0 x.1 (subst kept (sym (ap (λ (z : Object). z.serial) x.2) ∙ serial_anew x.0) k) });
+      lives = λ y m k. let x = from_anew y m in (
+        y,
+        m,
+        record {
+          serial = refl;
+          refers = λ o i. i;
+          clear = ap is_condemned (sym x.2)
+              ∙ clear_anew x.0 x.1 (subst kept (sym (ap (λ (z : Object). z.serial) x.2) ∙ serial_anew x.0) k);
+        },
+      );
     };
   }
 
   -- until the stop
-  module _ (steps : List StepTaken) (stop : StepTaken) (run : Run script after (steps ++ stop ∷ [])) (fit : Fit script after) (quiet : count_by is_enter (events_of steps) ≡ 0) (on : count_by is_stop (events_of steps) ≡ 0) where
+  module _ (steps : List StepTaken) (stop : StepTaken) (run : Run script after (steps ++ stop ∷ [])) (fit : Fit script after)
+      (quiet : count_by is_enter (events_of steps) ≡ 0) (on : count_by is_stop (events_of steps) ≡ 0) where
     pub full_then : IsFullAt script kept after.objects below v.names held there (last_world after steps)
     full_then = full_after script kept after.objects below v.names held there after steps stop run fit quiet on begins_full
 
     pub reached_then : (o : ℕ) → IsReached v o → IsReached (last_world after steps) o
     reached_then = reached_lasts v (last_world after steps)
-        (λ o r. subst (λ ns. IsRoot ns (last_world after steps).stack o) (sym full_then.same) (subst (λ st. IsRoot v.names st o) (sym (full_then.full.is ∙ sym (append_assoc full_then.full.tops (Collecting full_then.full.collection ∷ []) below)))
+        (λ o r. subst (λ ns. IsRoot ns (last_world after steps).stack o) (sym full_then.same) (subst (λ st. IsRoot v.names st o)
+        (sym (full_then.full.is ∙ sym (append_assoc full_then.full.tops (Collecting full_then.full.collection ∷ []) below)))
         (root_up v.names (full_then.full.tops ++ Collecting full_then.full.collection ∷ []) below o (root_down v.names c below o (ap collect_holds phase) (subst (λ st. IsRoot v.names st o) top r)))))
         (λ x m k. let y = full_then.full.lives (place_anew (in_merge 2 x)) (anew x m) (subst kept (sym (serial_anew x)) k) in
         (y.0, y.1, y.2.serial ∙ serial_anew x, λ o i. y.2.refers o (same_entries (is_at (Gen 2) (in_merge 2 x)) (in_merge 2 x) o i)))

@@ -36,7 +36,8 @@ use Rattle.cg_promises.proofs.FinalSet.{IsLate}
 use Rattle.cg_promises.proofs.FinalSetRuns.{none_first, stops}
 use Rattle.cg_promises.proofs.FinalizerOnceRuns.{Fit, step_fit}
 
-module _ (script : Script) (kept aside : ℕ → Type 0) (members : List ℕ) (start : List Object) (below : List Activity) (by : (o : ℕ) → aside o → IsAsideBy script aside start o) (apart : (n : ℕ) → aside n → ¬ Includes members n) where
+module _ (script : Script) (kept aside : ℕ → Type 0) (members : List ℕ) (start : List Object) (below : List Activity) (by : (o : ℕ) → aside o
+    → IsAsideBy script aside start o) (apart : (n : ℕ) → aside n → ¬ Includes members n) where
   abbrev RestAll : List Object → Type 0
   RestAll objects = (y : Object) → Includes objects y → RestsSo kept aside members y
 
@@ -70,7 +71,8 @@ module _ (script : Script) (kept aside : ℕ → Type 0) (members : List ℕ) (s
     lost_rest weak = test_all (RestsSo kept aside members) (with_referent None) (λ x. x.serial == weak) v.objects (λ x m t p. rests_same kept aside members x (with_referent None x) refl refl p) rests
 
     lost_abide : (tops : List Activity) (weak : ℕ) → Abide script aside start tops v.objects (loses_referent weak v.objects)
-    lost_abide tops weak = test_abide script aside start tops (with_referent None) (λ x. x.serial == weak) v.objects (λ x m t a. record { serial = refl; refers = λ o i. i; legacy = refl; place = λ e. inl e })
+    lost_abide tops weak = test_abide script aside start tops (with_referent None) (λ x. x.serial == weak) v.objects
+        (λ x m t a. record { serial = refl; refers = λ o i. i; legacy = refl; place = λ e. inl e })
 
     -- other objects may change in any way
     other_abide : (tops : List Activity) (f : Object → Object) (o : ℕ) → ¬ aside o → Abide script aside start tops v.objects (change f o v.objects)
@@ -102,10 +104,17 @@ module _ (script : Script) (kept aside : ℕ → Type 0) (members : List ℕ) (s
 
         given_late : (b : Bool) → (not (is_dying rest o) && (in_degree rest o == 0)) ≡ b → (let t : Transition = if b then ([], begin_death o rest) else ([], rest) in Late t.1)
         given_late true e = on_top (Dying begun ∷ Releasing refs ∷ tops) (begin_death o rest) refl
-            (with_top (Dying begun) (λ a. (tt, legacy_one (eqb-true (in_degree rest o) 0 (true_and (not (is_dying rest o)) (in_degree rest o == 0) e).1) a)) (Releasing refs ∷ tops) (with_top (Releasing refs) tt tops light))
+            (with_top (Dying begun) (λ a. (tt, legacy_one (eqb-true (in_degree rest o) 0 (true_and (not (is_dying rest o)) (in_degree rest o == 0) e).1) a))
+            (Releasing refs ∷ tops) (with_top (Releasing refs) tt tops light))
             (untracked_rest (λ x. with_referent None (with_place Untracked x)) (λ x. refl) o)
             (all_wait script aside start v.objects (begin_death o rest).objects (Releasing (o ∷ refs) ∷ tops) (Dying begun ∷ Releasing refs ∷ tops)
-            (test_abide script aside start (Dying begun ∷ Releasing refs ∷ tops) (λ x. with_referent None (with_place Untracked x)) (λ x. x.serial == o) v.objects (λ x m t a. record { serial = refl; refers = λ p i. i; legacy = refl; place = λ i. inr (begun, inl refl, sym (eqb-true x.serial o t)) }))
+            (test_abide script aside start (Dying begun ∷ Releasing refs ∷ tops) (λ x. with_referent None (with_place Untracked x)) (λ x. x.serial == o)
+            v.objects (λ x m t a. record {
+              serial = refl;
+              refers = λ p i. i;
+              legacy = refl;
+              place = λ i. inr (begun, inl refl, sym (eqb-true x.serial o t));
+            }))
             (λ n a d. dies_under (Dying begun) (Releasing refs ∷ tops) n (turned n a d)) wait)
         given_late false e = on_top (Releasing refs ∷ tops) rest refl (with_top (Releasing refs) tt tops light) rests
             (all_wait script aside start v.objects v.objects (Releasing (o ∷ refs) ∷ tops) (Releasing refs ∷ tops) (abide_same script aside start (Releasing refs ∷ tops) v.objects) turned wait)
@@ -115,7 +124,8 @@ module _ (script : Script) (kept aside : ℕ → Type 0) (members : List ℕ) (s
           (all_wait script aside start v.objects v.objects (Releasing [] ∷ tops) tops (abide_same script aside start tops v.objects) (λ n a d. dies_without (Releasing []) tops n (λ e i. cc) d) wait)
       released_late (o ∷ refs) wait = given_late refs o wait (not (is_dying (with_stack (Releasing refs ∷ under) v) o) && (in_degree (with_stack (Releasing refs ∷ under) v) o == 0)) refl
 
-      module _ (o : ℕ) (phase : DyingPhase) (calm : aside o → IsCalm phase × IsLegacy script aside start o) (wait : AllWait script aside start v.objects (Dying (record { object = o; phase = phase }) ∷ tops)) where
+      module _ (o : ℕ) (phase : DyingPhase) (calm : aside o → IsCalm phase × IsLegacy script aside start o) (wait : AllWait script aside start v.objects
+          (Dying (record { object = o; phase = phase }) ∷ tops)) where
         abbrev at : DyingPhase → World
         at p = death_at o p under v
 
@@ -125,25 +135,31 @@ module _ (script : Script) (kept aside : ℕ → Type 0) (members : List ℕ) (s
         moved : (next : DyingPhase) (n : ℕ) → aside n → Dies (death phase ∷ tops) n → Dies (death next ∷ tops) n
         moved next n a d = either (dies_first (record { object = o; phase = phase }) tops n d) (λ e. (record { object = o; phase = next }, inl refl, e)) (λ k. dies_under (death next) tops n k)
 
-        dying_to : (next : DyingPhase) (w : World) → w.stack ≡ death next ∷ under → (aside o → IsCalm next) → RestAll w.objects → Abide script aside start (death next ∷ tops) v.objects w.objects → Late w
-        dying_to next w is k r a = on_top (death next ∷ tops) w is (with_top (death next) (λ s. (k s, (calm s).1)) tops light) r (all_wait script aside start v.objects w.objects (death phase ∷ tops) (death next ∷ tops) a (moved next) wait)
+        dying_to : (next : DyingPhase) (w : World) → w.stack ≡ death next ∷ under → (aside o → IsCalm next) → RestAll w.objects → Abide script aside start
+            (death next ∷ tops) v.objects w.objects → Late w
+        dying_to next w is k r a = on_top (death next ∷ tops) w is (with_top (death next) (λ s. (k s, (calm s).1)) tops light) r
+            (all_wait script aside start v.objects w.objects (death phase ∷ tops) (death next ∷ tops) a (moved next) wait)
 
         same : (next : DyingPhase) → Abide script aside start (death next ∷ tops) v.objects v.objects
         same next = abide_same script aside start (death next ∷ tops) v.objects
 
-        giving : (refs : List ℕ) (next : DyingPhase) (w : World) → w.stack ≡ Releasing refs ∷ death next ∷ under → ¬ aside o → RestAll w.objects → Abide script aside start (Releasing refs ∷ death next ∷ tops) v.objects w.objects → Late w
+        giving : (refs : List ℕ) (next : DyingPhase) (w : World) → w.stack ≡ Releasing refs ∷ death next ∷ under → ¬ aside o → RestAll w.objects
+            → Abide script aside start (Releasing refs ∷ death next ∷ tops) v.objects w.objects → Late w
         giving refs next w is none r a = on_top (Releasing refs ∷ death next ∷ tops) w is (with_top (Releasing refs) tt (death next ∷ tops) (with_top (death next) (λ s. absurd (none s)) tops light)) r
-            (all_wait script aside start v.objects w.objects (death phase ∷ tops) (Releasing refs ∷ death next ∷ tops) a (λ n s d. dies_under (Releasing refs) (death next ∷ tops) n (moved next n s d)) wait)
+            (all_wait script aside start v.objects w.objects (death phase ∷ tops) (Releasing refs ∷ death next ∷ tops) a (λ n s d. dies_under (Releasing refs)
+            (death next ∷ tops) n (moved next n s d)) wait)
 
         ended : (w : World) → w.stack ≡ under → ¬ aside o → RestAll w.objects → Abide script aside start tops v.objects w.objects → Late w
         ended w is none r a = on_top tops w is light r
-            (all_wait script aside start v.objects w.objects (death phase ∷ tops) tops a (λ n s d. either (dies_first (record { object = o; phase = phase }) tops n d) (λ e. absurd (none (subst aside (sym e) s))) (λ k. k)) wait)
+            (all_wait script aside start v.objects w.objects (death phase ∷ tops) tops a
+            (λ n s d. either (dies_first (record { object = o; phase = phase }) tops n d) (λ e. absurd (none (subst aside (sym e) s))) (λ k. k)) wait)
 
         after_frame_late : (next : DyingPhase) → ¬ aside o → Late (after_frame o next under (at phase)).1
         after_frame_late next none = go (in_degree (at next) o == 0)
           where
             go : (b : Bool) → (let t : Transition = if b then ([], with_change (with_place Untracked) o (at next)) else (Alive o ∷ [], with_stack under (at phase)) in Late t.1)
-            go true = dying_to next (with_change (with_place Untracked) o (at next)) refl (λ s. absurd (none s)) (untracked_rest (with_place Untracked) (λ x. refl) o) (other_abide (death next ∷ tops) (with_place Untracked) o none)
+            go true = dying_to next (with_change (with_place Untracked) o (at next)) refl (λ s. absurd (none s)) (untracked_rest (with_place Untracked)
+                (λ x. refl) o) (other_abide (death next ∷ tops) (with_place Untracked) o none)
             go false = ended (with_stack under (at phase)) refl none rests (abide_same script aside start tops v.objects)
 
         -- an uncollectable object has its legacy finalizer to run
@@ -151,7 +167,8 @@ module _ (script : Script) (kept aside : ℕ → Type 0) (members : List ℕ) (s
         has_one e a =
             let x = (calm a).1 in
             let y = wait x.0 x.1 (subst aside (sym x.2) a) in
-            let found : option_and_then (legacy_of script) (object_at v.objects o) ≡ legacy_of script y.0 = ap (option_and_then (legacy_of script)) (subst (λ n. object_at v.objects n ≡ Some y.0) (y.2.serial ∙ x.2) (at_member 1 v.next_serial v.objects y.0 rises y.1)) in
+            let found : option_and_then (legacy_of script) (object_at v.objects o) ≡ legacy_of script y.0 = ap (option_and_then (legacy_of script))
+            (subst (λ n. object_at v.objects n ≡ Some y.0) (y.2.serial ∙ x.2) (at_member 1 v.next_serial v.objects y.0 rises y.1)) in
             let no : false ≡ true = ap (λ (m : Option ℕ). is_some m) (sym e ∙ found ∙ y.2.legacy) ∙ x.3 in cc
 
         module _ (events : List Event) (after : World) (quiet : count_by is_enter events ≡ 0) (running : after.outcome ≡ Running) where
@@ -179,29 +196,54 @@ module _ (script : Script) (kept aside : ℕ → Type 0) (members : List ℕ) (s
 
           emptying_late : ¬ aside o → (m : Option Entry) → Yields (empty_one o under (at phase) m) events after → Late after
           emptying_late none None step = to after _ step.1 (ended _ refl none (λ y m. rests y (Includes-filter_cases (λ x. not (x.serial == o)) v.objects y m).0)
-              (λ x m a. (x, Includes-filter (λ (z : Object). not (z.serial == o)) v.objects x (ap not (either (cases_of (x.serial == o)) (λ t. absurd (none (subst aside (eqb-true x.serial o t) a))) (λ f. f))) m, record { serial = refl; refers = λ r i. i; legacy = refl; place = λ e. inl e })))
-          emptying_late none (Some entry) step = to after _ step.1 (giving (entry_references entry) Emptying _ refl none (placed_same (λ x. without_last (entries_of v.objects o)) (λ x. x.serial == o)) (other_abide (Releasing (entry_references entry) ∷ death Emptying ∷ tops) (with_entries (without_last (entries_of v.objects o))) o none))
+              (λ x m a. (
+                x,
+                Includes-filter (λ (z : Object). not (z.serial == o)) v.objects x
+                    (ap not (either (cases_of (x.serial == o)) (λ t. absurd (none (subst aside (eqb-true x.serial o t) a))) (λ f. f))) m,
+                record { serial = refl; refers = λ r i. i; legacy = refl; place = λ e. inl e },
+              )))
+          emptying_late none (Some entry) step = to after _ step.1 (giving (entry_references entry) Emptying _ refl none
+              (placed_same (λ x. without_last (entries_of v.objects o)) (λ x. x.serial == o)) (other_abide (Releasing (entry_references entry) ∷ death Emptying
+              ∷ tops) (with_entries (without_last (entries_of v.objects o))) o none))
 
       dying_late : (o : ℕ) (phase : DyingPhase) → (aside o → IsCalm phase × IsLegacy script aside start o) → AllWait script aside start v.objects (Dying (record { object = o; phase = phase }) ∷ tops)
           → (events : List Event) (after : World) → count_by is_enter events ≡ 0 → after.outcome ≡ Running → Yields (dying script o phase under (death_at o phase under v)) events after → Late after
-      dying_late o Finalizer calm wait events after quiet running step = finalizer_late o Finalizer calm wait events after quiet running (option_and_then (finalizer_to_run script) (object_at v.objects o)) step
+      dying_late o Finalizer calm wait events after quiet running step = finalizer_late o Finalizer calm wait events after quiet running
+          (option_and_then (finalizer_to_run script) (object_at v.objects o)) step
       dying_late o AfterFinalizer calm wait events after quiet running step = to after _ step.1 (after_frame_late o AfterFinalizer calm wait (Clearing []) (λ a. (calm a).0))
-      dying_late o (Clearing waiting) calm wait events after quiet running step = clearing_late o (Clearing waiting) calm wait events after quiet running waiting (weak_references_if has_weak_references v.objects o) step
+      dying_late o (Clearing waiting) calm wait events after quiet running step = clearing_late o (Clearing waiting) calm wait events after quiet running
+          waiting (weak_references_if has_weak_references v.objects o) step
       dying_late o (Calling waiting) calm wait events after quiet running step = calling_late o (Calling waiting) calm wait events after quiet running waiting step
-      dying_late o (AfterCall weak callback waiting) calm wait events after quiet running step = to after _ step.1 (giving o (AfterCall weak callback waiting) calm wait (callback ∷ weak ∷ []) (Calling waiting) _ refl (λ a. (calm a).0) rests (abide_same script aside start (Releasing (callback ∷ weak ∷ []) ∷ Dying (record { object = o; phase = Calling waiting }) ∷ tops) v.objects))
-      dying_late o LegacyFinalizer calm wait events after quiet running step = legacy_late o LegacyFinalizer calm wait events after quiet running (option_and_then (legacy_of script) (object_at v.objects o)) refl step
+      dying_late o (AfterCall weak callback waiting) calm wait events after quiet running step = to after _ step.1 (giving o (AfterCall weak callback waiting)
+          calm wait (callback ∷ weak ∷ []) (Calling waiting) _ refl (λ a. (calm a).0) rests (abide_same script aside start (Releasing (callback ∷ weak ∷ [])
+          ∷ Dying (record { object = o; phase = Calling waiting }) ∷ tops) v.objects))
+      dying_late o LegacyFinalizer calm wait events after quiet running step = legacy_late o LegacyFinalizer calm wait events after quiet running
+          (option_and_then (legacy_of script) (object_at v.objects o)) refl step
       dying_late o AfterLegacy calm wait events after quiet running step = to after _ step.1 (after_frame_late o AfterLegacy calm wait Detaching (λ a. (calm a).0))
-      dying_late o Detaching calm wait events after quiet running step = detaching_late o Detaching calm wait events after quiet running (λ a. (calm a).0) (weak_references_if (has_finalizers script) v.objects o) step
+      dying_late o Detaching calm wait events after quiet running step = detaching_late o Detaching calm wait events after quiet running (λ a. (calm a).0)
+          (weak_references_if (has_finalizers script) v.objects o) step
       dying_late o Emptying calm wait events after quiet running step = emptying_late o Emptying calm wait events after quiet running (λ a. (calm a).0) (last_entry (entries_of v.objects o)) step
 
-    module _ (c : Collection) (turn : TurnsAre c.phase) (wait : AllWait script aside start v.objects []) (events : List Event) (after : World) (quiet : count_by is_enter events ≡ 0) (on : count_by is_stop events ≡ 0) where
+    module _ (c : Collection) (turn : TurnsAre c.phase) (wait : AllWait script aside start v.objects []) (events : List Event) (after : World)
+        (quiet : count_by is_enter events ≡ 0) (on : count_by is_stop events ≡ 0) where
       abbrev standing : CollectPhase → World
       standing phase = collection_at c phase below v
 
-      goes_to : (next : CollectPhase) (w : World) → w.stack ≡ Collecting (record c { phase = next }) ∷ below → IsLate next → TurnsAre next → RestAll w.objects → Abide script aside start [] v.objects w.objects → Late w
-      goes_to next w is late t r a = record { tops = []; collection = record c { phase = next }; is = is; late = late; light = λ b m. absurd m; turn = t; rests = r; wait = all_wait script aside start v.objects w.objects [] [] a (λ n s d. d) wait }
+      goes_to : (next : CollectPhase) (w : World) → w.stack ≡ Collecting (record c { phase = next }) ∷ below → IsLate next → TurnsAre next → RestAll w.objects
+          → Abide script aside start [] v.objects w.objects → Late w
+      goes_to next w is late t r a = record {
+        tops = [];
+        collection = record c { phase = next };
+        is = is;
+        late = late;
+        light = λ b m. absurd m;
+        turn = t;
+        rests = r;
+        wait = all_wait script aside start v.objects w.objects [] [] a (λ n s d. d) wait;
+      }
 
-      gives : (refs : List ℕ) (next : CollectPhase) (w : World) → w.stack ≡ Releasing refs ∷ Collecting (record c { phase = next }) ∷ below → IsLate next → TurnsAre next → RestAll w.objects → Abide script aside start (Releasing refs ∷ []) v.objects w.objects → Late w
+      gives : (refs : List ℕ) (next : CollectPhase) (w : World) → w.stack ≡ Releasing refs ∷ Collecting (record c { phase = next }) ∷ below → IsLate next
+          → TurnsAre next → RestAll w.objects → Abide script aside start (Releasing refs ∷ []) v.objects w.objects → Late w
       gives refs next w is late t r a = record {
         tops = Releasing refs ∷ [];
         collection = record c { phase = next };
@@ -214,10 +256,12 @@ module _ (script : Script) (kept aside : ℕ → Type 0) (members : List ℕ) (s
       }
 
       aged_rest : (o : ℕ) (objects : List Object) → Includes members o → RestAll objects → RestAll (change (with_place (Gen (older c.generation))) o objects)
-      aged_rest o objects k r = test_all (RestsSo kept aside members) (with_place (Gen (older c.generation))) (λ x. x.serial == o) objects (λ x m t p. rests_final kept aside members (with_place (Gen (older c.generation)) x) (subst (Includes members) (sym (eqb-true x.serial o t)) k)) r
+      aged_rest o objects k r = test_all (RestsSo kept aside members) (with_place (Gen (older c.generation))) (λ x. x.serial == o) objects
+          (λ x m t p. rests_final kept aside members (with_place (Gen (older c.generation)) x) (subst (Includes members) (sym (eqb-true x.serial o t)) k)) r
 
       aged_abide : (o : ℕ) (objects : List Object) → Includes members o → Abide script aside start [] objects (change (with_place (Gen (older c.generation))) o objects)
-      aged_abide o objects k = test_abide script aside start [] (with_place (Gen (older c.generation))) (λ x. x.serial == o) objects (λ x m t a. absurd (apart x.serial a (subst (Includes members) (sym (eqb-true x.serial o t)) k)))
+      aged_abide o objects k = test_abide script aside start [] (with_place (Gen (older c.generation))) (λ x. x.serial == o) objects
+          (λ x m t a. absurd (apart x.serial a (subst (Includes members) (sym (eqb-true x.serial o t)) k)))
 
       turn_taken : (x : Object) → Includes (objects_at v.objects Cand) x → Late (takes_turn c x below (standing Turns)).1
       turn_taken x m = go (has_flag c.flags save_all) (is_tuple x)
@@ -225,11 +269,18 @@ module _ (script : Script) (kept aside : ℕ → Type 0) (members : List ℕ) (s
           member : Includes members x.serial
           member = let at = Includes-filter_cases (is_at Cand) v.objects x m in (rests x at.0).1 (place_is x.place Cand at.1)
 
-          go : (s t : Bool) → (let next : Transition = if s then (GcSaved x.serial ∷ [], collection_at c Turns below (with_objects (change (with_place (Gen (older c.generation))) x.serial (saved x.serial v.objects)) (standing Turns)))
-              else if t then ([], collection_at c Turns below (with_change (with_place (Gen (older c.generation))) x.serial (standing Turns))) else ([], collection_at c (Turn x.serial) below (standing Turns)) in Late next.1)
+          go : (s t : Bool) → (let next : Transition = if s
+              then (
+                GcSaved x.serial ∷ [],
+                collection_at c Turns below (with_objects (change (with_place (Gen (older c.generation))) x.serial
+                    (saved x.serial v.objects)) (standing Turns)),
+              )
+              else if t then ([], collection_at c Turns below (with_change (with_place (Gen (older c.generation))) x.serial (standing Turns)))
+              else ([], collection_at c (Turn x.serial) below (standing Turns)) in Late next.1)
           go true t = goes_to Turns _ refl tt (λ o i. absurd i) (aged_rest x.serial (saved x.serial v.objects) member (placed_same (λ z. z.entries ++ item (Ref x.serial) ∷ []) (λ z. z.serial == 1)))
               (abide_trans script aside start [] v.objects (saved x.serial v.objects) _
-              (test_abide script aside start [] (λ z. with_entries (z.entries ++ item (Ref x.serial) ∷ []) z) (λ z. z.serial == 1) v.objects (λ z i e a. record { serial = refl; refers = λ r k. appended z.entries (item (Ref x.serial) ∷ []) r k; legacy = refl; place = λ p. inl p }))
+              (test_abide script aside start [] (λ z. with_entries (z.entries ++ item (Ref x.serial) ∷ []) z) (λ z. z.serial == 1) v.objects
+              (λ z i e a. record { serial = refl; refers = λ r k. appended z.entries (item (Ref x.serial) ∷ []) r k; legacy = refl; place = λ p. inl p }))
               (aged_abide x.serial (saved x.serial v.objects) member))
           go false true = goes_to Turns _ refl tt (λ o i. absurd i) (aged_rest x.serial v.objects member rests) (aged_abide x.serial v.objects member)
           go false false = goes_to (Turn x.serial) _ refl tt (λ o i. either i (λ e. subst (Includes members) e member) (λ k. absurd k)) rests (abide_same script aside start [] v.objects)
@@ -239,32 +290,39 @@ module _ (script : Script) (kept aside : ℕ → Type 0) (members : List ℕ) (s
       turns_late (inr step) = to after _ step.1.1 (goes_to Ending _ refl tt (λ o i. absurd i) rests (abide_same script aside start [] v.objects))
 
       empties_late : (o : ℕ) (m : Option Entry) → Includes members o → Late (empties c o below (standing (Turn o)) m).1
-      empties_late o None k = gives (o ∷ []) (AfterTurn o) _ refl tt (λ p i. either i (λ e. subst (Includes members) e k) (λ n. absurd n)) rests (abide_same script aside start (Releasing (o ∷ []) ∷ []) v.objects)
-      empties_late o (Some entry) k = gives (entry_references entry) (Turn o) _ refl tt (λ p i. either i (λ e. subst (Includes members) e k) (λ n. absurd n)) (placed_same (λ x. without_last (entries_of v.objects o)) (λ x. x.serial == o))
+      empties_late o None k = gives (o ∷ []) (AfterTurn o) _ refl tt (λ p i. either i (λ e. subst (Includes members) e k) (λ n. absurd n)) rests
+          (abide_same script aside start (Releasing (o ∷ []) ∷ []) v.objects)
+      empties_late o (Some entry) k = gives (entry_references entry) (Turn o) _ refl tt (λ p i. either i (λ e. subst (Includes members) e k) (λ n. absurd n))
+          (placed_same (λ x. without_last (entries_of v.objects o)) (λ x. x.serial == o))
           (other_abide (Releasing (entry_references entry) ∷ []) (with_entries (without_last (entries_of v.objects o))) o (λ a. apart o a k))
 
       phase_late : (phase : CollectPhase) → IsLate phase → TurnsAre phase → PhaseStep script c phase below (standing phase) events after → Late after
       phase_late Turns late t step = turns_late step
       phase_late (Turn o) late t step = to after _ step.1 (empties_late o (last_entry (entries_of v.objects o)) (t o (inl refl)))
       phase_late (AfterTurn o) late t step = to after _ step.1 (goes_to Turns _ refl tt (λ p i. absurd i) (aged_rest o v.objects (t o (inl refl)) rests) (aged_abide o v.objects (t o (inl refl))))
-      phase_late Ending late t step = absurd (stops (lines_if (has_flag c.flags uncollectable) (map GcUncollectable step.told) ++ map GcSaved step.keeps) c.generation c.collected (length step.told) (lines_if c.asked (Collected (c.collected + length step.told) ∷ [])) events step.lines on)
+      phase_late Ending late t step = absurd (stops (lines_if (has_flag c.flags uncollectable) (map GcUncollectable step.told) ++ map GcSaved step.keeps)
+          c.generation c.collected (length step.told) (lines_if c.asked (Collected (c.collected + length step.told) ∷ [])) events step.lines on)
       phase_late phase late t step = absurd late
 
-    step_late : (events : List Event) (after : World) → count_by is_enter events ≡ 0 → count_by is_stop events ≡ 0 → after.outcome ≡ Running → (tops : List Activity) (c : Collection) → IsLate c.phase → AllLight tops → TurnsAre c.phase → AllWait script aside start v.objects tops
+    step_late : (events : List Event) (after : World) → count_by is_enter events ≡ 0 → count_by is_stop events ≡ 0 → after.outcome ≡ Running
+        → (tops : List Activity) (c : Collection) → IsLate c.phase → AllLight tops → TurnsAre c.phase → AllWait script aside start v.objects tops
         → StepOf script (with_stack (tops ++ Collecting c ∷ below) v) (tops ++ Collecting c ∷ below) events after → Late after
     step_late events after quiet on running [] c late light turn wait step = phase_late c turn wait events after quiet on c.phase late turn step
     step_late events after quiet on running (TopLevel commands ∷ tops) c late light turn wait step = absurd (light (TopLevel commands) (inl refl))
     step_late events after quiet on running (Framed f ∷ tops) c late light turn wait step = absurd (light (Framed f) (inl refl))
     step_late events after quiet on running (ShuttingDown started ∷ tops) c late light turn wait step = absurd (light (ShuttingDown started) (inl refl))
     step_late events after quiet on running (Releasing refs ∷ tops) c late light turn wait step = to after _ step.1 (released_late tops c late (λ a m. light a (inr m)) turn refs wait)
-    step_late events after quiet on running (Dying d ∷ tops) c late light turn wait step = dying_late tops c late (λ a m. light a (inr m)) turn d.object d.phase (light (Dying d) (inl refl)) wait events after quiet running step
+    step_late events after quiet on running (Dying d ∷ tops) c late light turn wait step = dying_late tops c late (λ a m. light a (inr m)) turn d.object d.phase
+        (light (Dying d) (inl refl)) wait events after quiet running step
     step_late events after quiet on running (Collecting e ∷ tops) c late light turn wait step = absurd (light (Collecting e) (inl refl))
 
   -- until the stop
-  pub late_after : (w : World) (steps : List StepTaken) (stop : StepTaken) → Run script w (steps ++ stop ∷ []) → Fit script w → count_by is_enter (events_of steps) ≡ 0 → count_by is_stop (events_of steps) ≡ 0 → Late w → Late (last_world w steps)
+  pub late_after : (w : World) (steps : List StepTaken) (stop : StepTaken) → Run script w (steps ++ stop ∷ []) → Fit script w
+      → count_by is_enter (events_of steps) ≡ 0 → count_by is_stop (events_of steps) ≡ 0 → Late w → Late (last_world w steps)
   late_after w [] stop run fit quiet on h = h
   late_after w (step ∷ steps) stop run fit quiet on h =
       let q = enters_first step.events (events_of steps) quiet in
       let n = none_first step.events (events_of steps) on in
       late_after step.world steps stop run.1 (step_fit script w step.events step.world run.0 fit) q.1 n.1
-      (step_late w fit.sound.rises h.rests step.events step.world q.0 n.0 (running_still script step.world steps stop run.1) h.tops h.collection h.late h.light h.turn h.wait (subst (λ st. StepOf script (with_stack st w) st step.events step.world) h.is run.0.step))
+      (step_late w fit.sound.rises h.rests step.events step.world q.0 n.0 (running_still script step.world steps stop run.1) h.tops h.collection h.late h.light
+      h.turn h.wait (subst (λ st. StepOf script (with_stack st w) st step.events step.world) h.is run.0.step))

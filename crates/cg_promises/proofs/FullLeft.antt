@@ -38,7 +38,8 @@ positive : (n : ℕ) → (n == 0) ≡ false → 0 < n
 positive zero e = absurd (let no : true ≡ false = e in cc)
 positive (suc n) e = omega arith
 
-module _ (k : ℕ) (w : World) (rises : Rises 1 w.next_serial w.objects) (minded : IsMinded k w) (slack : IsSlackWorld w) (root : Includes (serials w.objects) 1) (tracked : (x : Object) → Includes w.objects x → x.place ≢ Untracked → IsReached w x.serial) where
+module _ (k : ℕ) (w : World) (rises : Rises 1 w.next_serial w.objects) (minded : IsMinded k w) (slack : IsSlackWorld w) (root : Includes (serials w.objects) 1)
+    (tracked : (x : Object) → Includes w.objects x → x.place ≢ Untracked → IsReached w x.serial) where
   here : (x : Object) → Includes w.objects x → Includes (serials w.objects) x.serial
   here x m = Includes-map (λ (z : Object). z.serial) w.objects x m
 
@@ -56,7 +57,8 @@ module _ (k : ℕ) (w : World) (rises : Rises 1 w.next_serial w.objects) (minded
       (λ f. either (cases_of (includes (entry_holdings (graph_of w.objects)) x.serial)) (λ t. inr (entry_holder w.objects x.serial (Includes-of (entry_holdings (graph_of w.objects)) x.serial t)))
       (λ g. inl (first (inr (outside f g)) (here x m))))
     where
-      outside : (in_degree w x.serial == 0) ≡ false → includes (entry_holdings (graph_of w.objects)) x.serial ≡ false → occurrences x.serial (entry_holdings (graph_of w.objects)) < occurrences x.serial (holdings w)
+      outside : (in_degree w x.serial == 0) ≡ false → includes (entry_holdings (graph_of w.objects)) x.serial ≡ false
+          → occurrences x.serial (entry_holdings (graph_of w.objects)) < occurrences x.serial (holdings w)
       outside f g =
           let none = no_times x.serial (entry_holdings (graph_of w.objects)) (λ i. let no : true ≡ false = sym (includes-of (entry_holdings (graph_of w.objects)) x.serial i) ∙ g in cc) in
           let some = positive (in_degree w x.serial) f in omega (arith, none, some)
@@ -80,7 +82,8 @@ module _ (k : ℕ) (w : World) (rises : Rises 1 w.next_serial w.objects) (minded
 
 -- in a world of a run
 pub none_left : (script : Script) (budget : ℕ) (steps : List StepTaken) → TextsAreKnown script → IsRun script budget steps
-    → ((x : Object) → Includes (world_after script budget steps).objects x → x.place ≢ Untracked → IsReached (world_after script budget steps) x.serial) → NoGarbageIsLeft (world_after script budget steps)
+    → ((x : Object) → Includes (world_after script budget steps).objects x → x.place ≢ Untracked → IsReached (world_after script budget steps) x.serial)
+    → NoGarbageIsLeft (world_after script budget steps)
 none_left script budget steps known run tracked =
     let fit = run_fit script (opening script budget) steps run (opening_fit script budget) in
     all_reached (length script.names) (world_after script budget steps) fit.sound.rises

@@ -78,16 +78,19 @@ module _ (script : Script) (budget : ℕ) (before : List StepTaken) (known : Tex
   slack = slack_after script (opening script budget) before run (opening_fit script budget) (opening_slack script budget)
 
   apart_on : (more : List StepTaken) → Run script v more → IsApart (last_world v more)
-  apart_on more goes = subst IsApart (last_world-append (opening script budget) before more) (runs_apart script budget (before ++ more) (Run-append script (opening script budget) before more run goes))
+  apart_on more goes = subst IsApart (last_world-append (opening script budget) before more) (runs_apart script budget (before ++ more)
+      (Run-append script (opening script budget) before more run goes))
 
   minded_on : (more : List StepTaken) → Run script v more → IsMinded (length script.names) (last_world v more)
   minded_on more goes = subst (IsMinded (length script.names)) (last_world-append (opening script budget) before more)
-      (minded_after script known (opening script budget) (before ++ more) (Run-append script (opening script budget) before more run goes) (opening_fit script budget) (opening_origin script budget) (opening_minded script known budget))
+      (minded_after script known (opening script budget) (before ++ more) (Run-append script (opening script budget) before more run goes)
+      (opening_fit script budget) (opening_origin script budget) (opening_minded script known budget))
 
   -- the run up to the second reachability pass, and from there to the stop
   module _ (start : StepTaken) (front : List StepTaken) (split : StepTaken) (rest : List StepTaken) (stop : StepTaken) (goes : Run script v (start ∷ (front ++ split ∷ rest) ++ stop ∷ []))
       (quiet : count_by is_enter (events_of (front ++ split ∷ rest)) ≡ 0) (on : count_by is_stop (events_of (front ++ split ∷ rest)) ≡ 0) (more : 0 < count_by is_stop stop.events)
-      (early : Early script (IsReached v) (WasGarbage v) (WasAside script v) v.objects v.names f.below (last_world start.world front)) (phase : early.collection.phase ≡ Split) (kept_on : (o : ℕ) → IsReached v o → IsReached stop.world o) where
+      (early : Early script (IsReached v) (WasGarbage v) (WasAside script v) v.objects v.names f.below (last_world start.world front))
+      (phase : early.collection.phase ≡ Split) (kept_on : (o : ℕ) → IsReached v o → IsReached stop.world o) where
     abbrev s : World
     s = last_world start.world front
 
@@ -124,9 +127,11 @@ module _ (script : Script) (budget : ℕ) (before : List StepTaken) (known : Tex
     -- a kept object is not condemned
     clear : (x : Object) → Includes s.objects x → IsReached v x.serial → is_condemned x ≡ false
     clear x m k =
-        let full = (full_then script f.collection f.below v start.events start.world f.top f.phase f.full fit.sound.rises (near_full script budget before run f) (faded_full script budget before run f) (begins script v f start.events start.world goes.0)
+        let full = (full_then script f.collection f.below v start.events start.world f.top f.phase f.full fit.sound.rises (near_full script budget before run f)
+        (faded_full script budget before run f) (begins script v f start.events start.world goes.0)
         front split (Run-append script start.world front (split ∷ []) run_f (back.0, tt)) fit_start (enters_both front (split ∷ rest) quiet).0 (stops_both front (split ∷ rest) on).0).full in
-        let z = there script f.collection f.below v start.events start.world f.top f.phase f.full fit.sound.rises (near_full script budget before run f) (faded_full script budget before run f) (begins script v f start.events start.world goes.0) x.serial k in
+        let z = there script f.collection f.below v start.events start.world f.top f.phase f.full fit.sound.rises (near_full script budget before run f)
+        (faded_full script budget before run f) (begins script v f start.events start.world goes.0) x.serial k in
         let y = full.lives z.0 z.1 (subst (IsReached v) (sym z.2) k) in
         let same : y.0 ≡ x = same_object 1 s.next_serial s.objects y.0 x fit_s.sound.rises y.1 m (y.2.serial ∙ z.2) in
         subst (λ (q : Object). is_condemned q ≡ false) same y.2.clear
@@ -135,7 +140,8 @@ module _ (script : Script) (budget : ℕ) (before : List StepTaken) (known : Tex
     slack_s = slack_after script start.world front run_f fit_start (slack_after script v (start ∷ []) (goes.0, tt) fit slack)
 
     rightly : (x : Object) → Includes s.objects x → IsInLatePhase x
-    rightly x m = subst (λ p. StandsRightly p x) phase ((apart_on (start ∷ front) (goes.0, run_f)).phases early.collection (subst (λ st. Includes st (Collecting early.collection)) (sym early.is) (inl refl)) x m)
+    rightly x m = subst (λ p. StandsRightly p x) phase ((apart_on (start ∷ front) (goes.0, run_f)).phases early.collection
+        (subst (λ st. Includes st (Collecting early.collection)) (sym early.is) (inl refl)) x m)
 
     split_step : SplitStep early.collection f.below s split.events split.world
     split_step =
@@ -153,7 +159,10 @@ module _ (script : Script) (budget : ℕ) (before : List StepTaken) (known : Tex
 
     rightly_now : (x : Object) → Includes split_step.objects x → IsInLatePhase x
     rightly_now x m =
-        let apart = subst IsApart (last_world-append start.world front (split ∷ [])) (apart_on (start ∷ (front ++ split ∷ [])) (goes.0, Run-append script start.world front (split ∷ []) run_f (back.0, tt))) in
+        let apart = subst IsApart (last_world-append start.world front (split ∷ [])) (apart_on (start ∷ (front ++ split ∷ [])) (
+          goes.0,
+          Run-append script start.world front (split ∷ []) run_f (back.0, tt),
+        )) in
         apart.phases turning (subst (λ st. Includes st (Collecting turning)) (sym stack_now) (inl refl)) x (subst (λ os. Includes os x) (sym objects_now) m)
 
     abbrev members : List ℕ
@@ -171,17 +180,21 @@ module _ (script : Script) (budget : ℕ) (before : List StepTaken) (known : Tex
       late = tt;
       light = λ a m. absurd m;
       turn = λ o m. absurd m;
-      rests = subst (λ os. (y : Object) → Includes os y → RestsSo kept aside (serials_at os Cand) y) (sym objects_now) (rest_so script v f.collection f.below f.top fit.sound.rises s early phase slack_s rightly clear early.collection split.events split.world split_step rightly_now);
-      wait = subst (λ os. AllWait script aside v.objects os []) (sym objects_now) (λ x m a. let y = aside_there script v f.collection f.below f.top fit.sound.rises s early phase slack_s rightly clear early.collection split.events split.world split_step rightly_now x m a in
+      rests = subst (λ os. (y : Object) → Includes os y → RestsSo kept aside (serials_at os Cand) y) (sym objects_now) (rest_so script v f.collection f.below
+          f.top fit.sound.rises s early phase slack_s rightly clear early.collection split.events split.world split_step rightly_now);
+      wait = subst (λ os. AllWait script aside v.objects os []) (sym objects_now) (λ x m a. let y = aside_there script v f.collection f.below f.top
+          fit.sound.rises s early phase slack_s rightly clear early.collection split.events split.world split_step rightly_now x m a in
           (y.0, y.1, record { serial = y.2.serial; refers = λ o i. subst (λ es. Includes (references es) o) (sym y.2.entries) i; legacy = y.2.legacy; place = inl y.3 }));
     }
 
     late_u : Late script kept aside members v.objects f.below (aside_by script v fit.sound.rises) apart_now u
-    late_u = late_after script kept aside members v.objects f.below (aside_by script v fit.sound.rises) apart_now split.world rest stop (Run-append script split.world rest (stop ∷ []) back.1 last) fit_split quiet_rest on_rest late_now
+    late_u = late_after script kept aside members v.objects f.below (aside_by script v fit.sound.rises) apart_now split.world rest stop
+        (Run-append script split.world rest (stop ∷ []) back.1 last) fit_split quiet_rest on_rest late_now
 
     -- the stop is in the step of the end
     stands : (late_u.tops ≡ []) × (late_u.collection.phase ≡ Ending)
-    stands = stop_ends script (λ n. ⊥) u f.below stop.events stop.world late_u.tops late_u.collection (λ a m. light_bare script aside v.objects a (late_u.light a m)) (λ e. subst IsLate e late_u.late) more
+    stands = stop_ends script (λ n. ⊥) u f.below stop.events stop.world late_u.tops late_u.collection (λ a m. light_bare script aside v.objects a
+        (late_u.light a m)) (λ e. subst IsLate e late_u.late) more
         (subst (λ st. StepOf script (with_stack st u) st stop.events stop.world) late_u.is last.0.step)
 
     top_u : u.stack ≡ Collecting late_u.collection ∷ f.below
@@ -203,7 +216,8 @@ module _ (script : Script) (budget : ℕ) (before : List StepTaken) (known : Tex
 
     -- the garbage list names each member that lives at the end
     saved_named : has_flag early.collection.flags save_all ≡ true → (y : Object) → Includes u.objects y → Includes members y.serial → IsNamed u.objects y.serial
-    saved_named flag y m k = either ((saves_after script members f.below split.world rest back.1 fit_split on_rest begun).all y.serial k) (λ cand. absurd (none_cand y m (cand y m refl))) (λ named. named)
+    saved_named flag y m k = either ((saves_after script members f.below split.world rest back.1 fit_split on_rest begun).all y.serial k)
+        (λ cand. absurd (none_cand y m (cand y m refl))) (λ named. named)
       where
         begun : Saves script members f.below split.world
         begun = record {
@@ -221,27 +235,39 @@ module _ (script : Script) (budget : ℕ) (before : List StepTaken) (known : Tex
         let same : world_after script budget (before ++ start ∷ front) ≡ s = last_world-append (opening script budget) before (start ∷ front) in
         let splits : Splits s = record { collection = early.collection; below = f.below; top = early.is; phase = phase; clears = flag } in
         let sealed = (sealed_after script members split.world rest back.1 fit_split on_rest
-        (starts_sealed_world script budget (before ++ start ∷ front) split (Run-append script (opening script budget) before (start ∷ front) run (goes.0, run_f)) (subst (λ w. Step script w split.events split.world) (sym same) back.0) (subst Splits (sym same) splits))).0 in
+        (starts_sealed_world script budget (before ++ start ∷ front) split (Run-append script (opening script budget) before (start ∷ front) run (
+          goes.0,
+          run_f,
+        )) (subst (λ w. Step script w split.events split.world) (sym same) back.0) (subst Splits (sym same) splits))).0 in
         none_lives script members (length script.names) late_u.collection f.below u stands.1 top_u fit_u.sound.rises sealed
-        (subst (IsMinded (length script.names)) (last_world-append start.world front (split ∷ rest)) (minded_on (start ∷ (front ++ split ∷ rest)) (goes.0, all))) none_cand y.serial k (Includes-map (λ (z : Object). z.serial) u.objects y m)
+        (subst (IsMinded (length script.names)) (last_world-append start.world front (split ∷ rest)) (minded_on (start ∷ (front ++ split ∷ rest)) (
+          goes.0,
+          all,
+        ))) none_cand y.serial k (Includes-map (λ (z : Object). z.serial) u.objects y m)
 
     pub all_tracked : (x : Object) → Includes stop.world.objects x → x.place ≢ Untracked → IsReached stop.world x.serial
     all_tracked = tracked_reached script v fit.sound.rises members late_u.collection f.below u stop.events stop.world end_step kept_on fit_u.order.root_lives
         (subst (λ ts. AllWait script aside v.objects u.objects ts) stands.0 late_u.wait) late_u.rests
         (λ y m k. either (cases_of (has_flag early.collection.flags save_all)) (λ t. saved_named t y m k) (λ e. absurd (freed e y m k)))
 
-  tracked_on : (during : List StepTaken) (stop : StepTaken) → Run script v (during ++ stop ∷ []) → count_by is_enter (events_of during ++ stop.events) ≡ 0 → count_by is_stop (events_of during) ≡ 0 → 0 < count_by is_stop stop.events → ((o : ℕ) → IsReached v o → IsReached stop.world o)
+  tracked_on : (during : List StepTaken) (stop : StepTaken) → Run script v (during ++ stop ∷ []) → count_by is_enter (events_of during ++ stop.events) ≡ 0
+      → count_by is_stop (events_of during) ≡ 0 → 0 < count_by is_stop stop.events → ((o : ℕ) → IsReached v o → IsReached stop.world o)
       → (x : Object) → Includes stop.world.objects x → x.place ≢ Untracked → IsReached stop.world x.serial
-  tracked_on [] stop goes quiet on more kept_on = absurd (let none = none_stops stop.events (start_quiet script v f.collection f.below stop.events stop.world (begins script v f stop.events stop.world goes.0)) in omega (arith, none, more))
+  tracked_on [] stop goes quiet on more kept_on = absurd (let none = none_stops stop.events (start_quiet script v f.collection f.below stop.events stop.world
+      (begins script v f stop.events stop.world goes.0)) in omega (arith, none, more))
   tracked_on (start ∷ steps) stop goes quiet on more kept_on =
-      all_tracked start found.front found.split found.rest stop (subst (λ ss. Run script v (start ∷ ss ++ stop ∷ [])) found.is goes) (subst (λ ss. count_by is_enter (events_of ss) ≡ 0) found.is quiet_steps) (subst (λ ss. count_by is_stop (events_of ss) ≡ 0) found.is (none_first start.events (events_of steps) on).1) more found.at found.phase kept_on
+      all_tracked start found.front found.split found.rest stop (subst (λ ss. Run script v (start ∷ ss ++ stop ∷ [])) found.is goes)
+      (subst (λ ss. count_by is_enter (events_of ss) ≡ 0) found.is quiet_steps) (subst (λ ss. count_by is_stop (events_of ss) ≡ 0) found.is
+      (none_first start.events (events_of steps) on).1) more found.at found.phase kept_on
     where
       quiet_steps : count_by is_enter (events_of steps) ≡ 0
       quiet_steps = (enters_first start.events (events_of steps) (enters_first (start.events ++ events_of steps) stop.events quiet).0).1
 
       found : FoundSplit script (IsReached v) (WasGarbage v) (WasAside script v) v.objects v.names f.below start.world steps
-      found = finds_split script (IsReached v) (WasGarbage v) (WasAside script v) v.objects v.names f.below start.world steps stop goes.1 (step_fit script v start.events start.world goes.0 fit) quiet_steps more
-          (begins_early script f.collection f.below v start.events start.world f.top f.phase f.full fit.sound.rises (near_full script budget before run f) (faded_full script budget before run f) (begins script v f start.events start.world goes.0) slack fit.order.root_lives)
+      found = finds_split script (IsReached v) (WasGarbage v) (WasAside script v) v.objects v.names f.below start.world steps stop goes.1
+          (step_fit script v start.events start.world goes.0 fit) quiet_steps more
+          (begins_early script f.collection f.below v start.events start.world f.top f.phase f.full fit.sound.rises (near_full script budget before run f)
+          (faded_full script budget before run f) (begins script v f start.events start.world goes.0) slack fit.order.root_lives)
 
 pub full_leaves_none : FullCollectionLeavesNone
 full_leaves_none script budget before during stop known run f quiet on more =
@@ -250,4 +276,5 @@ full_leaves_none script budget before during stop known run f quiet on more =
     let back = run_back script (opening script budget) before (during ++ stop ∷ []) all in
     let same : world_after script budget (before ++ during ++ stop ∷ []) ≡ stop.world = last_world-append (opening script budget) (before ++ during) (stop ∷ []) in
     let tracked = tracked_on script budget before known front f during stop back quiet on more (λ o path. reached_is_kept script budget before during stop run f quiet on more o path) in
-    subst NoGarbageIsLeft same (none_left script budget (before ++ during ++ stop ∷ []) known run (subst (λ (w : World). (x : Object) → Includes w.objects x → x.place ≢ Untracked → IsReached w x.serial) (sym same) tracked))
+    subst NoGarbageIsLeft same (none_left script budget (before ++ during ++ stop ∷ []) known run (subst (λ (w : World). (x : Object) → Includes w.objects x
+    → x.place ≢ Untracked → IsReached w x.serial) (sym same) tracked))

@@ -27,25 +27,30 @@ use Rattle.cg_promises.proofs.FinalSetStart.{edge, edge_of}
 use Rattle.cg_promises.proofs.FinalizerOnceRuns.{Fit, step_fit}
 
 pub enters_first : (xs ys : List Event) → count_by is_enter (xs ++ ys) ≡ 0 → (count_by is_enter xs ≡ 0) × (count_by is_enter ys ≡ 0)
-enters_first xs ys e = let all : count_by is_enter (xs ++ ys) ≡ count_by is_enter xs + count_by is_enter ys = sum_by-append (λ x. cond (is_enter x) 1 0) xs ys in (omega (arith, all, e), omega (arith, all, e))
+enters_first xs ys e = let all : count_by is_enter (xs ++ ys) ≡ count_by is_enter xs + count_by is_enter ys = sum_by-append (λ x. cond (is_enter x) 1 0) xs ys
+    in (omega (arith, all, e), omega (arith, all, e))
 
 -- a next step
 pub running_still : (script : Script) (w : World) (steps : List StepTaken) (stop : StepTaken) → Run script w (steps ++ stop ∷ []) → w.outcome ≡ Running
 running_still script w [] stop run = run.0.running
 running_still script w (step ∷ steps) stop run = run.0.running
 
-module _ (script : Script) (kept : ℕ → Type 0) (start : List Object) (below : List Activity) (names : List (Option Val)) (held : (o : ℕ) → kept o → IsKeptBy kept start names below o) (there : (o : ℕ) → kept o → (x : Object) × Includes start x × (x.serial ≡ o)) where
+module _ (script : Script) (kept : ℕ → Type 0) (start : List Object) (below : List Activity) (names : List (Option Val)) (held : (o : ℕ) → kept o
+    → IsKeptBy kept start names below o) (there : (o : ℕ) → kept o → (x : Object) × Includes start x × (x.serial ≡ o)) where
   pub record IsFullAt (w : World) : Type 0 where
     pub same : w.names ≡ names
     pub full : Full kept start below w.objects w.stack
 
-  one_step : (w : World) (events : List Event) (after : World) → Step script w events after → Fit script w → count_by is_enter events ≡ 0 → count_by is_stop events ≡ 0 → after.outcome ≡ Running → IsFullAt w → IsFullAt after
+  one_step : (w : World) (events : List Event) (after : World) → Step script w events after → Fit script w → count_by is_enter events ≡ 0
+      → count_by is_stop events ≡ 0 → after.outcome ≡ Running → IsFullAt w → IsFullAt after
   one_step w events after step fit quiet on running h =
-      let next = step_full script kept start below w fit.sound.rises (λ o k. subst (λ ns. IsKeptBy kept start ns below o) (sym h.same) (held o k)) there h.full.lives events after quiet on running h.full.tops h.full.collection h.full.bare h.full.turn h.full.begun
+      let next = step_full script kept start below w fit.sound.rises (λ o k. subst (λ ns. IsKeptBy kept start ns below o) (sym h.same) (held o k)) there
+      h.full.lives events after quiet on running h.full.tops h.full.collection h.full.bare h.full.turn h.full.begun
       (subst (λ st. StepOf script (with_stack st w) st events after) h.full.is step.step) in
       record { same = next.names ∙ h.same; full = next.full }
 
-  pub full_after : (w : World) (steps : List StepTaken) (stop : StepTaken) → Run script w (steps ++ stop ∷ []) → Fit script w → count_by is_enter (events_of steps) ≡ 0 → count_by is_stop (events_of steps) ≡ 0 → IsFullAt w → IsFullAt (last_world w steps)
+  pub full_after : (w : World) (steps : List StepTaken) (stop : StepTaken) → Run script w (steps ++ stop ∷ []) → Fit script w
+      → count_by is_enter (events_of steps) ≡ 0 → count_by is_stop (events_of steps) ≡ 0 → IsFullAt w → IsFullAt (last_world w steps)
   full_after w [] stop run fit quiet on h = h
   full_after w (step ∷ steps) stop run fit quiet on h =
       let q = enters_first step.events (events_of steps) quiet in
@@ -71,7 +76,8 @@ root_up names tops below o (inr (inl e)) = inr (inl e)
 root_up names tops below o (inr (inr (inl m))) = inr (inr (inl (held_in o tops below m)))
 root_up names tops below o (inr (inr (inr e))) = inr (inr (inr (death_in o tops below e)))
 
-pub parts : (w : World) (o : ℕ) → occurrences o (holdings w) ≡ occurrences o (name_holdings w.names) + occurrences o (1 ∷ []) + occurrences o (entry_holdings (graph_of w.objects)) + occurrences o (flat_map holds w.stack)
+pub parts : (w : World) (o : ℕ) → occurrences o (holdings w) ≡ occurrences o (name_holdings w.names) + occurrences o (1 ∷ []) + occurrences o
+    (entry_holdings (graph_of w.objects)) + occurrences o (flat_map holds w.stack)
 parts w o = let a = occurrences-append o (name_holdings w.names ++ (1 ∷ []) ++ entry_holdings (graph_of w.objects)) (flat_map holds w.stack) in
     let b = occurrences-append o (name_holdings w.names ++ (1 ∷ [])) (entry_holdings (graph_of w.objects)) in
     let c = occurrences-append o (name_holdings w.names) (1 ∷ []) in omega (arith, a, b, c)
@@ -83,7 +89,8 @@ root_of w o (inr more) = go (cases_of (includes (name_holdings w.names) o)) (cas
     none : (xs : List ℕ) → includes xs o ≡ false → occurrences o xs ≡ 0
     none xs f = no_times o xs (λ m. let no : true ≡ false = sym (includes-of xs o m) ∙ f in cc)
 
-    go : (includes (name_holdings w.names) o ≡ true) ⊎ (includes (name_holdings w.names) o ≡ false) → (includes (flat_map holds w.stack) o ≡ true) ⊎ (includes (flat_map holds w.stack) o ≡ false) → (includes (1 ∷ []) o ≡ true) ⊎ (includes (1 ∷ []) o ≡ false) → IsRoot w.names w.stack o
+    go : (includes (name_holdings w.names) o ≡ true) ⊎ (includes (name_holdings w.names) o ≡ false) → (includes (flat_map holds w.stack) o ≡ true)
+        ⊎ (includes (flat_map holds w.stack) o ≡ false) → (includes (1 ∷ []) o ≡ true) ⊎ (includes (1 ∷ []) o ≡ false) → IsRoot w.names w.stack o
     go (inl t) b c = inl (Includes-of (name_holdings w.names) o t)
     go (inr f) (inl t) c = inr (inr (inl (Includes-of (flat_map holds w.stack) o t)))
     go (inr f) (inr g) (inl t) = inr (inl (either (Includes-of (1 ∷ []) o t) (λ e. sym e) (λ k. absurd k)))
@@ -97,7 +104,8 @@ rooted_by w o (inr (inr (inr e))) = inl e
 
 -- reachable in one world, and so in another that keeps it
 module _ (before after : World) (roots : (o : ℕ) → IsRoot before.names before.stack o → IsRoot after.names after.stack o)
-    (lives : (x : Object) → Includes before.objects x → IsReached before x.serial → (y : Object) × Includes after.objects y × (y.serial ≡ x.serial) × ((o : ℕ) → Includes (references x.entries) o → Includes (references y.entries) o)) where
+    (lives : (x : Object) → Includes before.objects x → IsReached before x.serial → (y : Object) × Includes after.objects y × (y.serial ≡ x.serial)
+    × ((o : ℕ) → Includes (references x.entries) o → Includes (references y.entries) o)) where
   lives_at : (o : ℕ) → Includes (serials before.objects) o → IsReached before o → Includes (serials after.objects) o
   lives_at o m path =
       let x = Includes-map_cases (λ (z : Object). z.serial) before.objects o m in

@@ -51,7 +51,8 @@ saved_named o objects root =
 
 pub all_saved_named : (keeps : List ℕ) (objects : List Object) (o : ℕ) → Includes keeps o → Includes (serials objects) 1 → IsNamed (all_saved keeps objects) o
 all_saved_named [] objects o m root = absurd m
-all_saved_named (s ∷ keeps) objects o (inl e) root = named_on (saved s objects) (all_saved keeps (saved s objects)) o (all_saved_grow keeps (saved s objects)) (subst (λ n. IsNamed (saved s objects) n) e (saved_named s objects root))
+all_saved_named (s ∷ keeps) objects o (inl e) root = named_on (saved s objects) (all_saved keeps (saved s objects)) o (all_saved_grow keeps (saved s objects))
+    (subst (λ n. IsNamed (saved s objects) n) e (saved_named s objects root))
 all_saved_named (s ∷ keeps) objects o (inr m) root = all_saved_named keeps (saved s objects) o m (saved_root s objects root)
   where
     saved_root : (s : ℕ) (objects : List Object) → Includes (serials objects) 1 → Includes (serials (saved s objects)) 1
@@ -75,7 +76,8 @@ module _ (script : Script) (members : List ℕ) (below : List Activity) where
     pub saves : has_flag collection.flags save_all ≡ true
     pub all : (n : ℕ) → Includes members n → IsNamedOrCand w.objects n
 
-  module _ (v : World) (root : Includes (serials v.objects) 1) (c : Collection) (saves : has_flag c.flags save_all ≡ true) (all : (n : ℕ) → Includes members n → IsNamedOrCand v.objects n) (events : List Event) (after : World) (on : count_by is_stop events ≡ 0) where
+  module _ (v : World) (root : Includes (serials v.objects) 1) (c : Collection) (saves : has_flag c.flags save_all ≡ true) (all : (n : ℕ) → Includes members n
+      → IsNamedOrCand v.objects n) (events : List Event) (after : World) (on : count_by is_stop events ≡ 0) where
     abbrev standing : CollectPhase → World
     standing phase = collection_at c phase below v
 
@@ -87,15 +89,24 @@ module _ (script : Script) (members : List ℕ) (below : List Activity) where
 
     saved_one : (o n : ℕ) → IsNamedOrCand v.objects n → IsNamedOrCand (now o) n
     saved_one o n (inr named) = inr (named_on v.objects (now o) n (grows_trans v.objects (saved o v.objects) (now o) (saved_grow o v.objects) (placed_grow o)) named)
-    saved_one o n (inl cand) = either (cases_of (o == n)) (λ t. inr (subst (λ p. IsNamed (now o) p) (eqb-true o n t) (named_on (saved o v.objects) (now o) o (placed_grow o) (saved_named o v.objects root))))
-        (λ f. inl (test_all (λ y. y.serial ≡ n → y.place ≡ Cand) (with_place (Gen (older c.generation))) (λ x. x.serial == o) (saved o v.objects) (λ x m t p e. absurd (let no : true ≡ false = sym (eq-eqb o n (sym (eqb-true x.serial o t) ∙ e)) ∙ f in cc))
+    saved_one o n (inl cand) = either (cases_of (o == n))
+        (λ t. inr (subst (λ p. IsNamed (now o) p) (eqb-true o n t) (named_on (saved o v.objects) (now o) o (placed_grow o) (saved_named o v.objects root))))
+        (λ f. inl (test_all (λ y. y.serial ≡ n → y.place ≡ Cand) (with_place (Gen (older c.generation))) (λ x. x.serial == o) (saved o v.objects)
+        (λ x m t p e. absurd (let no : true ≡ false = sym (eq-eqb o n (sym (eqb-true x.serial o t) ∙ e)) ∙ f in cc))
         (test_all (λ y. y.serial ≡ n → y.place ≡ Cand) (λ x. with_entries (x.entries ++ item (Ref o) ∷ []) x) (λ x. x.serial == 1) v.objects (λ x m t p. p) cand)))
 
     turn_saved : (x : Object) → Saves (takes_turn c x below (standing Turns)).1
     turn_saved x = go (has_flag c.flags save_all) saves (is_tuple x)
       where
-        go : (s : Bool) → s ≡ true → (t : Bool) → (let next : Transition = if s then (GcSaved x.serial ∷ [], collection_at c Turns below (with_objects (change (with_place (Gen (older c.generation))) x.serial (saved x.serial v.objects)) (standing Turns)))
-            else if t then ([], collection_at c Turns below (with_change (with_place (Gen (older c.generation))) x.serial (standing Turns))) else ([], collection_at c (Turn x.serial) below (standing Turns)) in Saves next.1)
+        go : (s : Bool) → s ≡ true → (t : Bool)
+            → (let next : Transition = if s
+            then (
+              GcSaved x.serial ∷ [],
+              collection_at c Turns below (with_objects (change (with_place (Gen (older c.generation))) x.serial
+                  (saved x.serial v.objects)) (standing Turns)),
+            )
+            else if t then ([], collection_at c Turns below (with_change (with_place (Gen (older c.generation))) x.serial (standing Turns)))
+            else ([], collection_at c (Turn x.serial) below (standing Turns)) in Saves next.1)
         go true e t = record { collection = record c { phase = Turns }; is = refl; phase = tt; saves = saves; all = λ n k. saved_one x.serial n (all n k) }
         go false e t = absurd (let no : false ≡ true = e in cc)
 
@@ -105,7 +116,8 @@ module _ (script : Script) (members : List ℕ) (below : List Activity) where
 
     phase_saved : (phase : CollectPhase) → IsSaving phase → PhaseStep script c phase below (standing phase) events after → Saves after
     phase_saved Turns k step = turns_saved step
-    phase_saved Ending k step = absurd (stops (lines_if (has_flag c.flags uncollectable) (map GcUncollectable step.told) ++ map GcSaved step.keeps) c.generation c.collected (length step.told) (lines_if c.asked (Collected (c.collected + length step.told) ∷ [])) events step.lines on)
+    phase_saved Ending k step = absurd (stops (lines_if (has_flag c.flags uncollectable) (map GcUncollectable step.told) ++ map GcSaved step.keeps) c.generation
+        c.collected (length step.told) (lines_if c.asked (Collected (c.collected + length step.told) ∷ [])) events step.lines on)
     phase_saved phase k step = absurd k
 
   pub saves_after : (w : World) (steps : List StepTaken) → Run script w steps → Fit script w → count_by is_stop (events_of steps) ≡ 0 → Saves w → Saves (last_world w steps)
@@ -113,4 +125,5 @@ module _ (script : Script) (members : List ℕ) (below : List Activity) where
   saves_after w (step ∷ steps) run fit on h =
       let n = none_first step.events (events_of steps) on in
       saves_after step.world steps run.1 (step_fit script w step.events step.world run.0 fit) n.1
-      (phase_saved w fit.order.root_lives h.collection h.saves h.all step.events step.world n.0 h.collection.phase h.phase (subst (λ st. StepOf script (with_stack st w) st step.events step.world) h.is run.0.step))
+      (phase_saved w fit.order.root_lives h.collection h.saves h.all step.events step.world n.0 h.collection.phase h.phase
+      (subst (λ st. StepOf script (with_stack st w) st step.events step.world) h.is run.0.step))

@@ -43,33 +43,42 @@ aside_garbage script v o (first held inside) = inside
 aside_garbage script v o (further path step inside) = inside
 
 -- what has more holds than those that pass give it is held by another
-held_outside : (w : World) (p : Object → Bool) (o : ℕ) → occurrences o (entry_holdings (graph_of (filter p w.objects))) < occurrences o (holdings w) → IsRoot w.names w.stack o ⊎ HasOutside p w.objects o
+held_outside : (w : World) (p : Object → Bool) (o : ℕ) → occurrences o (entry_holdings (graph_of (filter p w.objects))) < occurrences o (holdings w)
+    → IsRoot w.names w.stack o ⊎ HasOutside p w.objects o
 held_outside w p o less = go (cases_of (includes (name_holdings w.names) o)) (cases_of (includes (1 ∷ []) o)) (cases_of (includes (flat_map holds w.stack) o))
   where
     none : (xs : List ℕ) → includes xs o ≡ false → occurrences o xs ≡ 0
     none xs f = no_times o xs (λ m. let no : true ≡ false = sym (includes-of xs o m) ∙ f in cc)
 
-    go : (includes (name_holdings w.names) o ≡ true) ⊎ (includes (name_holdings w.names) o ≡ false) → (includes (1 ∷ []) o ≡ true) ⊎ (includes (1 ∷ []) o ≡ false) → (includes (flat_map holds w.stack) o ≡ true) ⊎ (includes (flat_map holds w.stack) o ≡ false) → IsRoot w.names w.stack o ⊎ HasOutside p w.objects o
+    go : (includes (name_holdings w.names) o ≡ true) ⊎ (includes (name_holdings w.names) o ≡ false) → (includes (1 ∷ []) o ≡ true)
+        ⊎ (includes (1 ∷ []) o ≡ false) → (includes (flat_map holds w.stack) o ≡ true) ⊎ (includes (flat_map holds w.stack) o ≡ false)
+        → IsRoot w.names w.stack o ⊎ HasOutside p w.objects o
     go (inl t) b c = inl (inl (Includes-of (name_holdings w.names) o t))
     go (inr f) (inl t) c = inl (inr (inl (either (Includes-of (1 ∷ []) o t) (λ e. sym e) (λ k. absurd k))))
     go (inr f) (inr g) (inl t) = inl (inr (inr (inl (Includes-of (flat_map holds w.stack) o t))))
-    go (inr f) (inr g) (inr k) = let x = none (name_holdings w.names) f in let y = none (1 ∷ []) g in let z = none (flat_map holds w.stack) k in inr (some_outside p w.objects o (omega (arith, less, x, y, z, parts w o)))
+    go (inr f) (inr g) (inr k) = let x = none (name_holdings w.names) f in let y = none (1 ∷ []) g in let z = none (flat_map holds w.stack) k
+        in inr (some_outside p w.objects o (omega (arith, less, x, y, z, parts w o)))
 
 wanted_is : (p : Place) → IsWanted p → (p ≡ Cand) ⊎ (p ≡ Seen)
 wanted_is Cand k = inl refl
 wanted_is Seen k = inr refl
 wanted_is p k = absurd k
 
-all_lose_all : (P : Object → Type 0) → ((x : Object) → P x → P (with_referent None x)) → (wanted : Object → Bool) (weaks : List ℕ) (objects after : List Object) → AllLose wanted objects weaks after → ((x : Object) → Includes objects x → P x) → (y : Object) → Includes after y → P y
+all_lose_all : (P : Object → Type 0) → ((x : Object) → P x → P (with_referent None x)) → (wanted : Object → Bool) (weaks : List ℕ) (objects after : List Object)
+    → AllLose wanted objects weaks after → ((x : Object) → Includes objects x → P x) → (y : Object) → Includes after y → P y
 all_lose_all P keep wanted [] objects after lose all = subst (λ os. (y : Object) → Includes os y → P y) (sym lose.1) all
-all_lose_all P keep wanted (weak ∷ weaks) objects after lose all = all_lose_all P keep wanted weaks (loses_referent weak objects) after lose.1 (test_all P (with_referent None) (λ x. x.serial == weak) objects (λ x m t p. keep x p) all)
+all_lose_all P keep wanted (weak ∷ weaks) objects after lose all = all_lose_all P keep wanted weaks (loses_referent weak objects) after lose.1
+    (test_all P (with_referent None) (λ x. x.serial == weak) objects (λ x m t p. keep x p) all)
 
 all_lose_alike : (script : Script) (wanted : Object → Bool) (weaks : List ℕ) (objects after : List Object) → AllLose wanted objects weaks after → AreAlike script objects after
 all_lose_alike script wanted [] objects after lose = subst (AreAlike script objects) (sym lose.1) (alike_same script objects)
-all_lose_alike script wanted (weak ∷ weaks) objects after lose = alike_trans script objects (loses_referent weak objects) after (test_alike script (with_referent None) (λ x. x.serial == weak) objects (λ x. record { serial = refl; entries = refl; legacy = refl })) (all_lose_alike script wanted weaks (loses_referent weak objects) after lose.1)
+all_lose_alike script wanted (weak ∷ weaks) objects after lose = alike_trans script objects (loses_referent weak objects) after
+    (test_alike script (with_referent None) (λ x. x.serial == weak) objects (λ x. record { serial = refl; entries = refl; legacy = refl }))
+    (all_lose_alike script wanted weaks (loses_referent weak objects) after lose.1)
 
 module _ (script : Script) (v : World) (c : Collection) (below : List Activity) (top : v.stack ≡ Collecting c ∷ below) (rises : Rises 1 v.next_serial v.objects)
-    (w : World) (early : Early script (IsReached v) (WasGarbage v) (WasAside script v) v.objects v.names below w) (phase : early.collection.phase ≡ Split) (slack : IsSlackWorld w) (rightly : (x : Object) → Includes w.objects x → IsInLatePhase x)
+    (w : World) (early : Early script (IsReached v) (WasGarbage v) (WasAside script v) v.objects v.names below w) (phase : early.collection.phase ≡ Split)
+    (slack : IsSlackWorld w) (rightly : (x : Object) → Includes w.objects x → IsInLatePhase x)
     (clear : (x : Object) → Includes w.objects x → IsReached v x.serial → is_condemned x ≡ false) where
   abbrev kept : ℕ → Type 0
   kept o = IsReached v o
@@ -90,7 +99,8 @@ module _ (script : Script) (v : World) (c : Collection) (below : List Activity) 
   -- the roots were roots
   root_kept : (x : Object) → Includes w.objects x → IsRoot w.names w.stack x.serial → kept x.serial
   root_kept x m r = first (rooted_by v x.serial (subst (λ st. IsRoot v.names st x.serial) (sym top) (root_up v.names (Collecting c ∷ []) below x.serial
-      (root_down v.names early.collection below x.serial (ap collect_holds phase) (subst (λ st. IsRoot v.names st x.serial) early.is (subst (λ ns. IsRoot ns w.stack x.serial) early.same r)))))) (lived x m)
+      (root_down v.names early.collection below x.serial (ap collect_holds phase) (subst (λ st. IsRoot v.names st x.serial) early.is
+      (subst (λ ns. IsRoot ns w.stack x.serial) early.same r)))))) (lived x m)
 
   along : (y x : Object) → Includes w.objects y → Includes w.objects x → Includes (references y.entries) x.serial → kept y.serial → kept x.serial
   along y x i m r k =
@@ -103,13 +113,15 @@ module _ (script : Script) (v : World) (c : Collection) (below : List Activity) 
   excused_kept y i (inr d) = root_kept y i (inr (inr (inr (death_found y.serial d.0 w.stack d.1 d.2))))
 
   -- a reference of an uncollectable object is an edge among the candidates
-  arrow : (y : Object) (o : ℕ) → Includes w.objects y → Includes (references y.entries) o → IsMemberOf (merged 2 v) (Gen 2) y.serial → Includes (edges (members_at (merged 2 v) (Gen 2))) (edge y.serial o)
+  arrow : (y : Object) (o : ℕ) → Includes w.objects y → Includes (references y.entries) o → IsMemberOf (merged 2 v) (Gen 2) y.serial
+      → Includes (edges (members_at (merged 2 v) (Gen 2))) (edge y.serial o)
   arrow y o i r member =
       let z = stands_at (merged 2 v).objects (Gen 2) y.serial member in
       let x = Includes-map_cases (in_merge 2) v.objects z.0 z.1 in
       let u = early.alike.back y i in
       let same : u.0 ≡ x.0 = same_object 1 v.next_serial v.objects u.0 x.0 rises u.1 x.1 (sym u.2.serial ∙ sym z.3 ∙ sym (ap (λ (q : Object). q.serial) x.2)) in
-      let held : Includes (references z.0.entries) o = subst (λ (q : Object). Includes (references q.entries) o) x.2 (subst (λ (q : Object). Includes (references q.entries) o) same (subst (λ es. Includes (references es) o) u.2.entries r)) in
+      let held : Includes (references z.0.entries) o = subst (λ (q : Object). Includes (references q.entries) o) x.2
+      (subst (λ (q : Object). Includes (references q.entries) o) same (subst (λ es. Includes (references es) o) u.2.entries r)) in
       subst (λ n. Includes (edges (members_at (merged 2 v) (Gen 2))) (edge n o)) z.3
       (edge_of (objects_at (merged 2 v).objects (Gen 2)) z.0 o (Includes-filter (is_at (Gen 2)) (merged 2 v).objects z.0 z.2 z.1) held)
 

@@ -38,7 +38,8 @@ pub data Rests (kept aside : ℕ → Type 0) (members : List ℕ) (y : Object) :
 abbrev pub RestsSo : (kept aside : ℕ → Type 0) (members : List ℕ) → Object → Type 0
 RestsSo kept aside members y = Rests kept aside members y × (y.place ≡ Cand → Includes members y.serial)
 
-pub test_all : (P : Object → Type 0) (f : Object → Object) (test : Object → Bool) (objects : List Object) → ((x : Object) → Includes objects x → test x ≡ true → P x → P (f x)) → ((x : Object) → Includes objects x → P x) → (y : Object) → Includes (map (λ x. if test x then f x else x) objects) y → P y
+pub test_all : (P : Object → Type 0) (f : Object → Object) (test : Object → Bool) (objects : List Object) → ((x : Object) → Includes objects x → test x ≡ true
+    → P x → P (f x)) → ((x : Object) → Includes objects x → P x) → (y : Object) → Includes (map (λ x. if test x then f x else x) objects) y → P y
 test_all P f test objects h all y m = let x = Includes-map_cases (λ x. if test x then f x else x) objects y m in subst P x.2 (one (test x.0) x.0 refl x.1 (all x.0 x.1))
   where
     one : (b : Bool) (x : Object) → test x ≡ b → Includes objects x → P x → P (if b then f x else x)
@@ -104,7 +105,10 @@ alike script = record {
 }
 
 pub alike_trans : (script : Script) (before now after : List Object) → AreAlike script before now → AreAlike script now after → AreAlike script before after
-alike_trans script before now after h k = record { there = (lasts (Alike script) (alike script)).trans before now after h.there k.there; back = (came (Alike script) (alike script)).trans before now after h.back k.back }
+alike_trans script before now after h k = record {
+  there = (lasts (Alike script) (alike script)).trans before now after h.there k.there;
+  back = (came (Alike script) (alike script)).trans before now after h.back k.back;
+}
 
 pub alike_same : (script : Script) (objects : List Object) → AreAlike script objects objects
 alike_same script objects = record { there = (lasts (Alike script) (alike script)).same objects; back = (came (Alike script) (alike script)).same objects }
@@ -112,8 +116,13 @@ alike_same script objects = record { there = (lasts (Alike script) (alike script
 pub map_alike : (script : Script) (f : Object → Object) (objects : List Object) → ((x : Object) → Alike script x (f x)) → AreAlike script objects (map f objects)
 map_alike script f objects h = record { there = lasts_map (Alike script) (alike script).same f objects (λ x m. h x); back = came_map (Alike script) (alike script).same f objects (λ x m. h x) }
 
-pub test_alike : (script : Script) (f : Object → Object) (test : Object → Bool) (objects : List Object) → ((x : Object) → Alike script x (f x)) → AreAlike script objects (map (λ x. if test x then f x else x) objects)
-test_alike script f test objects h = record { there = lasts_if (Alike script) (alike script).same f test objects (λ x m t. h x); back = came_if (Alike script) (alike script).same f test objects (λ x m t. h x) }
+pub test_alike : (script : Script) (f : Object → Object) (test : Object → Bool) (objects : List Object) → ((x : Object) → Alike script x (f x))
+    → AreAlike script objects (map (λ x. if test x then f x else x) objects)
+test_alike script f test objects h = record {
+  there = lasts_if (Alike script) (alike script).same f test objects (λ x m t. h x);
+  back = came_if (Alike script)
+      (alike script).same f test objects (λ x m t. h x);
+}
 
 -- those in a place of condemned objects
 pub wanted_cand : (p : Place) → p ≡ Cand → IsWanted p

@@ -32,14 +32,20 @@ use Rattle.cg_promises.proofs.Generations.{IsYoung}
 pub edge_from : (xs : List Object) (p q : ℕ) → Includes (edges (graph_of xs)) (edge p q) → (y : Object) × Includes xs y × (y.serial ≡ p) × Includes (references y.entries) q
 edge_from [] p q m = absurd m
 edge_from (x ∷ xs) p q m = either (Includes-append_cases (map (edge x.serial) (references x.entries)) (edges (graph_of xs)) (edge p q) m)
-    (λ k. let r = Includes-map_cases (edge x.serial) (references x.entries) (edge p q) k in (x, inl refl, ap (λ (e : Edge). e.from) r.2, subst (Includes (references x.entries)) (ap (λ (e : Edge). e.to) r.2) r.1))
+    (λ k. let r = Includes-map_cases (edge x.serial) (references x.entries) (edge p q) k in (
+      x,
+      inl refl,
+      ap (λ (e : Edge). e.from) r.2,
+      subst (Includes (references x.entries)) (ap (λ (e : Edge). e.to) r.2) r.1,
+    ))
     (λ k. let y = edge_from xs p q k in (y.0, inr y.1, y.2, y.3))
 
 -- what has more holds than those that pass give it is held by one that does not pass
 abbrev pub HasOutside : (Object → Bool) → List Object → ℕ → Type 0
 HasOutside p objects o = (y : Object) × Includes objects y × (p y ≡ false) × Includes (references y.entries) o
 
-outside_step : (p : Object → Bool) (x : Object) (objects : List Object) (o : ℕ) → (occurrences o (entry_holdings (graph_of (filter p objects))) < occurrences o (entry_holdings (graph_of objects)) → HasOutside p objects o)
+outside_step : (p : Object → Bool) (x : Object) (objects : List Object) (o : ℕ) → (occurrences o (entry_holdings (graph_of (filter p objects))) < occurrences o
+    (entry_holdings (graph_of objects)) → HasOutside p objects o)
     → occurrences o (entry_holdings (graph_of (filter p (x ∷ objects)))) < occurrences o (entry_holdings (graph_of (x ∷ objects))) → HasOutside p (x ∷ objects) o
 outside_step p x objects o rec less = go (p x) refl less
   where
@@ -49,15 +55,18 @@ outside_step p x objects o rec less = go (p x) refl less
     rest : occurrences o (entry_holdings (graph_of (filter p objects))) < occurrences o (entry_holdings (graph_of objects)) → HasOutside p (x ∷ objects) o
     rest k = let y = rec k in (y.0, inr y.1, y.2, y.3)
 
-    here : p x ≡ false → (t : Bool) → includes (references x.entries) o ≡ t → occurrences o (entry_holdings (graph_of (filter p objects))) < occurrences o (entry_holdings (graph_of (x ∷ objects))) → HasOutside p (x ∷ objects) o
+    here : p x ≡ false → (t : Bool) → includes (references x.entries) o ≡ t → occurrences o (entry_holdings (graph_of (filter p objects))) < occurrences o
+        (entry_holdings (graph_of (x ∷ objects))) → HasOutside p (x ∷ objects) o
     here f true t k = (x, inl refl, f, Includes-of (references x.entries) o t)
     here f false t k = let none = no_times o (references x.entries) (λ m. let no : true ≡ false = sym (includes-of (references x.entries) o m) ∙ t in cc) in rest (omega (arith, all, none, k))
 
-    go : (b : Bool) → p x ≡ b → occurrences o (entry_holdings (graph_of (cond b (x ∷ filter p objects) (filter p objects)))) < occurrences o (entry_holdings (graph_of (x ∷ objects))) → HasOutside p (x ∷ objects) o
+    go : (b : Bool) → p x ≡ b → occurrences o (entry_holdings (graph_of (cond b (x ∷ filter p objects) (filter p objects)))) < occurrences o
+        (entry_holdings (graph_of (x ∷ objects))) → HasOutside p (x ∷ objects) o
     go true t k = let some = occurrences-append o (references x.entries) (entry_holdings (graph_of (filter p objects))) in rest (omega (arith, all, some, k))
     go false t k = here t (includes (references x.entries) o) refl k
 
-pub some_outside : (p : Object → Bool) (objects : List Object) (o : ℕ) → occurrences o (entry_holdings (graph_of (filter p objects))) < occurrences o (entry_holdings (graph_of objects)) → (y : Object) × Includes objects y × (p y ≡ false) × Includes (references y.entries) o
+pub some_outside : (p : Object → Bool) (objects : List Object) (o : ℕ) → occurrences o (entry_holdings (graph_of (filter p objects))) < occurrences o
+    (entry_holdings (graph_of objects)) → (y : Object) × Includes objects y × (p y ≡ false) × Includes (references y.entries) o
 some_outside p [] o less = absurd (omega (arith, less))
 some_outside p (x ∷ objects) o less = outside_step p x objects o (some_outside p objects o) less
 
@@ -99,7 +108,8 @@ module _ (w : World) (rises : Rises 1 w.next_serial w.objects) (near : (x : Obje
   abbrev members : List Object
   members = objects_at now.objects (Gen 2)
 
-  parts : (o : ℕ) → occurrences o (holdings w) ≡ occurrences o (name_holdings w.names) + occurrences o (1 ∷ []) + occurrences o (entry_holdings (graph_of w.objects)) + occurrences o (flat_map holds w.stack)
+  parts : (o : ℕ) → occurrences o (holdings w) ≡ occurrences o (name_holdings w.names) + occurrences o (1 ∷ []) + occurrences o
+      (entry_holdings (graph_of w.objects)) + occurrences o (flat_map holds w.stack)
   parts o = let a = occurrences-append o (name_holdings w.names ++ (1 ∷ []) ++ entry_holdings (graph_of w.objects)) (flat_map holds w.stack) in
       let b = occurrences-append o (name_holdings w.names ++ (1 ∷ [])) (entry_holdings (graph_of w.objects)) in
       let c = occurrences-append o (name_holdings w.names) (1 ∷ []) in omega (arith, a, b, c)
@@ -121,7 +131,8 @@ module _ (w : World) (rises : Rises 1 w.next_serial w.objects) (near : (x : Obje
       let at = Includes-filter_cases (is_at (Gen 2)) now.objects z.0 z.1 in
       let y = Includes-map_cases (in_merge 2) w.objects z.0 at.0 in
       let same : y.0 ≡ x = same_object 1 w.next_serial w.objects y.0 x rises y.1 i (ap (λ (q : Object). q.serial) y.2 ∙ z.2 ∙ sym s) in
-      let standing : same_place (merged_place 2 x.place) (Gen 2) ≡ true = subst (λ (q : Object). same_place (merged_place 2 q.place) (Gen 2) ≡ true) same (subst (λ (q : Object). is_at (Gen 2) q ≡ true) (sym y.2) at.1) in
+      let standing : same_place (merged_place 2 x.place) (Gen 2) ≡ true = subst (λ (q : Object). same_place (merged_place 2 q.place) (Gen 2) ≡ true) same
+      (subst (λ (q : Object). is_at (Gen 2) q ≡ true) (sym y.2) at.1) in
       let no : false ≡ true = sym (ap (λ p. same_place (merged_place 2 p) (Gen 2)) u) ∙ standing in cc
 
   pub member_lives : (o : ℕ) → IsMemberOf now (Gen 2) o → Includes (serials w.objects) o
@@ -132,7 +143,8 @@ module _ (w : World) (rises : Rises 1 w.next_serial w.objects) (near : (x : Obje
 
   -- held by a name, the garbage root or an activity
   held_first : (o : ℕ) → Includes (flat_map holds w.stack) o → IsMemberOf now (Gen 2) o → Survives now (Gen 2) o
-  held_first o k m = let more = present o (flat_map holds w.stack) k in let less = less_held (is_at (Gen 2)) now.objects o in first (omega (arith, more, less, same_entries o, count_holdings o, parts o)) m
+  held_first o k m = let more = present o (flat_map holds w.stack) k in let less = less_held (is_at (Gen 2)) now.objects o
+      in first (omega (arith, more, less, same_entries o, count_holdings o, parts o)) m
 
   -- what is reachable survives
   module _ (faded : (d : Death) → Includes w.stack (Dying d) → runs_own_frame d.phase ≡ false → (x : Object) → Includes w.objects x → x.serial ≡ d.object → x.place ≡ Untracked) where
@@ -156,7 +168,8 @@ module _ (w : World) (rises : Rises 1 w.next_serial w.objects) (near : (x : Obje
             further (before member) (subst (λ n. Includes (edges (graph_of members)) (edge n q)) s (edge_of members (in_merge 2 y) q at r)) m
 
     pub reached_survives : (o : ℕ) → IsReached w o → IsMemberOf now (Gen 2) o → Survives now (Gen 2) o
-    reached_survives o (first held inside) m = either held (dying_survives o m) (λ more. let less = less_held (is_at (Gen 2)) now.objects o in first (omega (arith, more, less, same_entries o, count_holdings o)) m)
+    reached_survives o (first held inside) m = either held (dying_survives o m) (λ more. let less = less_held (is_at (Gen 2)) now.objects o
+        in first (omega (arith, more, less, same_entries o, count_holdings o)) m)
     reached_survives o (further path arrow inside) m = next_one _ o (λ k. reached_survives _ path k) arrow m
 
   -- and what survives is reachable
@@ -191,7 +204,8 @@ module _ (w : World) (rises : Rises 1 w.next_serial w.objects) (near : (x : Obje
             let none = no_times o others (λ k. let no : true ≡ false = sym (includes-of others o k) ∙ f in cc) in
             let y = some_outside (is_at (Gen 2)) now.objects o (omega (arith, less, none, sum, same_entries o, count_holdings o, parts o)) in
             let x = Includes-map_cases (in_merge 2) w.objects y.0 y.1 in
-            by_untracked x.0 o x.1 (either (near x.0 x.1) (λ u. u) (λ t. absurd (let no : true ≡ false = sym t ∙ ap (is_at (Gen 2)) x.2 ∙ y.2 in cc))) (subst (λ (q : Object). Includes (references q.entries) o) (sym x.2) y.3) m
+            by_untracked x.0 o x.1 (either (near x.0 x.1) (λ u. u) (λ t. absurd (let no : true ≡ false = sym t ∙ ap (is_at (Gen 2)) x.2 ∙ y.2 in cc)))
+            (subst (λ (q : Object). Includes (references q.entries) o) (sym x.2) y.3) m
 
     next_back : (p q : ℕ) → IsReached w p → Includes (edges (graph_of members)) (edge p q) → IsMemberOf now (Gen 2) q → IsReached w q
     next_back p q path arrow m =

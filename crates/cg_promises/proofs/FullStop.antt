@@ -40,23 +40,32 @@ quiet_lines before after top lines on (Frees o dies gone) = one_event (Free o) r
 
 advance_quiet : (script : Script) (v : World) (top : Activity) (below : List Activity) (lines : List Event) (after : World) → (IsEnding top → ⊥) → Advance script v top below lines after → NoStop lines
 advance_quiet script v top below lines after on (Plainly tops objects numbers ls t c n shown) = quiet_lines v.objects objects top ls on shown
-advance_quiet script v top below lines after on (WithFrame spec a objects s c held m) = starts_either (λ es w. NoStop es) script spec (record v { objects = objects; stack = a ∷ below }) (one_event BudgetSpent refl) (λ some. one_event (Enter spec.sort spec.subject) refl)
+advance_quiet script v top below lines after on (WithFrame spec a objects s c held m) = starts_either (λ es w. NoStop es) script spec
+    (record v { objects = objects; stack = a ∷ below }) (one_event BudgetSpent refl) (λ some. one_event (Enter spec.sort spec.subject) refl)
 
 at_end : (phase : CollectPhase) → (phase ≡ Ending) ⊎ (phase ≢ Ending)
 at_end Ending = inl refl
 at_end phase = inr (λ e. cc)
 
-pub phase_quiet : (script : Script) (c : Collection) (below : List Activity) (v : World) (events : List Event) (after : World) → PhaseStep script c c.phase below (with_stack (Collecting c ∷ below) v) events after → (c.phase ≡ Ending) ⊎ NoStop events
-phase_quiet script c below v events after step = either (at_end c.phase) (λ e. inl e) (λ on. inr (advance_quiet script v (Collecting c) below events after on (phase_advances script c below v c.phase events after step)))
+pub phase_quiet : (script : Script) (c : Collection) (below : List Activity) (v : World) (events : List Event) (after : World) → PhaseStep script c c.phase
+    below (with_stack (Collecting c ∷ below) v) events after → (c.phase ≡ Ending) ⊎ NoStop events
+phase_quiet script c below v events after step = either (at_end c.phase) (λ e. inl e) (λ on. inr (advance_quiet script v (Collecting c) below events after on
+    (phase_advances script c below v c.phase events after step)))
 
-pub stop_ends : (script : Script) (kept : ℕ → Type 0) (v : World) (below : List Activity) (events : List Event) (after : World) (tops : List Activity) (c : Collection) → ((a : Activity) → Includes tops a → IsBare kept a) → c.phase ≢ Start → 0 < count_by is_stop events
+pub stop_ends : (script : Script) (kept : ℕ → Type 0) (v : World) (below : List Activity) (events : List Event) (after : World) (tops : List Activity)
+    (c : Collection) → ((a : Activity) → Includes tops a → IsBare kept a) → c.phase ≢ Start → 0 < count_by is_stop events
     → StepOf script (with_stack (tops ++ Collecting c ∷ below) v) (tops ++ Collecting c ∷ below) events after → (tops ≡ []) × (c.phase ≡ Ending)
-stop_ends script kept v below events after [] c bare begun more step = either (phase_quiet script c below v events after step) (λ e. (refl, e)) (λ q. absurd (let none = none_stops events q in omega (arith, none, more)))
+stop_ends script kept v below events after [] c bare begun more step = either (phase_quiet script c below v events after step) (λ e. (refl, e))
+    (λ q. absurd (let none = none_stops events q in omega (arith, none, more)))
 stop_ends script kept v below events after (TopLevel commands ∷ tops) c bare begun more step = absurd (bare (TopLevel commands) (inl refl))
 stop_ends script kept v below events after (Framed f ∷ tops) c bare begun more step = absurd (bare (Framed f) (inl refl))
 stop_ends script kept v below events after (ShuttingDown started ∷ tops) c bare begun more step = absurd (bare (ShuttingDown started) (inl refl))
-stop_ends script kept v below events after (Releasing refs ∷ tops) c bare begun more step = absurd (let none = none_stops events (subst NoStop (sym step.0) (advance_quiet script v (Releasing refs) (tops ++ Collecting c ∷ below) _ _ (λ k. k) (released_advances script refs (tops ++ Collecting c ∷ below) v))) in omega (arith, none, more))
-stop_ends script kept v below events after (Dying d ∷ tops) c bare begun more step = absurd (let none = none_stops events (subst NoStop (sym step.0) (advance_quiet script v (Dying d) (tops ++ Collecting c ∷ below) _ _ (λ k. k) (dying_advances script d.object (tops ++ Collecting c ∷ below) v d.phase))) in omega (arith, none, more))
+stop_ends script kept v below events after (Releasing refs ∷ tops) c bare begun more step =
+    absurd (let none = none_stops events (subst NoStop (sym step.0) (advance_quiet script v (Releasing refs) (tops ++ Collecting c ∷ below) _ _ (λ k. k)
+    (released_advances script refs (tops ++ Collecting c ∷ below) v))) in omega (arith, none, more))
+stop_ends script kept v below events after (Dying d ∷ tops) c bare begun more step =
+    absurd (let none = none_stops events (subst NoStop (sym step.0) (advance_quiet script v (Dying d) (tops ++ Collecting c ∷ below) _ _ (λ k. k)
+    (dying_advances script d.object (tops ++ Collecting c ∷ below) v d.phase))) in omega (arith, none, more))
 stop_ends script kept v below events after (Collecting e ∷ tops) c bare begun more step = absurd (bare (Collecting e) (inl refl))
 
 -- What the end does: only the garbage list gets references, and objects move.
@@ -66,7 +75,9 @@ Grows before after = (x : Object) → Includes before x → (y : Object) × Incl
 pub grows_trans : (before now after : List Object) → Grows before now → Grows now after → Grows before after
 grows_trans before now after h k x m = let y = h x m in let z = k y.0 y.1 in (z.0, z.1, z.2 ∙ y.2, λ o i. z.3 o (y.3 o i))
 
-pub test_grows : (f : Object → Object) (test : Object → Bool) (objects : List Object) → ((x : Object) → (f x).serial ≡ x.serial) → ((x : Object) (o : ℕ) → Includes (references x.entries) o → Includes (references (f x).entries) o) → Grows objects (map (λ x. if test x then f x else x) objects)
+pub test_grows : (f : Object → Object) (test : Object → Bool) (objects : List Object) → ((x : Object) → (f x).serial ≡ x.serial)
+    → ((x : Object) (o : ℕ) → Includes (references x.entries) o → Includes (references (f x).entries) o)
+    → Grows objects (map (λ x. if test x then f x else x) objects)
 test_grows f test objects serial more x m = (if test x then f x else x, Includes-map (λ x. if test x then f x else x) objects x m, same (test x), longer (test x))
   where
     same : (b : Bool) → (if b then f x else x).serial ≡ x.serial
@@ -79,12 +90,16 @@ test_grows f test objects serial more x m = (if test x then f x else x, Includes
 
 pub all_saved_grow : (keeps : List ℕ) (objects : List Object) → Grows objects (all_saved keeps objects)
 all_saved_grow [] objects = λ x m. (x, m, refl, λ o i. i)
-all_saved_grow (o ∷ keeps) objects = grows_trans objects (saved o objects) (all_saved keeps (saved o objects)) (test_grows (λ x. with_entries (x.entries ++ item (Ref o) ∷ []) x) (λ x. x.serial == 1) objects (λ x. refl) (λ x r i. appended x.entries (item (Ref o) ∷ []) r i)) (all_saved_grow keeps (saved o objects))
+all_saved_grow (o ∷ keeps) objects = grows_trans objects (saved o objects) (all_saved keeps (saved o objects))
+    (test_grows (λ x. with_entries (x.entries ++ item (Ref o) ∷ []) x) (λ x. x.serial == 1) objects (λ x. refl) (λ x r i. appended x.entries (item (Ref o) ∷ [])
+    r i)) (all_saved_grow keeps (saved o objects))
 
 -- what is reachable before the end is reachable after it
-pub end_reached : (script : Script) (c : Collection) (below : List Activity) (w : World) (events : List Event) (after : World) → w.stack ≡ Collecting c ∷ below → c.phase ≡ Ending → EndStep script c below w events after → (o : ℕ) → IsReached w o → IsReached after o
+pub end_reached : (script : Script) (c : Collection) (below : List Activity) (w : World) (events : List Event) (after : World) → w.stack ≡ Collecting c ∷ below
+    → c.phase ≡ Ending → EndStep script c below w events after → (o : ℕ) → IsReached w o → IsReached after o
 end_reached script c below w events after top phase step = reached_lasts w after
     (λ o r. subst (λ (u : World). IsRoot u.names u.stack o) (sym step.world) (root_down w.names c below o (ap collect_holds phase) (subst (λ st. IsRoot w.names st o) top r)))
     (λ x m path. subst (λ (u : World). (y : Object) × Includes u.objects y × (y.serial ≡ x.serial) × ((o : ℕ) → Includes (references x.entries) o → Includes (references y.entries) o)) (sym step.world)
-    (grows_trans w.objects (all_saved step.keeps w.objects) (map (λ z. if is_at Legacy z then with_place (Gen (older c.generation)) z else z) (all_saved step.keeps w.objects)) (all_saved_grow step.keeps w.objects)
+    (grows_trans w.objects (all_saved step.keeps w.objects) (map (λ z. if is_at Legacy z then with_place (Gen (older c.generation)) z else z)
+    (all_saved step.keeps w.objects)) (all_saved_grow step.keeps w.objects)
     (test_grows (with_place (Gen (older c.generation))) (is_at Legacy) (all_saved step.keeps w.objects) (λ z. refl) (λ z o i. i)) x m))

@@ -35,7 +35,8 @@ IsYoungWorld w = Young w.objects w.stack
 pub map_young : (f : Object → Object) (objects : List Object) → ((x : Object) → Includes objects x → IsYoung x.place → IsYoung (f x).place) → AreYoung objects → AreYoung (map f objects)
 map_young f objects h young y m = let x = Includes-map_cases f objects y m in subst (λ (z : Object). IsYoung z.place) x.2 (h x.0 x.1 (young x.0 x.1))
 
-pub test_young : (f : Object → Object) (test : Object → Bool) (objects : List Object) → ((x : Object) → Includes objects x → test x ≡ true → IsYoung x.place → IsYoung (f x).place) → AreYoung objects → AreYoung (map (λ x. if test x then f x else x) objects)
+pub test_young : (f : Object → Object) (test : Object → Bool) (objects : List Object) → ((x : Object) → Includes objects x → test x ≡ true → IsYoung x.place
+    → IsYoung (f x).place) → AreYoung objects → AreYoung (map (λ x. if test x then f x else x) objects)
 test_young f test objects h young = map_young (λ x. if test x then f x else x) objects (λ x m k. one (test x) x refl m k) young
   where
     one : (b : Bool) (x : Object) → test x ≡ b → Includes objects x → IsYoung x.place → IsYoung (if b then f x else x).place
@@ -48,11 +49,13 @@ entries_young es o objects h = test_young (with_entries es) (λ x. x.serial == o
 pub push_young : (a : Activity) (stack : List Activity) (objects : List Object) → ((c : Collection) → a ≡ Collecting c → c.generation ≤ 2) → Young objects stack → Young objects (a ∷ stack)
 push_young a stack objects age h = record { places = h.places; ages = λ c m. either m (age c) (h.ages c) }
 
-pub turn_young : (a b : Activity) (below : List Activity) (before after : List Object) → AreYoung after → ((c : Collection) → b ≡ Collecting c → c.generation ≤ 2) → Young before (a ∷ below) → Young after (b ∷ below)
+pub turn_young : (a b : Activity) (below : List Activity) (before after : List Object) → AreYoung after → ((c : Collection) → b ≡ Collecting c
+    → c.generation ≤ 2) → Young before (a ∷ below) → Young after (b ∷ below)
 turn_young a b below before after young age h = record { places = young; ages = λ c m. either m (age c) (λ k. h.ages c (inr k)) }
 
 pub starts_young : (script : Script) (spec : FrameSpec) (u : World) → IsYoungWorld u → IsYoungWorld (start_frame script spec u).1
-starts_young script spec u h = starts_either (λ lines. IsYoungWorld) script spec u (record { places = h.places; ages = h.ages }) (λ some. push_young (begun_frame script spec) u.stack u.objects (λ c e. cc) h)
+starts_young script spec u h = starts_either (λ lines. IsYoungWorld) script spec u (record { places = h.places; ages = h.ages })
+    (λ some. push_young (begun_frame script spec) u.stack u.objects (λ c e. cc) h)
 
 -- where another activity's step moves objects
 place_young : (g : ℕ) (p : Place) → g ≤ 2 → IsPlaceIn g p → IsYoung p
@@ -74,7 +77,8 @@ module _ (top : Activity) (age : (c : Collection) → top ≡ Collecting c → c
   changed_young tops lines before after (LosesObject o objects owns line) h = λ x m. h x (Includes-filter_cases (λ (z : Object). not (z.serial == o)) objects x m).0
   changed_young tops lines before after (Followed first now last c d) h = changed_young tops lines now last d (changed_young tops lines first now c h)
 
-continues_young : (before after : List Object) (top a : Activity) → ((c : Collection) → top ≡ Collecting c → c.generation ≤ 2) → Continues before after top a → (c : Collection) → a ≡ Collecting c → c.generation ≤ 2
+continues_young : (before after : List Object) (top a : Activity) → ((c : Collection) → top ≡ Collecting c → c.generation ≤ 2) → Continues before after top a
+    → (c : Collection) → a ≡ Collecting c → c.generation ≤ 2
 continues_young before after top a age (DeathGoesOn o phase next waits none) c e = cc
 continues_young before after top a age (DeathClears o weak waiting weaks t first lost) c e = cc
 continues_young before after top a age (CollectionGoesOn b d same begun early) c e = let is : d.generation ≡ c.generation = cc in subst (λ n. n ≤ 2) (sym same ∙ is) (age b refl)
@@ -83,10 +87,16 @@ tops_young : (before after : List Object) (top : Activity) (tops below : List Ac
 tops_young before after top tops below (TopEnds a gone) young h = record { places = young; ages = λ c m. h.ages c (inr m) }
 tops_young before after top tops below (GivesFunction f references few) young h = turn_young top (Releasing references) below before after young (λ c e. cc) h
 tops_young before after top tops below (GivesReference o references) young h = turn_young top (Releasing references) below before after young (λ c e. cc) h
-tops_young before after top tops below (BeginsDeath o references) young h = push_young (Dying (record { object = o; phase = Finalizer })) (Releasing references ∷ below) after (λ c e. cc) (turn_young top (Releasing references) below before after young (λ c e. cc) h)
+tops_young before after top tops below (BeginsDeath o references) young h = push_young (Dying (record { object = o; phase = Finalizer })) (Releasing references
+    ∷ below) after (λ c e. cc) (turn_young top (Releasing references) below before after young (λ c e. cc) h)
 tops_young before after top tops below (TopGoesOn t a c held) young h = turn_young t a below before after young (continues_young before after t a (λ d e. h.ages d (inl e)) c) h
-tops_young before after top tops below (GivesReferences t a references few c held) young h = push_young (Releasing references) (a ∷ below) after (λ d e. cc) (turn_young t a below before after young (continues_young before after t a (λ d e. h.ages d (inl e)) c) h)
+tops_young before after top tops below (GivesReferences t a references few c held) young h = push_young (Releasing references) (a ∷ below) after (λ d e. cc)
+    (turn_young t a below before after young (continues_young before after t a (λ d e. h.ages d (inl e)) c) h)
 
-pub advance_young : (script : Script) (top : Activity) (below : List Activity) (v : World) (lines : List Event) (after : World) → Advance script v top below lines after → IsYoungWorld (on top below v) → IsYoungWorld after
-advance_young script top below v lines after (Plainly tops objects numbers ls t c n none) h = tops_young v.objects objects top tops below t (changed_young top (λ d e. h.ages d (inl e)) tops ls v.objects objects c h.places) h
-advance_young script top below v lines after (WithFrame spec a objects s c held m) h = starts_young script spec (record v { objects = objects; stack = a ∷ below }) (tops_young v.objects objects top (a ∷ []) below (TopGoesOn top a c held) (changed_young top (λ d e. h.ages d (inl e)) [] [] v.objects objects m h.places) h)
+pub advance_young : (script : Script) (top : Activity) (below : List Activity) (v : World) (lines : List Event) (after : World) → Advance script v top below
+    lines after → IsYoungWorld (on top below v) → IsYoungWorld after
+advance_young script top below v lines after (Plainly tops objects numbers ls t c n none) h = tops_young v.objects objects top tops below t
+    (changed_young top (λ d e. h.ages d (inl e)) tops ls v.objects objects c h.places) h
+advance_young script top below v lines after (WithFrame spec a objects s c held m) h =
+    starts_young script spec (record v { objects = objects; stack = a ∷ below }) (tops_young v.objects objects top (a ∷ []) below (TopGoesOn top a c held)
+    (changed_young top (λ d e. h.ages d (inl e)) [] [] v.objects objects m h.places) h)

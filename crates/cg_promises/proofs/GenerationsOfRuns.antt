@@ -79,7 +79,8 @@ module _ (w : World) (h : AreYoung w.objects) where
   Ages Quits = Unit {0}
 
   put_young : (x : Object) (key v : Val) → AreYoung (with_change (λ y. tracked_by w key v (with_entries (put x.entries key v) y)) x.serial w).objects
-  put_young x key v = test_young (λ y. tracked_by w key v (with_entries (put x.entries key v) y)) (λ z. z.serial == x.serial) w.objects (λ y m t k. go (is_dict y && not (is_tracked y) && (may_track w key || may_track w v)) (with_entries (put x.entries key v) y) k) h
+  put_young x key v = test_young (λ y. tracked_by w key v (with_entries (put x.entries key v) y)) (λ z. z.serial == x.serial) w.objects
+      (λ y m t k. go (is_dict y && not (is_tracked y) && (may_track w key || may_track w v)) (with_entries (put x.entries key v) y) k) h
     where
       go : (b : Bool) (y : Object) → IsYoung y.place → IsYoung (if b then with_place (Gen 0) y else y).place
       go true y k = omega arith
@@ -87,7 +88,8 @@ module _ (w : World) (h : AreYoung w.objects) where
 
   shape_young : (command : Command) (e : Effect) → Shape w command e → Ages e
   shape_young command e (Binds name v own hand) = h
-  shape_young command e (Makes name kind class entries referent own parts) = λ y m. either (Includes-append_cases w.objects _ y m) (h y) (λ k. either k (λ i. subst (λ (z : Object). IsYoung z.place) i (first_young kind)) (λ no. absurd no))
+  shape_young command e (Makes name kind class entries referent own parts) = λ y m. either (Includes-append_cases w.objects _ y m) (h y)
+      (λ k. either k (λ i. subst (λ (z : Object). IsYoung z.place) i (first_young kind)) (λ no. absurd no))
   shape_young command e (Edits wants x entries given k mutable edit) = entries_young entries x.serial w.objects h
   shape_young command e (Puts x key v k mutable hand_key hand room) = put_young x key v
   shape_young command e (Shows v hand) = h
@@ -124,7 +126,8 @@ module _ (script : Script) (below : List Activity) (v : World) where
     stays = λ lines answers. h;
     stops = λ lines answers. emptied_young a ha h;
     changes = λ wants_memory lines given_up after shape. push_young (Releasing given_up) after.stack after.objects (λ c e. cc)
-        (subst (Young after.objects) (sym (changes_leave (on a below v) command wants_memory lines given_up after shape).stack) (record { places = shape_young (on a below v) h.places command (Changes wants_memory lines given_up after) shape; ages = h.ages }));
+        (subst (Young after.objects) (sym (changes_leave (on a below v) command wants_memory lines given_up after shape).stack)
+        (record { places = shape_young (on a below v) h.places command (Changes wants_memory lines given_up after) shape; ages = h.ages }));
     calls = λ f k. starts_young script (record { sort = Call; proc = procedure_of (on a below v) f.serial; subject = f.serial; func = Some f.serial }) (on a below v) h;
     asks = λ g low e. begun_young a g true low h;
   }
@@ -134,8 +137,10 @@ young_steps script = record {
   starts_due = λ a below v ha g e k. begun_young script below v a g false (due_is_young (on a below v) g e) k;
   ends = λ a lines below v last k. record { places = k.places; ages = k.ages };
   shuts_down = λ below v k. turn_young (TopLevel []) (ShuttingDown false) below v.objects v.objects k.places (λ c e. cc) k;
-  gives_up = λ name below v e k. (command_young script below v (on (ShuttingDown false) below v) (Del name) (ShuttingDown false) tt k).changes false [] _ _ (del_shaped (on (ShuttingDown false) below v) name);
-  collects_last = λ below v k. begun_young script below v (ShuttingDown true) 2 false (omega arith) (turn_young (ShuttingDown false) (ShuttingDown true) below v.objects v.objects k.places (λ c e. cc) k);
+  gives_up = λ name below v e k. (command_young script below v (on (ShuttingDown false) below v) (Del name) (ShuttingDown false) tt k).changes false [] _ _
+      (del_shaped (on (ShuttingDown false) below v) name);
+  collects_last = λ below v k. begun_young script below v (ShuttingDown true) 2 false (omega arith) (turn_young (ShuttingDown false) (ShuttingDown true) below
+      v.objects v.objects k.places (λ c e. cc) k);
   commands = λ command a b below v takes hb k. command_young script below v (on a below v) command b hb (taken_young script below v command a b takes k);
   frame_ends = λ f below v left k. advance_young script (Framed f) below v _ _ (frame_end_advances script f below v) k;
   releases = λ references below v k. advance_young script (Releasing references) below v _ _ (released_advances script references below v) k;

@@ -90,7 +90,11 @@ pub record IsPlainly (f : Object → Object) : Type 0 where
 
 pub plain_keeps : (f : Object → Object) (test : Object → Bool) (objects : List Object) → IsPlainly f → Keeps objects (map (λ x. if test x then f x else x) objects) []
 plain_keeps f test objects h = test_keeps f test objects [] h.marks (λ x m t n k. inl (subst (λ es. Includes (references es) n) (sym (h.entries x)) k))
-    (λ x m t s. (λ e. subst AtMostOne (sym (h.entries x)) (s.0 (sym (h.code x) ∙ e)), λ e n k. subst (λ i. n < i) (sym (h.marks x).serial) (s.1 (sym (h.code x) ∙ e) n (subst (λ es. Includes (references es) n) (h.entries x) k))))
+    (λ x m t s. (
+      λ e. subst AtMostOne (sym (h.entries x)) (s.0 (sym (h.code x) ∙ e)),
+      λ e n k. subst (λ i. n < i) (sym (h.marks x).serial)
+          (s.1 (sym (h.code x) ∙ e) n (subst (λ es. Includes (references es) n) (h.entries x) k)),
+    ))
 
 pub change_keeps : (f : Object → Object) (o : ℕ) (objects : List Object) → IsPlainly f → Keeps objects (change f o objects) []
 change_keeps f o objects h = plain_keeps f (λ x. x.serial == o) objects h
@@ -108,8 +112,10 @@ lost_keeps weak objects = change_keeps (with_referent None) weak objects lost
 abbrev pub Turned : Activity → Activity → List ℕ → Type 0
 Turned a b moved = ((n : ℕ) → Includes (holds a) n → Includes (holds b) n) × ((n : ℕ) → Includes moved n → Includes (holds b) n) × ((n : ℕ) → is_death_of n a ≡ is_death_of n b)
 
-pub stack_minded : (k : ℕ) (before after : List Object) (names : List (Option Val)) (from to : List Activity) (moved : List ℕ) → Keeps before after moved → ((n : ℕ) → Includes (flat_map holds from) n → Includes (flat_map holds to) n)
-    → ((n : ℕ) → Includes moved n → Includes (flat_map holds to) n) → ((n : ℕ) → list_any (is_death_of n) from ≡ true → list_any (is_death_of n) to ≡ true) → Minded k before names from → Minded k after names to
+pub stack_minded : (k : ℕ) (before after : List Object) (names : List (Option Val)) (from to : List Activity) (moved : List ℕ) → Keeps before after moved
+    → ((n : ℕ) → Includes (flat_map holds from) n → Includes (flat_map holds to) n)
+    → ((n : ℕ) → Includes moved n → Includes (flat_map holds to) n) → ((n : ℕ) → list_any (is_death_of n) from ≡ true → list_any (is_death_of n) to ≡ true)
+    → Minded k before names from → Minded k after names to
 stack_minded k before after names from to moved keeps held given deaths h = record {
   minds = λ n m free. deaths n (h.minds n (old_lives before after keeps.old n m) (record {
     names_none = free.names_none;
@@ -121,18 +127,22 @@ stack_minded k before after names from to moved keeps held given deaths h = reco
   count = h.count;
 }
 
-pub turn_minded : (k : ℕ) (a b : Activity) (below : List Activity) (before after : List Object) (names : List (Option Val)) (moved : List ℕ) → Keeps before after moved → Turned a b moved → Minded k before names (a ∷ below) → Minded k after names (b ∷ below)
+pub turn_minded : (k : ℕ) (a b : Activity) (below : List Activity) (before after : List Object) (names : List (Option Val)) (moved : List ℕ)
+    → Keeps before after moved → Turned a b moved → Minded k before names (a ∷ below) → Minded k after names (b ∷ below)
 turn_minded k a b below before after names moved keeps t h = stack_minded k before after names (a ∷ below) (b ∷ below) moved keeps
-    (λ n m. either (Includes-append_cases (holds a) (flat_map holds below) n m) (λ i. Includes-append_left (holds b) (flat_map holds below) n (t.0 n i)) (λ i. Includes-append_right (holds b) (flat_map holds below) n i))
+    (λ n m. either (Includes-append_cases (holds a) (flat_map holds below) n m) (λ i. Includes-append_left (holds b) (flat_map holds below) n (t.0 n i))
+    (λ i. Includes-append_right (holds b) (flat_map holds below) n i))
     (λ n m. Includes-append_left (holds b) (flat_map holds below) n (t.1 n m))
     (λ n e. subst (λ d. (d || list_any (is_death_of n) below) ≡ true) (t.2 n) e) h
 
 -- some references move to a release on top
 pub give_minded : (k : ℕ) (references : List ℕ) (a b : Activity) (below : List Activity) (before after : List Object) (names : List (Option Val)) (moved : List ℕ) → Keeps before after moved
-    → ((n : ℕ) → Includes (holds a) n → Includes references n ⊎ Includes (holds b) n) → ((n : ℕ) → Includes moved n → Includes references n ⊎ Includes (holds b) n) → ((n : ℕ) → is_death_of n a ≡ is_death_of n b)
+    → ((n : ℕ) → Includes (holds a) n → Includes references n ⊎ Includes (holds b) n) → ((n : ℕ) → Includes moved n → Includes references n
+    ⊎ Includes (holds b) n) → ((n : ℕ) → is_death_of n a ≡ is_death_of n b)
     → Minded k before names (a ∷ below) → Minded k after names (Releasing references ∷ b ∷ below)
 give_minded k refs a b below before after names moved keeps held given deaths h = stack_minded k before after names (a ∷ below) (Releasing refs ∷ b ∷ below) moved keeps
-    (λ n m. either (Includes-append_cases (holds a) (flat_map holds below) n m) (λ i. placed_in n (held n i)) (λ i. Includes-append_right refs (holds b ++ flat_map holds below) n (Includes-append_right (holds b) (flat_map holds below) n i)))
+    (λ n m. either (Includes-append_cases (holds a) (flat_map holds below) n m) (λ i. placed_in n (held n i))
+    (λ i. Includes-append_right refs (holds b ++ flat_map holds below) n (Includes-append_right (holds b) (flat_map holds below) n i)))
     (λ n m. placed_in n (given n m))
     (λ n e. subst (λ d. (d || list_any (is_death_of n) below) ≡ true) (deaths n) e) h
   where
@@ -141,20 +151,24 @@ give_minded k refs a b below before after names moved keeps held given deaths h 
     placed_in n (inr i) = Includes-append_right refs (holds b ++ flat_map holds below) n (Includes-append_left (holds b) (flat_map holds below) n i)
 
 -- an activity that holds nothing and is no death ends
-pub end_minded : (k : ℕ) (a : Activity) (below : List Activity) (before after : List Object) (names : List (Option Val)) → Keeps before after [] → holds a ≡ [] → ((n : ℕ) → is_death_of n a ≡ false) → Minded k before names (a ∷ below) → Minded k after names below
+pub end_minded : (k : ℕ) (a : Activity) (below : List Activity) (before after : List Object) (names : List (Option Val)) → Keeps before after [] → holds a ≡ []
+    → ((n : ℕ) → is_death_of n a ≡ false) → Minded k before names (a ∷ below) → Minded k after names below
 end_minded k a below before after names keeps none deaths h = stack_minded k before after names (a ∷ below) below [] keeps
     (λ n m. subst (λ hs. Includes (hs ++ flat_map holds below) n) none m) (λ n m. absurd m) (λ n e. subst (λ d. (d || list_any (is_death_of n) below) ≡ true) (deaths n) e) h
 
-pub push_minded : (k : ℕ) (a : Activity) (objects : List Object) (names : List (Option Val)) (stack : List Activity) → ((n : ℕ) → is_death_of n a ≡ false) → Minded k objects names stack → Minded k objects names (a ∷ stack)
+pub push_minded : (k : ℕ) (a : Activity) (objects : List Object) (names : List (Option Val)) (stack : List Activity) → ((n : ℕ) → is_death_of n a ≡ false)
+    → Minded k objects names stack → Minded k objects names (a ∷ stack)
 push_minded k a objects names stack deaths h = stack_minded k objects objects names stack (a ∷ stack) [] (keeps_same objects)
     (λ n m. Includes-append_right (holds a) (flat_map holds stack) n m) (λ n m. absurd m) (λ n e. subst (λ d. (d || list_any (is_death_of n) stack) ≡ true) (sym (deaths n)) e) h
 
 pub starts_minded : (k : ℕ) (script : Script) (spec : FrameSpec) (u : World) → IsMinded k u → IsMinded k (start_frame script spec u).1
-starts_minded k script spec u h = starts_either (λ lines. IsMinded k) script spec u (record { minds = h.minds; single = h.single; count = h.count }) (λ some. push_minded k (begun_frame script spec) u.objects u.names u.stack (λ n. refl) h)
+starts_minded k script spec u h = starts_either (λ lines. IsMinded k) script spec u (record { minds = h.minds; single = h.single; count = h.count })
+    (λ some. push_minded k (begun_frame script spec) u.objects u.names u.stack (λ n. refl) h)
 
 -- an object is unheld exactly if its in-degree is 0
 pub free_degree : (w : World) (o : ℕ) → IsFree w.objects w.names w.stack o → in_degree w o ≡ 0
-free_degree w o f = no_times o (holdings w) (λ m. either (Includes-append_cases (name_holdings w.names ++ (1 ∷ []) ++ entry_holdings (graph_of w.objects)) (flat_map holds w.stack) o m) front f.stack_none)
+free_degree w o f = no_times o (holdings w) (λ m. either (Includes-append_cases (name_holdings w.names ++ (1 ∷ []) ++ entry_holdings (graph_of w.objects))
+    (flat_map holds w.stack) o m) front f.stack_none)
   where
     named : ¬ Includes (name_holdings w.names ++ (1 ∷ [])) o
     named m = either (Includes-append_cases (name_holdings w.names) (1 ∷ []) o m) f.names_none (λ k. either k (λ e. f.root_not (sym e)) (λ no. no))

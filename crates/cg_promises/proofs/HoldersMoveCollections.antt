@@ -28,7 +28,8 @@ abbrev IsList : List Object → Type 0
 IsList objects = (x : Object) → Includes objects x → x.serial ≡ 1 → x.code ≡ ListKind
 
 saved_keeps : (o : ℕ) (objects : List Object) → IsList objects → Keeps objects (saved o objects) []
-saved_keeps o objects list = test_keeps (λ x. with_entries (x.entries ++ item (Ref o) ∷ []) x) (λ x. x.serial == 1) objects [] (λ x. record { serial = refl; code = refl; class = refl; finalized = λ e. e })
+saved_keeps o objects list = test_keeps (λ x. with_entries (x.entries ++ item (Ref o) ∷ []) x) (λ x. x.serial == 1) objects []
+    (λ x. record { serial = refl; code = refl; class = refl; finalized = λ e. e })
     (λ x m t n k. appended_goes x.entries (item (Ref o)) n k)
     (λ x m t s. (λ c. absurd (let no : ListKind ≡ Weak = sym (list x m (eqb-true x.serial 1 t)) ∙ c in cc), λ c. absurd (let no : ListKind ≡ Tuple = sym (list x m (eqb-true x.serial 1 t)) ∙ c in cc)))
 
@@ -36,7 +37,8 @@ marks : (top : Activity) (tops : List Activity) (lines : List Event) (x y : Obje
 marks top tops lines x y k = record { serial = k.later.serial; code = k.later.code; class = k.later.class; finalized = k.finalized }
 
 -- the objects change; no entries are taken
-changed_keeps : (top : Activity) (tops : List Activity) (lines : List Event) → ((s : ℕ) → ¬ Owns top s) → (before after : List Object) → HasChanged top tops lines before after → IsList before → Keeps before after []
+changed_keeps : (top : Activity) (tops : List Activity) (lines : List Event) → ((s : ℕ) → ¬ Owns top s) → (before after : List Object)
+    → HasChanged top tops lines before after → IsList before → Keeps before after []
 changed_keeps top tops lines none before after (NothingChanges objects) list = keeps_same objects
 changed_keeps top tops lines none before after (ChangesEach f test objects aside) list = record {
   old = record {
@@ -56,7 +58,8 @@ changed_keeps top tops lines none before after (LosesEntries es s objects owns f
 changed_keeps top tops lines none before after (GetsEntry o objects is) list = saved_keeps o objects list
 changed_keeps top tops lines none before after (LosesObject o objects owns line) list = absurd (none o owns)
 changed_keeps top tops lines none before after (Followed first now last h k) list =
-    keeps_trans first now last (changed_keeps top tops lines none first now h list) (changed_keeps top tops lines none now last k (λ y m e. let x = changed_origin top tops lines first now h y m in x.2.code ∙ list x.0 x.1 (sym x.2.serial ∙ e)))
+    keeps_trans first now last (changed_keeps top tops lines none first now h list) (changed_keeps top tops lines none now last k
+    (λ y m e. let x = changed_origin top tops lines first now h y m in x.2.code ∙ list x.0 x.1 (sym x.2.serial ∙ e)))
 
 -- a collection takes entries only in turns
 owns_none : (c : Collection) → ((o : ℕ) → c.phase ≢ Turn o) → (top : Activity) → top ≡ Collecting c → (s : ℕ) → ¬ Owns top s
@@ -79,26 +82,37 @@ module _ (script : Script) (k : ℕ) (c : Collection) (below : List Activity) (v
   same : Keeps v.objects v.objects []
   same = keeps_same v.objects
 
-  gives : (references : List ℕ) (phase next : CollectPhase) → ((n : ℕ) → Includes (collect_holds phase) n → Includes references n ⊎ Includes (collect_holds next) n) → IsMinded k (at phase) → Minded k v.objects v.names (Releasing references ∷ collecting c next ∷ below)
+  gives : (references : List ℕ) (phase next : CollectPhase) → ((n : ℕ) → Includes (collect_holds phase) n → Includes references n
+      ⊎ Includes (collect_holds next) n) → IsMinded k (at phase) → Minded k v.objects v.names (Releasing references ∷ collecting c next ∷ below)
   gives references phase next held h = give_minded k references (collecting c phase) (collecting c next) below v.objects v.objects v.names [] same held (λ n m. absurd m) (λ n. refl) h
 
   empties_minded : (o : ℕ) (m : Option Entry) → last_entry (entries_of v.objects o) ≡ m → IsMinded k (at (Turn o)) → IsMinded k (empties c o below (at (Turn o)) m).1
   empties_minded o None e h = gives (o ∷ []) (Turn o) (AfterTurn o) (λ n m. inl m) h
-  empties_minded o (Some entry) e h = give_minded k (entry_references entry) (collecting c (Turn o)) (collecting c (Turn o)) below v.objects (change (with_entries (without_last (entries_of v.objects o))) o v.objects) v.names (entry_references entry)
+  empties_minded o (Some entry) e h = give_minded k (entry_references entry) (collecting c (Turn o)) (collecting c (Turn o)) below v.objects
+      (change (with_entries (without_last (entries_of v.objects o))) o v.objects) v.names (entry_references entry)
       (shortened_keeps 1 v.next_serial v.objects o entry rises e) (λ n m. inr m) (λ n m. inl m) (λ n. refl) h
 
-  tops_minded : (objects : List Object) (d : Collection) (top : Activity) (tops : List Activity) → Tops v.objects objects top tops → top ≡ Collecting d → Keeps v.objects objects [] → IsMinded k (on (Collecting d) below v) → Minded k objects v.names (tops ++ below)
+  tops_minded : (objects : List Object) (d : Collection) (top : Activity) (tops : List Activity) → Tops v.objects objects top tops → top ≡ Collecting d
+      → Keeps v.objects objects [] → IsMinded k (on (Collecting d) below v) → Minded k objects v.names (tops ++ below)
   tops_minded objects d top tops (TopEnds a gone) is keeps h = end_minded k (Collecting d) below v.objects objects v.names keeps (subst HoldsNone is gone) (λ n. refl) h
   tops_minded objects d top tops (GivesFunction f references few) is keeps h = absurd (cc)
   tops_minded objects d top tops (GivesReference o references) is keeps h = absurd (cc)
   tops_minded objects d top tops (BeginsDeath o references) is keeps h = absurd (cc)
   tops_minded objects d top tops (TopGoesOn t a g held) is keeps h =
-      turn_minded k (Collecting d) a below v.objects objects v.names [] keeps (λ n m. either (subst (λ z. HoldsOn [] z a) is held n m) (λ none. absurd none) (λ i. i), λ n m. absurd m, no_death v.objects objects d t a g is) h
+      turn_minded k (Collecting d) a below v.objects objects v.names [] keeps (
+        λ n m. either (subst (λ z. HoldsOn [] z a) is held n m) (λ none. absurd none)
+            (λ i. i),
+        λ n m. absurd m,
+        no_death v.objects objects d t a g is,
+      ) h
   tops_minded objects d top tops (GivesReferences t a references few g held) is keeps h =
-      give_minded k references (Collecting d) a below v.objects objects v.names [] keeps (λ n m. subst (λ z. HoldsOn references z a) is held n m) (λ n m. absurd m) (no_death v.objects objects d t a g is) h
+      give_minded k references (Collecting d) a below v.objects objects v.names [] keeps (λ n m. subst (λ z. HoldsOn references z a) is held n m)
+      (λ n m. absurd m) (no_death v.objects objects d t a g is) h
 
-  advance_minded : (d : Collection) → ((o : ℕ) → d.phase ≢ Turn o) → (lines : List Event) (after : World) → Advance script v (Collecting d) below lines after → IsMinded k (on (Collecting d) below v) → IsMinded k after
-  advance_minded d other lines after (Plainly tops objects numbers ls t g n shown) h = tops_minded objects d (Collecting d) tops t refl (changed_keeps (Collecting d) tops ls (owns_none d other (Collecting d) refl) v.objects objects g list) h
+  advance_minded : (d : Collection) → ((o : ℕ) → d.phase ≢ Turn o) → (lines : List Event) (after : World) → Advance script v (Collecting d) below lines after
+      → IsMinded k (on (Collecting d) below v) → IsMinded k after
+  advance_minded d other lines after (Plainly tops objects numbers ls t g n shown) h = tops_minded objects d (Collecting d) tops t refl
+      (changed_keeps (Collecting d) tops ls (owns_none d other (Collecting d) refl) v.objects objects g list) h
   advance_minded d other lines after (WithFrame spec a objects s g held m) h = starts_minded k script spec (record v { objects = objects; stack = a ∷ below })
       (tops_minded objects d (Collecting d) (a ∷ []) (TopGoesOn (Collecting d) a g held) refl (changed_keeps (Collecting d) [] [] (owns_none d other (Collecting d) refl) v.objects objects m list) h)
 

@@ -26,10 +26,13 @@ use Rattle.cg_represents.proofs.Shapes.{IsAtHand, IsMutable, Shape, Binds, Makes
 use Rattle.cg_promises.proofs.FinalizerOnce.{Marks, map_old, old_lives}
 use Rattle.cg_promises.proofs.HoldersMove.{AreSingle, IsSingle, Keeps, keeps_same, test_keeps}
 
-bound_keeps : (names : List (Option Val)) (x : ℕ) (v : Option Val) (n : ℕ) → Includes (name_holdings names) n → Includes (name_holdings (slice_set names x v)) n ⊎ Includes (references_of_value (option_and_then (λ v. v) (slice_get names x))) n
+bound_keeps : (names : List (Option Val)) (x : ℕ) (v : Option Val) (n : ℕ) → Includes (name_holdings names) n → Includes (name_holdings (slice_set names x v)) n
+    ⊎ Includes (references_of_value (option_and_then (λ v. v) (slice_get names x))) n
 bound_keeps [] x v n m = absurd m
-bound_keeps (p ∷ names) zero v n m = either (Includes-append_cases (references_of_value p) (name_holdings names) n m) (λ k. inr k) (λ k. inl (Includes-append_right (references_of_value v) (name_holdings names) n k))
-bound_keeps (p ∷ names) (suc x) v n m = either (Includes-append_cases (references_of_value p) (name_holdings names) n m) (λ k. inl (Includes-append_left (references_of_value p) (name_holdings (slice_set names x v)) n k))
+bound_keeps (p ∷ names) zero v n m = either (Includes-append_cases (references_of_value p) (name_holdings names) n m) (λ k. inr k)
+    (λ k. inl (Includes-append_right (references_of_value v) (name_holdings names) n k))
+bound_keeps (p ∷ names) (suc x) v n m = either (Includes-append_cases (references_of_value p) (name_holdings names) n m)
+    (λ k. inl (Includes-append_left (references_of_value p) (name_holdings (slice_set names x v)) n k))
     (λ k. either (bound_keeps names x v n k) (λ i. inl (Includes-append_right (references_of_value p) (name_holdings (slice_set names x v)) n i)) (λ i. inr i))
 
 bound_count : (names : List (Option Val)) (x : ℕ) (v : Option Val) → length (slice_set names x v) ≡ length names
@@ -90,7 +93,8 @@ module _ (w : World) (rises : Rises 1 w.next_serial w.objects) where
   }
 
   -- the one object of a serial
-  one_keeps : (f : Object → Object) (x : Object) (given : List ℕ) → ((z : Object) → Marks z (f z)) → Includes w.objects x → IsApart x.code → ((z : Object) → (f z).code ≡ z.code) → ((n : ℕ) → Goes x.entries (f x).entries given n) → Keeps w.objects (change f x.serial w.objects) given
+  one_keeps : (f : Object → Object) (x : Object) (given : List ℕ) → ((z : Object) → Marks z (f z)) → Includes w.objects x → IsApart x.code
+      → ((z : Object) → (f z).code ≡ z.code) → ((n : ℕ) → Goes x.entries (f x).entries given n) → Keeps w.objects (change f x.serial w.objects) given
   one_keeps f x given marks m apart code goes = test_keeps f (λ z. z.serial == x.serial) w.objects given marks
       (λ z k t n i. let same : x ≡ z = is_x z k t in subst (λ (y : Object). Includes (references y.entries) n → Includes (references (f y).entries) n ⊎ Includes given n) same (goes n) i)
       (λ z k t s. (λ c. absurd (apart.0 (ap (λ (y : Object). y.code) (is_x z k t) ∙ sym (code z) ∙ c)), λ c. absurd (apart.1 (ap (λ (y : Object). y.code) (is_x z k t) ∙ sym (code z) ∙ c))))
@@ -98,8 +102,10 @@ module _ (w : World) (rises : Rises 1 w.next_serial w.objects) where
       is_x : (z : Object) → Includes w.objects z → (z.serial == x.serial) ≡ true → x ≡ z
       is_x z k t = sym (same_object 1 w.next_serial w.objects z x rises k m (eqb-true z.serial x.serial t))
 
-  sets_shift : (x : Object) (entries : List Entry) (given : List ℕ) → Includes w.objects x → IsApart x.code → ((n : ℕ) → Goes x.entries entries given n) → Shifts w given (with_change (with_entries entries) x.serial w)
-  sets_shift x entries given m apart goes = shifted (with_change (with_entries entries) x.serial w) given (one_keeps (with_entries entries) x given (λ z. record { serial = refl; code = refl; class = refl; finalized = λ e. e }) m apart (λ z. refl) goes) refl
+  sets_shift : (x : Object) (entries : List Entry) (given : List ℕ) → Includes w.objects x → IsApart x.code → ((n : ℕ) → Goes x.entries entries given n)
+      → Shifts w given (with_change (with_entries entries) x.serial w)
+  sets_shift x entries given m apart goes = shifted (with_change (with_entries entries) x.serial w) given (one_keeps (with_entries entries) x given
+      (λ z. record { serial = refl; code = refl; class = refl; finalized = λ e. e }) m apart (λ z. refl) goes) refl
 
   places_shift : (f : Place → Place) (numbers : Numbers) → Shifts w [] (record w { objects = replaced f w; numbers = numbers })
   places_shift f numbers = shifted (record w { objects = replaced f w; numbers = numbers }) [] (record {
@@ -108,11 +114,14 @@ module _ (w : World) (rises : Rises 1 w.next_serial w.objects) where
     single = λ s y m. let x = Includes-map_cases (λ x. with_place (f x.place) x) w.objects y m in subst IsSingle x.2 (s x.0 x.1);
   }) refl
 
-  put_shifts : (x : Object) (key v : Val) → Includes w.objects x → IsApart x.code → Shifts w (references_of_value (value_at x.entries key)) (with_change (λ y. tracked_by w key v (with_entries (put x.entries key v) y)) x.serial w)
+  put_shifts : (x : Object) (key v : Val) → Includes w.objects x → IsApart x.code → Shifts w (references_of_value (value_at x.entries key))
+      (with_change (λ y. tracked_by w key v (with_entries (put x.entries key v) y)) x.serial w)
   put_shifts x key v m apart = shifted (with_change put_in x.serial w) (references_of_value (value_at x.entries key))
-      (one_keeps put_in x (references_of_value (value_at x.entries key)) (λ y. let t = tracked (test y) (with_entries (put x.entries key v) y) in record { serial = t.0; code = t.2; class = t.4; finalized = λ e. t.1 ∙ e }) m apart
+      (one_keeps put_in x (references_of_value (value_at x.entries key)) (λ y. let t = tracked (test y) (with_entries (put x.entries key v) y)
+      in record { serial = t.0; code = t.2; class = t.4; finalized = λ e. t.1 ∙ e }) m apart
       (λ y. (tracked (test y) (with_entries (put x.entries key v) y)).2)
-      (λ n k. subst (λ es. Includes (references es) n ⊎ Includes (references_of_value (value_at x.entries key)) n) (sym (tracked (test x) (with_entries (put x.entries key v) x)).3) (put_goes x.entries key v n k))) refl
+      (λ n k. subst (λ es. Includes (references es) n ⊎ Includes (references_of_value (value_at x.entries key)) n)
+      (sym (tracked (test x) (with_entries (put x.entries key v) x)).3) (put_goes x.entries key v n k))) refl
     where
       put_in : Object → Object
       put_in y = tracked_by w key v (with_entries (put x.entries key v) y)
@@ -120,17 +129,22 @@ module _ (w : World) (rises : Rises 1 w.next_serial w.objects) where
       test : Object → Bool
       test y = is_dict y && not (is_tracked y) && (may_track w key || may_track w v)
 
-      tracked : (b : Bool) (y : Object) → ((if b then with_place (Gen 0) y else y).serial ≡ y.serial) × ((if b then with_place (Gen 0) y else y).finalized ≡ y.finalized) × ((if b then with_place (Gen 0) y else y).code ≡ y.code) × ((if b then with_place (Gen 0) y else y).entries ≡ y.entries) × ((if b then with_place (Gen 0) y else y).class ≡ y.class)
+      tracked : (b : Bool) (y : Object) → ((if b then with_place (Gen 0) y else y).serial ≡ y.serial) × ((if b then with_place (Gen 0) y else y).finalized
+          ≡ y.finalized) × ((if b then with_place (Gen 0) y else y).code ≡ y.code) × ((if b then with_place (Gen 0) y else y).entries ≡ y.entries)
+          × ((if b then with_place (Gen 0) y else y).class ≡ y.class)
       tracked true y = (refl, refl, refl, refl, refl)
       tracked false y = (refl, refl, refl, refl, refl)
 
-  made_shifts : (name : ℕ) (kind : KindCode) (class : Option ℕ) (entries : List Entry) (referent : Option ℕ) → name < length w.names → (kind ≡ Weak → AtMostOne entries) × (kind ≡ Tuple → (n : ℕ) → Includes (references entries) n → n < w.next_serial) → Shifts w (given_up_by w name) (bound (with_new w kind class entries referent) name (Some (Ref w.next_serial)))
+  made_shifts : (name : ℕ) (kind : KindCode) (class : Option ℕ) (entries : List Entry) (referent : Option ℕ) → name < length w.names
+      → (kind ≡ Weak → AtMostOne entries) × (kind ≡ Tuple → (n : ℕ) → Includes (references entries) n → n < w.next_serial) → Shifts w (given_up_by w name)
+      (bound (with_new w kind class entries referent) name (Some (Ref w.next_serial)))
   made_shifts name kind class entries referent fits one = record {
     names = λ n m. bound_keeps w.names name (Some (Ref w.next_serial)) n m;
     entries = λ x m n k. inl (x, Includes-append_left w.objects (fresh ∷ []) x m, k);
     lives = λ n m. let y = Includes-map_cases (λ (z : Object). z.serial) (w.objects ++ fresh ∷ []) n m in
         either (Includes-append_cases w.objects (fresh ∷ []) y.0 y.1) (λ k. inl (subst (Includes (serials w.objects)) y.2 (Includes-map (λ (z : Object). z.serial) w.objects y.0 k)))
-        (λ k. either k (λ e. inr (subst (Includes (name_holdings (slice_set w.names name (Some (Ref w.next_serial))))) (ap (λ (z : Object). z.serial) e ∙ y.2) (bound_holds w.names name w.next_serial fits))) (λ no. absurd no));
+        (λ k. either k (λ e. inr (subst (Includes (name_holdings (slice_set w.names name (Some (Ref w.next_serial))))) (ap (λ (z : Object). z.serial) e ∙ y.2)
+        (bound_holds w.names name w.next_serial fits))) (λ no. absurd no));
     single = λ s y m. either (Includes-append_cases w.objects (fresh ∷ []) y m) (s y) (λ k. either k (λ e. subst IsSingle e one) (λ no. absurd no));
     count = bound_count w.names name (Some (Ref w.next_serial));
   }
@@ -142,15 +156,18 @@ module _ (w : World) (rises : Rises 1 w.next_serial w.objects) where
   abbrev pub IsHandMade : Command → Type 0
   IsHandMade command = (v : Val) → IsAtHand w command v → (n : ℕ) → Includes (option_to_list (reference_in v)) n → n < w.next_serial
 
-  items_made : (command : Command) → IsHandMade command → (entries : List Entry) → ((e : Entry) → Includes entries e → (e.key ≡ Nothing) × IsAtHand w command e.val) → (n : ℕ) → Includes (references entries) n → n < w.next_serial
+  items_made : (command : Command) → IsHandMade command → (entries : List Entry) → ((e : Entry) → Includes entries e → (e.key ≡ Nothing)
+      × IsAtHand w command e.val) → (n : ℕ) → Includes (references entries) n → n < w.next_serial
   items_made command made [] items n m = absurd m
   items_made command made (e ∷ entries) items n m = either (Includes-append_cases (entry_references e) (references entries) n m)
-      (λ k. let i = items e (inl refl) in either (Includes-append_cases (option_to_list (reference_in e.val)) (option_to_list (reference_in e.key)) n k) (made e.val i.1 n) (λ q. absurd (subst (λ u. Includes (option_to_list (reference_in u)) n) i.0 q)))
+      (λ k. let i = items e (inl refl) in either (Includes-append_cases (option_to_list (reference_in e.val)) (option_to_list (reference_in e.key)) n k)
+      (made e.val i.1 n) (λ q. absurd (subst (λ u. Includes (option_to_list (reference_in u)) n) i.0 q)))
       (items_made command made entries (λ d q. items d (inr q)) n)
 
   pub shape_shifts : (command : Command) → IsHandMade command → ((t : ℕ) → Includes (command_texts command) t → t < length w.names) → (e : Effect) → Shape w command e → Shifting w e
   shape_shifts command made fits e (Binds name v own hand) = binds_shift name v
-  shape_shifts command made fits e (Makes name kind class entries referent own parts) = made_shifts name kind class entries referent (fits name (own operand_texts name (inl refl))) (λ e. (parts.callbacks e).0, λ e. items_made command made entries parts.items)
+  shape_shifts command made fits e (Makes name kind class entries referent own parts) = made_shifts name kind class entries referent
+      (fits name (own operand_texts name (inl refl))) (λ e. (parts.callbacks e).0, λ e. items_made command made entries parts.items)
   shape_shifts command made fits e (Edits wants x entries given h mutable edit) = sets_shift x entries given h.member (mutable_apart x.code mutable) edit.keeps
   shape_shifts command made fits e (Puts x key v h mutable hand_key hand room) = put_shifts x key v h.member (mutable_apart x.code mutable)
   shape_shifts command made fits e (Shows v hand) = unchanged _

@@ -37,13 +37,16 @@ other o n t e = let no : true ≡ false = sym (eq-eqb o n e) ∙ t in cc
 pub frame_end_minded : (k : ℕ) (f : Frame) (below : List Activity) (v : World) → IsMinded k (with_stack (Framed f ∷ below) v) → IsMinded k (frame_end f (with_stack below v)).1
 frame_end_minded k f below v h = by_sort f.sort f.function h
   where
-    by_sort : (sort : FrameSort) (function : Option ℕ) → Minded k v.objects v.names (Framed (record f { sort = sort; function = function }) ∷ below) → IsMinded k (gives_up_function sort function (with_stack below v))
+    by_sort : (sort : FrameSort) (function : Option ℕ) → Minded k v.objects v.names (Framed (record f { sort = sort; function = function }) ∷ below)
+        → IsMinded k (gives_up_function sort function (with_stack below v))
     by_sort Del function h = end_minded k (Framed (record f { sort = Del; function = function })) below v.objects v.objects v.names (keeps_same v.objects) refl (λ n. refl) h
     by_sort Legacy function h = end_minded k (Framed (record f { sort = Legacy; function = function })) below v.objects v.objects v.names (keeps_same v.objects) refl (λ n. refl) h
     by_sort Callback function h = end_minded k (Framed (record f { sort = Callback; function = function })) below v.objects v.objects v.names (keeps_same v.objects) refl (λ n. refl) h
-    by_sort Call function h = stack_minded k v.objects v.objects v.names (Framed (record f { sort = Call; function = function }) ∷ below) (Releasing (option_to_list function) ∷ below) [] (keeps_same v.objects) (λ n m. m) (λ n m. absurd m) (λ n e. e) h
+    by_sort Call function h = stack_minded k v.objects v.objects v.names (Framed (record f { sort = Call; function = function }) ∷ below)
+        (Releasing (option_to_list function) ∷ below) [] (keeps_same v.objects) (λ n m. m) (λ n m. absurd m) (λ n e. e) h
 
-pub released_minded : (k : ℕ) (references : List ℕ) (below : List Activity) (v : World) → IsMinded k (with_stack (Releasing references ∷ below) v) → IsMinded k (released references below (with_stack (Releasing references ∷ below) v)).1
+pub released_minded : (k : ℕ) (references : List ℕ) (below : List Activity) (v : World) → IsMinded k (with_stack (Releasing references ∷ below) v)
+    → IsMinded k (released references below (with_stack (Releasing references ∷ below) v)).1
 released_minded k [] below v h = end_minded k (Releasing []) below v.objects v.objects v.names (keeps_same v.objects) refl (λ n. refl) h
 released_minded k (o ∷ refs) below v h = go (not (is_dying now o) && (in_degree now o == 0)) refl
   where
@@ -81,7 +84,9 @@ released_minded k (o ∷ refs) below v h = go (not (is_dying now o) && (in_degre
 
         go_on : (b : Bool) → (o == n) ≡ b → list_any (is_death_of n) below ≡ true
         go_on true t = let same = eqb-true o n t in
-            subst (λ p. list_any (is_death_of p) below ≡ true) same (not_both (is_dying now o) (eq-eqb (in_degree now o) 0 (free_degree now o (subst (λ p. IsFree v.objects v.names (Releasing refs ∷ below) p) (sym same) free))) kept refl)
+            subst (λ p. list_any (is_death_of p) below ≡ true) same
+            (not_both (is_dying now o) (eq-eqb (in_degree now o) 0 (free_degree now o (subst (λ p. IsFree v.objects v.names (Releasing refs ∷ below) p)
+            (sym same) free))) kept refl)
         go_on false t = h.minds n m (record { names_none = free.names_none; root_not = free.root_not; entries_none = free.entries_none; stack_none = stack_before n t free.stack_none })
 
     go : (b : Bool) → (not (is_dying now o) && (in_degree now o == 0)) ≡ b → (let t : Transition = if b then ([], begin_death o now) else ([], now) in IsMinded k t.1)
@@ -98,17 +103,22 @@ module _ (script : Script) (k : ℕ) (o : ℕ) (below : List Activity) (v : Worl
   same : Keeps v.objects v.objects []
   same = keeps_same v.objects
 
-  goes_to : (phase next : DyingPhase) (objects : List Object) → Keeps v.objects objects [] → ((n : ℕ) → Includes (dying_holds o phase) n → Includes (dying_holds o next) n) → IsMinded k (at phase) → Minded k objects v.names (dying_now next ∷ below)
+  goes_to : (phase next : DyingPhase) (objects : List Object) → Keeps v.objects objects [] → ((n : ℕ) → Includes (dying_holds o phase) n
+      → Includes (dying_holds o next) n) → IsMinded k (at phase) → Minded k objects v.names (dying_now next ∷ below)
   goes_to phase next objects keeps held h = turn_minded k (dying_now phase) (dying_now next) below v.objects objects v.names [] keeps (held, λ n m. absurd m, λ n. refl) h
 
   finalizer_minded : (m : Option ℕ) → IsMinded k (at Finalizer) → IsMinded k (run_finalizer script o below (at Finalizer) m).1
   finalizer_minded None h = goes_to Finalizer (Clearing []) v.objects same (λ n m. m) h
-  finalizer_minded (Some p) h = starts_minded k script (record { sort = Del; proc = p; subject = o; func = None }) (death_at o AfterFinalizer below (with_change (λ x. marked (with_place (Gen 0) x)) o (at Finalizer)))
-      (goes_to Finalizer AfterFinalizer (change (λ x. marked (with_place (Gen 0) x)) o v.objects) (change_keeps (λ x. marked (with_place (Gen 0) x)) o v.objects (record { marks = λ x. record { serial = refl; code = refl; class = refl; finalized = λ e. refl }; entries = λ x. refl; code = λ x. refl })) (λ n m. absurd m) h)
+  finalizer_minded (Some p) h = starts_minded k script (record { sort = Del; proc = p; subject = o; func = None })
+      (death_at o AfterFinalizer below (with_change (λ x. marked (with_place (Gen 0) x)) o (at Finalizer)))
+      (goes_to Finalizer AfterFinalizer (change (λ x. marked (with_place (Gen 0) x)) o v.objects) (change_keeps (λ x. marked (with_place (Gen 0) x)) o v.objects
+      (record { marks = λ x. record { serial = refl; code = refl; class = refl; finalized = λ e. refl }; entries = λ x. refl; code = λ x. refl })) (λ n m.
+      absurd m) h)
 
   legacy_minded : (m : Option ℕ) → IsMinded k (at LegacyFinalizer) → IsMinded k (run_legacy script o below (at LegacyFinalizer) m).1
   legacy_minded None h = goes_to LegacyFinalizer Detaching v.objects same (λ n m. m) h
-  legacy_minded (Some p) h = starts_minded k script (record { sort = Legacy; proc = p; subject = o; func = None }) (death_at o AfterLegacy below (with_change (with_place (Gen 0)) o (at LegacyFinalizer)))
+  legacy_minded (Some p) h = starts_minded k script (record { sort = Legacy; proc = p; subject = o; func = None })
+      (death_at o AfterLegacy below (with_change (with_place (Gen 0)) o (at LegacyFinalizer)))
       (goes_to LegacyFinalizer AfterLegacy (change (with_place (Gen 0)) o v.objects) (change_keeps (with_place (Gen 0)) o v.objects (placed (Gen 0))) (λ n m. absurd m) h)
 
   -- a death gives up its own hold
@@ -142,12 +152,20 @@ module _ (script : Script) (k : ℕ) (o : ℕ) (below : List Activity) (v : Worl
               entries_none = λ x i. subst (λ p. ¬ Includes (references x.entries) p) (sym same) (free.entries_none x i);
               stack_none = subst (λ hs. ¬ Includes (hs ++ flat_map holds below) o) (sym none) (subst (λ p. ¬ Includes (flat_map holds below) p) (sym same) free.stack_none);
             }) in absurd (let no : true ≡ false = sym (eq-eqb (in_degree (at next) o) 0 degree) ∙ held_now in cc)
-        by_death false t = subst (λ b. (b || list_any (is_death_of n) below) ≡ true) t (h.minds n m (record { names_none = free.names_none; root_not = free.root_not; entries_none = free.entries_none; stack_none = was_free n t free.stack_none }))
+        by_death false t = subst (λ b. (b || list_any (is_death_of n) below) ≡ true) t
+            (h.minds n m (record {
+              names_none = free.names_none;
+              root_not = free.root_not;
+              entries_none = free.entries_none;
+              stack_none = was_free n t
+                  free.stack_none;
+            }))
 
     after_frame_minded : IsMinded k (after_frame o next below (at phase)).1
     after_frame_minded = go (in_degree (at next) o == 0) refl
       where
-        go : (b : Bool) → (in_degree (at next) o == 0) ≡ b → (let t : Transition = if b then ([], with_change (with_place Untracked) o (at next)) else (Alive o ∷ [], with_stack below (at phase)) in IsMinded k t.1)
+        go : (b : Bool) → (in_degree (at next) o == 0) ≡ b → (let t : Transition = if b then ([], with_change (with_place Untracked) o (at next))
+            else (Alive o ∷ [], with_stack below (at phase)) in IsMinded k t.1)
         go true e = record { minds = goes_on; single = untracked.single h.single; count = h.count }
         go false e = record { minds = lives_on e; single = h.single; count = h.count }
 
@@ -157,11 +175,13 @@ module _ (script : Script) (k : ℕ) (o : ℕ) (below : List Activity) (v : Worl
       let more = if is_some (callback_of v.objects weak) then weak ∷ [] else [] in
       goes_to (Clearing waiting) (Clearing (waiting ++ more)) (loses_referent weak v.objects) (lost_keeps weak v.objects) (λ n m. Includes-append_left waiting more n m) h
 
-  calling_minded : (waiting : List ℕ) → ((weak : ℕ) → Includes waiting weak → (x : Object) → Includes v.objects x → x.serial ≡ weak → x.code ≡ Weak) → IsMinded k (at (Calling waiting)) → IsMinded k (call_one script o below (at (Calling waiting)) waiting).1
+  calling_minded : (waiting : List ℕ) → ((weak : ℕ) → Includes waiting weak → (x : Object) → Includes v.objects x → x.serial ≡ weak → x.code ≡ Weak)
+      → IsMinded k (at (Calling waiting)) → IsMinded k (call_one script o below (at (Calling waiting)) waiting).1
   calling_minded [] code h = goes_to (Calling []) LegacyFinalizer v.objects same (λ n m. m) h
   calling_minded (weak ∷ waiting) code h =
       let callback = unwrap_or (callback_of v.objects weak) 0 in
-      starts_minded k script (record { sort = Callback; proc = procedure_of (at (Calling (weak ∷ waiting))) callback; subject = weak; func = Some callback }) (death_at o (AfterCall weak callback waiting) below (with_change (with_entries []) weak (at (Calling (weak ∷ waiting)))))
+      starts_minded k script (record { sort = Callback; proc = procedure_of (at (Calling (weak ∷ waiting))) callback; subject = weak; func = Some callback })
+      (death_at o (AfterCall weak callback waiting) below (with_change (with_entries []) weak (at (Calling (weak ∷ waiting)))))
       (turn_minded k (dying_now (Calling (weak ∷ waiting))) (dying_now (AfterCall weak callback waiting)) below v.objects (change (with_entries []) weak v.objects) v.names (callback ∷ [])
       (called_keeps 1 v.next_serial v.objects weak rises h.single (code weak (inl refl))) (λ n m. inr m, λ n m. either m (λ e. inl e) (λ no. absurd no), λ n. refl) h)
 
@@ -173,7 +193,8 @@ module _ (script : Script) (k : ℕ) (o : ℕ) (below : List Activity) (v : Worl
   gone_minds empty h n m free = by_death (o == n) refl
     where
       held : (t : Bool) (x : Object) → (x.serial == o) ≡ t → Includes v.objects x → ¬ Includes (references x.entries) n
-      held true x t i e = let none = sym (entries_of_member 1 v.next_serial v.objects x o rises i (eqb-true x.serial o t)) ∙ last_none (entries_of v.objects o) empty in subst (λ es. Includes (references es) n) none e
+      held true x t i e = let none = sym (entries_of_member 1 v.next_serial v.objects x o rises i (eqb-true x.serial o t)) ∙ last_none (entries_of v.objects o)
+          empty in subst (λ es. Includes (references es) n) none e
       held false x t i e = free.entries_none x (Includes-filter (λ (z : Object). not (z.serial == o)) v.objects x (ap not t) i) e
 
       by_death : (b : Bool) → (o == n) ≡ b → list_any (is_death_of n) below ≡ true
@@ -183,7 +204,8 @@ module _ (script : Script) (k : ℕ) (o : ℕ) (below : List Activity) (v : Worl
 
   emptying_minded : (m : Option Entry) → last_entry (entries_of v.objects o) ≡ m → IsMinded k (at Emptying) → IsMinded k (empty_one o below (at Emptying) m).1
   emptying_minded None e h = record { minds = gone_minds e h; single = λ x m. h.single x (Includes-filter_cases (λ (z : Object). not (z.serial == o)) v.objects x m).0; count = h.count }
-  emptying_minded (Some entry) e h = give_minded k (entry_references entry) (dying_now Emptying) (dying_now Emptying) below v.objects (change (with_entries (without_last (entries_of v.objects o))) o v.objects) v.names (entry_references entry)
+  emptying_minded (Some entry) e h = give_minded k (entry_references entry) (dying_now Emptying) (dying_now Emptying) below v.objects
+      (change (with_entries (without_last (entries_of v.objects o))) o v.objects) v.names (entry_references entry)
       (shortened_keeps 1 v.next_serial v.objects o entry rises e) (λ n m. absurd m) (λ n m. inl m) (λ n. refl) h
 
   called : (callback weak : ℕ) (waiting : List ℕ) (n : ℕ) → Includes (callback ∷ weak ∷ waiting) n → Includes (callback ∷ weak ∷ []) n ⊎ Includes waiting n
@@ -194,12 +216,14 @@ module _ (script : Script) (k : ℕ) (o : ℕ) (below : List Activity) (v : Worl
   only : (n : ℕ) → Includes (o ∷ []) n → o ≡ n
   only n m = either m (λ e. e) (λ no. absurd no)
 
-  pub dying_minded : (phase : DyingPhase) → ((waiting : List ℕ) → phase ≡ Calling waiting → (weak : ℕ) → Includes waiting weak → (x : Object) → Includes v.objects x → x.serial ≡ weak → x.code ≡ Weak) → IsMinded k (at phase) → IsMinded k (dying script o phase below (at phase)).1
+  pub dying_minded : (phase : DyingPhase) → ((waiting : List ℕ) → phase ≡ Calling waiting → (weak : ℕ) → Includes waiting weak → (x : Object)
+      → Includes v.objects x → x.serial ≡ weak → x.code ≡ Weak) → IsMinded k (at phase) → IsMinded k (dying script o phase below (at phase)).1
   dying_minded Finalizer code h = finalizer_minded (option_and_then (finalizer_to_run script) (object_at v.objects o)) h
   dying_minded AfterFinalizer code h = after_frame_minded AfterFinalizer (Clearing []) only refl h
   dying_minded (Clearing waiting) code h = clearing_minded waiting (weak_references_if has_weak_references v.objects o) h
   dying_minded (Calling waiting) code h = calling_minded waiting (code waiting refl) h
-  dying_minded (AfterCall weak callback waiting) code h = give_minded k (callback ∷ weak ∷ []) (dying_now (AfterCall weak callback waiting)) (dying_now (Calling waiting)) below v.objects v.objects v.names [] same (called callback weak waiting) (λ n m. absurd m) (λ n. refl) h
+  dying_minded (AfterCall weak callback waiting) code h = give_minded k (callback ∷ weak ∷ []) (dying_now (AfterCall weak callback waiting))
+      (dying_now (Calling waiting)) below v.objects v.objects v.names [] same (called callback weak waiting) (λ n m. absurd m) (λ n. refl) h
   dying_minded LegacyFinalizer code h = legacy_minded (option_and_then (legacy_of script) (object_at v.objects o)) h
   dying_minded AfterLegacy code h = after_frame_minded AfterLegacy Detaching only refl h
   dying_minded Detaching code h = detaching_minded (weak_references_if (has_finalizers script) v.objects o) h

@@ -50,13 +50,16 @@ module _ (script : Script) (count : ℕ) (below : List Activity) (v : World) whe
 
   emptied_minded : (a : Activity) → HasCommands a → MindedOn a → MindedOn (emptied a)
   emptied_minded (TopLevel commands) ha h = turn_minded count (TopLevel commands) (TopLevel []) below v.objects v.objects v.names [] (keeps_same v.objects) (λ n i. i, λ n i. absurd i, λ n. refl) h
-  emptied_minded (Framed f) ha h = turn_minded count (Framed f) (Framed (record f { commands = [] })) below v.objects v.objects v.names [] (keeps_same v.objects) (λ n i. i, λ n i. absurd i, λ n. refl) h
+  emptied_minded (Framed f) ha h = turn_minded count (Framed f) (Framed (record f { commands = [] })) below v.objects v.objects v.names []
+      (keeps_same v.objects) (λ n i. i, λ n i. absurd i, λ n. refl) h
   emptied_minded (ShuttingDown started) ha h = h
   emptied_minded a ha h = absurd ha
 
   taken_minded : (command : Command) (a b : Activity) → Takes command a b → MindedOn a → MindedOn b
-  taken_minded command a b (FromTop commands) h = turn_minded count (TopLevel (command ∷ commands)) (TopLevel commands) below v.objects v.objects v.names [] (keeps_same v.objects) (λ n i. i, λ n i. absurd i, λ n. refl) h
-  taken_minded command a b (FromFrame f commands left) h = turn_minded count (Framed f) (Framed (record f { commands = commands })) below v.objects v.objects v.names [] (keeps_same v.objects) (λ n i. i, λ n i. absurd i, λ n. refl) h
+  taken_minded command a b (FromTop commands) h = turn_minded count (TopLevel (command ∷ commands)) (TopLevel commands) below v.objects v.objects v.names []
+      (keeps_same v.objects) (λ n i. i, λ n i. absurd i, λ n. refl) h
+  taken_minded command a b (FromFrame f commands left) h = turn_minded count (Framed f) (Framed (record f { commands = commands })) below v.objects v.objects
+      v.names [] (keeps_same v.objects) (λ n i. i, λ n i. absurd i, λ n. refl) h
 
   module _ (a : Activity) (ha : HasCommands a) (rises : Rises 1 v.next_serial v.objects) (calm : Calm script (on a below v)) (order : HasOrder (on a below v)) (h : MindedOn a) where
     abbrev now : World
@@ -91,8 +94,10 @@ module _ (script : Script) (count : ℕ) (below : List Activity) (v : World) whe
     }
 
 -- what waits in a death is a weak reference
-waits_code : (o : ℕ) (phase : DyingPhase) (below : List Activity) (v : World) → HasOrder (with_stack (Dying (record { object = o; phase = phase }) ∷ below) v) → (waiting : List ℕ) → phase ≡ Calling waiting → (weak : ℕ) → Includes waiting weak → (x : Object) → Includes v.objects x → x.serial ≡ weak → x.code ≡ Weak
-waits_code o (Calling waits) below v order waiting e weak m x i s = let same : waits ≡ waiting = cc in (order.waiting weak (Includes-append_left waits (all_waits below) weak (subst (λ ws. Includes ws weak) (sym same) m)) x i s).code
+waits_code : (o : ℕ) (phase : DyingPhase) (below : List Activity) (v : World) → HasOrder (with_stack (Dying (record { object = o; phase = phase }) ∷ below) v)
+    → (waiting : List ℕ) → phase ≡ Calling waiting → (weak : ℕ) → Includes waiting weak → (x : Object) → Includes v.objects x → x.serial ≡ weak → x.code ≡ Weak
+waits_code o (Calling waits) below v order waiting e weak m x i s = let same : waits ≡ waiting = cc
+    in (order.waiting weak (Includes-append_left waits (all_waits below) weak (subst (λ ws. Includes ws weak) (sym same) m)) x i s).code
 waits_code o phase below v order waiting e weak m x i s = cc
 
 module _ (script : Script) (known : TextsAreKnown script) where
@@ -111,7 +116,8 @@ module _ (script : Script) (known : TextsAreKnown script) where
         shifts_minded script count below v (ShuttingDown false) tt k.0.sound.rises k.0.calm k.0.order k.2 (bound w name None) (given_up_by w name) refl (binds_shift w k.0.sound.rises name None);
     collects_last = λ below v k. push_minded count (new_collection 2 false (on (ShuttingDown false) below v)) v.objects v.names (ShuttingDown true ∷ below) (λ n. refl)
         (turn_minded count (ShuttingDown false) (ShuttingDown true) below v.objects v.objects v.names [] (keeps_same v.objects) (λ n i. i, λ n i. absurd i, λ n. refl) k.2);
-    commands = λ command a b below v takes hb k. command_minded script count below v b hb k.0.sound.rises (taken_calm script below v command a b takes k.0.calm) (taken_orderly command a b below v takes k.0.order) (taken_minded script count below v command a b takes k.2)
+    commands = λ command a b below v takes hb k. command_minded script count below v b hb k.0.sound.rises (taken_calm script below v command a b takes k.0.calm)
+        (taken_orderly command a b below v takes k.0.order) (taken_minded script count below v command a b takes k.2)
         (on a below v) command (commands_name_texts script known command (k.1.commands command (taken_member command a b below takes)));
     frame_ends = λ f below v left k. frame_end_minded count f below v k.2;
     releases = λ references below v k. released_minded count references below v k.2;
@@ -121,7 +127,8 @@ module _ (script : Script) (known : TextsAreKnown script) where
 
   pub minded_after : (w : World) (steps : List StepTaken) → Run script w steps → Fit script w → IsAllOfScript script w → IsMinded count w → IsMinded count (last_world w steps)
   minded_after w [] run fit of_script h = h
-  minded_after w (step ∷ steps) run fit of_script h = minded_after step.world steps run.1 (step_fit script w step.events step.world run.0 fit) (step_origin script w step.events step.world run.0 of_script)
+  minded_after w (step ∷ steps) run fit of_script h = minded_after step.world steps run.1 (step_fit script w step.events step.world run.0 fit)
+      (step_origin script w step.events step.world run.0 of_script)
       (any_step script Holds (λ w events. IsMinded count) minds_steps w step.events step.world run.0 (fit, of_script, h))
 
   pub opening_minded : (budget : ℕ) → IsMinded (length script.names) (opening script budget)
@@ -134,4 +141,5 @@ module _ (script : Script) (known : TextsAreKnown script) where
 pub unheld_dying : UnheldIsDying
 unheld_dying script budget steps known run begins x m none =
     let w = last_world (opening script budget) steps in
-    (minded_after script known (opening script budget) steps run (opening_fit script budget) (opening_origin script budget) (opening_minded script known budget)).minds x.serial (Includes-map (λ (z : Object). z.serial) w.objects x m) (degree_free w x.serial none)
+    (minded_after script known (opening script budget) steps run (opening_fit script budget) (opening_origin script budget)
+    (opening_minded script known budget)).minds x.serial (Includes-map (λ (z : Object). z.serial) w.objects x m) (degree_free w x.serial none)

@@ -30,7 +30,8 @@ use Rattle.cg_promises.proofs.Kept.{Fares, Full, IsBare, IsKeptBy, Leaves, all_l
 use Rattle.cg_promises.proofs.FinalSetRuns.{stops}
 use Rattle.cg_promises.proofs.UntrackedStayStart.{not_false}
 
-pub starts_none : (script : Script) (spec : FrameSpec) (u : World) (events : List Event) (after : World) → Yields (start_frame script spec u) events after → count_by is_enter events ≡ 0 → after.outcome ≡ Running → ⊥
+pub starts_none : (script : Script) (spec : FrameSpec) (u : World) (events : List Event) (after : World) → Yields (start_frame script spec u) events after
+    → count_by is_enter events ≡ 0 → after.outcome ≡ Running → ⊥
 starts_none script spec u events after step quiet running = starts_either (λ es w. events ≡ es → after ≡ w → ⊥) script spec u
     (λ e k. let no : BudgetIsSpent ≡ Running = sym (ap (λ (z : World). z.outcome) k) ∙ running in cc)
     (λ some e k.
@@ -38,7 +39,8 @@ starts_none script spec u events after step quiet running = starts_either (λ es
     let one : count_by is_enter (Enter spec.sort spec.subject ∷ []) ≡ 1 + count_by is_enter [] = sum_by-cons (λ x. cond (is_enter x) 1 0) (Enter spec.sort spec.subject) [] in
     omega (arith, none, one)) step.0 step.1
 
-module _ (script : Script) (kept : ℕ → Type 0) (start : List Object) (below : List Activity) (v : World) (rises : Rises 1 v.next_serial v.objects) (held : (o : ℕ) → kept o → IsKeptBy kept start v.names below o) (there : (o : ℕ) → kept o → (x : Object) × Includes start x × (x.serial ≡ o))
+module _ (script : Script) (kept : ℕ → Type 0) (start : List Object) (below : List Activity) (v : World) (rises : Rises 1 v.next_serial v.objects)
+    (held : (o : ℕ) → kept o → IsKeptBy kept start v.names below o) (there : (o : ℕ) → kept o → (x : Object) × Includes start x × (x.serial ≡ o))
     (lives : (x : Object) → Includes start x → kept x.serial → (y : Object) × Includes v.objects y × Fares x y) where
   -- a world of the collection, with the same names
   pub record IsFull (w : World) : Type 0 where
@@ -48,8 +50,20 @@ module _ (script : Script) (kept : ℕ → Type 0) (start : List Object) (below 
   to : (after next : World) → after ≡ next → IsFull next → IsFull after
   to after next e h = subst IsFull (sym e) h
 
-  full : (tops : List Activity) (c : Collection) (w : World) → w.names ≡ v.names → w.stack ≡ tops ++ Collecting c ∷ below → Leaves kept v.objects w.objects → ((a : Activity) → Includes tops a → IsBare kept a) → ((o : ℕ) → Includes (turns_of c.phase) o → ¬ kept o) → c.phase ≢ Start → IsFull w
-  full tops c w names is leaves bare turn begun = record { names = names; full = record { tops = tops; collection = c; is = is; bare = bare; turn = turn; begun = begun; lives = lives_on kept start v.objects w.objects leaves lives } }
+  full : (tops : List Activity) (c : Collection) (w : World) → w.names ≡ v.names → w.stack ≡ tops ++ Collecting c ∷ below → Leaves kept v.objects w.objects
+      → ((a : Activity) → Includes tops a → IsBare kept a) → ((o : ℕ) → Includes (turns_of c.phase) o → ¬ kept o) → c.phase ≢ Start → IsFull w
+  full tops c w names is leaves bare turn begun = record {
+    names = names;
+    full = record {
+      tops = tops;
+      collection = c;
+      is = is;
+      bare = bare;
+      turn = turn;
+      begun = begun;
+      lives = lives_on kept start v.objects w.objects leaves lives;
+    };
+  }
 
   -- a condemned object is not kept
   not_kept : (x : Object) → Includes v.objects x → is_condemned x ≡ true → ¬ kept x.serial
@@ -88,7 +102,9 @@ module _ (script : Script) (kept : ℕ → Type 0) (start : List Object) (below 
             is = ap (λ st. Releasing refs ∷ st) (sym (append_assoc tops (Collecting c ∷ []) below))
 
         go : (b : Bool) → (not (is_dying now o) && (in_degree now o == 0)) ≡ b → (let t : Transition = if b then ([], begin_death o now) else ([], now) in IsFull t.1)
-        go true e = full (Dying (record { object = o; phase = Finalizer }) ∷ Releasing refs ∷ tops) c (begin_death o now) refl refl (test_leaves kept (λ x. with_referent None (with_place Untracked x)) (λ x. x.serial == o) v.objects (λ x m t k e. record { serial = refl; refers = λ r i. i; clear = refl }))
+        go true e = full (Dying (record { object = o; phase = Finalizer }) ∷ Releasing refs ∷ tops) c (begin_death o now) refl refl
+            (test_leaves kept (λ x. with_referent None (with_place Untracked x)) (λ x. x.serial == o) v.objects
+            (λ x m t k e. record { serial = refl; refers = λ r i. i; clear = refl }))
             (with_two (Dying (record { object = o; phase = Finalizer })) (Releasing refs) (dies e) tt) turn begun
         go false e = full (Releasing refs ∷ tops) c now refl refl same (with_top (Releasing refs) tt) turn begun
 
@@ -99,8 +115,10 @@ module _ (script : Script) (kept : ℕ → Type 0) (start : List Object) (below 
       dying_to : (next : DyingPhase) (w : World) → w.names ≡ v.names → w.stack ≡ Dying (record { object = o; phase = next }) ∷ under → Leaves kept v.objects w.objects → IsFull w
       dying_to next w names is leaves = full (Dying (record { object = o; phase = next }) ∷ tops) c w names is leaves (with_top (Dying (record { object = o; phase = next })) apart) turn begun
 
-      giving : (refs : List ℕ) (next : DyingPhase) (w : World) → w.names ≡ v.names → w.stack ≡ Releasing refs ∷ Dying (record { object = o; phase = next }) ∷ under → Leaves kept v.objects w.objects → IsFull w
-      giving refs next w names is leaves = full (Releasing refs ∷ Dying (record { object = o; phase = next }) ∷ tops) c w names is leaves (with_two (Releasing refs) (Dying (record { object = o; phase = next })) tt apart) turn begun
+      giving : (refs : List ℕ) (next : DyingPhase) (w : World) → w.names ≡ v.names → w.stack ≡ Releasing refs ∷ Dying (record { object = o; phase = next })
+          ∷ under → Leaves kept v.objects w.objects → IsFull w
+      giving refs next w names is leaves = full (Releasing refs ∷ Dying (record { object = o; phase = next }) ∷ tops) c w names is leaves
+          (with_two (Releasing refs) (Dying (record { object = o; phase = next })) tt apart) turn begun
 
       after_frame_full : (phase next : DyingPhase) → IsFull (after_frame o next under (at phase)).1
       after_frame_full phase next = go (in_degree (at next) o == 0)
@@ -120,7 +138,9 @@ module _ (script : Script) (kept : ℕ → Type 0) (start : List Object) (below 
 
         clearing_full : (waiting weaks : List ℕ) → Yields (clear_one o waiting under (at (Clearing waiting)) weaks) events after → IsFull after
         clearing_full waiting [] step = to after _ step.1 (dying_to (Calling waiting) (at (Calling waiting)) refl refl same)
-        clearing_full waiting (weak ∷ weaks) step = to after _ step.1 (dying_to (Clearing (waiting ++ (if is_some (callback_of v.objects weak) then weak ∷ [] else []))) _ refl refl (lost_leaves kept weak v.objects))
+        clearing_full waiting (weak ∷ weaks) step =
+            to after _ step.1 (dying_to (Clearing (waiting ++ (if is_some (callback_of v.objects weak) then weak ∷ [] else []))) _ refl refl
+            (lost_leaves kept weak v.objects))
 
         calling_full : (waiting : List ℕ) → Yields (call_one script o under (at (Calling waiting)) waiting) events after → IsFull after
         calling_full [] step = to after _ step.1 (dying_to LegacyFinalizer (at LegacyFinalizer) refl refl same)
@@ -149,10 +169,12 @@ module _ (script : Script) (kept : ℕ → Type 0) (start : List Object) (below 
     abbrev standing : CollectPhase → World
     standing phase = collection_at c phase below v
 
-    goes_to : (d : Collection) (next : CollectPhase) (w : World) → w.names ≡ v.names → w.stack ≡ Collecting (record d { phase = next }) ∷ below → Leaves kept v.objects w.objects → ((o : ℕ) → Includes (turns_of next) o → ¬ kept o) → next ≢ Start → IsFull w
+    goes_to : (d : Collection) (next : CollectPhase) (w : World) → w.names ≡ v.names → w.stack ≡ Collecting (record d { phase = next }) ∷ below
+        → Leaves kept v.objects w.objects → ((o : ℕ) → Includes (turns_of next) o → ¬ kept o) → next ≢ Start → IsFull w
     goes_to d next w names is leaves turn begun = full [] (record d { phase = next }) w names is leaves (λ a m. absurd m) turn begun
 
-    gives : (refs : List ℕ) (next : CollectPhase) (w : World) → w.names ≡ v.names → w.stack ≡ Releasing refs ∷ Collecting (record c { phase = next }) ∷ below → Leaves kept v.objects w.objects → ((o : ℕ) → Includes (turns_of next) o → ¬ kept o) → next ≢ Start → IsFull w
+    gives : (refs : List ℕ) (next : CollectPhase) (w : World) → w.names ≡ v.names → w.stack ≡ Releasing refs ∷ Collecting (record c { phase = next }) ∷ below
+        → Leaves kept v.objects w.objects → ((o : ℕ) → Includes (turns_of next) o → ¬ kept o) → next ≢ Start → IsFull w
     gives refs next w names is leaves turn begun = full (Releasing refs ∷ []) (record c { phase = next }) w names is leaves (λ a m. either m (λ e. subst (IsBare kept) e tt) (λ k. absurd k)) turn begun
 
     aged : (o : ℕ) → Leaves kept v.objects (change (with_place (Gen (older c.generation))) o v.objects)
@@ -164,8 +186,11 @@ module _ (script : Script) (kept : ℕ → Type 0) (start : List Object) (below 
         lost : List Object
         lost = loses_referent step.weak v.objects
 
-        go : (t : Bool) → IsFull (if t then collection_at c (WeakClearing (waiting ++ step.weak ∷ [])) below (with_objects (change (with_place Pend) step.weak lost) (standing (WeakClearing waiting))) else collection_at c (WeakClearing waiting) below (with_objects lost (standing (WeakClearing waiting))))
-        go true = goes_to c (WeakClearing (waiting ++ step.weak ∷ [])) _ refl refl (leaves_trans kept v.objects lost (change (with_place Pend) step.weak lost) (lost_leaves kept step.weak v.objects) (placed_leaves kept Pend (λ x. x.serial == step.weak) lost (λ x. refl))) (λ o m. absurd m) (λ e. cc)
+        go : (t : Bool) → IsFull (if t then collection_at c (WeakClearing (waiting ++ step.weak ∷ [])) below
+            (with_objects (change (with_place Pend) step.weak lost) (standing (WeakClearing waiting))) else collection_at c (WeakClearing waiting) below
+            (with_objects lost (standing (WeakClearing waiting))))
+        go true = goes_to c (WeakClearing (waiting ++ step.weak ∷ [])) _ refl refl (leaves_trans kept v.objects lost (change (with_place Pend) step.weak lost)
+            (lost_leaves kept step.weak v.objects) (placed_leaves kept Pend (λ x. x.serial == step.weak) lost (λ x. refl))) (λ o m. absurd m) (λ e. cc)
         go false = goes_to c (WeakClearing waiting) _ refl refl (lost_leaves kept step.weak v.objects) (λ o m. absurd m) (λ e. cc)
     weak_clearing_full waiting (inr step) = to after _ step.1.1 (goes_to c (WeakCalling waiting) _ refl refl same (λ o m. absurd m) (λ e. cc))
 
@@ -176,7 +201,15 @@ module _ (script : Script) (kept : ℕ → Type 0) (start : List Object) (below 
     after_release_full : (weak : ℕ) (waiting : List ℕ) → IsFull (after_release c weak waiting below (standing (AfterRelease weak waiting))).1
     after_release_full weak waiting = go (is_in_map v.objects weak)
       where
-        go : (t : Bool) → (let s : Transition = if t then ([], collection_at c (WeakCalling waiting) below (with_change (with_place (Gen (older c.generation))) weak (standing (AfterRelease weak waiting)))) else ([], collection_at (record c { collected = c.collected + 1 }) (WeakCalling waiting) below (standing (AfterRelease weak waiting))) in IsFull s.1)
+        go : (t : Bool) → (let s : Transition = if t then (
+          [],
+          collection_at c (WeakCalling waiting) below (with_change (with_place (Gen (older c.generation)))
+              weak (standing (AfterRelease weak waiting))),
+        ) else (
+          [],
+          collection_at (record c { collected = c.collected + 1 }) (WeakCalling waiting) below
+              (standing (AfterRelease weak waiting)),
+        ) in IsFull s.1)
         go true = goes_to c (WeakCalling waiting) _ refl refl (aged weak) (λ o m. absurd m) (λ e. cc)
         go false = goes_to (record c { collected = c.collected + 1 }) (WeakCalling waiting) _ refl refl same (λ o m. absurd m) (λ e. cc)
 
@@ -188,16 +221,19 @@ module _ (script : Script) (kept : ℕ → Type 0) (start : List Object) (below 
         not_kept z.0 at.0 (or_left (is_at Cand z.0) (is_at Seen z.0) at.1) (subst kept (sym z.2) k)
 
     looks_at_full : (o : ℕ) (m : Option ℕ) → Includes (serials_at v.objects Cand) o → Yields (looks_at script c o below (standing Finalizing) m) events after → IsFull after
-    looks_at_full o None i step = to after _ step.1 (goes_to c Finalizing _ refl refl (test_leaves kept (with_place Seen) (λ x. x.serial == o) v.objects (λ x m t k e. absurd (cand_apart o i (subst kept (eqb-true x.serial o t) k)))) (λ o m. absurd m) (λ e. cc))
+    looks_at_full o None i step = to after _ step.1 (goes_to c Finalizing _ refl refl (test_leaves kept (with_place Seen) (λ x. x.serial == o) v.objects
+        (λ x m t k e. absurd (cand_apart o i (subst kept (eqb-true x.serial o t) k)))) (λ o m. absurd m) (λ e. cc))
     looks_at_full o (Some p) i step = absurd (starts_none script _ _ events after step quiet running)
 
     finalizing_full : FinalizingStep script c below (standing Finalizing) events after → IsFull after
     finalizing_full (inl step) = looks_at_full step.object (option_and_then (finalizer_to_run script) (object_at v.objects step.object)) step.condemned step.yields
-    finalizing_full (inr step) = to after _ step.1.1 (goes_to c Split _ refl refl (test_leaves kept (with_place Cand) (is_at Seen) v.objects (λ x m t k e. absurd (let no : true ≡ false = sym (or_right (is_at Cand x) (is_at Seen x) t) ∙ e in cc))) (λ o m. absurd m) (λ e. cc))
+    finalizing_full (inr step) = to after _ step.1.1 (goes_to c Split _ refl refl (test_leaves kept (with_place Cand) (is_at Seen) v.objects
+        (λ x m t k e. absurd (let no : true ≡ false = sym (or_right (is_at Cand x) (is_at Seen x) t) ∙ e in cc))) (λ o m. absurd m) (λ e. cc))
 
     split_full : SplitStep c below (standing Split) events after → IsFull after
     split_full step = to after _ step.world (goes_to (record c { collected = c.collected + length (serials_at step.objects Cand) }) Turns _ refl refl
-        (leaves_trans kept v.objects now step.objects (placed_leaves kept (Gen (older c.generation)) (λ x. includes step.alive x.serial) v.objects (λ x. refl)) (all_lose_leaves kept (loses_at_split now) step.cleared now step.objects step.lose)) (λ o m. absurd m) (λ e. cc))
+        (leaves_trans kept v.objects now step.objects (placed_leaves kept (Gen (older c.generation)) (λ x. includes step.alive x.serial) v.objects (λ x. refl))
+        (all_lose_leaves kept (loses_at_split now) step.cleared now step.objects step.lose)) (λ o m. absurd m) (λ e. cc))
       where
         now : List Object
         now = get_older c.generation step.alive v.objects
@@ -209,9 +245,17 @@ module _ (script : Script) (kept : ℕ → Type 0) (start : List Object) (below 
         not_this o (inl e) = λ k. let at = Includes-filter_cases (is_at Cand) v.objects x m in not_kept x at.0 (or_left (is_at Cand x) (is_at Seen x) at.1) (subst kept (sym e) k)
         not_this o (inr k) = λ i. absurd k
 
-        go : (s t : Bool) → (let next : Transition = if s then (GcSaved x.serial ∷ [], collection_at c Turns below (with_objects (change (with_place (Gen (older c.generation))) x.serial (saved x.serial v.objects)) (standing Turns)))
-            else if t then ([], collection_at c Turns below (with_change (with_place (Gen (older c.generation))) x.serial (standing Turns))) else ([], collection_at c (Turn x.serial) below (standing Turns)) in IsFull next.1)
-        go true t = goes_to c Turns _ refl refl (leaves_trans kept v.objects (saved x.serial v.objects) (change (with_place (Gen (older c.generation))) x.serial (saved x.serial v.objects)) (saved_leaves kept x.serial v.objects) (placed_leaves kept (Gen (older c.generation)) (λ z. z.serial == x.serial) (saved x.serial v.objects) (λ z. refl))) (λ o m. absurd m) (λ e. cc)
+        go : (s t : Bool) → (let next : Transition = if s
+            then (
+              GcSaved x.serial ∷ [],
+              collection_at c Turns below (with_objects (change (with_place (Gen (older c.generation))) x.serial
+                  (saved x.serial v.objects)) (standing Turns)),
+            )
+            else if t then ([], collection_at c Turns below (with_change (with_place (Gen (older c.generation))) x.serial (standing Turns)))
+            else ([], collection_at c (Turn x.serial) below (standing Turns)) in IsFull next.1)
+        go true t = goes_to c Turns _ refl refl (leaves_trans kept v.objects (saved x.serial v.objects) (change (with_place (Gen (older c.generation))) x.serial
+            (saved x.serial v.objects)) (saved_leaves kept x.serial v.objects) (placed_leaves kept (Gen (older c.generation)) (λ z. z.serial == x.serial)
+            (saved x.serial v.objects) (λ z. refl))) (λ o m. absurd m) (λ e. cc)
         go false true = goes_to c Turns _ refl refl (aged x.serial) (λ o m. absurd m) (λ e. cc)
         go false false = goes_to c (Turn x.serial) _ refl refl same not_this (λ e. cc)
 
@@ -221,7 +265,8 @@ module _ (script : Script) (kept : ℕ → Type 0) (start : List Object) (below 
 
     empties_full : (o : ℕ) (m : Option Entry) → ¬ kept o → IsFull (empties c o below (standing (Turn o)) m).1
     empties_full o None apart = gives (o ∷ []) (AfterTurn o) _ refl refl same (λ p m. either m (λ e. subst (λ n. ¬ kept n) e apart) (λ k. absurd k)) (λ e. cc)
-    empties_full o (Some entry) apart = gives (entry_references entry) (Turn o) _ refl refl (entries_leave kept (without_last (entries_of v.objects o)) o v.objects apart) (λ p m. either m (λ e. subst (λ n. ¬ kept n) e apart) (λ k. absurd k)) (λ e. cc)
+    empties_full o (Some entry) apart = gives (entry_references entry) (Turn o) _ refl refl (entries_leave kept (without_last (entries_of v.objects o)) o
+        v.objects apart) (λ p m. either m (λ e. subst (λ n. ¬ kept n) e apart) (λ k. absurd k)) (λ e. cc)
 
     phase_full : (phase : CollectPhase) → ((o : ℕ) → Includes (turns_of phase) o → ¬ kept o) → phase ≢ Start → PhaseStep script c phase below (standing phase) events after → IsFull after
     phase_full Start turn begun step = absurd (begun refl)
@@ -235,14 +280,18 @@ module _ (script : Script) (kept : ℕ → Type 0) (start : List Object) (below 
     phase_full Turns turn begun step = turns_full step
     phase_full (Turn o) turn begun step = to after _ step.1 (empties_full o (last_entry (entries_of v.objects o)) (turn o (inl refl)))
     phase_full (AfterTurn o) turn begun step = to after _ step.1 (goes_to c Turns _ refl refl (aged o) (λ p m. absurd m) (λ e. cc))
-    phase_full Ending turn begun step = absurd (stops (lines_if (has_flag c.flags uncollectable) (map GcUncollectable step.told) ++ map GcSaved step.keeps) c.generation c.collected (length step.told) (lines_if c.asked (Collected (c.collected + length step.told) ∷ [])) events step.lines on)
+    phase_full Ending turn begun step = absurd (stops (lines_if (has_flag c.flags uncollectable) (map GcUncollectable step.told) ++ map GcSaved step.keeps)
+        c.generation c.collected (length step.told) (lines_if c.asked (Collected (c.collected + length step.told) ∷ [])) events step.lines on)
 
-  pub step_full : (events : List Event) (after : World) → count_by is_enter events ≡ 0 → count_by is_stop events ≡ 0 → after.outcome ≡ Running → (tops : List Activity) (c : Collection) → ((a : Activity) → Includes tops a → IsBare kept a) → ((o : ℕ) → Includes (turns_of c.phase) o → ¬ kept o) → c.phase ≢ Start
+  pub step_full : (events : List Event) (after : World) → count_by is_enter events ≡ 0 → count_by is_stop events ≡ 0 → after.outcome ≡ Running
+      → (tops : List Activity) (c : Collection) → ((a : Activity) → Includes tops a → IsBare kept a) → ((o : ℕ) → Includes (turns_of c.phase) o → ¬ kept o)
+      → c.phase ≢ Start
       → StepOf script (with_stack (tops ++ Collecting c ∷ below) v) (tops ++ Collecting c ∷ below) events after → IsFull after
   step_full events after quiet on running [] c bare turn begun step = phase_full c events after quiet on running c.phase turn begun step
   step_full events after quiet on running (TopLevel commands ∷ tops) c bare turn begun step = absurd (bare (TopLevel commands) (inl refl))
   step_full events after quiet on running (Framed f ∷ tops) c bare turn begun step = absurd (bare (Framed f) (inl refl))
   step_full events after quiet on running (ShuttingDown started ∷ tops) c bare turn begun step = absurd (bare (ShuttingDown started) (inl refl))
   step_full events after quiet on running (Releasing references ∷ tops) c bare turn begun step = to after _ step.1 (released_full tops c (λ a m. bare a (inr m)) turn begun references)
-  step_full events after quiet on running (Dying d ∷ tops) c bare turn begun step = dying_full tops c (λ a m. bare a (inr m)) turn begun d.object (bare (Dying d) (inl refl)) events after quiet running d.phase step
+  step_full events after quiet on running (Dying d ∷ tops) c bare turn begun step = dying_full tops c (λ a m. bare a (inr m)) turn begun d.object
+      (bare (Dying d) (inl refl)) events after quiet running d.phase step
   step_full events after quiet on running (Collecting e ∷ tops) c bare turn begun step = absurd (bare (Collecting e) (inl refl))

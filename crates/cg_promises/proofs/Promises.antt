@@ -101,11 +101,16 @@ module _ (script : Script) (n : ℕ) where
   spent_none w after events fit h s = either h.told (λ t. none_counted n events (λ e m. (t e m).0))
       (λ t. one_line t.0 events t.1 ∙ ap (λ b. cond b 1 0) ((said w after t.0 fit t.2).spent s))
 
-  once_or_spent : (w after : World) (events : List Event) → Fit script w → Goes w.objects w.next_serial events after → (count_by (is_finalizer_of n) events ≡ 0) ⊎ (count_by (is_finalizer_of n) events ≡ 1) × IsSpent n after
+  once_or_spent : (w after : World) (events : List Event) → Fit script w → Goes w.objects w.next_serial events after → (count_by (is_finalizer_of n) events ≡ 0)
+      ⊎ (count_by (is_finalizer_of n) events ≡ 1) × IsSpent n after
   once_or_spent w after events fit h = either h.told (λ t. inl (none_counted n events (λ e m. (t e m).0))) (λ t. go t.0 t.1 t.2 (is_finalizer_of n t.0) refl)
     where
-      go : (event : Event) → events ≡ event ∷ [] → Says w.objects after.objects event → (b : Bool) → is_finalizer_of n event ≡ b → (count_by (is_finalizer_of n) events ≡ 0) ⊎ (count_by (is_finalizer_of n) events ≡ 1) × IsSpent n after
-      go event e s true t = let k = (said w after event fit s).spends t in inr (one_line event events e ∙ ap (λ b. cond b 1 0) t, record { made = let a = k.0 in omega (arith, a, h.serial); marked = k.1 })
+      go : (event : Event) → events ≡ event ∷ [] → Says w.objects after.objects event → (b : Bool) → is_finalizer_of n event ≡ b
+          → (count_by (is_finalizer_of n) events ≡ 0) ⊎ (count_by (is_finalizer_of n) events ≡ 1) × IsSpent n after
+      go event e s true t = let k = (said w after event fit s).spends t in inr (
+        one_line event events e ∙ ap (λ b. cond b 1 0) t,
+        record { made = let a = k.0 in omega (arith, a, h.serial); marked = k.1 },
+      )
       go event e s false t = inl (one_line event events e ∙ ap (λ b. cond b 1 0) t)
 
   run_spent : (w : World) (steps : List StepTaken) → Run script w steps → Fit script w → IsSpent n w → count_by (is_finalizer_of n) (events_of steps) ≡ 0
@@ -139,7 +144,8 @@ module _ (script : Script) (n : ℕ) where
   still_gone w after events h g = record {
     made = omega (arith, g.made, h.serial);
     gone = λ m. let y = Includes-map_cases (λ (z : Object). z.serial) after.objects n m in
-        either (h.follows y.0 y.1) (λ x. g.gone (subst (Includes (serials w.objects)) (sym x.2.serial ∙ y.2) (Includes-map (λ (z : Object). z.serial) w.objects x.0 x.1))) (λ k. let e = y.2 in omega (arith, g.made, k, e));
+        either (h.follows y.0 y.1) (λ x. g.gone (subst (Includes (serials w.objects)) (sym x.2.serial ∙ y.2) (Includes-map (λ (z : Object). z.serial) w.objects
+        x.0 x.1))) (λ k. let e = y.2 in omega (arith, g.made, k, e));
   }
 
   said_not : (w after : World) (event : Event) → WasThere n w → Says w.objects after.objects event → ¬ Includes (named event) n
@@ -157,7 +163,8 @@ module _ (script : Script) (n : ℕ) where
       (λ t. either ((t event m).1 n k) g.gone (λ e. let made = g.made in omega (arith, made, e)))
       (λ t. either (subst (λ es. Includes es event) t.1 m) (λ e. said_not w after t.0 g t.2 (subst (λ x. Includes (named x) n) (sym e) k)) (λ no. no))
 
-  run_gone : (w : World) (steps : List StepTaken) → Run script w steps → Fit script w → WasThere n w → WasThere n (last_world w steps) × ((event : Event) → Includes (events_of steps) event → ¬ Includes (named event) n)
+  run_gone : (w : World) (steps : List StepTaken) → Run script w steps → Fit script w → WasThere n w → WasThere n (last_world w steps)
+      × ((event : Event) → Includes (events_of steps) event → ¬ Includes (named event) n)
   run_gone w [] run fit g = (g, λ event m. absurd m)
   run_gone w (step ∷ steps) run fit g =
       let goes = step_goes script w step.events step.world run.0 fit in
@@ -165,7 +172,11 @@ module _ (script : Script) (n : ℕ) where
       (rest.0, λ event m. either (Includes-append_cases step.events (events_of steps) event m) (step_not w step.world step.events goes g event) (rest.1 event))
 
   gone_now : (w : World) → Fit script w → WasThere n w → IsGone w n
-  gone_now w fit g = (no_times n (holdings w) (λ m. g.gone (held_live w fit.order n m)), λ x m e. let z = fit.calm.referred x m n e in g.gone (subst (Includes (serials w.objects)) z.2 (Includes-map (λ (y : Object). y.serial) w.objects z.0 z.1)))
+  gone_now w fit g = (
+    no_times n (holdings w) (λ m. g.gone (held_live w fit.order n m)),
+    λ x m e. let z = fit.calm.referred x m n e
+        in g.gone (subst (Includes (serials w.objects)) z.2 (Includes-map (λ (y : Object). y.serial) w.objects z.0 z.1)),
+  )
 
   -- the step that frees it prints no other line
   one_free : (front back : List Event) (event : Event) → front ++ Free n ∷ back ≡ event ∷ [] → (back ≡ []) × (event ≡ Free n)
@@ -203,7 +214,8 @@ module _ (script : Script) (n : ℕ) where
 
   -- a line that is the only one of its step
   alone : (w : World) (step : StepTaken) (steps : List StepTaken) → Run script w (step ∷ steps) → Fit script w → (event : Event) → step.events ≡ event ∷ [] → Says w.objects step.world.objects event
-      → ((front back : List Event) → events_of steps ≡ front ++ Free n ∷ back → (e : Event) → Includes back e → ¬ Includes (named e) n) → (front back : List Event) → event ∷ events_of steps ≡ front ++ Free n ∷ back → (e : Event) → Includes back e → ¬ Includes (named e) n
+      → ((front back : List Event) → events_of steps ≡ front ++ Free n ∷ back → (e : Event) → Includes back e → ¬ Includes (named e) n)
+      → (front back : List Event) → event ∷ events_of steps ≡ front ++ Free n ∷ back → (e : Event) → Includes back e → ¬ Includes (named e) n
   alone w step steps run fit event one says later [] back e =
       let first : event ≡ Free n = cc in
       let rest : events_of steps ≡ back = cc in
@@ -212,7 +224,8 @@ module _ (script : Script) (n : ℕ) where
       subst (λ es. (x : Event) → Includes es x → ¬ Includes (named x) n) rest (run_gone script n step.world steps run.1 (step_fit script w step.events step.world run.0 fit) freed.1).1
   alone w step steps run fit event one says later (f ∷ front) back e = later front back (let rest : events_of steps ≡ front ++ Free n ∷ back = cc in rest)
 
-  lines_not : (w : World) (steps : List StepTaken) → Run script w steps → Fit script w → (front back : List Event) → events_of steps ≡ front ++ Free n ∷ back → (event : Event) → Includes back event → ¬ Includes (named event) n
+  lines_not : (w : World) (steps : List StepTaken) → Run script w steps → Fit script w → (front back : List Event) → events_of steps ≡ front ++ Free n ∷ back
+      → (event : Event) → Includes back event → ¬ Includes (named event) n
   lines_not w [] run fit [] back e = absurd (let no : [] ≡ Free n ∷ back = e in cc)
   lines_not w [] run fit (f ∷ front) back e = absurd (let no : [] ≡ f ∷ (front ++ Free n ∷ back) = e in cc)
   lines_not w (step ∷ steps) run fit front back e =

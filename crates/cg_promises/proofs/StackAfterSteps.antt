@@ -32,7 +32,9 @@ module _ (script : Script) (v : World) (c : Collection) (below : List Activity) 
   continues_early before after top a (DeathClears o weak waiting weaks t first lost) e = absurd (cc)
   continues_early before after top a (CollectionGoesOn b next same begun on) e = λ early other d m.
       let is : b ≡ c = cc in
-      either m (λ i. let same : next ≡ d = cc in subst (λ (z : Collection). IsEarly z.phase) same (on (subst (λ (z : Collection). IsEarly z.phase) (sym is) early) (subst (λ (z : Collection). z.phase ≢ Split) (sym is) other))) (λ k. absurd (alone d k))
+      either m (λ i. let same : next ≡ d = cc in subst (λ (z : Collection). IsEarly z.phase) same
+      (on (subst (λ (z : Collection). IsEarly z.phase) (sym is) early) (subst (λ (z : Collection). z.phase ≢ Split) (sym is) other))) (λ k. absurd
+      (alone d k))
 
   tops_early : (before after : List Object) (top : Activity) (tops : List Activity) → Tops before after top tops → top ≡ Collecting c → AreEarly (tops ++ below)
   tops_early before after top tops (TopEnds a gone) e = λ early other d m. absurd (alone d m)
@@ -65,7 +67,8 @@ AreFinal Was objects stack = (c : Collection) → Includes stack (Collecting c) 
 abbrev pub Stood : List Object → List Object → Type 0
 Stood before after = (y : Object) → Includes after y → y.place ≡ Cand → (x : Object) × Includes before x × (x.serial ≡ y.serial) × (x.place ≡ Cand)
 
-if_stood : (f : Object → Object) (test : Object → Bool) (objects : List Object) → ((x : Object) → (f x).serial ≡ x.serial) → ((x : Object) → (f x).place ≡ Cand → x.place ≡ Cand) → Stood objects (map (λ x. if test x then f x else x) objects)
+if_stood : (f : Object → Object) (test : Object → Bool) (objects : List Object) → ((x : Object) → (f x).serial ≡ x.serial) → ((x : Object) → (f x).place ≡ Cand
+    → x.place ≡ Cand) → Stood objects (map (λ x. if test x then f x else x) objects)
 if_stood f test objects serial place y m e =
     let x = Includes-map_cases (λ x. if test x then f x else x) objects y m in
     let k = one (test x.0) x.0 (ap (λ (z : Object). z.place) x.2 ∙ e) in
@@ -127,14 +130,22 @@ module _ (Was : ℕ → Type 0) (script : Script) (c : Collection) (below : List
   turn_final : (x : Object) → Includes v.objects x → x.place ≡ Cand → Finals Was c v.objects → FinalIn (takes_turn c x below (standing Turns)).1
   turn_final x m at h = go (has_flag c.flags save_all) (is_tuple x) refl
     where
-      go : (s t : Bool) → has_flag c.flags save_all ≡ s → (let next : Transition = if s then (GcSaved x.serial ∷ [], collection_at c Turns below (with_objects (change (with_place (Gen (older c.generation))) x.serial (saved x.serial v.objects)) (standing Turns)))
-          else if t then ([], collection_at c Turns below (with_change (with_place (Gen (older c.generation))) x.serial (standing Turns))) else ([], collection_at c (Turn x.serial) below (standing Turns)) in FinalIn next.1)
+      go : (s t : Bool) → has_flag c.flags save_all ≡ s
+          → (let next : Transition = if s
+          then (
+            GcSaved x.serial ∷ [],
+            collection_at c Turns below (with_objects (change (with_place (Gen (older c.generation))) x.serial
+                (saved x.serial v.objects)) (standing Turns)),
+          )
+          else if t then ([], collection_at c Turns below (with_change (with_place (Gen (older c.generation))) x.serial (standing Turns)))
+          else ([], collection_at c (Turn x.serial) below (standing Turns)) in FinalIn next.1)
       go true t e = only (record c { phase = Turns }) _ (λ clears. absurd (let no : true ≡ false = sym e ∙ clears in cc))
       go false true e = only (record c { phase = Turns }) _ (finals_stay Was c (record c { phase = Turns }) v.objects _ refl (older_stood (older c.generation) x.serial v.objects) h)
       go false false e = only (record c { phase = Turn x.serial }) v.objects (h, h e x m at)
 
   turns_final : (events : List Event) (after : World) → TurnsStep c below (standing Turns) events after → Finals Was c v.objects → FinalIn after
-  turns_final events after (inl step) h = let f = Includes-filter_cases (is_at Cand) v.objects step.object step.member in reach after _ step.yields.1 (turn_final step.object f.0 (place_is step.object.place Cand f.1) h)
+  turns_final events after (inl step) h = let f = Includes-filter_cases (is_at Cand) v.objects step.object step.member in reach after _ step.yields.1
+      (turn_final step.object f.0 (place_is step.object.place Cand f.1) h)
   turns_final events after (inr step) h = reach after _ step.1.1 (only (record c { phase = Ending }) v.objects tt)
 
   empties_final : (o : ℕ) (m : Option Entry) → Finals Was c v.objects → Was o → FinalIn (empties c o below (standing (Turn o)) m).1
@@ -142,7 +153,8 @@ module _ (Was : ℕ → Type 0) (script : Script) (c : Collection) (below : List
   empties_final o (Some entry) h w = under (entry_references entry) _ (Collecting (record c { phase = Turn o }) ∷ below) (only (record c { phase = Turn o }) _
       (finals_stay Was c (record c { phase = Turn o }) v.objects _ refl (entries_stood (without_last (entries_of v.objects o)) o v.objects) h, w))
 
-  pub late_final : (phase : CollectPhase) (events : List Event) (after : World) → PhaseStep script c phase below (standing phase) events after → ((o : ℕ) → has_flag c.flags save_all ≡ false → phase ≡ Split → Includes (serials_at after.objects Cand) o → Was o)
+  pub late_final : (phase : CollectPhase) (events : List Event) (after : World) → PhaseStep script c phase below (standing phase) events after
+      → ((o : ℕ) → has_flag c.flags save_all ≡ false → phase ≡ Split → Includes (serials_at after.objects Cand) o → Was o)
       → ((d : Collection) → Includes after.stack (Collecting d) → IsEarly phase → phase ≢ Split → IsEarly d.phase) → FinalAt Was c phase v.objects → FinalIn after
   late_final Split events after step splits early h = reach after _ step.world (only (record c { collected = c.collected + length (serials_at step.objects Cand); phase = Turns }) step.objects
       (λ clears x m e. splits x.serial clears refl (subst (λ (w : World). Includes (serials_at w.objects Cand) x.serial) (sym step.world) (member x m e))))
@@ -151,7 +163,9 @@ module _ (Was : ℕ → Type 0) (script : Script) (c : Collection) (below : List
       member x m e = Includes-map (λ (z : Object). z.serial) (objects_at step.objects Cand) x (Includes-filter (is_at Cand) step.objects x (ap (λ p. same_place p Cand) e) m)
   late_final Turns events after step splits early h = turns_final events after step h
   late_final (Turn o) events after step splits early h = reach after _ step.1 (empties_final o (last_entry (entries_of v.objects o)) h.0 h.1)
-  late_final (AfterTurn o) events after step splits early h = reach after _ step.1 (only (record c { phase = Turns }) _ (finals_stay Was c (record c { phase = Turns }) v.objects _ refl (older_stood (older c.generation) o v.objects) h))
+  late_final (AfterTurn o) events after step splits early h =
+      reach after _ step.1 (only (record c { phase = Turns }) _ (finals_stay Was c (record c { phase = Turns }) v.objects _ refl
+      (older_stood (older c.generation) o v.objects) h))
   late_final Start events after step splits early h = λ d m. early_final Was d d.phase after.objects (early d m tt (λ e. cc))
   late_final (WeakClearing waiting) events after step splits early h = λ d m. early_final Was d d.phase after.objects (early d m tt (λ e. cc))
   late_final (WeakCalling waiting) events after step splits early h = λ d m. early_final Was d d.phase after.objects (early d m tt (λ e. cc))

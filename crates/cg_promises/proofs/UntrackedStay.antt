@@ -99,7 +99,8 @@ still_same hard = (came (Goes hard) (goes hard)).same
 pub still_trans : (hard : ℕ → Type 0) (before now after : List Object) → Still hard before now → Still hard now after → Still hard before after
 still_trans hard = (came (Goes hard) (goes hard)).trans
 
-pub test_still : (hard : ℕ → Type 0) (f : Object → Object) (test : Object → Bool) (objects : List Object) → ((x : Object) → Includes objects x → test x ≡ true → Goes hard x (f x)) → Still hard objects (map (λ x. if test x then f x else x) objects)
+pub test_still : (hard : ℕ → Type 0) (f : Object → Object) (test : Object → Bool) (objects : List Object) → ((x : Object) → Includes objects x → test x ≡ true
+    → Goes hard x (f x)) → Still hard objects (map (λ x. if test x then f x else x) objects)
 test_still hard = came_if (Goes hard) (goes_same hard)
 
 pub map_still : (hard : ℕ → Type 0) (f : Object → Object) (objects : List Object) → ((x : Object) → Includes objects x → Goes hard x (f x)) → Still hard objects (map f objects)
@@ -110,7 +111,8 @@ pub placed_goes : (hard : ℕ → Type 0) (p : Place) (x : Object) → p ≢ Unt
 placed_goes hard p x tracked apart = record { stays = record { serial = refl; code = refl; untracked = λ t u. absurd (apart t u) }; loses = inr (λ u. absurd (tracked u)) }
 
 pub lost_still : (hard : ℕ → Type 0) (weak : ℕ) (objects : List Object) → Still hard objects (loses_referent weak objects)
-lost_still hard weak objects = test_still hard (with_referent None) (λ x. x.serial == weak) objects (λ x m t. record { stays = record { serial = refl; code = refl; untracked = λ a u. u }; loses = inr (λ u. (u, λ o i. i)) })
+lost_still hard weak objects = test_still hard (with_referent None) (λ x. x.serial == weak) objects
+    (λ x m t. record { stays = record { serial = refl; code = refl; untracked = λ a u. u }; loses = inr (λ u. (u, λ o i. i)) })
 
 -- excused afterwards, or slack
 abbrev pub Fine : List Activity → List Object → ℕ → Type 0
@@ -122,7 +124,8 @@ loose_later hard before after o still loose z m e =
     let k = loose x.0 x.1 (sym x.2.stays.serial ∙ e) in
     (tuple_kept x.0 z x.2.stays.code ∙ k.0, x.2.stays.untracked k.0 k.1)
 
-pub moves_slack : (hard : ℕ → Type 0) (next : ℕ) (before after : List Object) (from to : List Activity) → Still hard before after → ((n : ℕ) → hard n → Fine to after n) → ((n : ℕ) → Excused from n → Fine to after n)
+pub moves_slack : (hard : ℕ → Type 0) (next : ℕ) (before after : List Object) (from to : List Activity) → Still hard before after
+    → ((n : ℕ) → hard n → Fine to after n) → ((n : ℕ) → Excused from n → Fine to after n)
     → ((c : Collection) → Includes to (Collecting c) → AreNoTuples next before c) → Slack next before from → Slack next after to
 moves_slack hard next before after from to still fine excused handled h = record {
   slack = λ y m u. either (still y m).2.loses (λ k. fine_here y m u (fine y.serial k)) (λ l. lost y m u (still y m).0 (still y m).1 (still y m).2.stays (l u));
@@ -132,7 +135,8 @@ moves_slack hard next before after from to still fine excused handled h = record
     fine_here : (y : Object) → Includes after y → y.place ≡ Untracked → Fine to after y.serial → Excused to y.serial ⊎ IsSlackOne after y
     fine_here y m u f = either f (λ e. inl e) (λ s. inr (s y m refl u))
 
-    lost : (y : Object) → Includes after y → y.place ≡ Untracked → (x : Object) → Includes before x → Stays x y → (x.place ≡ Untracked) × ((o : ℕ) → Includes (references y.entries) o → Includes (references x.entries) o) → Excused to y.serial ⊎ IsSlackOne after y
+    lost : (y : Object) → Includes after y → y.place ≡ Untracked → (x : Object) → Includes before x → Stays x y → (x.place ≡ Untracked)
+        × ((o : ℕ) → Includes (references y.entries) o → Includes (references x.entries) o) → Excused to y.serial ⊎ IsSlackOne after y
     lost y m u x i s l = either (h.slack x i l.0) (λ e. fine_here y m u (excused y.serial (subst (Excused from) (sym s.serial) e)))
         (λ k. inr (either k.0 (λ t. inl (tuple_kept x y s.code ∙ t)) (λ t. inr (dict_kept x y s.code ∙ t)), λ o r. loose_later hard before after o still (k.1 o (l.1 o r))))
 
@@ -142,7 +146,8 @@ excused_on from to after deaths n (inl e) = inl (inl e)
 excused_on from to after deaths n (inr f) = inl (inr (f.0, deaths f.0 f.1, f.2, f.3))
 
 -- an activity is replaced
-pub turn_slack : (hard : ℕ → Type 0) (next : ℕ) (a b : Activity) (below : List Activity) (before after : List Object) → Still hard before after → ((n : ℕ) → hard n → Fine (b ∷ below) after n) → ((d : Death) → a ≢ Dying d) → ((c : Collection) → b ≡ Collecting c → AreNoTuples next before c)
+pub turn_slack : (hard : ℕ → Type 0) (next : ℕ) (a b : Activity) (below : List Activity) (before after : List Object) → Still hard before after
+    → ((n : ℕ) → hard n → Fine (b ∷ below) after n) → ((d : Death) → a ≢ Dying d) → ((c : Collection) → b ≡ Collecting c → AreNoTuples next before c)
     → Slack next before (a ∷ below) → Slack next after (b ∷ below)
 turn_slack hard next a b below before after still fine live handled h = moves_slack hard next before after (a ∷ below) (b ∷ below) still fine
     (excused_on (a ∷ below) (b ∷ below) after (λ d m. either m (λ e. absurd (live d e)) (λ k. inr k))) (λ c m. either m (λ e. handled c e) (λ k. h.handled c (inr k))) h
@@ -152,9 +157,11 @@ pub end_slack : (next : ℕ) (a : Activity) (below : List Activity) (objects : L
 end_slack next a below objects live h = moves_slack Never next objects objects (a ∷ below) below (still_same Never objects) (λ n no. absurd no)
     (excused_on (a ∷ below) below objects (λ d m. either m (λ e. absurd (live d e)) (λ k. k))) (λ c m. h.handled c (inr m)) h
 
-pub push_slack : (next : ℕ) (a : Activity) (stack : List Activity) (objects : List Object) → ((c : Collection) → a ≡ Collecting c → AreNoTuples next objects c) → Slack next objects stack → Slack next objects (a ∷ stack)
+pub push_slack : (next : ℕ) (a : Activity) (stack : List Activity) (objects : List Object) → ((c : Collection) → a ≡ Collecting c → AreNoTuples next objects c)
+    → Slack next objects stack → Slack next objects (a ∷ stack)
 push_slack next a stack objects handled h = moves_slack Never next objects objects stack (a ∷ stack) (still_same Never objects) (λ n no. absurd no)
     (excused_on stack (a ∷ stack) objects (λ d m. inr m)) (λ c m. either m (λ e. handled c e) (λ k. h.handled c k)) h
 
 pub starts_slack : (script : Script) (spec : FrameSpec) (u : World) → IsSlackWorld u → IsSlackWorld (start_frame script spec u).1
-starts_slack script spec u h = starts_either (λ lines. IsSlackWorld) script spec u (record { slack = h.slack; handled = h.handled }) (λ some. push_slack u.next_serial (begun_frame script spec) u.stack u.objects (λ c e. cc) h)
+starts_slack script spec u h = starts_either (λ lines. IsSlackWorld) script spec u (record { slack = h.slack; handled = h.handled })
+    (λ some. push_slack u.next_serial (begun_frame script spec) u.stack u.objects (λ c e. cc) h)

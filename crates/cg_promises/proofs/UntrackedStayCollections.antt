@@ -52,7 +52,8 @@ abbrev IsRoot : ℕ → Type 0
 IsRoot n = n ≡ 1
 
 saved_still : (o : ℕ) (objects : List Object) → Still IsRoot objects (saved o objects)
-saved_still o objects = test_still IsRoot (λ x. with_entries (x.entries ++ item (Ref o) ∷ []) x) (λ x. x.serial == 1) objects (λ x m t. record { stays = record { serial = refl; code = refl; untracked = λ a u. u }; loses = inl (eqb-true x.serial 1 t) })
+saved_still o objects = test_still IsRoot (λ x. with_entries (x.entries ++ item (Ref o) ∷ []) x) (λ x. x.serial == 1) objects
+    (λ x m t. record { stays = record { serial = refl; code = refl; untracked = λ a u. u }; loses = inl (eqb-true x.serial 1 t) })
 
 all_saved_still : (keeps : List ℕ) (objects : List Object) → Still IsRoot objects (all_saved keeps objects)
 all_saved_still keeps = all_saved_by (Still IsRoot) (came (Goes IsRoot) (goes IsRoot)) keeps (λ o m. saved_still o)
@@ -60,20 +61,24 @@ all_saved_still keeps = all_saved_by (Still IsRoot) (came (Goes IsRoot) (goes Is
 saved_place : (o : ℕ) (objects : List Object) (y : Object) → Includes (saved o objects) y → (x : Object) × Includes objects x × (x.serial ≡ y.serial) × (x.place ≡ y.place)
 saved_place o objects y m = let x = Includes-map_cases (λ x. if x.serial == 1 then with_entries (x.entries ++ item (Ref o) ∷ []) x else x) objects y m in go (x.0.serial == 1) x.0 x.1 x.2
   where
-    go : (b : Bool) (x : Object) → Includes objects x → (if b then with_entries (x.entries ++ item (Ref o) ∷ []) x else x) ≡ y → (x : Object) × Includes objects x × (x.serial ≡ y.serial) × (x.place ≡ y.place)
+    go : (b : Bool) (x : Object) → Includes objects x → (if b then with_entries (x.entries ++ item (Ref o) ∷ []) x else x) ≡ y → (x : Object)
+        × Includes objects x × (x.serial ≡ y.serial) × (x.place ≡ y.place)
     go true x k e = (x, k, ap (λ (z : Object). z.serial) e, ap (λ (z : Object). z.place) e)
     go false x k e = (x, k, ap (λ (z : Object). z.serial) e, ap (λ (z : Object). z.place) e)
 
 -- those in a tracked place move to another
-spread_still : (hard : ℕ → Type 0) (p q : Place) (objects : List Object) → same_place Untracked p ≡ false → q ≢ Untracked → Still hard objects (map (λ x. if is_at p x then with_place q x else x) objects)
+spread_still : (hard : ℕ → Type 0) (p q : Place) (objects : List Object) → same_place Untracked p ≡ false → q ≢ Untracked
+    → Still hard objects (map (λ x. if is_at p x then with_place q x else x) objects)
 spread_still hard p q objects apart tracked = test_still hard (with_place q) (is_at p) objects (λ x m t. placed_goes hard q x tracked (λ a. is_tracked_at p x apart t))
 
 -- an object other than an untracked tuple moves to a tracked place
-one_still : (hard : ℕ → Type 0) (p : Place) (o : ℕ) (objects : List Object) → p ≢ Untracked → ((x : Object) → Includes objects x → x.serial ≡ o → is_tuple x ≡ true → x.place ≢ Untracked) → Still hard objects (change (with_place p) o objects)
+one_still : (hard : ℕ → Type 0) (p : Place) (o : ℕ) (objects : List Object) → p ≢ Untracked → ((x : Object) → Includes objects x → x.serial ≡ o → is_tuple x
+    ≡ true → x.place ≢ Untracked) → Still hard objects (change (with_place p) o objects)
 one_still hard p o objects tracked apart = test_still hard (with_place p) (λ x. x.serial == o) objects (λ x m t. placed_goes hard p x tracked (apart x m (eqb-true x.serial o t)))
 
 -- what is in a tracked place, by its serial
-member_tracked : (next : ℕ) (p : Place) (objects : List Object) (o : ℕ) → Rises 1 next objects → same_place Untracked p ≡ false → Includes (serials_at objects p) o → (x : Object) → Includes objects x → x.serial ≡ o → x.place ≢ Untracked
+member_tracked : (next : ℕ) (p : Place) (objects : List Object) (o : ℕ) → Rises 1 next objects → same_place Untracked p ≡ false
+    → Includes (serials_at objects p) o → (x : Object) → Includes objects x → x.serial ≡ o → x.place ≢ Untracked
 member_tracked next p objects o rises apart m x i s =
     let z = Includes-map_cases (λ (y : Object). y.serial) (objects_at objects p) o m in
     let at = Includes-filter_cases (is_at p) objects z.0 z.1 in
@@ -115,18 +120,23 @@ module _ (script : Script) (c : Collection) (below : List Activity) (v : World) 
   for_all : (d : Collection) (next : CollectPhase) → AtHand next → (e : Collection) → collecting d next ≡ Collecting e → AreNoTuples v.next_serial v.objects e
   for_all d next hand e i o m = let same : next ≡ e.phase = cc in hand o (subst (λ p. Includes (handles p) o) (sym same) m)
 
-  hard_to : (hard : ℕ → Type 0) (phase : CollectPhase) (d : Collection) (next : CollectPhase) (objects : List Object) → Still hard v.objects objects → ((n : ℕ) → hard n → Fine (collecting d next ∷ below) objects n) → AtHand next → IsSlackWorld (at phase) → Slack v.next_serial objects (collecting d next ∷ below)
+  hard_to : (hard : ℕ → Type 0) (phase : CollectPhase) (d : Collection) (next : CollectPhase) (objects : List Object) → Still hard v.objects objects
+      → ((n : ℕ) → hard n → Fine (collecting d next ∷ below) objects n) → AtHand next → IsSlackWorld (at phase) → Slack v.next_serial objects (collecting d next
+      ∷ below)
   hard_to hard phase d next objects still fine hand h = turn_slack hard v.next_serial (collecting c phase) (collecting d next) below v.objects objects still fine (λ d e. cc) (for_all d next hand) h
 
-  goes_to : (phase : CollectPhase) (d : Collection) (next : CollectPhase) (objects : List Object) → Still Never v.objects objects → AtHand next → IsSlackWorld (at phase) → Slack v.next_serial objects (collecting d next ∷ below)
+  goes_to : (phase : CollectPhase) (d : Collection) (next : CollectPhase) (objects : List Object) → Still Never v.objects objects → AtHand next
+      → IsSlackWorld (at phase) → Slack v.next_serial objects (collecting d next ∷ below)
   goes_to phase d next objects still hand h = hard_to Never phase d next objects still (λ n no. absurd no) hand h
 
-  gives : (references : List ℕ) (phase next : CollectPhase) (objects : List Object) → Still Never v.objects objects → AtHand next → IsSlackWorld (at phase) → Slack v.next_serial objects (Releasing references ∷ collecting c next ∷ below)
+  gives : (references : List ℕ) (phase next : CollectPhase) (objects : List Object) → Still Never v.objects objects → AtHand next → IsSlackWorld (at phase)
+      → Slack v.next_serial objects (Releasing references ∷ collecting c next ∷ below)
   gives references phase next objects still hand h = push_slack v.next_serial (Releasing references) (collecting c next ∷ below) objects (λ d e. cc) (goes_to phase c next objects still hand h)
 
   start_slack : (events : List Event) (after : World) → StartStep script (at Start) c below events after → IsSlackWorld (at Start) → IsSlackWorld after
   start_slack events after step h = to after _ step.world (hard_to hard Start c (WeakClearing []) (sorted c.generation step.places now)
-      (still_trans hard v.objects now (sorted c.generation step.places now) (merge_still hard c.generation v.objects) (sort_still script c.generation (merged c.generation (at Start)) step.chosen step.places v.next_serial rises_now step.sorts))
+      (still_trans hard v.objects now (sorted c.generation step.places now) (merge_still hard c.generation v.objects)
+      (sort_still script c.generation (merged c.generation (at Start)) step.chosen step.places v.next_serial rises_now step.sorts))
       (λ n k. inr k) (λ o m. absurd m) h)
     where
       now : List Object
@@ -138,7 +148,9 @@ module _ (script : Script) (c : Collection) (below : List Activity) (v : World) 
       hard : ℕ → Type 0
       hard = Anew script c.generation (merged c.generation (at Start)) step.chosen step.places v.next_serial rises_now step.sorts
 
-  weak_clearing_slack : (waiting : List ℕ) (events : List Event) (after : World) → HasOrder (at (WeakClearing waiting)) → WeakClearingStep (profile_of script.items) c waiting below (at (WeakClearing waiting)) events after → IsSlackWorld (at (WeakClearing waiting)) → IsSlackWorld after
+  weak_clearing_slack : (waiting : List ℕ) (events : List Event) (after : World) → HasOrder (at (WeakClearing waiting))
+      → WeakClearingStep (profile_of script.items) c waiting below (at (WeakClearing waiting)) events after → IsSlackWorld (at (WeakClearing waiting))
+      → IsSlackWorld after
   weak_clearing_slack waiting events after order (inl step) h = to after _ step.yields.1 (go (waits v.objects step.weak))
     where
       lost : List Object
@@ -153,12 +165,17 @@ module _ (script : Script) (c : Collection) (below : List Activity) (v : World) 
           let same : step.newest.object ≡ z.0 = same_object 1 v.next_serial v.objects step.newest.object z.0 rises step.newest.member z.1 (step.newest.is ∙ sym s ∙ z.2.stays.serial) in
           absurd (false_true (sym t ∙ weak_apart x (z.2.stays.code ∙ ap (λ (q : Object). q.code) (sym same) ∙ code)))
 
-      go : (t : Bool) → IsSlackWorld (if t then collection_at c (WeakClearing (waiting ++ step.weak ∷ [])) below (with_objects (change (with_place Pend) step.weak lost) (at (WeakClearing waiting))) else collection_at c (WeakClearing waiting) below (with_objects lost (at (WeakClearing waiting))))
-      go true = goes_to (WeakClearing waiting) c (WeakClearing (waiting ++ step.weak ∷ [])) (change (with_place Pend) step.weak lost) (still_trans Never v.objects lost (change (with_place Pend) step.weak lost) (lost_still Never step.weak v.objects) (one_still Never Pend step.weak lost (λ e. cc) apart)) (λ o m. absurd m) h
+      go : (t : Bool) → IsSlackWorld (if t then collection_at c (WeakClearing (waiting ++ step.weak ∷ [])) below
+          (with_objects (change (with_place Pend) step.weak lost) (at (WeakClearing waiting))) else collection_at c (WeakClearing waiting) below
+          (with_objects lost (at (WeakClearing waiting))))
+      go true = goes_to (WeakClearing waiting) c (WeakClearing (waiting ++ step.weak ∷ [])) (change (with_place Pend) step.weak lost)
+          (still_trans Never v.objects lost (change (with_place Pend) step.weak lost) (lost_still Never step.weak v.objects)
+          (one_still Never Pend step.weak lost (λ e. cc) apart)) (λ o m. absurd m) h
       go false = goes_to (WeakClearing waiting) c (WeakClearing waiting) lost (lost_still Never step.weak v.objects) (λ o m. absurd m) h
   weak_clearing_slack waiting events after order (inr step) h = to after _ step.1.1 (goes_to (WeakClearing waiting) c (WeakCalling waiting) v.objects same (λ o m. absurd m) h)
 
-  weak_calling_slack : (waiting : List ℕ) → HasOrder (at (WeakCalling waiting)) → IsSlackWorld (at (WeakCalling waiting)) → IsSlackWorld (calls_back script c waiting below (at (WeakCalling waiting))).1
+  weak_calling_slack : (waiting : List ℕ) → HasOrder (at (WeakCalling waiting)) → IsSlackWorld (at (WeakCalling waiting))
+      → IsSlackWorld (calls_back script c waiting below (at (WeakCalling waiting))).1
   weak_calling_slack [] order h = goes_to (WeakCalling []) c Finalizing v.objects same (λ o m. absurd m) h
   weak_calling_slack (weak ∷ waiting) order h =
       let callback = unwrap_or (callback_of v.objects weak) 0 in
@@ -180,31 +197,38 @@ module _ (script : Script) (c : Collection) (below : List Activity) (v : World) 
   after_release_slack weak waiting h = either_way (λ lines. IsSlackWorld) (is_in_map v.objects weak)
       ([], collection_at c (WeakCalling waiting) below (with_change (with_place (Gen (older c.generation))) weak (at (AfterRelease weak waiting))))
       ([], collection_at (record c { collected = c.collected + 1 }) (WeakCalling waiting) below (at (AfterRelease weak waiting)))
-      (goes_to (AfterRelease weak waiting) c (WeakCalling waiting) (change (with_place (Gen (older c.generation))) weak v.objects) (handed (AfterRelease weak waiting) weak (inl refl) h) (λ o m. absurd m) h)
+      (goes_to (AfterRelease weak waiting) c (WeakCalling waiting) (change (with_place (Gen (older c.generation))) weak v.objects)
+      (handed (AfterRelease weak waiting) weak (inl refl) h) (λ o m. absurd m) h)
       (goes_to (AfterRelease weak waiting) (record c { collected = c.collected + 1 }) (WeakCalling waiting) v.objects same (λ o m. absurd m) h)
 
   looks_at_slack : (o : ℕ) (m : Option ℕ) → Includes (serials_at v.objects Cand) o → IsSlackWorld (at Finalizing) → IsSlackWorld (looks_at script c o below (at Finalizing) m).1
-  looks_at_slack o None i h = goes_to Finalizing c Finalizing (change (with_place Seen) o v.objects) (one_still Never Seen o v.objects (λ e. cc) (λ x k s t. member_tracked v.next_serial Cand v.objects o rises refl i x k s)) (λ o m. absurd m) h
-  looks_at_slack o (Some p) i h = starts_slack script (record { sort = Del; proc = p; subject = o; func = None }) (collection_at c (AfterFinalizing o) below (with_change (λ x. marked (with_place Seen x)) o (at Finalizing)))
-      (goes_to Finalizing c (AfterFinalizing o) (change (λ x. marked (with_place Seen x)) o v.objects) (test_still Never (λ x. marked (with_place Seen x)) (λ x. x.serial == o) v.objects (λ x k t. record {
+  looks_at_slack o None i h = goes_to Finalizing c Finalizing (change (with_place Seen) o v.objects) (one_still Never Seen o v.objects (λ e. cc)
+      (λ x k s t. member_tracked v.next_serial Cand v.objects o rises refl i x k s)) (λ o m. absurd m) h
+  looks_at_slack o (Some p) i h = starts_slack script (record { sort = Del; proc = p; subject = o; func = None }) (collection_at c (AfterFinalizing o) below
+      (with_change (λ x. marked (with_place Seen x)) o (at Finalizing)))
+      (goes_to Finalizing c (AfterFinalizing o) (change (λ x. marked (with_place Seen x)) o v.objects) (test_still Never (λ x. marked (with_place Seen x))
+      (λ x. x.serial == o) v.objects (λ x k t. record {
         stays = record { serial = refl; code = refl; untracked = λ a u. absurd (member_tracked v.next_serial Cand v.objects o rises refl i x k (eqb-true x.serial o t) u) };
         loses = inr (λ u. absurd (let no : Seen ≡ Untracked = u in cc));
       })) (λ o m. absurd m) h)
 
   finalizing_slack : (events : List Event) (after : World) → FinalizingStep script c below (at Finalizing) events after → IsSlackWorld (at Finalizing) → IsSlackWorld after
   finalizing_slack events after (inl step) h = to after _ step.yields.1 (looks_at_slack step.object (option_and_then (finalizer_to_run script) (object_at v.objects step.object)) step.condemned h)
-  finalizing_slack events after (inr step) h = to after _ step.1.1 (goes_to Finalizing c Split (map (λ x. if is_at Seen x then with_place Cand x else x) v.objects) (spread_still Never Seen Cand v.objects refl (λ e. cc)) (λ o m. absurd m) h)
+  finalizing_slack events after (inr step) h = to after _ step.1.1 (goes_to Finalizing c Split (map (λ x. if is_at Seen x then with_place Cand x else x)
+      v.objects) (spread_still Never Seen Cand v.objects refl (λ e. cc)) (λ o m. absurd m) h)
 
   split_slack : (events : List Event) (after : World) → SplitStep c below (at Split) events after → IsSlackWorld (at Split) → IsSlackWorld after
   split_slack events after step h = to after _ step.world (goes_to Split (record c { collected = c.collected + length (serials_at step.objects Cand) }) Turns step.objects
-      (still_trans Never v.objects now step.objects (test_still Never (with_place (Gen (older c.generation))) (λ x. includes step.alive x.serial) v.objects (λ x m t. placed_goes Never (Gen (older c.generation)) x (older_tracked (older c.generation)) (λ a. alive x m t)))
+      (still_trans Never v.objects now step.objects (test_still Never (with_place (Gen (older c.generation))) (λ x. includes step.alive x.serial) v.objects
+      (λ x m t. placed_goes Never (Gen (older c.generation)) x (older_tracked (older c.generation)) (λ a. alive x m t)))
       (all_lose_still Never (loses_at_split now) step.cleared now step.objects step.lose)) (λ o m. absurd m) h)
     where
       now : List Object
       now = get_older c.generation step.alive v.objects
 
       alive : (x : Object) → Includes v.objects x → includes step.alive x.serial ≡ true → x.place ≢ Untracked
-      alive x m t = member_tracked v.next_serial Cand v.objects x.serial rises refl (survivor_inside (at Split) Cand x.serial ((step.survivors x.serial).0 (Includes-of step.alive x.serial t))) x m refl
+      alive x m t = member_tracked v.next_serial Cand v.objects x.serial rises refl (survivor_inside (at Split) Cand x.serial
+          ((step.survivors x.serial).0 (Includes-of step.alive x.serial t))) x m refl
 
   turn_taken : (x : Object) → Includes (objects_at v.objects Cand) x → IsSlackWorld (at Turns) → IsSlackWorld (takes_turn c x below (at Turns)).1
   turn_taken x m h = go (has_flag c.flags save_all) (is_tuple x) refl
@@ -219,18 +243,30 @@ module _ (script : Script) (c : Collection) (below : List Activity) (v : World) 
       tracked_kept z i s u = let y = saved_place x.serial v.objects z i in tracked y.0 y.1 (y.2 ∙ s) (y.3 ∙ u)
 
       turn : is_tuple x ≡ false → AtHand (Turn x.serial)
-      turn t o (inl e) = subst (IsNoTuple v.next_serial v.objects) e ((lives_within 1 v.next_serial v.objects x.serial rises (Includes-map (λ (y : Object). y.serial) v.objects x member)).1, λ z i s. ap is_tuple (same_object 1 v.next_serial v.objects z x rises i member s) ∙ t)
+      turn t o (inl e) = subst (IsNoTuple v.next_serial v.objects) e (
+        (lives_within 1 v.next_serial v.objects x.serial rises (Includes-map (λ (y : Object). y.serial) v.objects x member)).1,
+        λ z i s. ap is_tuple (same_object 1 v.next_serial v.objects z x rises i member s) ∙ t,
+      )
         where
           member : Includes v.objects x
           member = (Includes-filter_cases (is_at Cand) v.objects x m).0
       turn t o (inr k) = absurd k
 
-      go : (s t : Bool) → is_tuple x ≡ t → (let next : Transition = if s then (GcSaved x.serial ∷ [], collection_at c Turns below (with_objects (change (with_place (Gen (older c.generation))) x.serial (saved x.serial v.objects)) (at Turns)))
-          else if t then ([], collection_at c Turns below (with_change (with_place (Gen (older c.generation))) x.serial (at Turns))) else ([], collection_at c (Turn x.serial) below (at Turns)) in IsSlackWorld next.1)
+      go : (s t : Bool) → is_tuple x ≡ t
+          → (let next : Transition = if s
+          then (
+            GcSaved x.serial ∷ [],
+            collection_at c Turns below (with_objects (change (with_place (Gen (older c.generation))) x.serial
+                (saved x.serial v.objects)) (at Turns)),
+          )
+          else if t then ([], collection_at c Turns below (with_change (with_place (Gen (older c.generation))) x.serial (at Turns)))
+          else ([], collection_at c (Turn x.serial) below (at Turns)) in IsSlackWorld next.1)
       go true t e = hard_to IsRoot Turns c Turns (change (with_place (Gen (older c.generation))) x.serial kept)
-          (still_trans IsRoot v.objects kept (change (with_place (Gen (older c.generation))) x.serial kept) (saved_still x.serial v.objects) (one_still IsRoot (Gen (older c.generation)) x.serial kept (older_tracked (older c.generation)) (λ z i s a. tracked_kept z i s)))
+          (still_trans IsRoot v.objects kept (change (with_place (Gen (older c.generation))) x.serial kept) (saved_still x.serial v.objects)
+          (one_still IsRoot (Gen (older c.generation)) x.serial kept (older_tracked (older c.generation)) (λ z i s a. tracked_kept z i s)))
           (λ n k. inl (inl k)) (λ o m. absurd m) h
-      go false true e = goes_to Turns c Turns (change (with_place (Gen (older c.generation))) x.serial v.objects) (one_still Never (Gen (older c.generation)) x.serial v.objects (older_tracked (older c.generation)) (λ z i s a. tracked z i s)) (λ o m. absurd m) h
+      go false true e = goes_to Turns c Turns (change (with_place (Gen (older c.generation))) x.serial v.objects) (one_still Never (Gen (older c.generation))
+          x.serial v.objects (older_tracked (older c.generation)) (λ z i s a. tracked z i s)) (λ o m. absurd m) h
       go false false e = goes_to Turns c (Turn x.serial) v.objects same (turn e) h
 
   turns_slack : (events : List Event) (after : World) → TurnsStep c below (at Turns) events after → IsSlackWorld (at Turns) → IsSlackWorld after
@@ -239,11 +275,14 @@ module _ (script : Script) (c : Collection) (below : List Activity) (v : World) 
 
   empties_slack : (o : ℕ) (m : Option Entry) → IsSlackWorld (at (Turn o)) → IsSlackWorld (empties c o below (at (Turn o)) m).1
   empties_slack o None h = gives (o ∷ []) (Turn o) (AfterTurn o) v.objects same (at_hand (Turn o) h) h
-  empties_slack o (Some entry) h = gives (entry_references entry) (Turn o) (Turn o) (change (with_entries (without_last (entries_of v.objects o))) o v.objects) (shortened_still Never v.next_serial v.objects o rises) (at_hand (Turn o) h) h
+  empties_slack o (Some entry) h = gives (entry_references entry) (Turn o) (Turn o) (change (with_entries (without_last (entries_of v.objects o))) o v.objects)
+      (shortened_still Never v.next_serial v.objects o rises) (at_hand (Turn o) h) h
 
   end_reached : (events : List Event) (after : World) → EndStep script c below (at Ending) events after → IsSlackWorld (at Ending) → IsSlackWorld after
-  end_reached events after step h = to after _ step.world (moves_slack IsRoot v.next_serial v.objects (map (λ x. if is_at Legacy x then with_place (Gen (older c.generation)) x else x) kept) (collecting c Ending ∷ below) below
-      (still_trans IsRoot v.objects kept (map (λ x. if is_at Legacy x then with_place (Gen (older c.generation)) x else x) kept) (all_saved_still step.keeps v.objects) (spread_still IsRoot Legacy (Gen (older c.generation)) kept refl (older_tracked (older c.generation))))
+  end_reached events after step h = to after _ step.world (moves_slack IsRoot v.next_serial v.objects
+      (map (λ x. if is_at Legacy x then with_place (Gen (older c.generation)) x else x) kept) (collecting c Ending ∷ below) below
+      (still_trans IsRoot v.objects kept (map (λ x. if is_at Legacy x then with_place (Gen (older c.generation)) x else x) kept)
+      (all_saved_still step.keeps v.objects) (spread_still IsRoot Legacy (Gen (older c.generation)) kept refl (older_tracked (older c.generation))))
       (λ n k. inl (inl k)) (excused_on (collecting c Ending ∷ below) below (map (λ x. if is_at Legacy x then with_place (Gen (older c.generation)) x else x) kept) pop) (λ d m. h.handled d (inr m)) h)
     where
       kept : List Object
@@ -253,16 +292,19 @@ module _ (script : Script) (c : Collection) (below : List Activity) (v : World) 
       pop d (inl e) = cc
       pop d (inr m) = m
 
-  pub phase_slack : (phase : CollectPhase) (events : List Event) (after : World) → HasOrder (at phase) → PhaseStep script c phase below (at phase) events after → IsSlackWorld (at phase) → IsSlackWorld after
+  pub phase_slack : (phase : CollectPhase) (events : List Event) (after : World) → HasOrder (at phase) → PhaseStep script c phase below (at phase) events after
+      → IsSlackWorld (at phase) → IsSlackWorld after
   phase_slack Start events after order step h = start_slack events after step h
   phase_slack (WeakClearing waiting) events after order step h = weak_clearing_slack waiting events after order step h
   phase_slack (WeakCalling waiting) events after order step h = to after _ step.1 (weak_calling_slack waiting order h)
-  phase_slack (AfterCallback weak waiting) events after order step h = to after _ step.1 (gives (weak ∷ []) (AfterCallback weak waiting) (AfterRelease weak waiting) v.objects same (at_hand (AfterCallback weak waiting) h) h)
+  phase_slack (AfterCallback weak waiting) events after order step h = to after _ step.1 (gives (weak ∷ []) (AfterCallback weak waiting)
+      (AfterRelease weak waiting) v.objects same (at_hand (AfterCallback weak waiting) h) h)
   phase_slack (AfterRelease weak waiting) events after order step h = to after _ step.1 (after_release_slack weak waiting h)
   phase_slack Finalizing events after order step h = finalizing_slack events after step h
   phase_slack (AfterFinalizing o) events after order step h = to after _ step.1 (gives (o ∷ []) (AfterFinalizing o) Finalizing v.objects same (λ p m. absurd m) h)
   phase_slack Split events after order step h = split_slack events after step h
   phase_slack Turns events after order step h = turns_slack events after step h
   phase_slack (Turn o) events after order step h = to after _ step.1 (empties_slack o (last_entry (entries_of v.objects o)) h)
-  phase_slack (AfterTurn o) events after order step h = to after _ step.1 (goes_to (AfterTurn o) c Turns (change (with_place (Gen (older c.generation))) o v.objects) (handed (AfterTurn o) o (inl refl) h) (λ p m. absurd m) h)
+  phase_slack (AfterTurn o) events after order step h = to after _ step.1 (goes_to (AfterTurn o) c Turns (change (with_place (Gen (older c.generation))) o
+      v.objects) (handed (AfterTurn o) o (inl refl) h) (λ p m. absurd m) h)
   phase_slack Ending events after order step h = end_reached events after step h

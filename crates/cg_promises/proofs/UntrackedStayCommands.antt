@@ -39,9 +39,12 @@ put_from : (entries : List Entry) (key v : Val) (o : ℕ) → Includes (referenc
 put_from entries key v o m =
     either (Includes-append_cases (references entries) values_held o (from_free (references entries ++ values_held) (references (put entries key v)) o (λ none. put_free entries key v o
     (λ k. none (Includes-append_left (references entries) values_held o k))
-    (λ e. none (Includes-append_right (references entries) values_held o (Includes-append_left (option_to_list (reference_in key)) (option_to_list (reference_in v)) o (option_held (reference_in key) o e))))
-    (λ e. none (Includes-append_right (references entries) values_held o (Includes-append_right (option_to_list (reference_in key)) (option_to_list (reference_in v)) o (option_held (reference_in v) o e))))) m))
-    (λ k. inl k) (λ k. inr (either (Includes-append_cases (option_to_list (reference_in key)) (option_to_list (reference_in v)) o k) (λ i. inl (option_holds (reference_in key) o i)) (λ i. inr (option_holds (reference_in v) o i))))
+    (λ e. none (Includes-append_right (references entries) values_held o (Includes-append_left (option_to_list (reference_in key))
+    (option_to_list (reference_in v)) o (option_held (reference_in key) o e))))
+    (λ e. none (Includes-append_right (references entries) values_held o (Includes-append_right (option_to_list (reference_in key))
+    (option_to_list (reference_in v)) o (option_held (reference_in v) o e))))) m))
+    (λ k. inl k) (λ k. inr (either (Includes-append_cases (option_to_list (reference_in key)) (option_to_list (reference_in v)) o k)
+    (λ i. inl (option_holds (reference_in key) o i)) (λ i. inr (option_holds (reference_in v) o i))))
   where
     values_held : List ℕ
     values_held = option_to_list (reference_in key) ++ option_to_list (reference_in v)
@@ -49,7 +52,8 @@ put_from entries key v o m =
 -- entries among others have no other references
 references_within : (xs ys : List Entry) → ((e : Entry) → Includes xs e → Includes ys e) → (o : ℕ) → Includes (references xs) o → Includes (references ys) o
 references_within [] ys h o m = absurd m
-references_within (x ∷ xs) ys h o m = either (Includes-append_cases (entry_references x) (references xs) o m) (references_of_member ys x o (h x (inl refl))) (references_within xs ys (λ e k. h e (inr k)) o)
+references_within (x ∷ xs) ys h o m = either (Includes-append_cases (entry_references x) (references xs) o m) (references_of_member ys x o (h x (inl refl)))
+    (references_within xs ys (λ e k. h e (inr k)) o)
 
 -- kinds that are neither tuples nor dictionaries
 abbrev IsOther : Object → Type 0
@@ -59,7 +63,8 @@ IsOther x = (¬ (is_tuple x ≡ true)) × (¬ (is_dict x ≡ true))
 mutable_other : (x : Object) → IsMutable x.code → IsOther x ⊎ (x.code ≢ ListKind)
 mutable_other x m = go x.code m
   where
-    go : (c : KindCode) → IsMutable c → ((¬ (elim c [ ListKind ↦ false | Tuple ↦ true | Dict ↦ false | Inst ↦ false | Func ↦ false | Weak ↦ false ] ≡ true)) × (¬ (elim c [ Dict ↦ true | _ ↦ false ] ≡ true))) ⊎ (c ≢ ListKind)
+    go : (c : KindCode) → IsMutable c → ((¬ (elim c [ ListKind ↦ false | Tuple ↦ true | Dict ↦ false | Inst ↦ false | Func ↦ false | Weak ↦ false ] ≡ true))
+        × (¬ (elim c [ Dict ↦ true | _ ↦ false ] ≡ true))) ⊎ (c ≢ ListKind)
     go ListKind k = inl (λ e. let no : false ≡ true = e in cc, λ e. let no : false ≡ true = e in cc)
     go Dict k = inr (λ e. cc)
     go Inst k = inr (λ e. cc)
@@ -103,7 +108,8 @@ unfrozen_untracked Frozen e = absurd (let no : Gen 2 ≡ Untracked = e in cc)
 unfrozen_untracked p e = e
 
 -- how a command leaves the objects
-module _ (w : World) (rises : Rises 1 w.next_serial w.objects) (live : (x : Object) → Includes w.objects x → (o : ℕ) → Includes (references x.entries) o → Includes (serials w.objects) o) (h : IsSlackWorld w) where
+module _ (w : World) (rises : Rises 1 w.next_serial w.objects) (live : (x : Object) → Includes w.objects x → (o : ℕ) → Includes (references x.entries) o
+    → Includes (serials w.objects) o) (h : IsSlackWorld w) where
   abbrev pub Slacks : Effect → Type 0
   Slacks (Changes wants_memory lines given_up after) = Slack after.next_serial after.objects w.stack
   Slacks (Calls f) = Unit {0}
@@ -121,7 +127,8 @@ module _ (w : World) (rises : Rises 1 w.next_serial w.objects) (live : (x : Obje
   excused : (x : Object) → Includes w.objects x → IsOther x → x.place ≡ Untracked → Excused w.stack x.serial
   excused x m other u = either (h.slack x m u) (λ e. e) (λ k. absurd (either k.0 other.0 other.1))
 
-  other_loses : (x y : Object) (hard : ℕ → Type 0) → y.place ≡ x.place → (x.place ≡ Untracked → hard y.serial) → hard y.serial ⊎ (y.place ≡ Untracked → (x.place ≡ Untracked) × ((o : ℕ) → Includes (references y.entries) o → Includes (references x.entries) o))
+  other_loses : (x y : Object) (hard : ℕ → Type 0) → y.place ≡ x.place → (x.place ≡ Untracked → hard y.serial) → hard y.serial
+      ⊎ (y.place ≡ Untracked → (x.place ≡ Untracked) × ((o : ℕ) → Includes (references y.entries) o → Includes (references x.entries) o))
   other_loses x y hard same k = either (cases_of (same_place x.place Untracked)) (λ t. inl (k (place_is x.place Untracked t)))
       (λ f. inr (λ u. absurd (let at : same_place x.place Untracked ≡ true = ap (λ p. same_place p Untracked) (sym same ∙ u) in let no : true ≡ false = sym at ∙ f in cc)))
 
@@ -134,7 +141,8 @@ module _ (w : World) (rises : Rises 1 w.next_serial w.objects) (live : (x : Obje
       after : List Object
       after = change (with_entries es) x.serial w.objects
 
-  fewer_slack : (x : Object) (es : List Entry) → Includes w.objects x → ((o : ℕ) → Includes (references es) o → Includes (references x.entries) o) → Slack w.next_serial (change (with_entries es) x.serial w.objects) w.stack
+  fewer_slack : (x : Object) (es : List Entry) → Includes w.objects x → ((o : ℕ) → Includes (references es) o → Includes (references x.entries) o)
+      → Slack w.next_serial (change (with_entries es) x.serial w.objects) w.stack
   fewer_slack x es m fewer = moved after (test_still (Fine w.stack after) (with_entries es) (λ z. z.serial == x.serial) w.objects (λ z k t. record {
     stays = record { serial = refl; code = refl; untracked = λ a u. u };
     loses = inr (λ u. (u, λ o i. subst (λ (q : Object). Includes (references q.entries) o) (one x z m k t) (fewer o i)));
@@ -164,7 +172,8 @@ module _ (w : World) (rises : Rises 1 w.next_serial w.objects) (live : (x : Obje
     abbrev after_put : List Object
     after_put = change put_in x.serial w.objects
 
-    kept : (b : Bool) (y : Object) → ((if b then with_place (Gen 0) y else y).serial ≡ y.serial) × ((if b then with_place (Gen 0) y else y).code ≡ y.code) × ((if b then with_place (Gen 0) y else y).entries ≡ y.entries)
+    kept : (b : Bool) (y : Object) → ((if b then with_place (Gen 0) y else y).serial ≡ y.serial) × ((if b then with_place (Gen 0) y else y).code ≡ y.code)
+        × ((if b then with_place (Gen 0) y else y).entries ≡ y.entries)
     kept true y = (refl, refl, refl)
     kept false y = (refl, refl, refl)
 
@@ -180,7 +189,11 @@ module _ (w : World) (rises : Rises 1 w.next_serial w.objects) (live : (x : Obje
 
     roughly : Still Always w.objects after_put
     roughly = test_still Always put_in (λ z. z.serial == x.serial) w.objects (λ z k t. record {
-      stays = record { serial = (kept (becomes z) (with_entries (put x.entries key v) z)).0; code = (kept (becomes z) (with_entries (put x.entries key v) z)).1; untracked = λ a u. absurd (not_here z k t a) };
+      stays = record {
+        serial = (kept (becomes z) (with_entries (put x.entries key v) z)).0;
+        code = (kept (becomes z) (with_entries (put x.entries key v) z)).1;
+        untracked = λ a u. absurd (not_here z k t a);
+      };
       loses = inl tt;
     })
 
@@ -192,7 +205,10 @@ module _ (w : World) (rises : Rises 1 w.next_serial w.objects) (live : (x : Obje
         dict = either slack.0 (λ t. absurd (no_tuple (ap is_tuple same ∙ t))) (λ d. d)
 
         neither : (may_track w key || may_track w v) ≡ false
-        neither = either (cases_of (may_track w key || may_track w v)) (λ t. absurd (let all : becomes z ≡ true = ap (λ b. b && not (is_tracked z) && (may_track w key || may_track w v)) dict ∙ ap (λ p. true && not (not (same_place p Untracked)) && (may_track w key || may_track w v)) u ∙ t in let no : true ≡ false = sym all ∙ e in cc)) (λ f. f)
+        neither = either (cases_of (may_track w key || may_track w v))
+            (λ t. absurd (let all : becomes z ≡ true = ap (λ b. b && not (is_tracked z) && (may_track w key || may_track w v)) dict
+            ∙ ap (λ p. true && not (not (same_place p Untracked)) && (may_track w key || may_track w v)) u ∙ t in let no : true ≡ false = sym all ∙ e
+            in cc)) (λ f. f)
 
         first_no : may_track w key ≡ false
         first_no = either (cases_of (may_track w key)) (λ t. absurd (let no : true ≡ false = sym (or_left (may_track w key) (may_track w v) t) ∙ neither in cc)) (λ f. f)
@@ -201,16 +217,20 @@ module _ (w : World) (rises : Rises 1 w.next_serial w.objects) (live : (x : Obje
         second_no = either (cases_of (may_track w v)) (λ t. absurd (let no : true ≡ false = sym (or_right (may_track w key) (may_track w v) t) ∙ neither in cc)) (λ f. f)
 
         loose_ref : (o : ℕ) → Includes (references x.entries) o ⊎ ((reference_in key ≡ Some o) ⊎ (reference_in v ≡ Some o)) → IsLoose w.objects o
-        loose_ref o c = either c (λ i. slack.1 o (subst (λ (q : Object). Includes (references q.entries) o) same i)) (λ d. either d (λ i. loose_value key o first_no i) (λ i. loose_value v o second_no i))
+        loose_ref o c = either c (λ i. slack.1 o (subst (λ (q : Object). Includes (references q.entries) o) same i))
+            (λ d. either d (λ i. loose_value key o first_no i) (λ i. loose_value v o second_no i))
 
-    put_loses : (z : Object) → Includes w.objects z → x ≡ z → (b : Bool) → becomes z ≡ b → (if b then with_place (Gen 0) (with_entries (put x.entries key v) z) else with_entries (put x.entries key v) z) ≡ put_in z → Goes (Fine w.stack after_put) z (if b then with_place (Gen 0) (with_entries (put x.entries key v) z) else with_entries (put x.entries key v) z)
+    put_loses : (z : Object) → Includes w.objects z → x ≡ z → (b : Bool) → becomes z ≡ b → (if b then with_place (Gen 0) (with_entries (put x.entries key v) z)
+        else with_entries (put x.entries key v) z) ≡ put_in z → Goes (Fine w.stack after_put) z (if b
+        then with_place (Gen 0) (with_entries (put x.entries key v) z) else with_entries (put x.entries key v) z)
     put_loses z k same true e i = record {
       stays = record { serial = refl; code = refl; untracked = λ a u. absurd (no_tuple (ap is_tuple same ∙ a)) };
       loses = inr (λ u. absurd (let no : Gen 0 ≡ Untracked = u in cc));
     }
     put_loses z k same false e i = record {
       stays = record { serial = refl; code = refl; untracked = λ a u. u };
-      loses = other_loses z (with_entries (put x.entries key v) z) (Fine w.stack after_put) refl (λ u. either (h.slack z k u) (λ f. inl f) (λ s. inr (λ y n q r. subst (IsSlackOne after_put) (is y n q) (slack_put z k same u e s))));
+      loses = other_loses z (with_entries (put x.entries key v) z) (Fine w.stack after_put) refl (λ u. either (h.slack z k u) (λ f. inl f)
+          (λ s. inr (λ y n q r. subst (IsSlackOne after_put) (is y n q) (slack_put z k same u e s))));
     }
       where
         is : (y : Object) → Includes after_put y → y.serial ≡ z.serial → with_entries (put x.entries key v) z ≡ y
@@ -218,7 +238,9 @@ module _ (w : World) (rises : Rises 1 w.next_serial w.objects) (live : (x : Obje
           where
             there : (a : Object) (b : Bool) → (a.serial == x.serial) ≡ b → Includes w.objects a → (if b then put_in a else a) ≡ y → with_entries (put x.entries key v) z ≡ y
             there a true t j r = i ∙ ap put_in (sym same ∙ one x a m j t) ∙ r
-            there a false t j r = absurd (let eq : a.serial ≡ x.serial = ap (λ (p : Object). p.serial) r ∙ q ∙ ap (λ (p : Object). p.serial) (sym same) in let no : true ≡ false = sym (ap (λ (p : Object). p.serial == x.serial) (same_object 1 w.next_serial w.objects a x rises j m eq) ∙ self x.serial) ∙ t in cc)
+            there a false t j r = absurd (let eq : a.serial ≡ x.serial = ap (λ (p : Object). p.serial) r ∙ q ∙ ap (λ (p : Object). p.serial) (sym same)
+                in let no : true ≡ false = sym (ap (λ (p : Object). p.serial == x.serial) (same_object 1 w.next_serial w.objects a x rises j m eq)
+                ∙ self x.serial) ∙ t in cc)
               where
                 self : (n : ℕ) → (n == n) ≡ true
                 self n = eq-eqb n n refl
@@ -226,11 +248,17 @@ module _ (w : World) (rises : Rises 1 w.next_serial w.objects) (live : (x : Obje
     put_slack : Slack w.next_serial after_put w.stack
     put_slack = moved after_put (test_still (Fine w.stack after_put) put_in (λ z. z.serial == x.serial) w.objects (λ z k t. put_loses z k (one x z m k t) (becomes z) refl refl))
 
-  made_slack : (kind : KindCode) (class : Option ℕ) (entries : List Entry) (referent : Option ℕ) → (first_place kind ≡ Untracked → (kind ≡ Dict) × (entries ≡ [])) → IsSlackWorld (with_new w kind class entries referent)
+  made_slack : (kind : KindCode) (class : Option ℕ) (entries : List Entry) (referent : Option ℕ) → (first_place kind ≡ Untracked → (kind ≡ Dict)
+      × (entries ≡ [])) → IsSlackWorld (with_new w kind class entries referent)
   made_slack kind class entries referent bare = record {
     slack = λ y m u. either (Includes-append_cases w.objects (fresh ∷ []) y m) (λ k. either (h.slack y k u) (λ e. inl e) (λ s. inr (s.0, λ o r. loose_on o (s.1 o r) (live y k o r))))
         (λ k. inr (either k (λ e. new y e u) (λ no. absurd no)));
-    handled = λ c m o i. let k = h.handled c m o i in (omega (arith, k.0), λ z j e. either (Includes-append_cases w.objects (fresh ∷ []) z j) (λ l. k.1 z l e) (λ l. either l (λ f. absurd (let low = k.0 in let same : w.next_serial ≡ o = ap (λ (q : Object). q.serial) f ∙ e in omega (arith, low, same))) (λ no. absurd no)));
+    handled = λ c m o i. let k = h.handled c m o i in (
+      omega (arith, k.0),
+      λ z j e. either (Includes-append_cases w.objects (fresh ∷ []) z j) (λ l. k.1 z l e)
+          (λ l. either l (λ f. absurd (let low = k.0 in let same : w.next_serial ≡ o = ap (λ (q : Object). q.serial) f ∙ e in omega (arith, low, same)))
+          (λ no. absurd no)),
+    );
   }
     where
       fresh : Object
@@ -238,7 +266,8 @@ module _ (w : World) (rises : Rises 1 w.next_serial w.objects) (live : (x : Obje
 
       loose_on : (o : ℕ) → IsLoose w.objects o → Includes (serials w.objects) o → IsLoose (w.objects ++ fresh ∷ []) o
       loose_on o loose lives z j e = either (Includes-append_cases w.objects (fresh ∷ []) z j) (λ l. loose z l e)
-          (λ l. either l (λ f. absurd (let low = (lives_within 1 w.next_serial w.objects o rises lives).1 in let same : w.next_serial ≡ o = ap (λ (q : Object). q.serial) f ∙ e in omega (arith, low, same))) (λ no. absurd no))
+          (λ l. either l (λ f. absurd (let low = (lives_within 1 w.next_serial w.objects o rises lives).1 in let same : w.next_serial
+          ≡ o = ap (λ (q : Object). q.serial) f ∙ e in omega (arith, low, same))) (λ no. absurd no))
 
       new_one : first_place kind ≡ Untracked → IsSlackOne (w.objects ++ fresh ∷ []) fresh
       new_one u = let k = bare u in (inr (ap (λ (c : KindCode). elim c [ Dict ↦ true | _ ↦ false ]) k.0), λ o r. absurd (subst (λ es. Includes (references es) o) k.1 r))
@@ -246,7 +275,8 @@ module _ (w : World) (rises : Rises 1 w.next_serial w.objects) (live : (x : Obje
       new : (y : Object) → fresh ≡ y → y.place ≡ Untracked → IsSlackOne (w.objects ++ fresh ∷ []) y
       new y e u = subst (IsSlackOne (w.objects ++ fresh ∷ [])) e (new_one (ap (λ (q : Object). q.place) e ∙ u))
 
-  edit_slack : (x : Object) (entries : List Entry) → Includes w.objects x → IsMutable x.code → (x.code ≢ ListKind → (e : Entry) → Includes entries e → Includes x.entries e) → Slack w.next_serial (change (with_entries entries) x.serial w.objects) w.stack
+  edit_slack : (x : Object) (entries : List Entry) → Includes w.objects x → IsMutable x.code → (x.code ≢ ListKind → (e : Entry) → Includes entries e
+      → Includes x.entries e) → Slack w.next_serial (change (with_entries entries) x.serial w.objects) w.stack
   edit_slack x entries m mutable adds = either (mutable_other x mutable) (λ other. other_slack x entries m other) (λ no. fewer_slack x entries m (references_within entries x.entries (adds no)))
 
   pub shape_slack : (command : Command) (e : Effect) → Shape w command e → Slacks e

@@ -54,7 +54,8 @@ no_legacy : (script : Script) (x : Object) → is_tuple x ≡ true → legacy_of
 no_legacy script x t = ap (λ k. option_and_then (λ c. c.legacy) k) (no_class script x t)
 
 -- an object found with something that tuples lack is no tuple
-pub no_tuple : (f : Object → Option ℕ) (next : ℕ) (objects : List Object) (o p : ℕ) → Rises 1 next objects → ((x : Object) → is_tuple x ≡ true → f x ≡ None) → option_and_then f (object_at objects o) ≡ Some p → (x : Object) → Includes objects x → x.serial ≡ o → ¬ (is_tuple x ≡ true)
+pub no_tuple : (f : Object → Option ℕ) (next : ℕ) (objects : List Object) (o p : ℕ) → Rises 1 next objects → ((x : Object) → is_tuple x ≡ true → f x ≡ None)
+    → option_and_then f (object_at objects o) ≡ Some p → (x : Object) → Includes objects x → x.serial ≡ o → ¬ (is_tuple x ≡ true)
 no_tuple f next objects o p rises none e x m s t =
     let at : object_at objects o ≡ Some x = subst (λ n. object_at objects n ≡ Some x) s (at_member 1 next objects x rises m) in
     let is : f x ≡ Some p = sym (ap (option_and_then f) at) ∙ e in
@@ -79,7 +80,8 @@ frame_end_slack f below v h = by_sort f.sort f.function
     by_sort Callback function = rest
     by_sort Call function = push_slack v.next_serial (Releasing (option_to_list function)) below v.objects (λ c e. cc) rest
 
-pub released_slack : (references : List ℕ) (below : List Activity) (v : World) → IsSlackWorld (with_stack (Releasing references ∷ below) v) → IsSlackWorld (released references below (with_stack (Releasing references ∷ below) v)).1
+pub released_slack : (references : List ℕ) (below : List Activity) (v : World) → IsSlackWorld (with_stack (Releasing references ∷ below) v)
+    → IsSlackWorld (released references below (with_stack (Releasing references ∷ below) v)).1
 released_slack [] below v h = end_slack v.next_serial (Releasing []) below v.objects (λ d e. cc) h
 released_slack (o ∷ refs) below v h = either_way (λ lines. IsSlackWorld) (not (is_dying now o) && (in_degree now o == 0)) ([], begin_death o now) ([], now)
     (moves_slack (λ n. n ≡ o) v.next_serial v.objects (change dead o v.objects) (Releasing (o ∷ refs) ∷ below) (death ∷ Releasing refs ∷ below)
@@ -106,7 +108,8 @@ module _ (script : Script) (o : ℕ) (below : List Activity) (v : World) (rises 
   dying_now phase = Dying (record { object = o; phase = phase })
 
   -- an activity below, or the top
-  excused_here : (phase : DyingPhase) (to : List Activity) (after : List Object) → ((d : Death) → Includes below (Dying d) → Includes to (Dying d)) → (runs_own_frame phase ≡ false → Fine to after o) → (n : ℕ) → Excused (dying_now phase ∷ below) n → Fine to after n
+  excused_here : (phase : DyingPhase) (to : List Activity) (after : List Object) → ((d : Death) → Includes below (Dying d) → Includes to (Dying d))
+      → (runs_own_frame phase ≡ false → Fine to after o) → (n : ℕ) → Excused (dying_now phase ∷ below) n → Fine to after n
   excused_here phase to after on top n (inl e) = inl (inl e)
   excused_here phase to after on top n (inr f) = either f.1 (λ e. here f.0 e f.2 f.3) (λ m. inl (inr (f.0, on f.0 m, f.2, f.3)))
     where
@@ -116,7 +119,8 @@ module _ (script : Script) (o : ℕ) (below : List Activity) (v : World) (rises 
           let same : phase ≡ d.phase = cc in
           subst (Fine to after) (object ∙ i) (top (subst (λ p. runs_own_frame p ≡ false) (sym same) r))
 
-  death_slack : (hard : ℕ → Type 0) (phase next : DyingPhase) (after : List Object) → Still hard v.objects after → ((n : ℕ) → hard n → Fine (dying_now next ∷ below) after n) → (runs_own_frame phase ≡ false → Fine (dying_now next ∷ below) after o)
+  death_slack : (hard : ℕ → Type 0) (phase next : DyingPhase) (after : List Object) → Still hard v.objects after
+      → ((n : ℕ) → hard n → Fine (dying_now next ∷ below) after n) → (runs_own_frame phase ≡ false → Fine (dying_now next ∷ below) after o)
       → IsSlackWorld (at phase) → Slack v.next_serial after (dying_now next ∷ below)
   death_slack hard phase next after still fine top h = moves_slack hard v.next_serial v.objects after (dying_now phase ∷ below) (dying_now next ∷ below) still fine
       (excused_here phase (dying_now next ∷ below) after (λ d m. inr m) top) (λ c m. either m (λ e. cc) (λ k. h.handled c (inr k))) h
@@ -131,39 +135,56 @@ module _ (script : Script) (o : ℕ) (below : List Activity) (v : World) (rises 
   same = still_same Never v.objects
 
   -- it is tracked, and its frame begins
-  revived : (f : Object → Object) (phase next : DyingPhase) → ((x : Object) → Includes v.objects x → x.serial ≡ o → ¬ (is_tuple x ≡ true)) → ((x : Object) → (f x).serial ≡ x.serial) → ((x : Object) → (f x).code ≡ x.code) → ((x : Object) → (f x).place ≡ Gen 0) → IsSlackWorld (at phase) → Slack v.next_serial (change f o v.objects) (dying_now next ∷ below)
+  revived : (f : Object → Object) (phase next : DyingPhase) → ((x : Object) → Includes v.objects x → x.serial ≡ o → ¬ (is_tuple x ≡ true))
+      → ((x : Object) → (f x).serial ≡ x.serial) → ((x : Object) → (f x).code ≡ x.code) → ((x : Object) → (f x).place ≡ Gen 0) → IsSlackWorld (at phase)
+      → Slack v.next_serial (change f o v.objects) (dying_now next ∷ below)
   revived f phase next kind serial code place h = death_slack Never phase next (change f o v.objects)
-      (test_still Never f (λ x. x.serial == o) v.objects (λ x m t. record { stays = record { serial = serial x; code = code x; untracked = λ a u. absurd (kind x m (eqb-true x.serial o t) a) }; loses = inr (λ u. absurd (let no : Gen 0 ≡ Untracked = sym (place x) ∙ u in cc)) }))
+      (test_still Never f (λ x. x.serial == o) v.objects
+      (λ x m t. record {
+        stays = record { serial = serial x; code = code x; untracked = λ a u. absurd (kind x m (eqb-true x.serial o t) a) };
+        loses = inr (λ u. absurd (let no : Gen 0 ≡ Untracked = sym (place x) ∙ u in cc));
+      }))
       (λ n no. absurd no) (λ r. inr (λ y m e u. absurd (changed_all (λ z. z.place ≢ Untracked) f o v.objects (λ x k. let no : Gen 0 ≡ Untracked = sym (place x) ∙ k in cc) y m e u))) h
 
-  finalizer_slack : (m : Option ℕ) → option_and_then (finalizer_to_run script) (object_at v.objects o) ≡ m → IsSlackWorld (at Finalizer) → IsSlackWorld (run_finalizer script o below (at Finalizer) m).1
+  finalizer_slack : (m : Option ℕ) → option_and_then (finalizer_to_run script) (object_at v.objects o) ≡ m → IsSlackWorld (at Finalizer)
+      → IsSlackWorld (run_finalizer script o below (at Finalizer) m).1
   finalizer_slack None e h = goes_to Finalizer (Clearing []) v.objects same refl h
-  finalizer_slack (Some p) e h = starts_slack script (record { sort = Del; proc = p; subject = o; func = None }) (death_at o AfterFinalizer below (with_change (λ x. marked (with_place (Gen 0) x)) o (at Finalizer)))
-      (revived (λ x. marked (with_place (Gen 0) x)) Finalizer AfterFinalizer (no_tuple (finalizer_to_run script) v.next_serial v.objects o p rises (no_finalizer script) e) (λ x. refl) (λ x. refl) (λ x. refl) h)
+  finalizer_slack (Some p) e h = starts_slack script (record { sort = Del; proc = p; subject = o; func = None })
+      (death_at o AfterFinalizer below (with_change (λ x. marked (with_place (Gen 0) x)) o (at Finalizer)))
+      (revived (λ x. marked (with_place (Gen 0) x)) Finalizer AfterFinalizer (no_tuple (finalizer_to_run script) v.next_serial v.objects o p rises
+      (no_finalizer script) e) (λ x. refl) (λ x. refl) (λ x. refl) h)
 
   legacy_slack : (m : Option ℕ) → option_and_then (legacy_of script) (object_at v.objects o) ≡ m → IsSlackWorld (at LegacyFinalizer) → IsSlackWorld (run_legacy script o below (at LegacyFinalizer) m).1
   legacy_slack None e h = goes_to LegacyFinalizer Detaching v.objects same refl h
-  legacy_slack (Some p) e h = starts_slack script (record { sort = Legacy; proc = p; subject = o; func = None }) (death_at o AfterLegacy below (with_change (with_place (Gen 0)) o (at LegacyFinalizer)))
+  legacy_slack (Some p) e h = starts_slack script (record { sort = Legacy; proc = p; subject = o; func = None })
+      (death_at o AfterLegacy below (with_change (with_place (Gen 0)) o (at LegacyFinalizer)))
       (revived (with_place (Gen 0)) LegacyFinalizer AfterLegacy (no_tuple (legacy_of script) v.next_serial v.objects o p rises (no_legacy script) e) (λ x. refl) (λ x. refl) (λ x. refl) h)
 
   -- a death gives up its own hold
   after_frame_slack : (phase next : DyingPhase) → runs_own_frame phase ≡ true → runs_own_frame next ≡ false → IsSlackWorld (at phase) → IsSlackWorld (after_frame o next below (at phase)).1
-  after_frame_slack phase next own e h = either_way (λ lines. IsSlackWorld) (in_degree (at next) o == 0) ([], with_change (with_place Untracked) o (at next)) (Alive o ∷ [], with_stack below (at phase))
-      (death_slack (λ n. n ≡ o) phase next (change (with_place Untracked) o v.objects) (test_still (λ n. n ≡ o) (with_place Untracked) (λ x. x.serial == o) v.objects (λ x m t. record { stays = record { serial = refl; code = refl; untracked = λ a u. refl }; loses = inl (eqb-true x.serial o t) }))
-      (λ n i. subst (Fine (dying_now next ∷ below) (change (with_place Untracked) o v.objects)) (sym i) (fades next (change (with_place Untracked) o v.objects) e)) (λ r. fades next (change (with_place Untracked) o v.objects) e) h)
-      (moves_slack Never v.next_serial v.objects v.objects (dying_now phase ∷ below) below same (λ n no. absurd no) (excused_here phase below v.objects (λ d m. m) (λ r. absurd (let no : true ≡ false = sym own ∙ r in cc))) (λ c m. h.handled c (inr m)) h)
+  after_frame_slack phase next own e h = either_way (λ lines. IsSlackWorld) (in_degree (at next) o == 0) ([], with_change (with_place Untracked) o (at next))
+      (Alive o ∷ [], with_stack below (at phase))
+      (death_slack (λ n. n ≡ o) phase next (change (with_place Untracked) o v.objects) (test_still (λ n. n ≡ o) (with_place Untracked) (λ x. x.serial == o)
+      v.objects (λ x m t. record { stays = record { serial = refl; code = refl; untracked = λ a u. refl }; loses = inl (eqb-true x.serial o t) }))
+      (λ n i. subst (Fine (dying_now next ∷ below) (change (with_place Untracked) o v.objects)) (sym i) (fades next (change (with_place Untracked) o v.objects)
+      e)) (λ r. fades next (change (with_place Untracked) o v.objects) e) h)
+      (moves_slack Never v.next_serial v.objects v.objects (dying_now phase ∷ below) below same (λ n no. absurd no) (excused_here phase below v.objects
+      (λ d m. m) (λ r. absurd (let no : true ≡ false = sym own ∙ r in cc))) (λ c m. h.handled c (inr m)) h)
 
   clearing_slack : (waiting weaks : List ℕ) → IsSlackWorld (at (Clearing waiting)) → IsSlackWorld (clear_one o waiting below (at (Clearing waiting)) weaks).1
   clearing_slack waiting [] h = goes_to (Clearing waiting) (Calling waiting) v.objects same refl h
-  clearing_slack waiting (weak ∷ weaks) h = goes_to (Clearing waiting) (Clearing (waiting ++ (if is_some (callback_of v.objects weak) then weak ∷ [] else []))) (loses_referent weak v.objects) (lost_still Never weak v.objects) refl h
+  clearing_slack waiting (weak ∷ weaks) h = goes_to (Clearing waiting) (Clearing (waiting ++ (if is_some (callback_of v.objects weak) then weak ∷ [] else [])))
+      (loses_referent weak v.objects) (lost_still Never weak v.objects) refl h
 
   calling_slack : (waiting : List ℕ) → IsSlackWorld (at (Calling waiting)) → IsSlackWorld (call_one script o below (at (Calling waiting)) waiting).1
   calling_slack [] h = goes_to (Calling []) LegacyFinalizer v.objects same refl h
   calling_slack (weak ∷ waiting) h =
       let callback = unwrap_or (callback_of v.objects weak) 0 in
-      starts_slack script (record { sort = Callback; proc = procedure_of (at (Calling (weak ∷ waiting))) callback; subject = weak; func = Some callback }) (death_at o (AfterCall weak callback waiting) below (with_change (with_entries []) weak (at (Calling (weak ∷ waiting)))))
+      starts_slack script (record { sort = Callback; proc = procedure_of (at (Calling (weak ∷ waiting))) callback; subject = weak; func = Some callback })
+      (death_at o (AfterCall weak callback waiting) below (with_change (with_entries []) weak (at (Calling (weak ∷ waiting)))))
       (goes_to (Calling (weak ∷ waiting)) (AfterCall weak callback waiting) (change (with_entries []) weak v.objects)
-      (test_still Never (with_entries []) (λ x. x.serial == weak) v.objects (λ x m t. record { stays = record { serial = refl; code = refl; untracked = λ a u. u }; loses = inr (λ u. (u, λ r i. absurd i)) })) refl h)
+      (test_still Never (with_entries []) (λ x. x.serial == weak) v.objects
+      (λ x m t. record { stays = record { serial = refl; code = refl; untracked = λ a u. u }; loses = inr (λ u. (u, λ r i. absurd i)) })) refl h)
 
   detaching_slack : (weaks : List ℕ) → IsSlackWorld (at Detaching) → IsSlackWorld (detach_one o below (at Detaching) weaks).1
   detaching_slack [] h = goes_to Detaching Emptying v.objects same refl h
@@ -172,9 +193,12 @@ module _ (script : Script) (o : ℕ) (below : List Activity) (v : World) (rises 
   emptying_slack : (m : Option Entry) → IsSlackWorld (at Emptying) → IsSlackWorld (empty_one o below (at Emptying) m).1
   emptying_slack None h = moves_slack Never v.next_serial v.objects (without o v.objects) (dying_now Emptying ∷ below) below
       (λ y m. (y, (Includes-filter_cases (λ x. not (x.serial == o)) v.objects y m).0, goes_same Never y)) (λ n no. absurd no)
-      (excused_here Emptying below (without o v.objects) (λ d m. m) (λ r. inr (λ y m e u. absurd (without_gone o v.objects (subst (Includes (serials (without o v.objects))) e (Includes-map (λ (z : Object). z.serial) (without o v.objects) y m))))))
+      (excused_here Emptying below (without o v.objects) (λ d m. m)
+      (λ r. inr (λ y m e u. absurd (without_gone o v.objects (subst (Includes (serials (without o v.objects))) e (Includes-map (λ (z : Object). z.serial)
+      (without o v.objects) y m))))))
       (λ c m. h.handled c (inr m)) h
-  emptying_slack (Some entry) h = push_slack v.next_serial (Releasing (entry_references entry)) (dying_now Emptying ∷ below) (change (with_entries (without_last (entries_of v.objects o))) o v.objects) (λ c e. cc)
+  emptying_slack (Some entry) h = push_slack v.next_serial (Releasing (entry_references entry)) (dying_now Emptying ∷ below)
+      (change (with_entries (without_last (entries_of v.objects o))) o v.objects) (λ c e. cc)
       (goes_to Emptying Emptying (change (with_entries (without_last (entries_of v.objects o))) o v.objects) (shortened_still Never v.next_serial v.objects o rises) refl h)
 
   pub dying_slack : (phase : DyingPhase) → IsSlackWorld (at phase) → IsSlackWorld (dying script o phase below (at phase)).1
@@ -182,7 +206,8 @@ module _ (script : Script) (o : ℕ) (below : List Activity) (v : World) (rises 
   dying_slack AfterFinalizer h = after_frame_slack AfterFinalizer (Clearing []) refl refl h
   dying_slack (Clearing waiting) h = clearing_slack waiting (weak_references_if has_weak_references v.objects o) h
   dying_slack (Calling waiting) h = calling_slack waiting h
-  dying_slack (AfterCall weak callback waiting) h = push_slack v.next_serial (Releasing (callback ∷ weak ∷ [])) (dying_now (Calling waiting) ∷ below) v.objects (λ c e. cc) (goes_to (AfterCall weak callback waiting) (Calling waiting) v.objects same refl h)
+  dying_slack (AfterCall weak callback waiting) h = push_slack v.next_serial (Releasing (callback ∷ weak ∷ [])) (dying_now (Calling waiting) ∷ below) v.objects
+      (λ c e. cc) (goes_to (AfterCall weak callback waiting) (Calling waiting) v.objects same refl h)
   dying_slack LegacyFinalizer h = legacy_slack (option_and_then (legacy_of script) (object_at v.objects o)) refl h
   dying_slack AfterLegacy h = after_frame_slack AfterLegacy Detaching refl refl h
   dying_slack Detaching h = detaching_slack (weak_references_if (has_finalizers script) v.objects o) h

@@ -89,7 +89,9 @@ module _ (script : Script) (g : ℕ) (w : World) (chosen : Object → Bool) (pla
   test x = not (is_tracked (untracked_if (chosen x) x)) || (g == 2) && is_dict (untracked_if (chosen x) x) && has_none_tracked passed (untracked_if (chosen x) x)
 
   passes : (x : Object) → Includes (objects_at w.objects (Gen g)) x → places x ≡ Untracked → test x ≡ true
-  passes x m u = either (cases_of (test x)) (λ e. e) (λ e. absurd (not_dead x m u (λ s. let placed : Gen (older g) ≡ Untracked = sym (sorts.survivors x m s ∙ ap (λ b. if b then Untracked else Gen (older g)) e) ∙ u in let no : Gen (older g) ≡ Untracked = placed in cc)))
+  passes x m u = either (cases_of (test x)) (λ e. e)
+      (λ e. absurd (not_dead x m u (λ s. let placed : Gen (older g) ≡ Untracked = sym (sorts.survivors x m s ∙ ap (λ b. if b then Untracked else Gen (older g))
+      e) ∙ u in let no : Gen (older g) ≡ Untracked = placed in cc)))
 
   -- it is a tuple or a dictionary without tracked objects in it
   abbrev IsBare : Object → Type 0
@@ -110,7 +112,8 @@ module _ (script : Script) (g : ℕ) (w : World) (chosen : Object → Bool) (pla
       (inr (sym (same_dict (chosen x) x) ∙ dict), sym (same_none passed (chosen x) x) ∙ parts.1))
 
   -- what it refers to is an untracked tuple afterwards
-  placed : (b c : Bool) (x : Object) → Includes w.objects x → is_at (Gen g) x ≡ b → chosen x ≡ c → is_tracked (untracked_if (b && c) x) ≡ false → (if b then with_place (places x) x else x).place ≡ Untracked
+  placed : (b c : Bool) (x : Object) → Includes w.objects x → is_at (Gen g) x ≡ b → chosen x ≡ c → is_tracked (untracked_if (b && c) x) ≡ false
+      → (if b then with_place (places x) x else x).place ≡ Untracked
   placed false c x m t k u = place_is x.place Untracked (not_true (same_place x.place Untracked) u)
   placed true true x m t k u =
       let member = Includes-filter (is_at (Gen g)) w.objects x t m in
@@ -125,18 +128,23 @@ module _ (script : Script) (g : ℕ) (w : World) (chosen : Object → Bool) (pla
   sorted_serial true x = refl
   sorted_serial false x = refl
 
-  loose_at : (o : ℕ) (x : Object) → Includes w.objects x → x.serial ≡ o → unwrap_or (option_map may_be_tracked (object_at passed o)) false ≡ false → (is_tuple x ≡ true) × ((if is_at (Gen g) x then with_place (places x) x else x).place ≡ Untracked)
+  loose_at : (o : ℕ) (x : Object) → Includes w.objects x → x.serial ≡ o → unwrap_or (option_map may_be_tracked (object_at passed o)) false ≡ false
+      → (is_tuple x ≡ true) × ((if is_at (Gen g) x then with_place (places x) x else x).place ≡ Untracked)
   loose_at o x m s e =
       let b = is_at (Gen g) x && chosen x in
       let z = untracked_if b x in
       let serial : z.serial ≡ o = same_serial b x ∙ s in
-      let at : object_at passed o ≡ Some z = subst (λ n. object_at passed n ≡ Some z) serial (at_member 1 next passed z (Rises-map (λ y. untracked_if (is_at (Gen g) y && chosen y) y) (λ y. same_serial (is_at (Gen g) y && chosen y) y) 1 next w.objects rises) (Includes-map (λ y. untracked_if (is_at (Gen g) y && chosen y) y) w.objects x m)) in
+      let at : object_at passed o ≡ Some z = subst (λ n. object_at passed n ≡ Some z) serial
+      (at_member 1 next passed z (Rises-map (λ y. untracked_if (is_at (Gen g) y && chosen y) y) (λ y. same_serial (is_at (Gen g) y && chosen y) y) 1 next
+      w.objects rises) (Includes-map (λ y. untracked_if (is_at (Gen g) y && chosen y) y) w.objects x m)) in
       let kind = may_not (is_tuple z) (is_tracked z) (sym (ap (λ q. unwrap_or (option_map may_be_tracked q) false) at) ∙ e) in
       (sym (same_tuple b x) ∙ kind.0, placed (is_at (Gen g) x) (chosen x) x m refl refl kind.1)
 
   not_tracked : (x : Object) (o : ℕ) → has_none_tracked passed x ≡ true → Includes (references x.entries) o → unwrap_or (option_map may_be_tracked (object_at passed o)) false ≡ false
   not_tracked x o e m = either (cases_of (unwrap_or (option_map may_be_tracked (object_at passed o)) false))
-      (λ t. absurd (let all = any_of (λ n. unwrap_or (option_map may_be_tracked (object_at passed n)) false) (references x.entries) o m t in let no : true ≡ false = sym all ∙ not_false (list_any (λ n. unwrap_or (option_map may_be_tracked (object_at passed n)) false) (references x.entries)) e in cc)) (λ f. f)
+      (λ t. absurd (let all = any_of (λ n. unwrap_or (option_map may_be_tracked (object_at passed n)) false) (references x.entries) o m t in let no : true
+      ≡ false = sym all ∙ not_false (list_any (λ n. unwrap_or (option_map may_be_tracked (object_at passed n)) false) (references x.entries)) e
+      in cc)) (λ f. f)
 
   loose : (x : Object) (o : ℕ) → has_none_tracked passed x ≡ true → Includes (references x.entries) o → IsLoose after o
   loose x o e r y m s =

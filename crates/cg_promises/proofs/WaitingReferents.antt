@@ -54,8 +54,10 @@ module _ (P : ℕ → ℕ → Type 0) where
   push_other : (a : Activity) (stack : List Activity) → ((d : Death) → a ≢ Dying d) → Waited stack → Waited (a ∷ stack)
   push_other a stack apart h d m = either m (λ e. absurd (apart d e)) (h d)
 
-  push_death : (o : ℕ) (phase : DyingPhase) (stack : List Activity) → ((weak : ℕ) → Includes (death_waits phase) weak → P weak o) → Waited stack → Waited (Dying (record { object = o; phase = phase }) ∷ stack)
-  push_death o phase stack waits h d m = either m (λ e. let same : record { object = o; phase = phase } ≡ d = cc in subst (λ (z : Death). (weak : ℕ) → Includes (death_waits z.phase) weak → P weak z.object) same waits) (h d)
+  push_death : (o : ℕ) (phase : DyingPhase) (stack : List Activity) → ((weak : ℕ) → Includes (death_waits phase) weak → P weak o) → Waited stack
+      → Waited (Dying (record { object = o; phase = phase }) ∷ stack)
+  push_death o phase stack waits h d m = either m (λ e. let same : record { object = o; phase = phase } ≡ d = cc in subst (λ (z : Death). (weak : ℕ)
+      → Includes (death_waits z.phase) weak → P weak z.object) same waits) (h d)
 
   starts : (script : Script) (spec : FrameSpec) (u : World) → Waited u.stack → Waited (start_frame script spec u).1.stack
   starts script spec u h = starts_either (λ lines w. Waited w.stack) script spec u h (λ some. push_other (begun_frame script spec) u.stack (λ d e. cc) h)
@@ -77,13 +79,16 @@ module _ (P : ℕ → ℕ → Type 0) where
     tops_waited top tops (TopEnds a gone) h = pop a below h
     tops_waited top tops (GivesFunction f references few) h = push_other (Releasing references) below (λ d e. cc) (pop top below h)
     tops_waited top tops (GivesReference o references) h = push_other (Releasing references) below (λ d e. cc) (pop top below h)
-    tops_waited top tops (BeginsDeath o references) h = push_death o Finalizer (Releasing references ∷ below) (λ weak m. absurd m) (push_other (Releasing references) below (λ d e. cc) (pop top below h))
+    tops_waited top tops (BeginsDeath o references) h = push_death o Finalizer (Releasing references ∷ below) (λ weak m. absurd m)
+        (push_other (Releasing references) below (λ d e. cc) (pop top below h))
     tops_waited top tops (TopGoesOn b a c held) h = continues_waited b a c h
     tops_waited top tops (GivesReferences b a references few c held) h = push_other (Releasing references) (a ∷ below) (λ d e. cc) (continues_waited b a c h)
 
-  advance_waited : (script : Script) (top : Activity) (below : List Activity) (v : World) → ((weak o : ℕ) → RefersNow v.objects weak o → P weak o) → Waited (top ∷ below) → (lines : List Event) (after : World) → Advance script v top below lines after → Waited after.stack
+  advance_waited : (script : Script) (top : Activity) (below : List Activity) (v : World) → ((weak o : ℕ) → RefersNow v.objects weak o → P weak o)
+      → Waited (top ∷ below) → (lines : List Event) (after : World) → Advance script v top below lines after → Waited after.stack
   advance_waited script top below v refers h lines after (Plainly tops objects numbers ls t c n none) = tops_waited v.objects objects below refers top tops t h
-  advance_waited script top below v refers h lines after (WithFrame spec a objects s c held m) = starts script spec (record v { objects = objects; stack = a ∷ below }) (continues_waited v.objects objects below refers top a c h)
+  advance_waited script top below v refers h lines after (WithFrame spec a objects s c held m) =
+      starts script spec (record v { objects = objects; stack = a ∷ below }) (continues_waited v.objects objects below refers top a c h)
 
   emptied_waited : (a : Activity) (below : List Activity) → HasCommands a → Waited below → Waited (emptied a ∷ below)
   emptied_waited (TopLevel commands) below ha rest = push_other (TopLevel []) below (λ d e. cc) rest
@@ -99,7 +104,8 @@ module _ (P : ℕ → ℕ → Type 0) where
     command_waited w command a below v ha rest = record {
       stays = λ lines answers. here;
       stops = λ lines answers. emptied_waited a below ha rest;
-      changes = λ wants_memory lines given_up after shape. push_other (Releasing given_up) after.stack (λ d e. cc) (subst Waited (sym (changes_leave (on a below v) command wants_memory lines given_up after shape).stack) here);
+      changes = λ wants_memory lines given_up after shape. push_other (Releasing given_up) after.stack (λ d e. cc)
+          (subst Waited (sym (changes_leave (on a below v) command wants_memory lines given_up after shape).stack) here);
       calls = λ f k. starts script (record { sort = CallFrame; proc = procedure_of (on a below v) f.serial; subject = f.serial; func = Some f.serial }) (on a below v) here;
       asks = λ g low e. push_other (new_collection g true (on a below v)) (a ∷ below) (λ d e. cc) here;
     }
@@ -113,7 +119,8 @@ module _ (P : ℕ → ℕ → Type 0) where
       ends = λ a lines below v last k. k.1;
       shuts_down = λ below v k. push_other (ShuttingDown false) below (λ d e. cc) (pop (TopLevel []) below k.1);
       gives_up = λ name below v e k. push_other (Releasing _) (ShuttingDown false ∷ below) (λ d e. cc) k.1;
-      collects_last = λ below v k. push_other (new_collection 2 false (on (ShuttingDown false) below v)) (ShuttingDown true ∷ below) (λ d e. cc) (push_other (ShuttingDown true) below (λ d e. cc) (pop (ShuttingDown false) below k.1));
+      collects_last = λ below v k. push_other (new_collection 2 false (on (ShuttingDown false) below v)) (ShuttingDown true ∷ below) (λ d e. cc)
+          (push_other (ShuttingDown true) below (λ d e. cc) (pop (ShuttingDown false) below k.1));
       commands = λ command a b below v takes hb k. command_waited (on a below v) command b below v hb (pop a below k.1);
       frame_ends = λ f below v left k. advance_waited script (Framed f) below v k.0 k.1 _ _ (frame_end_advances script f below v);
       releases = λ references below v k. advance_waited script (Releasing references) below v k.0 k.1 _ _ (released_advances script references below v);

@@ -26,4 +26,5 @@ pub record IsSlack (objects : List Object) (x : Object) : Type 0 where
 -- This holds for each untracked object, except the garbage list and dying objects.
 abbrev pub UntrackedAreSlack : Type 0
 UntrackedAreSlack = (script : Script) (budget : ℕ) (steps : List StepTaken) → IsRun script budget steps
-    → (x : Object) → Includes (world_after script budget steps).objects x → x.place ≡ Untracked → x.serial ≢ 1 → is_dying (world_after script budget steps) x.serial ≡ false → IsSlack (world_after script budget steps).objects x
+    → (x : Object) → Includes (world_after script budget steps).objects x → x.place ≡ Untracked → x.serial ≢ 1 → is_dying (world_after script budget steps)
+    x.serial ≡ false → IsSlack (world_after script budget steps).objects x

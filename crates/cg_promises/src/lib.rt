@@ -1,4 +1,5 @@
-//! Laws of every run about the objects that it makes: their finalizers, their deaths and their names.
+//! Laws of every run about the objects that it makes: their finalizers, their deaths and their
+//! names.
 //!
 //! Each law is the contract of a function that does nothing.
 #![tactic(auto)]

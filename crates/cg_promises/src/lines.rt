@@ -1,4 +1,5 @@
-//! What the lines of every run tell of an object: its finalizer, and that it is freed. Each law is the contract of a function that does nothing.
+//! What the lines of every run tell of an object: its finalizer, and that it is freed. Each law is
+//! the contract of a function that does nothing.
 ghost use Rattle.cg_laws.specs.Laws.{NoDeadNames, OneFinalizerEach};
 ghost use Rattle.cg_promises.specs.Lines.{NoDeadLines};
 

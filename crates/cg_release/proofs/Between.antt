@@ -57,7 +57,8 @@ is_positive zero h = absurd (h refl)
 is_positive (suc n) h = omega arith
 
 -- an in-degree made up only by a set and the released references
-of_set : (degree roots entries inside outside stack given under : ℕ) → degree ≡ roots + entries + stack → entries ≡ inside + outside → stack ≡ given + under → roots ≡ 0 → outside ≡ 0 → under ≡ 0 → given + inside ≡ degree
+of_set : (degree roots entries inside outside stack given under : ℕ) → degree ≡ roots + entries + stack → entries ≡ inside + outside → stack ≡ given + under
+    → roots ≡ 0 → outside ≡ 0 → under ≡ 0 → given + inside ≡ degree
 of_set degree roots entries inside outside stack given under a b c d e f = omega (arith, a, b, c, d, e, f)
 
 -- The release starts in world w.
@@ -169,7 +170,8 @@ module _ (w : World) (given : List ℕ) (below : List Activity) where
     more n = o == n || gone n
 
     -- its death begins
-    pub begins : Between more (Dying (record { object = o; phase = Finalizer }) ∷ Releasing refs ∷ tops) (done ++ []) v.names (change dead o v.objects) (Dying (record { object = o; phase = Finalizer }) ∷ Releasing refs ∷ (tops ++ below))
+    pub begins : Between more (Dying (record { object = o; phase = Finalizer }) ∷ Releasing refs ∷ tops) (done ++ []) v.names (change dead o v.objects)
+        (Dying (record { object = o; phase = Finalizer }) ∷ Releasing refs ∷ (tops ++ below))
     begins = record {
       names = b.names;
       stack = refl;

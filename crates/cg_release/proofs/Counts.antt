@@ -25,7 +25,8 @@ use Rattle.cg_release.specs.Release.{references_from}
 abbrev pub part : (ℕ → Bool) → Object → List ℕ
 part set x = if set x.serial then references x.entries else []
 
-pub from_holder : (set : ℕ → Bool) (objects : List Object) (o : ℕ) → Includes (references_from set objects) o → (x : Object) × Includes objects x × (set x.serial ≡ true) × Includes (references x.entries) o
+pub from_holder : (set : ℕ → Bool) (objects : List Object) (o : ℕ) → Includes (references_from set objects) o → (x : Object) × Includes objects x
+    × (set x.serial ≡ true) × Includes (references x.entries) o
 from_holder set [] o m = absurd m
 from_holder set (x ∷ objects) o m = either (Includes-append_cases (part set x) (references_from set objects) o m)
     (λ k. let f = of_part (set x.serial) refl k in (x, inl refl, f.0, f.1))
@@ -65,7 +66,8 @@ degree_parts w stack o e =
     ∙ ap (λ (st : List Activity). occurrences o (name_holdings w.names ++ (1 ∷ [])) + occurrences o (entry_holdings (graph_of w.objects)) + occurrences o (flat_map holds st)) e
 
 -- one object changes or goes
-pub change_from : (set : ℕ → Bool) (f : Object → Object) (o : ℕ) → ((x : Object) → x.serial ≡ o → part set (f x) ≡ part set x) → (objects : List Object) → references_from set (change f o objects) ≡ references_from set objects
+pub change_from : (set : ℕ → Bool) (f : Object → Object) (o : ℕ) → ((x : Object) → x.serial ≡ o → part set (f x) ≡ part set x) → (objects : List Object)
+    → references_from set (change f o objects) ≡ references_from set objects
 change_from set f o h [] = refl
 change_from set f o h (x ∷ objects) =
     ap (λ (ys : List ℕ). ys ++ references_from set (change f o objects)) (one (x.serial == o) refl) ∙ ap (λ (ys : List ℕ). part set x ++ ys) (change_from set f o h objects)
@@ -78,7 +80,8 @@ pub without_from : (set : ℕ → Bool) (o : ℕ) → set o ≡ false → (objec
 without_from set o none [] = refl
 without_from set o none (x ∷ objects) = go (x.serial == o) refl (without_from set o none objects)
   where
-    go : (b : Bool) → (x.serial == o) ≡ b → references_from set (without o objects) ≡ references_from set objects → references_from set (cond (not b) (x ∷ without o objects) (without o objects)) ≡ references_from set (x ∷ objects)
+    go : (b : Bool) → (x.serial == o) ≡ b → references_from set (without o objects) ≡ references_from set objects
+        → references_from set (cond (not b) (x ∷ without o objects) (without o objects)) ≡ references_from set (x ∷ objects)
     go true e rest = rest ∙ sym (ap (λ (b : Bool). (if b then references x.entries else []) ++ references_from set objects) (ap set (eqb-true x.serial o e) ∙ none))
     go false e rest = ap (λ (ys : List ℕ). part set x ++ ys) rest
 

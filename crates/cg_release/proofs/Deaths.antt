@@ -112,7 +112,8 @@ module _ (script : Script) (w : World) (given : List ℕ) (below : List Activity
       empties (Some e) last b = λ quiet. inl (
         gone,
         Releasing (entry_references e) ∷ on Emptying,
-        goes w given below gone (on Emptying) (Releasing (entry_references e) ∷ on Emptying) done [] u.names u.objects (change (with_entries (without_last (entries_of u.objects o))) o u.objects) u.stack
+        goes w given below gone (on Emptying) (Releasing (entry_references e) ∷ on Emptying) done [] u.names u.objects
+            (change (with_entries (without_last (entries_of u.objects o))) o u.objects) u.stack
             (lets_shorten gone o u.objects (is_gone Emptying b)) still held (λ p k. k) none_freed b,
       )
         where
@@ -137,7 +138,12 @@ module _ (script : Script) (w : World) (given : List ℕ) (below : List Activity
       dies_on Emptying h b = empties (last_entry (entries_of u.objects o)) refl b
 
     releases : (refs : List ℕ) → Between w given below gone (Releasing refs ∷ tops) done u.names u.objects u.stack → (let t : Transition = released refs (tops ++ below) u in R t.0 t.1)
-    releases [] b = λ quiet. inl (gone, tops, goes w given below gone (Releasing [] ∷ tops) tops done [] u.names u.objects u.objects u.stack (lets_same gone u.objects) (λ a m. b.bare a (inr m)) (λ p m. inl m) (λ p k. k) none_freed b)
+    releases [] b = λ quiet. inl (
+      gone,
+      tops,
+      goes w given below gone (Releasing [] ∷ tops) tops done [] u.names u.objects u.objects u.stack
+          (lets_same gone u.objects) (λ a m. b.bare a (inr m)) (λ p m. inl m) (λ p k. k) none_freed b,
+    )
     releases (o ∷ refs) b = go (not (is_dying now o) && (in_degree now o == 0)) refl
       where
         now : World
@@ -148,10 +154,21 @@ module _ (script : Script) (w : World) (given : List ℕ) (below : List Activity
         still a (inr m) = b.bare a (inr m)
 
         go : (t : Bool) → (not (is_dying now o) && (in_degree now o == 0)) ≡ t → (let step : Transition = if t then ([], begin_death o now) else ([], now) in R step.0 step.1)
-        go true e = λ quiet. inl (λ n. o == n || gone n, Dying (record { object = o; phase = Finalizer }) ∷ Releasing refs ∷ tops, begins w given below orderly top u gone o refs tops done b (eqb-true (in_degree now o) 0 (and_parts (not (is_dying now o)) (in_degree now o == 0) e).1))
-        go false e = λ quiet. inl (gone, Releasing refs ∷ tops, goes w given below gone (Releasing (o ∷ refs) ∷ tops) (Releasing refs ∷ tops) done [] u.names u.objects u.objects u.stack (lets_same gone u.objects) still (λ p m. inl (inr m)) (λ p k. k) none_freed b)
+        go true e = λ quiet. inl (
+          λ n. o == n || gone n,
+          Dying (record { object = o; phase = Finalizer }) ∷ Releasing refs ∷ tops,
+          begins w given below orderly
+              top u gone o refs tops done b (eqb-true (in_degree now o) 0 (and_parts (not (is_dying now o)) (in_degree now o == 0) e).1),
+        )
+        go false e = λ quiet. inl (
+          gone,
+          Releasing refs ∷ tops,
+          goes w given below gone (Releasing (o ∷ refs) ∷ tops) (Releasing refs ∷ tops) done [] u.names
+              u.objects u.objects u.stack (lets_same gone u.objects) still (λ p m. inl (inr m)) (λ p k. k) none_freed b,
+        )
 
-    step_goes : (a : Activity) → Between w given below gone (a ∷ tops) done u.names u.objects u.stack → (events : List Event) (after : World) → StepOf script u (a ∷ (tops ++ below)) events after → R events after
+    step_goes : (a : Activity) → Between w given below gone (a ∷ tops) done u.names u.objects u.stack → (events : List Event) (after : World)
+        → StepOf script u (a ∷ (tops ++ below)) events after → R events after
     step_goes (TopLevel commands) b events after step = absurd (b.bare (TopLevel commands) (inl refl))
     step_goes (Framed f) b events after step = absurd (b.bare (Framed f) (inl refl))
     step_goes (Releasing refs) b events after step = to (released refs (tops ++ below) u) events after (releases refs b) step
@@ -171,6 +188,9 @@ module _ (script : Script) (w : World) (given : List ℕ) (below : List Activity
       let parts = enters_first step.events (events_of steps) quiet in
       either (step_goes gone tops done u a b step.events step.world (subst (λ (st : List Activity). StepOf script u st step.events step.world) b.stack run.0.step) parts.0)
       (λ k.
-      let rest = ends_between k.0 k.1 (done ++ step.events) step.world steps k.2 run.1 parts.1 (λ front back s e. first (step ∷ front) back s (ap (λ (ss : List StepTaken). step ∷ ss) e)) ends in
-      (rest.0, subst (λ (es : List Event). Between w given below rest.0 [] es (last_world step.world steps).names (last_world step.world steps).objects (last_world step.world steps).stack) (append_assoc done step.events (events_of steps)) rest.1))
+      let rest = ends_between k.0 k.1 (done ++ step.events) step.world steps k.2 run.1 parts.1 (λ front back s e. first (step ∷ front) back s (ap (λ (ss : List StepTaken). step ∷ ss) e)) ends in (
+        rest.0,
+        subst (λ (es : List Event). Between w given below rest.0 [] es (last_world step.world steps).names (last_world step.world steps).objects
+            (last_world step.world steps).stack) (append_assoc done step.events (events_of steps)) rest.1,
+      ))
       (λ c. absurd (caught_stays script below step.world steps run.1 parts.1 c ends))

@@ -41,7 +41,8 @@ unheld_or_own o Detaching held h = inl h
 unheld_or_own o Emptying held h = inl h
 
 -- if the released references and a set make up an in-degree, nothing else holds
-none_else : (degree roots entries inside outside stack given under count : ℕ) → degree ≡ roots + entries + stack → entries ≡ inside + outside → stack ≡ given + under → count ≡ given + inside → count ≡ degree → (roots ≡ 0) × (outside ≡ 0) × (under ≡ 0)
+none_else : (degree roots entries inside outside stack given under count : ℕ) → degree ≡ roots + entries + stack → entries ≡ inside + outside → stack
+    ≡ given + under → count ≡ given + inside → count ≡ degree → (roots ≡ 0) × (outside ≡ 0) × (under ≡ 0)
 none_else degree roots entries inside outside stack given under count a b c d e = (omega (arith, a, b, c, d, e), omega (arith, a, b, c, d, e), omega (arith, a, b, c, d, e))
 
 all_none : (degree roots entries inside outside under : ℕ) → degree ≡ roots + entries + under → entries ≡ inside + outside → roots ≡ 0 → inside ≡ 0 → outside ≡ 0 → under ≡ 0 → degree ≡ 0
@@ -70,7 +71,8 @@ module _ (w : World) (given : List ℕ) (below : List Activity) (top : w.stack �
   -- nothing would hold it at the end, and it would be dying below, where it was at the start.
   left : (o : ℕ) → gone o ≡ false → Includes (serials w.objects) o → 0 < in_degree w o → occurrences o (given ++ references_from gone w.objects) ≡ in_degree w o → ⊥
   left o stays lives some count =
-      let parts = none_else _ _ _ _ _ _ _ _ _ (degree_parts w (Releasing given ∷ below) o top) (holdings_split o gone w.objects) (occurrences-append o given (flat_map holds below)) (occurrences-append o given (references_from gone w.objects)) count in
+      let parts = none_else _ _ _ _ _ _ _ _ _ (degree_parts w (Releasing given ∷ below) o top) (holdings_split o gone w.objects)
+      (occurrences-append o given (flat_map holds below)) (occurrences-append o given (references_from gone w.objects)) count in
       let roots : occurrences o (name_holdings u.names ++ (1 ∷ [])) ≡ 0 = subst (λ ns. occurrences o (name_holdings ns ++ (1 ∷ [])) ≡ 0) (sym b.names) parts.0 in
       let inside : occurrences o (references_from gone u.objects) ≡ 0 = no_times o (references_from gone u.objects) (λ m.
       let x = from_holder gone u.objects o m in
@@ -101,7 +103,8 @@ started w given below top = record {
   bare = λ a m. either m (λ e. subst (IsBare (λ n. false)) e tt) (λ no. absurd no);
   others = λ set a. refl;
   lives = λ n m. inr m;
-  entries = λ o m. Includes-append_left (name_holdings w.names ++ (1 ∷ []) ++ entry_holdings (graph_of w.objects)) (flat_map holds w.stack) o (Includes-append_right (name_holdings w.names ++ (1 ∷ [])) (entry_holdings (graph_of w.objects)) o m);
+  entries = λ o m. Includes-append_left (name_holdings w.names ++ (1 ∷ []) ++ entry_holdings (graph_of w.objects)) (flat_map holds w.stack) o
+      (Includes-append_right (name_holdings w.names ++ (1 ∷ [])) (entry_holdings (graph_of w.objects)) o m);
   given_up = λ o m. Includes-append_right (name_holdings w.names ++ (1 ∷ []) ++ entry_holdings (graph_of w.objects)) (flat_map holds w.stack) o
       (subst (λ (st : List Activity). Includes (flat_map holds st) o) (sym top) (Includes-append_left given (flat_map holds below) o (subst (λ (xs : List ℕ). Includes xs o) (append-nil given) m)));
   dies = λ o g. absurd (not_both false g refl);
@@ -114,7 +117,8 @@ frees_exactly script budget before during given below known r =
     let first = opening script budget in
     let w = last_world first before in
     let front = run_front script first before during r.run in
-    let end = ends_between script w given below (worlds_orderly script budget before front) r.starts (λ n. false) (Releasing given ∷ []) [] w during (started w given below r.starts) (run_back script first before during r.run) r.no_frame r.goes_on r.ends in
+    let end = ends_between script w given below (worlds_orderly script budget before front) r.starts (λ n. false) (Releasing given ∷ []) [] w during
+    (started w given below r.starts) (run_back script first before during r.run) r.no_frame r.goes_on r.ends in
     exactly w given below r.starts (dying_unheld script budget before front) (length script.names) (last_world w during)
     (subst (λ (v : World). IsMinded (length script.names) v) (last_world-append first before during)
     (minded_after script known first (before ++ during) r.run (opening_fit script budget) (opening_origin script budget) (opening_minded script known budget)))

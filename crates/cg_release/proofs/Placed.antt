@@ -28,11 +28,13 @@ use Rattle.cg_release.proofs.Counts.{part}
 use Rattle.cg_release.proofs.Exactly.{frees_exactly, not_both}
 
 -- the element at the place of an object
-pub at_place : {X : Type 0} (g : ℕ → X) (objects : List Object) (o : ℕ) (more : List X) → Includes (serials objects) o → slice_get (map (λ (x : Object). g x.serial) objects ++ more) (place_of objects o) ≡ Some (g o)
+pub at_place : {X : Type 0} (g : ℕ → X) (objects : List Object) (o : ℕ) (more : List X) → Includes (serials objects) o
+    → slice_get (map (λ (x : Object). g x.serial) objects ++ more) (place_of objects o) ≡ Some (g o)
 at_place g [] o more m = absurd m
 at_place {X} g (x ∷ objects) o more m = go (x.serial == o) refl m (at_place g objects o more)
   where
-    go : (b : Bool) → (x.serial == o) ≡ b → Includes (serials (x ∷ objects)) o → (Includes (serials objects) o → slice_get (map (λ (x : Object). g x.serial) objects ++ more) (place_of objects o) ≡ Some (g o))
+    go : (b : Bool) → (x.serial == o) ≡ b → Includes (serials (x ∷ objects)) o
+        → (Includes (serials objects) o → slice_get (map (λ (x : Object). g x.serial) objects ++ more) (place_of objects o) ≡ Some (g o))
         → slice_get (g x.serial ∷ (map (λ (x : Object). g x.serial) objects ++ more)) (if b then 0 else suc (place_of objects o)) ≡ Some (g o)
     go true e m rest = ap (λ (s : ℕ). Some (g s)) (eqb-true x.serial o e)
     go false e (inl i) rest = absurd (not_both (x.serial == o) (eq-eqb x.serial o i) e)
@@ -41,7 +43,8 @@ at_place {X} g (x ∷ objects) o more m = go (x.serial == o) refl m (at_place g 
 -- and the place of that element
 pub place_at : (low high : ℕ) (objects : List Object) → Rises low high objects → (i : ℕ) (x : Object) → slice_get objects i ≡ Some x → place_of objects x.serial ≡ i
 place_at low high [] r i x e = absurd (cc)
-place_at low high (y ∷ objects) r zero x e = let same : y ≡ x = cc in ap (λ (b : Bool). if b then 0 else suc (place_of objects x.serial)) (eq-eqb y.serial x.serial (ap (λ (z : Object). z.serial) same))
+place_at low high (y ∷ objects) r zero x e = let same : y ≡ x = cc in ap (λ (b : Bool). if b then 0 else suc (place_of objects x.serial))
+    (eq-eqb y.serial x.serial (ap (λ (z : Object). z.serial) same))
 place_at low high (y ∷ objects) r (suc i) x e =
     let later = serial_from (suc y.serial) high objects x r.1 (slice_get_member objects i x e) in
     ap (λ (b : Bool). if b then 0 else suc (place_of objects x.serial)) (ne_eqb y.serial x.serial (λ same. omega (arith, same, later))) ∙ ap suc (place_at (suc y.serial) high objects r.1 i x e)
@@ -91,7 +94,8 @@ targets_placed set p d given (x ∷ objects) =
     ∙ ap (λ (ys : List ℕ). ys ++ map p given) (sym (map-append p (part set x) (references_from set objects)))
 
 pub degrees_placed : (p d : ℕ → ℕ) (given : List ℕ) (objects : List Object)
-    → map (λ (m : Member). m.degree) (map (λ (x : Object). member_with (d x.serial) (map p (references x.entries))) objects ++ member_with 0 (map p given) ∷ []) ≡ map (λ (x : Object). d x.serial) objects ++ 0 ∷ []
+    → map (λ (m : Member). m.degree) (map (λ (x : Object). member_with (d x.serial) (map p (references x.entries))) objects ++ member_with 0 (map p given) ∷ [])
+    ≡ map (λ (x : Object). d x.serial) objects ++ 0 ∷ []
 degrees_placed p d given [] = refl
 degrees_placed p d given (x ∷ objects) = ap (λ (ds : List ℕ). d x.serial ∷ ds) (degrees_placed p d given objects)
 
@@ -123,19 +127,30 @@ module _ (w : World) (given : List ℕ) (low high : ℕ) (rises : Rises low high
   rows = map (λ (m : Member). m.refs) (members_of w given)
 
   count_of_members : length (members_of w given) ≡ length w.objects + 1
-  count_of_members = length-append (map (λ (x : Object). member_with (in_degree w x.serial) (map (place_of w.objects) (references x.entries))) w.objects) (member_with 0 (map (place_of w.objects) given) ∷ [])
+  count_of_members = length-append (map (λ (x : Object). member_with (in_degree w x.serial) (map (place_of w.objects) (references x.entries))) w.objects)
+      (member_with 0 (map (place_of w.objects) given) ∷ [])
       ∙ ap (λ (n : ℕ). n + 1) (length-map w.objects (λ (x : Object). member_with (in_degree w x.serial) (map (place_of w.objects) (references x.entries))))
 
   degree_placed : (o : ℕ) → Includes (serials w.objects) o → slice_index degrees (place_of w.objects o) ≡ in_degree w o
   degree_placed o lives = ap (λ (ds : List ℕ). slice_index ds (place_of w.objects o)) (degrees_placed (place_of w.objects) (in_degree w) given w.objects)
       ∙ get_or_from_slice_get (map (λ (x : Object). in_degree w x.serial) w.objects ++ 0 ∷ []) (place_of w.objects o) (in_degree w o) 0 (at_place (in_degree w) w.objects o (0 ∷ []) lives)
 
-  count_placed : (set : ℕ → Bool) (o : ℕ) → Includes (serials w.objects) o → occurrences (place_of w.objects o) (targets_from (marks_of set w.objects) rows) ≡ occurrences o (given ++ references_from set w.objects)
+  count_placed : (set : ℕ → Bool) (o : ℕ) → Includes (serials w.objects) o → occurrences (place_of w.objects o) (targets_from (marks_of set w.objects) rows)
+      ≡ occurrences o (given ++ references_from set w.objects)
   count_placed set o lives =
       let inside = references_from set w.objects in
       let p = place_of w.objects in
-      let all : occurrences (p o) (targets_from (marks_of set w.objects) rows) ≡ occurrences (p o) (map p inside ++ map p given) = ap (occurrences (p o)) (targets_placed set p (in_degree w) given w.objects) in
-      omega (arith, all, occurrences-append (p o) (map p inside) (map p given), occurrences-placed w.objects o lives inside, occurrences-placed w.objects o lives given, occurrences-append o given inside)
+      let all : occurrences (p o) (targets_from (marks_of set w.objects) rows) ≡ occurrences (p o) (map p inside ++ map p given) =
+      ap (occurrences (p o)) (targets_placed set p (in_degree w) given w.objects) in
+      omega (
+        arith,
+        all,
+        occurrences-append (p o) (map p inside) (map p given),
+        occurrences-placed w.objects o lives inside,
+        occurrences-placed w.objects o
+            lives given,
+        occurrences-append o given inside,
+      )
 
   -- a closed set of serials, by places
   closed_by_places : (set : ℕ → Bool) → IsClosed w given set → IsClosedByPlaces (members_of w given) (IsTheRelease w) (marks_of set w.objects)
@@ -160,14 +175,17 @@ module _ (w : World) (given : List ℕ) (low high : ℕ) (rises : Rises low high
       let set : ℕ → Bool = λ o. is_marked marks (place_of w.objects o) in
       let lives = Includes-map (λ (z : Object). z.serial) w.objects x member in
       let degree = degree_placed x.serial lives in
-      let are : marks ≡ marks_of set w.objects = marks_are set w.objects marks (closed.len ∙ count_of_members) (λ i y e. ap (is_marked marks) (sym (place_at low high w.objects rises i y e))) (is_of_marks marks (length w.objects) (closed.given (length w.objects) refl)) in
+      let are : marks ≡ marks_of set w.objects = marks_are set w.objects marks (closed.len ∙ count_of_members)
+      (λ i y e. ap (is_marked marks) (sym (place_at low high w.objects rises i y e))) (is_of_marks marks (length w.objects)
+      (closed.given (length w.objects) refl)) in
       is_of_marks marks (place_of w.objects x.serial) (closed.dies (place_of w.objects x.serial) (subst (λ (n : ℕ). 0 < n) (sym degree) some)
       (ap (λ (ms : List Bool). occurrences (place_of w.objects x.serial) (targets_from ms rows)) are ∙ count_placed set x.serial lives ∙ count ∙ sym degree))
 
   pub dies_by_places : (x : Object) → Includes w.objects x → DiesByCount w given x.serial ↔ Dies (members_of w given) (IsTheRelease w) (place_of w.objects x.serial)
   dies_by_places x member = (
     λ h marks closed. marks_of_is marks (place_of w.objects x.serial) (h (λ o. is_marked marks (place_of w.objects o)) (closed_by_serials marks closed)),
-    λ h set closed. is_some_true (set x.serial) (sym (at_place set w.objects x.serial (true ∷ []) (Includes-map (λ (z : Object). z.serial) w.objects x member)) ∙ h (marks_of set w.objects) (closed_by_places set closed)),
+    λ h set closed. is_some_true (set x.serial) (sym (at_place set w.objects x.serial (true ∷ []) (Includes-map (λ (z : Object). z.serial) w.objects x member))
+        ∙ h (marks_of set w.objects) (closed_by_places set closed)),
   )
     where
       is_some_true : (b : Bool) → Some b ≡ Some true → b ≡ true

@@ -37,7 +37,8 @@ abbrev pub ReleasesFreeWhatDropTellsIn : (Script → Type 0) → Type 0
 ReleasesFreeWhatDropTellsIn Fit = (script : Script) (budget : ℕ) (before during : List StepTaken) (given : List ℕ) (below : List Activity)
     → Fit script → IsRelease script budget before during given below
     → (x : Object) → Includes (world_after script budget before).objects x
-    → Includes (events_of during) (Free x.serial) ↔ Dies (members_of (world_after script budget before) given) (IsTheRelease (world_after script budget before)) (place_of (world_after script budget before).objects x.serial)
+    → Includes (events_of during) (Free x.serial) ↔ Dies (members_of (world_after script budget before) given) (IsTheRelease (world_after script budget before))
+    (place_of (world_after script budget before).objects x.serial)
 
 -- the same for each script that names only its own texts
 abbrev pub ReleasesFreeWhatDropTells : Type 0

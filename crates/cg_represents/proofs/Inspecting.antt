@@ -41,7 +41,8 @@ held_in_entry w x n m h = Includes-append_left (name_holdings w.names ++ (1 ∷ 
 -- what is held by a root or an activity
 held_else : (w : World) (o n : ℕ) → IsHeldElse (other_holdings w) o n → Includes (holdings w) n
 held_else w o n held =
-    either (Includes-append_cases (name_holdings w.names ++ (1 ∷ [])) (flat_map holds w.stack) n (Includes-of_count n (name_holdings w.names ++ (1 ∷ []) ++ flat_map holds w.stack) (omega (arith, held))))
+    either (Includes-append_cases (name_holdings w.names ++ (1 ∷ [])) (flat_map holds w.stack) n (Includes-of_count n (name_holdings w.names ++ (1 ∷ [])
+    ++ flat_map holds w.stack) (omega (arith, held))))
     (λ m. Includes-append_left (name_holdings w.names ++ (1 ∷ []) ++ entry_holdings (graph_of w.objects)) (flat_map holds w.stack) n
     (Includes-append_left (name_holdings w.names ++ (1 ∷ [])) (entry_holdings (graph_of w.objects)) n m))
     (λ m. Includes-append_right (name_holdings w.names ++ (1 ∷ []) ++ entry_holdings (graph_of w.objects)) (flat_map holds w.stack) n m)

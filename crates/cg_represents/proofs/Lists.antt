@@ -66,7 +66,8 @@ dropped_count : (x o : ℕ) (ys : List ℕ) → 0 < occurrences x ys → occurre
 dropped_count x o [] h = absurd (omega (arith, h))
 dropped_count x o (y ∷ ys) h = go (y == x) refl (λ l. dropped_count x o ys l)
   where
-    go : (b : Bool) → (y == x) ≡ b → (0 < occurrences x ys → occurrences o ys ≡ cond (x == o) 1 0 + occurrences o (dropped x ys)) → occurrences o (y ∷ ys) ≡ cond (x == o) 1 0 + occurrences o (cond b ys (y ∷ dropped x ys))
+    go : (b : Bool) → (y == x) ≡ b → (0 < occurrences x ys → occurrences o ys ≡ cond (x == o) 1 0 + occurrences o (dropped x ys)) → occurrences o (y ∷ ys)
+        ≡ cond (x == o) 1 0 + occurrences o (cond b ys (y ∷ dropped x ys))
     go true e ih = occurrences-cons o y ys ∙ ap (λ z. cond (z == o) 1 0 + occurrences o ys) (eqb-true y x e)
     go false e ih =
         let more : 0 < cond false 1 0 + occurrences x ys = subst (λ b. 0 < cond b 1 0 + occurrences x ys) e (subst (λ n. 0 < n) (occurrences-cons x y ys) h) in
@@ -93,7 +94,8 @@ pub found_at : (objects : List Object) (o : ℕ) (x : Object) → object_at obje
 found_at [] o x e = let no : None ≡ Some x = e in cc
 found_at (y ∷ objects) o x e = go (y.serial == o) refl e (λ k. found_at objects o x k)
   where
-    go : (b : Bool) → (y.serial == o) ≡ b → cond b (Some y) (object_at objects o) ≡ Some x → (object_at objects o ≡ Some x → Includes objects x × (x.serial ≡ o)) → Includes (y ∷ objects) x × (x.serial ≡ o)
+    go : (b : Bool) → (y.serial == o) ≡ b → cond b (Some y) (object_at objects o) ≡ Some x → (object_at objects o ≡ Some x → Includes objects x
+        × (x.serial ≡ o)) → Includes (y ∷ objects) x × (x.serial ≡ o)
     go true t k ih = let same : y ≡ x = cc in (inl same, ap (λ (z : Object). z.serial) (sym same) ∙ eqb-true y.serial o t)
     go false t k ih = (inr (ih k).0, (ih k).1)
 

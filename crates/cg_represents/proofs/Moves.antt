@@ -28,7 +28,8 @@ appended_goes (x ∷ entries) e n m = past x entries (entries ++ e ∷ []) [] n 
 
 pub set_goes : (entries : List Entry) (i : ℕ) (old new : Entry) (n : ℕ) → slice_get entries i ≡ Some old → Goes entries (slice_set entries i new) (entry_references old) n
 set_goes [] i old new n e = λ m. absurd m
-set_goes (x ∷ entries) zero old new n e = let same : x ≡ old = cc in subst (λ o. Goes (x ∷ entries) (new ∷ entries) (entry_references o) n) same (goes_first x entries (new ∷ entries) n (λ k. Includes-append_right (entry_references new) (references entries) n k))
+set_goes (x ∷ entries) zero old new n e = let same : x ≡ old = cc in subst (λ o. Goes (x ∷ entries) (new ∷ entries) (entry_references o) n) same
+    (goes_first x entries (new ∷ entries) n (λ k. Includes-append_right (entry_references new) (references entries) n k))
 set_goes (x ∷ entries) (suc i) old new n e = past x entries (slice_set entries i new) (entry_references old) n (set_goes entries i old new n e)
 
 pub removed_goes : (entries : List Entry) (i : ℕ) (old : Entry) (n : ℕ) → slice_get entries i ≡ Some old → Goes entries (remove entries i) (entry_references old) n
@@ -40,7 +41,8 @@ pub without_key_goes : (entries : List Entry) (key : Val) (old : Entry) (n : ℕ
 without_key_goes [] key old n e = λ m. absurd m
 without_key_goes (x ∷ entries) key old n e = go (same_value x.key key) e (λ k. without_key_goes entries key old n k)
   where
-    go : (b : Bool) → (if b then Some x else entry_at entries key) ≡ Some old → (entry_at entries key ≡ Some old → Goes entries (without_key entries key) (entry_references old) n) → Goes (x ∷ entries) (if b then entries else x ∷ without_key entries key) (entry_references old) n
+    go : (b : Bool) → (if b then Some x else entry_at entries key) ≡ Some old → (entry_at entries key ≡ Some old → Goes entries (without_key entries key)
+        (entry_references old) n) → Goes (x ∷ entries) (if b then entries else x ∷ without_key entries key) (entry_references old) n
     go true k ih = let same : x ≡ old = cc in subst (λ o. Goes (x ∷ entries) entries (entry_references o) n) same (goes_first x entries entries n (λ i. i))
     go false k ih = past x entries (without_key entries key) (entry_references old) n (ih k)
 
@@ -51,7 +53,8 @@ put_goes (x ∷ entries) key v n = go (same_value x.key key) (put_goes entries k
     new : Entry
     new = record { key = x.key; val = v }
 
-    go : (b : Bool) → Goes entries (put entries key v) (references_of_value (value_at entries key)) n → Goes (x ∷ entries) (if b then new ∷ entries else x ∷ put entries key v) (references_of_value (if b then Some x.val else value_at entries key)) n
+    go : (b : Bool) → Goes entries (put entries key v) (references_of_value (value_at entries key)) n → Goes (x ∷ entries) (if b then new ∷ entries else x
+        ∷ put entries key v) (references_of_value (if b then Some x.val else value_at entries key)) n
     go true ih = λ m. either (Includes-append_cases (entry_references x) (references entries) n m)
         (λ k. either (Includes-append_cases (option_to_list (reference_in x.val)) (option_to_list (reference_in x.key)) n k) (λ i. inr i)
         (λ i. inl (Includes-append_left (entry_references new) (references entries) n (Includes-append_right (option_to_list (reference_in v)) (option_to_list (reference_in x.key)) n i))))

@@ -34,13 +34,15 @@ in_one script w events after running step = record {
 }
 
 -- one more step, where neither it nor the next is a reachability pass
-alone_after : (w : World) (step : StepTaken) (steps : List StepTaken) → detects w.stack ≡ false → detects step.world.stack ≡ false → MakesDetectionsAlone step.world steps → MakesDetectionsAlone w (step ∷ steps)
+alone_after : (w : World) (step : StepTaken) (steps : List StepTaken) → detects w.stack ≡ false → detects step.world.stack ≡ false
+    → MakesDetectionsAlone step.world steps → MakesDetectionsAlone w (step ∷ steps)
 alone_after w step [] none next alone = tt
 alone_after w step (one ∷ []) none next alone = (none, (next, tt))
 alone_after w step (one ∷ two ∷ steps) none next alone = (none, alone)
 
 -- a step that prints nothing and then more steps, where neither it nor the next is a reachability pass
-pub and_then : (script : Script) (w mid : World) (events : List Event) (after : World) → w.outcome ≡ Running → StepOf script w w.stack [] mid → detects w.stack ≡ false → detects mid.stack ≡ false → Goes script mid events after → Goes script w events after
+pub and_then : (script : Script) (w mid : World) (events : List Event) (after : World) → w.outcome ≡ Running → StepOf script w w.stack [] mid → detects w.stack
+    ≡ false → detects mid.stack ≡ false → Goes script mid events after → Goes script w events after
 and_then script w mid events after running step none next rest = record {
   steps = record { events = []; world = mid } ∷ rest.steps;
   run = (record { running = running; step = step }, rest.run);
@@ -66,7 +68,8 @@ count-in_degree store w r s =
 pub held_by_one : (o : ℕ) (stack : List Activity) (a : Activity) → Includes stack a → occurrences o (holds a) ≤ occurrences o (flat_map holds stack)
 held_by_one o [] a m = absurd m
 held_by_one o (b ∷ stack) a m = rw (occurrences-append o (holds b) (flat_map holds stack))
-    (either m (λ e. let same : occurrences o (holds b) ≡ occurrences o (holds a) = ap (λ c. occurrences o (holds c)) e in omega (arith, same)) (λ k. let below = held_by_one o stack a k in omega (arith, below)))
+    (either m (λ e. let same : occurrences o (holds b) ≡ occurrences o (holds a) = ap (λ c. occurrences o (holds c)) e in omega (arith, same))
+    (λ k. let below = held_by_one o stack a k in omega (arith, below)))
 
 -- what the stack holds is held
 pub held_by_stack : (o : ℕ) (w : World) → occurrences o (flat_map holds w.stack) ≤ occurrences o (holdings w)
@@ -78,7 +81,8 @@ death_found o [] h = cc
 death_found o (TopLevel commands ∷ stack) h = let f = death_found o stack h in (f.0, inr f.1, f.2)
 death_found o (Framed g ∷ stack) h = let f = death_found o stack h in (f.0, inr f.1, f.2)
 death_found o (Releasing references ∷ stack) h = let f = death_found o stack h in (f.0, inr f.1, f.2)
-death_found o (Dying d ∷ stack) h = either (true_or (d.object == o) (list_any (is_death_of o) stack) h) (λ e. (d, inl refl, eqb-true d.object o e)) (λ e. let f = death_found o stack e in (f.0, inr f.1, f.2))
+death_found o (Dying d ∷ stack) h = either (true_or (d.object == o) (list_any (is_death_of o) stack) h) (λ e. (d, inl refl, eqb-true d.object o e))
+    (λ e. let f = death_found o stack e in (f.0, inr f.1, f.2))
 death_found o (Collecting c ∷ stack) h = let f = death_found o stack h in (f.0, inr f.1, f.2)
 death_found o (ShuttingDown started ∷ stack) h = let f = death_found o stack h in (f.0, inr f.1, f.2)
 

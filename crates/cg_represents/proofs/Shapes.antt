@@ -124,8 +124,10 @@ pub data Shape (w : World) (command : Command) : Effect → Type 0 where
       → Shape w command (Changes true (Made kind w.next_serial ∷ []) (given_up_by w name) (bound (with_new w kind class entries referent) name (Some (Ref w.next_serial))))
   Edits : (wants_memory : Bool) (x : Object) (entries : List Entry) (given_up : List ℕ) → HasObject w command (λ y. true) x → IsMutable x.code → IsEdit w command x entries given_up
       → Shape w command (Changes wants_memory [] given_up (with_change (with_entries entries) x.serial w))
-  Puts : (x : Object) (key v : Val) → HasObject w command (λ y. is_dict y || is_instance y) x → IsMutable x.code → IsAtHand w command key → IsAtHand w command v → (is_some (value_at x.entries key) ≡ true) ⊎ (entry_count w + 1 ≤ 4000000)
-      → Shape w command (Changes (is_none (value_at x.entries key)) [] (references_of_value (value_at x.entries key)) (with_change (λ y. tracked_by w key v (with_entries (put x.entries key v) y)) x.serial w))
+  Puts : (x : Object) (key v : Val) → HasObject w command (λ y. is_dict y || is_instance y) x → IsMutable x.code → IsAtHand w command key → IsAtHand w command v
+      → (is_some (value_at x.entries key) ≡ true) ⊎ (entry_count w + 1 ≤ 4000000)
+      → Shape w command (Changes (is_none (value_at x.entries key)) [] (references_of_value (value_at x.entries key))
+      (with_change (λ y. tracked_by w key v (with_entries (put x.entries key v) y)) x.serial w))
   Shows : (v : Val) → IsAtHand w command v → Shape w command (Changes false (Value v ∷ []) [] w)
   Tells : (line : Event) → TellsNumbers line → Shape w command (Changes false (line ∷ []) [] w)
   Stays : Shape w command (Changes false [] [] w)
@@ -165,7 +167,8 @@ pub value_at_member : (entries : List Entry) (key v : Val) → value_at entries 
 value_at_member [] key v at = absurd (let no : None ≡ Some v = at in cc)
 value_at_member (x ∷ entries) key v at = go (same_value x.key key) at (λ k. value_at_member entries key v k)
   where
-    go : (b : Bool) → (if b then Some x.val else value_at entries key) ≡ Some v → (value_at entries key ≡ Some v → (e : Entry) × Includes entries e × (e.val ≡ v)) → (e : Entry) × Includes (x ∷ entries) e × (e.val ≡ v)
+    go : (b : Bool) → (if b then Some x.val else value_at entries key) ≡ Some v → (value_at entries key ≡ Some v → (e : Entry) × Includes entries e
+        × (e.val ≡ v)) → (e : Entry) × Includes (x ∷ entries) e × (e.val ≡ v)
     go true k ih = let same : x.val ≡ v = cc in (x, inl refl, same)
     go false k ih = let e = ih k in (e.0, inr e.1, e.2)
 
@@ -174,7 +177,8 @@ without_key_part [] key = (λ e m. m, omega arith)
 without_key_part (x ∷ entries) key = go (same_value x.key key) (without_key_part entries key)
   where
     go : (b : Bool) → ((e : Entry) → Includes (without_key entries key) e → Includes entries e) × (length (without_key entries key) ≤ length entries)
-        → ((e : Entry) → Includes (if b then entries else x ∷ without_key entries key) e → Includes (x ∷ entries) e) × (length (if b then entries else x ∷ without_key entries key) ≤ length (x ∷ entries))
+        → ((e : Entry) → Includes (if b then entries else x ∷ without_key entries key) e → Includes (x ∷ entries) e)
+        × (length (if b then entries else x ∷ without_key entries key) ≤ length (x ∷ entries))
     go true rest = (λ e m. inr m, omega arith)
     go false rest = (λ e m. either m (λ i. inl i) (λ k. inr (rest.0 e k)), omega (arith, rest.1))
 
@@ -205,13 +209,16 @@ module _ (w : World) (command : Command) where
       (λ v k. each_then AreAtHand AreAtHand (values w operands) _ rest (λ vs are u m. either m (λ e. subst (IsAtHand w command) e k) (are u)))
 
   object_shaped : (test : Object → Bool) (refusal : ℕ) (v : Val) → IsAtHand w command v → Each (λ x. HasObject w command test x × (reference_in v ≡ Some x.serial)) (object w test refusal v)
-  object_shaped test refusal v hand = each_then (λ x. object_of w v ≡ Some x) (λ x. HasObject w command test x × (reference_in v ≡ Some x.serial)) (ok_or (object_of w v) refusal) _ (each_some (object_of w v) refusal) (λ x e. go (reference_in v) refl x e)
+  object_shaped test refusal v hand = each_then (λ x. object_of w v ≡ Some x) (λ x. HasObject w command test x × (reference_in v ≡ Some x.serial))
+      (ok_or (object_of w v) refusal) _ (each_some (object_of w v) refusal) (λ x e. go (reference_in v) refl x e)
     where
-      tests : (x : Object) → Includes w.objects x → IsAtHand w command (Ref x.serial) → reference_in v ≡ Some x.serial → (b : Bool) → test x ≡ b → Each (λ x. HasObject w command test x × (reference_in v ≡ Some x.serial)) (if b then Ok x else Err refusal)
+      tests : (x : Object) → Includes w.objects x → IsAtHand w command (Ref x.serial) → reference_in v ≡ Some x.serial → (b : Bool) → test x ≡ b
+          → Each (λ x. HasObject w command test x × (reference_in v ≡ Some x.serial)) (if b then Ok x else Err refusal)
       tests x m h is true e = (record { member = m; hand = h; passes = e }, is)
       tests x m h is false e = tt
 
-      go : (m : Option ℕ) → reference_in v ≡ m → (x : Object) → option_and_then (object_at w.objects) m ≡ Some x → Each (λ x. HasObject w command test x × (reference_in v ≡ Some x.serial)) (tested test refusal x)
+      go : (m : Option ℕ) → reference_in v ≡ m → (x : Object) → option_and_then (object_at w.objects) m ≡ Some x → Each (λ x. HasObject w command test x
+          × (reference_in v ≡ Some x.serial)) (tested test refusal x)
       go None at x e = absurd (let no : None ≡ Some x = e in cc)
       go (Some s) at x e = let f = found_at w.objects s x e in tests x f.0 (subst (IsAtHand w command) (ref_is v s at ∙ ap (λ n. Ref n) (sym f.1)) hand) (at ∙ ap (λ n. Some n) (sym f.1)) (test x) refl
 
@@ -224,10 +231,13 @@ module _ (w : World) (command : Command) where
   all_valued : (f : List Val → Result Effect ℕ) (operands : List Operand) → AreWords operands → ((vs : List Val) → AreAtHand vs → S (f vs)) → S (values w operands >>= f)
   all_valued f operands own h = each_then AreAtHand (Shape w command) (values w operands) f (values_shaped operands own) h
 
-  is_found : {B : Type 0} (P : B → Type 0) (f : Object → Result B ℕ) (test : Object → Bool) (refusal : ℕ) (v : Val) → IsAtHand w command v → ((x : Object) → HasObject w command test x → reference_in v ≡ Some x.serial → Each P (f x)) → Each P (object w test refusal v >>= f)
-  is_found P f test refusal v hand h = each_then (λ x. HasObject w command test x × (reference_in v ≡ Some x.serial)) P (object w test refusal v) f (object_shaped test refusal v hand) (λ x k. h x k.0 k.1)
+  is_found : {B : Type 0} (P : B → Type 0) (f : Object → Result B ℕ) (test : Object → Bool) (refusal : ℕ) (v : Val) → IsAtHand w command v
+      → ((x : Object) → HasObject w command test x → reference_in v ≡ Some x.serial → Each P (f x)) → Each P (object w test refusal v >>= f)
+  is_found P f test refusal v hand h = each_then (λ x. HasObject w command test x × (reference_in v ≡ Some x.serial)) P (object w test refusal v) f
+      (object_shaped test refusal v hand) (λ x k. h x k.0 k.1)
 
-  found : (f : Object → Result Effect ℕ) (test : Object → Bool) (refusal : ℕ) (v : Val) → IsAtHand w command v → ((x : Object) → HasObject w command test x → S (f x)) → S (object w test refusal v >>= f)
+  found : (f : Object → Result Effect ℕ) (test : Object → Bool) (refusal : ℕ) (v : Val) → IsAtHand w command v → ((x : Object) → HasObject w command test x
+      → S (f x)) → S (object w test refusal v >>= f)
   found f test refusal v hand h = is_found (Shape w command) f test refusal v hand (λ x k e. h x k)
 
   there : {A : Type 0} (f : A → Result Effect ℕ) (m : Option A) (refusal : ℕ) → ((x : A) → m ≡ Some x → S (f x)) → S (ok_or m refusal >>= f)
@@ -239,12 +249,23 @@ module _ (w : World) (command : Command) where
   binds_shaped : (name : ℕ) (v : Val) → IsWordOf command (Name name) → IsAtHand w command v → Shape w command (Changes false [] (given_up_by w name) (bound w name (Some v)))
   binds_shaped name v own hand = Binds name (Some v) own (λ u e. let same : v ≡ u = cc in subst (IsAtHand w command) same hand)
 
-  makes_shaped : (name : ℕ) (kind : KindCode) (class : Option ℕ) (entries : List Entry) (referent : Option ℕ) → IsWordOf command (Name name) → IsMadeBy command kind class → AreItems w command entries → (kind ≡ Dict → entries ≡ [])
+  makes_shaped : (name : ℕ) (kind : KindCode) (class : Option ℕ) (entries : List Entry) (referent : Option ℕ) → IsWordOf command (Name name)
+      → IsMadeBy command kind class → AreItems w command entries → (kind ≡ Dict → entries ≡ [])
       → ((r : ℕ) → referent ≡ Some r → (kind ≡ Weak) × ((z : Object) × HasObject w command has_weak_references z × (z.serial ≡ r)))
       → (kind ≡ Weak → AtMostOne entries × ((f : ℕ) → Includes (references entries) f → HasFunction w.objects f)) → S (makes w name kind class entries referent)
-  makes_shaped name kind class entries referent own by items bare refers callbacks = each_then (λ u. nat_lt (live w) MOST_OBJECTS ≡ true) (Shape w command) (unless (nat_lt (live w) MOST_OBJECTS) object_limit) _ (each_unless (nat_lt (live w) MOST_OBJECTS) object_limit) (λ u room.
-      each_then (λ u. nat_le (entry_count w + length entries) MOST_ENTRIES ≡ true) (Shape w command) (has_room w (length entries)) _ (each_unless (nat_le (entry_count w + length entries) MOST_ENTRIES) entry_limit) (λ u fits.
-      Makes name kind class entries referent own (record { room = room; entry_room = leb-true (entry_count w + length entries) 4000000 fits; by = by; items = items; bare = bare; refers = refers; callbacks = callbacks })))
+  makes_shaped name kind class entries referent own by items bare refers callbacks = each_then (λ u. nat_lt (live w) MOST_OBJECTS ≡ true) (Shape w command)
+      (unless (nat_lt (live w) MOST_OBJECTS) object_limit) _ (each_unless (nat_lt (live w) MOST_OBJECTS) object_limit) (λ u room.
+      each_then (λ u. nat_le (entry_count w + length entries) MOST_ENTRIES ≡ true) (Shape w command) (has_room w (length entries)) _
+      (each_unless (nat_le (entry_count w + length entries) MOST_ENTRIES) entry_limit) (λ u fits.
+      Makes name kind class entries referent own (record {
+        room = room;
+        entry_room = leb-true (entry_count w + length entries) 4000000 fits;
+        by = by;
+        items = items;
+        bare = bare;
+        refers = refers;
+        callbacks = callbacks;
+      })))
 
   no_referent : (kind : KindCode) (r : ℕ) → None ≡ Some r → (kind ≡ Weak) × ((z : Object) × HasObject w command has_weak_references z × (z.serial ≡ r))
   no_referent kind r e = absurd (cc)
@@ -258,7 +279,9 @@ module _ (w : World) (command : Command) where
   any_object_at test x h = record { member = h.member; hand = h.hand; passes = refl }
 
   puts_shaped : (x : Object) (key v : Val) → HasObject w command (λ y. is_dict y || is_instance y) x → IsMutable x.code → IsAtHand w command key → IsAtHand w command v → S (puts w x key v)
-  puts_shaped x key v h mutable hand_key hand_v = each_then (λ u. (is_some (value_at x.entries key) ≡ true) ⊎ (entry_count w + 1 ≤ 4000000)) (Shape w command) (if is_some (value_at x.entries key) then Ok tt else has_room w 1) _ (room (is_some (value_at x.entries key)) refl) (λ u fits. Puts x key v h mutable hand_key hand_v fits)
+  puts_shaped x key v h mutable hand_key hand_v = each_then (λ u. (is_some (value_at x.entries key) ≡ true) ⊎ (entry_count w + 1 ≤ 4000000)) (Shape w command)
+      (if is_some (value_at x.entries key) then Ok tt else has_room w 1) _ (room (is_some (value_at x.entries key)) refl)
+      (λ u fits. Puts x key v h mutable hand_key hand_v fits)
     where
       new_room : (b : Bool) → nat_le (entry_count w + 1) MOST_ENTRIES ≡ b → Each (λ u. (is_some (value_at x.entries key) ≡ true) ⊎ (entry_count w + 1 ≤ 4000000)) (unless b entry_limit)
       new_room true e = inr (leb-true (entry_count w + 1) 4000000 e)
@@ -268,20 +291,23 @@ module _ (w : World) (command : Command) where
       room true e = inl e
       room false e = new_room (nat_le (entry_count w + 1) MOST_ENTRIES) refl
 
-  edits : (wants_memory : Bool) (test : Object → Bool) (x : Object) (entries : List Entry) (given_up : List ℕ) → HasObject w command test x → IsMutable x.code → IsEdit w command x entries given_up → Shape w command (Changes wants_memory [] given_up (with_change (with_entries entries) x.serial w))
+  edits : (wants_memory : Bool) (test : Object → Bool) (x : Object) (entries : List Entry) (given_up : List ℕ) → HasObject w command test x → IsMutable x.code
+      → IsEdit w command x entries given_up → Shape w command (Changes wants_memory [] given_up (with_change (with_entries entries) x.serial w))
   edits wants_memory test x entries given_up h mutable edit = Edits wants_memory x entries given_up (any_object_at test x h) mutable edit
 
   appended : (x : Object) (v : Val) → x.code ≡ ListKind → x.serial ≢ 1 → IsAtHand w command v → entry_count w + 1 ≤ 4000000 → IsEdit w command x (x.entries ++ item v ∷ []) []
   appended x v list other hand fits = record {
     adds = λ no. absurd (no list);
-    come = λ e m. either (Includes-append_cases x.entries (item v ∷ []) e m) (λ k. inl k) (λ k. either k (λ i. inr (other, ap (λ (z : Entry). z.key) (sym i), subst (λ (z : Entry). IsAtHand w command z.val) i hand)) (λ n. absurd n));
+    come = λ e m. either (Includes-append_cases x.entries (item v ∷ []) e m) (λ k. inl k)
+        (λ k. either k (λ i. inr (other, ap (λ (z : Entry). z.key) (sym i), subst (λ (z : Entry). IsAtHand w command z.val) i hand)) (λ n. absurd n));
     longer = omega (arith, length-append x.entries (item v ∷ []));
     room = inr fits;
     given = inl refl;
     keeps = λ n. appended_goes x.entries (item v) n;
   }
 
-  replaced_at : (x : Object) (i : ℕ) (e : Entry) (v : Val) → x.code ≡ ListKind → x.serial ≢ 1 → IsAtHand w command v → slice_get x.entries i ≡ Some e → IsEdit w command x (slice_set x.entries i (item v)) (entry_references e)
+  replaced_at : (x : Object) (i : ℕ) (e : Entry) (v : Val) → x.code ≡ ListKind → x.serial ≢ 1 → IsAtHand w command v → slice_get x.entries i ≡ Some e
+      → IsEdit w command x (slice_set x.entries i (item v)) (entry_references e)
   replaced_at x i e v list other hand at = record {
     adds = λ no. absurd (no list);
     come = λ d m. either (set_member x.entries i (item v) d m) (λ k. inl k) (λ s. inr (other, ap (λ (z : Entry). z.key) (sym s), subst (λ (z : Entry). IsAtHand w command z.val) s hand));
@@ -404,8 +430,23 @@ keyed w command test x h passes = record { member = h.member; hand = h.hand; pas
 attribute : (w : World) (command : Command) (name : ℕ) → IsWordOf command (StrWord name) → IsAtHand w command (Str name)
 attribute w command name own = Word (StrWord name) (Str name) own refl
 
-sets_shaped : (w : World) (command : Command) (first second third flags : ℕ) (enabled : Bool) → SetsNumbers command → Shape w command (Changes false [] [] (record w { numbers = record w.numbers { zero_threshold = first; one_threshold = second; two_threshold = third; flags = flags; enabled = enabled } }))
-sets_shaped w command first second third flags enabled own = Sets (record w.numbers { zero_threshold = first; one_threshold = second; two_threshold = third; flags = flags; enabled = enabled }) own (record { zero_count = refl; one_count = refl; two_count = refl; pending = refl; total = refl })
+sets_shaped : (w : World) (command : Command) (first second third flags : ℕ) (enabled : Bool) → SetsNumbers command
+    → Shape w command (Changes false [] [] (record w {
+      numbers = record w.numbers {
+        zero_threshold = first;
+        one_threshold = second;
+        two_threshold = third;
+        flags = flags;
+        enabled = enabled;
+      };
+    }))
+sets_shaped w command first second third flags enabled own = Sets (record w.numbers {
+  zero_threshold = first;
+  one_threshold = second;
+  two_threshold = third;
+  flags = flags;
+  enabled = enabled;
+}) own (record { zero_count = refl; one_count = refl; two_count = refl; pending = refl; total = refl })
 
 not_collecting : (b : Bool) → not b ≡ true → b ≡ false
 not_collecting false e = refl
@@ -415,37 +456,78 @@ inspected : (w : World) (command : Command) (operand : Operand) → IsWordOf com
     → (e : Object → Result Effect ℕ) → ((x : Object) → HasObject w command any_object x → is_collecting w ≡ false → Each (Shape w command) (e x))
     → Each (Shape w command) (value w operand >>= λ v. object w any_object wrong_kind v >>= λ x. unless (not (is_collecting w)) in_collection >>= λ u. e x)
 inspected w command operand own e h = valued w command _ operand own (λ v hand. found w command _ any_object wrong_kind v hand (λ x there.
-    each_then (λ u. not (is_collecting w) ≡ true) (Shape w command) (unless (not (is_collecting w)) in_collection) _ (each_unless (not (is_collecting w)) in_collection) (λ u calm. h x there (not_collecting (is_collecting w) calm))))
+    each_then (λ u. not (is_collecting w) ≡ true) (Shape w command) (unless (not (is_collecting w)) in_collection) _ (each_unless (not (is_collecting w))
+    in_collection) (λ u calm. h x there (not_collecting (is_collecting w) calm))))
 
 -- The effect of each command in each world has a shape.
 pub effect_shaped : (w : World) (command : Command) → Each (Shape w command) (effect w command)
-effect_shaped w (MakeList name items) = all_valued w _ _ items (λ of. Includes-append_right (of (Name name)) (flat_map of items)) (λ vs hand. makes_shaped w _ name ListKind None (map item vs) None (λ of. Includes-append_left (of (Name name)) (flat_map of items)) (ByList name items) (items_of w _ vs hand) (λ e. absurd (cc)) (no_referent w _ ListKind) (λ e. absurd (cc)))
-effect_shaped w (MakeTuple name items) = all_valued w _ _ items (λ of. Includes-append_right (of (Name name)) (flat_map of items)) (λ vs hand. makes_shaped w _ name Tuple None (map item vs) None (λ of. Includes-append_left (of (Name name)) (flat_map of items)) (ByTuple name items) (items_of w _ vs hand) (λ e. absurd (cc)) (no_referent w _ Tuple) (λ e. absurd (cc)))
+effect_shaped w (MakeList name items) = all_valued w _ _ items (λ of. Includes-append_right (of (Name name)) (flat_map of items))
+    (λ vs hand. makes_shaped w _ name ListKind None (map item vs) None (λ of. Includes-append_left (of (Name name)) (flat_map of items)) (ByList name items)
+    (items_of w _ vs hand) (λ e. absurd (cc)) (no_referent w _ ListKind) (λ e. absurd (cc)))
+effect_shaped w (MakeTuple name items) = all_valued w _ _ items (λ of. Includes-append_right (of (Name name)) (flat_map of items))
+    (λ vs hand. makes_shaped w _ name Tuple None (map item vs) None (λ of. Includes-append_left (of (Name name)) (flat_map of items)) (ByTuple name items)
+    (items_of w _ vs hand) (λ e. absurd (cc)) (no_referent w _ Tuple) (λ e. absurd (cc)))
 effect_shaped w (MakeDict name) = makes_shaped w _ name Dict None [] None (λ of t m. m) (ByDict name) (λ e m. absurd m) (λ e. refl) (no_referent w _ Dict) (λ e. absurd (cc))
 effect_shaped w (MakeInst name class) = makes_shaped w _ name Inst (Some class) [] None (λ of t m. m) (ByInst name class) (λ e m. absurd m) (λ e. refl) (no_referent w _ Inst) (λ e. absurd (cc))
-effect_shaped w (MakeFunc name proc cells) = all_valued w _ _ cells (λ of. Includes-append_right (of (Name name)) (flat_map of cells)) (λ vs hand. makes_shaped w _ name Func (Some proc) (map item vs) None (λ of. Includes-append_left (of (Name name)) (flat_map of cells)) (ByFunc name proc cells) (items_of w _ vs hand) (λ e. absurd (cc)) (no_referent w _ Func) (λ e. absurd (cc)))
-effect_shaped w (MakeRef name target callback) = valued w _ _ target (λ of t m. Includes-append_right (of (Name name)) (of target ++ of callback) t (Includes-append_left (of target) (of callback) t m)) (λ v hand. valued w _ _ callback (λ of t m. Includes-append_right (of (Name name)) (of target ++ of callback) t (Includes-append_right (of target) (of callback) t m)) (λ c hand_c. found w _ _ has_weak_references wrong_kind v hand (λ x h.
-    each_then (IsCallback w (MakeRef name target callback)) (Shape w (MakeRef name target callback)) (callback_entries w c) _ (callback_shaped w (MakeRef name target callback) c hand_c) (λ entries k. makes_shaped w _ name Weak None entries (Some x.serial) (λ of. Includes-append_left (of (Name name)) (of target ++ of callback)) (ByRef name target callback) k.items (λ e. absurd (cc)) (λ r e. (refl, (x, h, let same : x.serial ≡ r = cc in same))) (λ e. (k.single, k.functions))))))
-effect_shaped w (Bind name operand) = valued w _ _ operand (λ of. Includes-append_right (of (Name name)) (of operand)) (λ v hand. binds_shaped w _ name v (λ of. Includes-append_left (of (Name name)) (of operand)) hand)
+effect_shaped w (MakeFunc name proc cells) = all_valued w _ _ cells (λ of. Includes-append_right (of (Name name)) (flat_map of cells))
+    (λ vs hand. makes_shaped w _ name Func (Some proc) (map item vs) None (λ of. Includes-append_left (of (Name name)) (flat_map of cells))
+    (ByFunc name proc cells) (items_of w _ vs hand) (λ e. absurd (cc)) (no_referent w _ Func) (λ e. absurd (cc)))
+effect_shaped w (MakeRef name target callback) = valued w _ _ target (λ of t m. Includes-append_right (of (Name name)) (of target ++ of callback) t
+    (Includes-append_left (of target) (of callback) t m)) (λ v hand. valued w _ _ callback (λ of t m. Includes-append_right (of (Name name)) (of target
+    ++ of callback) t (Includes-append_right (of target) (of callback) t m)) (λ c hand_c. found w _ _ has_weak_references wrong_kind v hand (λ x h.
+    each_then (IsCallback w (MakeRef name target callback)) (Shape w (MakeRef name target callback)) (callback_entries w c) _
+    (callback_shaped w (MakeRef name target callback) c hand_c) (λ entries k. makes_shaped w _ name Weak None entries (Some x.serial)
+    (λ of. Includes-append_left (of (Name name)) (of target ++ of callback)) (ByRef name target callback) k.items (λ e. absurd (cc))
+    (λ r e. (refl, (x, h, let same : x.serial ≡ r = cc in same))) (λ e. (k.single, k.functions))))))
+effect_shaped w (Bind name operand) = valued w _ _ operand (λ of. Includes-append_right (of (Name name)) (of operand)) (λ v hand. binds_shaped w _ name v
+    (λ of. Includes-append_left (of (Name name)) (of operand)) hand)
 effect_shaped w (Del name) = any w _ _ _ (λ v. Binds name None (λ of t m. m) (λ u e. absurd (let no : None ≡ Some u = e in cc)))
-effect_shaped w (Append list operand) = valued w _ _ list (λ of. Includes-append_left (of list) (of operand)) (λ l hand_l. valued w _ _ operand (λ of. Includes-append_right (of list) (of operand)) (λ v hand. found w _ _ is_script_list wrong_kind l hand_l (λ x h.
+effect_shaped w (Append list operand) = valued w _ _ list (λ of. Includes-append_left (of list) (of operand))
+    (λ l hand_l. valued w _ _ operand (λ of. Includes-append_right (of list) (of operand)) (λ v hand. found w _ _ is_script_list wrong_kind l hand_l (λ x h.
     each_then (λ u. nat_le (entry_count w + 1) MOST_ENTRIES ≡ true) (Shape w (Append list operand)) (has_room w 1) _ (each_unless (nat_le (entry_count w + 1) MOST_ENTRIES) entry_limit) (λ u fits.
-    let is = script_list_is x h.passes in edits w _ true is_script_list x (x.entries ++ item v ∷ []) [] h (list_mutable x.code is.0) (appended w _ x v (list_code x.code is.0) is.1 hand (leb-true (entry_count w + 1) 4000000 fits))))))
-effect_shaped w (SetItem list index operand) = valued w _ _ list (λ of. Includes-append_left (of list) (of operand)) (λ l hand_l. valued w _ _ operand (λ of. Includes-append_right (of list) (of operand)) (λ v hand. found w _ _ is_script_list wrong_kind l hand_l (λ x h.
-    any w _ _ _ (λ i. there w _ _ (slice_get x.entries i) no_index (λ e at. let is = script_list_is x h.passes in edits w _ false is_script_list x (slice_set x.entries i (item v)) (entry_references e) h (list_mutable x.code is.0) (replaced_at w _ x i e v (list_code x.code is.0) is.1 hand at))))))
-effect_shaped w (DelItem list index) = valued w _ _ list (λ of t m. m) (λ l hand. found w _ _ is_list wrong_kind l hand (λ x h. any w _ _ _ (λ i. there w _ _ (slice_get x.entries i) no_index (λ e at. edits w _ false is_list x (remove x.entries i) (entry_references e) h (list_mutable x.code h.passes) (removed_at w _ x i e at)))))
-effect_shaped w (Put dict key operand) = valued w _ _ dict (λ of t m. Includes-append_left (of dict ++ of key) (of operand) t (Includes-append_left (of dict) (of key) t m)) (λ d hand_d. valued w _ _ key (λ of t m. Includes-append_left (of dict ++ of key) (of operand) t (Includes-append_right (of dict) (of key) t m)) (λ k hand_k.
-    valued w _ _ operand (λ of. Includes-append_right (of dict ++ of key) (of operand)) (λ v hand. found w _ _ is_dict wrong_kind d hand_d (λ x h. any w _ _ _ (λ u. puts_shaped w _ x k v (keyed w _ is_dict x h (or_left (is_dict x) (is_instance x) h.passes)) (dict_mutable x.code h.passes) hand_k hand)))))
-effect_shaped w (Remove dict key) = valued w _ _ dict (λ of. Includes-append_left (of dict) (of key)) (λ d hand_d. valued w _ _ key (λ of. Includes-append_right (of dict) (of key)) (λ k hand_k. found w _ _ is_dict wrong_kind d hand_d (λ x h. any w _ _ _ (λ u.
+    let is = script_list_is x h.passes in edits w _ true is_script_list x (x.entries ++ item v ∷ []) [] h (list_mutable x.code is.0)
+    (appended w _ x v (list_code x.code is.0) is.1 hand (leb-true (entry_count w + 1) 4000000 fits))))))
+effect_shaped w (SetItem list index operand) = valued w _ _ list (λ of. Includes-append_left (of list) (of operand))
+    (λ l hand_l. valued w _ _ operand (λ of. Includes-append_right (of list) (of operand)) (λ v hand. found w _ _ is_script_list wrong_kind l hand_l (λ x h.
+    any w _ _ _ (λ i. there w _ _ (slice_get x.entries i) no_index (λ e at. let is = script_list_is x h.passes in edits w _ false is_script_list x
+    (slice_set x.entries i (item v)) (entry_references e) h (list_mutable x.code is.0) (replaced_at w _ x i e v (list_code x.code is.0) is.1 hand at))))))
+effect_shaped w (DelItem list index) = valued w _ _ list (λ of t m. m) (λ l hand. found w _ _ is_list wrong_kind l hand
+    (λ x h. any w _ _ _ (λ i. there w _ _ (slice_get x.entries i) no_index (λ e at. edits w _ false is_list x (remove x.entries i) (entry_references e) h
+    (list_mutable x.code h.passes) (removed_at w _ x i e at)))))
+effect_shaped w (Put dict key operand) = valued w _ _ dict (λ of t m. Includes-append_left (of dict ++ of key) (of operand) t
+    (Includes-append_left (of dict) (of key) t m)) (λ d hand_d. valued w _ _ key (λ of t m. Includes-append_left (of dict ++ of key) (of operand) t
+    (Includes-append_right (of dict) (of key) t m)) (λ k hand_k.
+    valued w _ _ operand (λ of. Includes-append_right (of dict ++ of key) (of operand)) (λ v hand. found w _ _ is_dict wrong_kind d hand_d
+    (λ x h. any w _ _ _ (λ u. puts_shaped w _ x k v (keyed w _ is_dict x h (or_left (is_dict x) (is_instance x) h.passes)) (dict_mutable x.code h.passes)
+    hand_k hand)))))
+effect_shaped w (Remove dict key) = valued w _ _ dict (λ of. Includes-append_left (of dict) (of key))
+    (λ d hand_d. valued w _ _ key (λ of. Includes-append_right (of dict) (of key)) (λ k hand_k. found w _ _ is_dict wrong_kind d hand_d
+    (λ x h. any w _ _ _ (λ u.
     there w _ _ (entry_at x.entries k) no_key (λ e at. edits w _ false is_dict x (without_key x.entries k) (entry_references e) h (dict_mutable x.code h.passes) (removed_key w _ x k e at))))))
-effect_shaped w (SetAttr instance name operand) = valued w _ _ instance (λ of. Includes-append_left (of instance) (of (StrWord name) ++ of operand)) (λ o hand_o. valued w _ _ operand (λ of t m. Includes-append_right (of instance) (of (StrWord name) ++ of operand) t (Includes-append_right (of (StrWord name)) (of operand) t m)) (λ v hand. found w _ _ is_instance wrong_kind o hand_o (λ x h.
-    puts_shaped w _ x (Str name) v (keyed w _ is_instance x h (or_right (is_dict x) (is_instance x) h.passes)) (instance_mutable x.code h.passes) (attribute w _ name (λ of t m. Includes-append_right (of instance) (of (StrWord name) ++ of operand) t (Includes-append_left (of (StrWord name)) (of operand) t m))) hand)))
-effect_shaped w (DelAttr instance name) = valued w _ _ instance (λ of. Includes-append_left (of instance) (of (StrWord name))) (λ o hand_o. found w _ _ is_instance wrong_kind o hand_o (λ x h. there w _ _ (entry_at x.entries (Str name)) no_attribute (λ e at. edits w _ false is_instance x (without_key x.entries (Str name)) (entry_references e) h (instance_mutable x.code h.passes) (removed_key w _ x (Str name) e at))))
-effect_shaped w (Item name list index) = valued w _ _ list (λ of. Includes-append_right (of (Name name)) (of list)) (λ l hand. found w _ _ is_sequence wrong_kind l hand (λ x h. any w _ _ _ (λ i. there w _ _ (slice_get x.entries i) no_index (λ e at. binds_shaped w _ name e.val (λ of. Includes-append_left (of (Name name)) (of list)) (got w _ x i e h.member h.hand at)))))
-effect_shaped w (Get name dict key) = valued w _ _ dict (λ of t m. Includes-append_right (of (Name name)) (of dict ++ of key) t (Includes-append_left (of dict) (of key) t m)) (λ d hand_d. valued w _ _ key (λ of t m. Includes-append_right (of (Name name)) (of dict ++ of key) t (Includes-append_right (of dict) (of key) t m)) (λ k hand_k. found w _ _ is_dict wrong_kind d hand_d (λ x h. any w _ _ _ (λ u.
+effect_shaped w (SetAttr instance name operand) = valued w _ _ instance (λ of. Includes-append_left (of instance) (of (StrWord name) ++ of operand))
+    (λ o hand_o. valued w _ _ operand (λ of t m. Includes-append_right (of instance) (of (StrWord name) ++ of operand) t
+    (Includes-append_right (of (StrWord name)) (of operand) t m)) (λ v hand. found w _ _ is_instance wrong_kind o hand_o (λ x h.
+    puts_shaped w _ x (Str name) v (keyed w _ is_instance x h (or_right (is_dict x) (is_instance x) h.passes)) (instance_mutable x.code h.passes)
+    (attribute w _ name (λ of t m. Includes-append_right (of instance) (of (StrWord name) ++ of operand) t (Includes-append_left (of (StrWord name))
+    (of operand) t m))) hand)))
+effect_shaped w (DelAttr instance name) = valued w _ _ instance (λ of. Includes-append_left (of instance) (of (StrWord name)))
+    (λ o hand_o. found w _ _ is_instance wrong_kind o hand_o (λ x h. there w _ _ (entry_at x.entries (Str name)) no_attribute
+    (λ e at. edits w _ false is_instance x (without_key x.entries (Str name)) (entry_references e) h (instance_mutable x.code h.passes)
+    (removed_key w _ x (Str name) e at))))
+effect_shaped w (Item name list index) = valued w _ _ list (λ of. Includes-append_right (of (Name name)) (of list)) (λ l hand. found w _ _ is_sequence
+    wrong_kind l hand (λ x h. any w _ _ _ (λ i. there w _ _ (slice_get x.entries i) no_index (λ e at. binds_shaped w _ name e.val
+    (λ of. Includes-append_left (of (Name name)) (of list)) (got w _ x i e h.member h.hand at)))))
+effect_shaped w (Get name dict key) = valued w _ _ dict (λ of t m. Includes-append_right (of (Name name)) (of dict ++ of key) t
+    (Includes-append_left (of dict) (of key) t m)) (λ d hand_d. valued w _ _ key (λ of t m. Includes-append_right (of (Name name)) (of dict ++ of key) t
+    (Includes-append_right (of dict) (of key) t m)) (λ k hand_k. found w _ _ is_dict wrong_kind d hand_d (λ x h. any w _ _ _ (λ u.
     there w _ _ (value_at x.entries k) no_key (λ v at. binds_shaped w _ name v (λ of. Includes-append_left (of (Name name)) (of dict ++ of key)) (got_key w _ x k v h.member h.hand at))))))
-effect_shaped w (Attr name instance attr) = valued w _ _ instance (λ of t m. Includes-append_right (of (Name name)) (of instance ++ of (StrWord attr)) t (Includes-append_left (of instance) (of (StrWord attr)) t m)) (λ o hand_o. found w _ _ is_instance wrong_kind o hand_o (λ x h. there w _ _ (value_at x.entries (Str attr)) no_attribute (λ v at. binds_shaped w _ name v (λ of. Includes-append_left (of (Name name)) (of instance ++ of (StrWord attr))) (got_key w _ x (Str attr) v h.member h.hand at))))
-effect_shaped w (Deref name weak) = valued w _ _ weak (λ of. Includes-append_right (of (Name name)) (of weak)) (λ v hand. found w _ _ is_weak not_weak v hand (λ x h. binds_shaped w _ name (elim x.referent [ None ↦ Nothing | Some o ↦ Ref o ]) (λ of. Includes-append_left (of (Name name)) (of weak)) (referent_shaped w _ x h.member h.hand)))
+effect_shaped w (Attr name instance attr) = valued w _ _ instance (λ of t m. Includes-append_right (of (Name name)) (of instance ++ of (StrWord attr)) t
+    (Includes-append_left (of instance) (of (StrWord attr)) t m)) (λ o hand_o. found w _ _ is_instance wrong_kind o hand_o
+    (λ x h. there w _ _ (value_at x.entries (Str attr)) no_attribute (λ v at. binds_shaped w _ name v (λ of. Includes-append_left (of (Name name)) (of instance
+    ++ of (StrWord attr))) (got_key w _ x (Str attr) v h.member h.hand at))))
+effect_shaped w (Deref name weak) = valued w _ _ weak (λ of. Includes-append_right (of (Name name)) (of weak)) (λ v hand. found w _ _ is_weak not_weak v hand
+    (λ x h. binds_shaped w _ name (elim x.referent [ None ↦ Nothing | Some o ↦ Ref o ]) (λ of. Includes-append_left (of (Name name)) (of weak))
+    (referent_shaped w _ x h.member h.hand)))
 effect_shaped w (Call function) = valued w _ _ function (λ of t m. m) (λ v hand. found w _ _ is_function not_callable v hand (λ x h. StartsFrame x h))
 effect_shaped w (Quit operand) = any w _ _ _ (λ v. quit_shaped w _ v)
 effect_shaped w (Collect generation) = there w _ _ (valid_index generation 3) bad_generation (λ g at. StartsCollection g (generation_low generation g at))

@@ -71,7 +71,12 @@ key_and_value_of_a_dying_dictionary_prints : Prints key_and_value_of_a_dying_dic
 unfolding digits ◌>>=◌
 key_and_value_of_a_dying_dictionary_prints = record {
   steps = steps_of key_and_value_of_a_dying_dictionary;
-  run = record { run = first_steps_run key_and_value_of_a_dying_dictionary.script 200 (opening key_and_value_of_a_dying_dictionary.script key_and_value_of_a_dying_dictionary.budget) tt; whole = λ e. cc; ends = refl };
+  run = record {
+    run = first_steps_run key_and_value_of_a_dying_dictionary.script 200 (opening key_and_value_of_a_dying_dictionary.script
+        key_and_value_of_a_dying_dictionary.budget) tt;
+    whole = λ e. cc;
+    ends = refl;
+  };
   text = refl;
 }
 
@@ -87,7 +92,12 @@ brought_back_from_a_death_by_count_prints : Prints brought_back_from_a_death_by_
 unfolding digits ◌>>=◌
 brought_back_from_a_death_by_count_prints = record {
   steps = steps_of brought_back_from_a_death_by_count;
-  run = record { run = first_steps_run brought_back_from_a_death_by_count.script 200 (opening brought_back_from_a_death_by_count.script brought_back_from_a_death_by_count.budget) tt; whole = λ e. cc; ends = refl };
+  run = record {
+    run = first_steps_run brought_back_from_a_death_by_count.script 200 (opening brought_back_from_a_death_by_count.script
+        brought_back_from_a_death_by_count.budget) tt;
+    whole = λ e. cc;
+    ends = refl;
+  };
   text = refl;
 }
 
@@ -103,7 +113,12 @@ condemned_weak_references_call_nothing_back_prints : Prints condemned_weak_refer
 unfolding digits ◌>>=◌
 condemned_weak_references_call_nothing_back_prints = record {
   steps = steps_of condemned_weak_references_call_nothing_back;
-  run = record { run = first_steps_run condemned_weak_references_call_nothing_back.script 200 (opening condemned_weak_references_call_nothing_back.script condemned_weak_references_call_nothing_back.budget) tt; whole = λ e. cc; ends = refl };
+  run = record {
+    run = first_steps_run condemned_weak_references_call_nothing_back.script 200 (opening condemned_weak_references_call_nothing_back.script
+        condemned_weak_references_call_nothing_back.budget) tt;
+    whole = λ e. cc;
+    ends = refl;
+  };
   text = refl;
 }
 
@@ -167,7 +182,12 @@ a_weak_reference_made_by_a_finalizer_prints : Prints a_weak_reference_made_by_a_
 unfolding digits ◌>>=◌
 a_weak_reference_made_by_a_finalizer_prints = record {
   steps = steps_of a_weak_reference_made_by_a_finalizer;
-  run = record { run = first_steps_run a_weak_reference_made_by_a_finalizer.script 200 (opening a_weak_reference_made_by_a_finalizer.script a_weak_reference_made_by_a_finalizer.budget) tt; whole = λ e. cc; ends = refl };
+  run = record {
+    run = first_steps_run a_weak_reference_made_by_a_finalizer.script 200 (opening a_weak_reference_made_by_a_finalizer.script
+        a_weak_reference_made_by_a_finalizer.budget) tt;
+    whole = λ e. cc;
+    ends = refl;
+  };
   text = refl;
 }
 
@@ -175,7 +195,12 @@ dereferenced_before_it_is_made_prints : Prints dereferenced_before_it_is_made
 unfolding digits ◌>>=◌
 dereferenced_before_it_is_made_prints = record {
   steps = steps_of dereferenced_before_it_is_made;
-  run = record { run = first_steps_run dereferenced_before_it_is_made.script 200 (opening dereferenced_before_it_is_made.script dereferenced_before_it_is_made.budget) tt; whole = λ e. cc; ends = refl };
+  run = record {
+    run = first_steps_run dereferenced_before_it_is_made.script 200 (opening dereferenced_before_it_is_made.script
+        dereferenced_before_it_is_made.budget) tt;
+    whole = λ e. cc;
+    ends = refl;
+  };
   text = refl;
 }
 
@@ -183,7 +208,12 @@ brought_back_by_a_weak_reference_prints : Prints brought_back_by_a_weak_referenc
 unfolding digits ◌>>=◌
 brought_back_by_a_weak_reference_prints = record {
   steps = steps_of brought_back_by_a_weak_reference;
-  run = record { run = first_steps_run brought_back_by_a_weak_reference.script 200 (opening brought_back_by_a_weak_reference.script brought_back_by_a_weak_reference.budget) tt; whole = λ e. cc; ends = refl };
+  run = record {
+    run = first_steps_run brought_back_by_a_weak_reference.script 200 (opening brought_back_by_a_weak_reference.script
+        brought_back_by_a_weak_reference.budget) tt;
+    whole = λ e. cc;
+    ends = refl;
+  };
   text = refl;
 }
 
@@ -199,7 +229,12 @@ re_entrance_and_refusal_in_a_callback_prints : Prints re_entrance_and_refusal_in
 unfolding digits ◌>>=◌
 re_entrance_and_refusal_in_a_callback_prints = record {
   steps = steps_of re_entrance_and_refusal_in_a_callback;
-  run = record { run = first_steps_run re_entrance_and_refusal_in_a_callback.script 200 (opening re_entrance_and_refusal_in_a_callback.script re_entrance_and_refusal_in_a_callback.budget) tt; whole = λ e. cc; ends = refl };
+  run = record {
+    run = first_steps_run re_entrance_and_refusal_in_a_callback.script 200 (opening re_entrance_and_refusal_in_a_callback.script
+        re_entrance_and_refusal_in_a_callback.budget) tt;
+    whole = λ e. cc;
+    ends = refl;
+  };
   text = refl;
 }
 
@@ -239,7 +274,12 @@ a_weak_reference_that_dies_after_its_callback_prints : Prints a_weak_reference_t
 unfolding digits ◌>>=◌
 a_weak_reference_that_dies_after_its_callback_prints = record {
   steps = steps_of a_weak_reference_that_dies_after_its_callback;
-  run = record { run = first_steps_run a_weak_reference_that_dies_after_its_callback.script 200 (opening a_weak_reference_that_dies_after_its_callback.script a_weak_reference_that_dies_after_its_callback.budget) tt; whole = λ e. cc; ends = refl };
+  run = record {
+    run = first_steps_run a_weak_reference_that_dies_after_its_callback.script 200 (opening a_weak_reference_that_dies_after_its_callback.script
+        a_weak_reference_that_dies_after_its_callback.budget) tt;
+    whole = λ e. cc;
+    ends = refl;
+  };
   text = refl;
 }
 
@@ -271,7 +311,12 @@ a_weak_reference_that_dies_first_prints : Prints a_weak_reference_that_dies_firs
 unfolding digits ◌>>=◌
 a_weak_reference_that_dies_first_prints = record {
   steps = steps_of a_weak_reference_that_dies_first;
-  run = record { run = first_steps_run a_weak_reference_that_dies_first.script 200 (opening a_weak_reference_that_dies_first.script a_weak_reference_that_dies_first.budget) tt; whole = λ e. cc; ends = refl };
+  run = record {
+    run = first_steps_run a_weak_reference_that_dies_first.script 200 (opening a_weak_reference_that_dies_first.script
+        a_weak_reference_that_dies_first.budget) tt;
+    whole = λ e. cc;
+    ends = refl;
+  };
   text = refl;
 }
 
@@ -279,7 +324,12 @@ a_weak_reference_that_the_finalizer_makes_prints : Prints a_weak_reference_that_
 unfolding digits ◌>>=◌
 a_weak_reference_that_the_finalizer_makes_prints = record {
   steps = steps_of a_weak_reference_that_the_finalizer_makes;
-  run = record { run = first_steps_run a_weak_reference_that_the_finalizer_makes.script 200 (opening a_weak_reference_that_the_finalizer_makes.script a_weak_reference_that_the_finalizer_makes.budget) tt; whole = λ e. cc; ends = refl };
+  run = record {
+    run = first_steps_run a_weak_reference_that_the_finalizer_makes.script 200 (opening a_weak_reference_that_the_finalizer_makes.script
+        a_weak_reference_that_the_finalizer_makes.budget) tt;
+    whole = λ e. cc;
+    ends = refl;
+  };
   text = refl;
 }
 
@@ -311,7 +361,12 @@ a_referent_that_the_weak_phase_cleared_prints : Prints a_referent_that_the_weak_
 unfolding digits ◌>>=◌
 a_referent_that_the_weak_phase_cleared_prints = record {
   steps = steps_of a_referent_that_the_weak_phase_cleared;
-  run = record { run = first_steps_run a_referent_that_the_weak_phase_cleared.script 200 (opening a_referent_that_the_weak_phase_cleared.script a_referent_that_the_weak_phase_cleared.budget) tt; whole = λ e. cc; ends = refl };
+  run = record {
+    run = first_steps_run a_referent_that_the_weak_phase_cleared.script 200 (opening a_referent_that_the_weak_phase_cleared.script
+        a_referent_that_the_weak_phase_cleared.budget) tt;
+    whole = λ e. cc;
+    ends = refl;
+  };
   text = refl;
 }
 
@@ -351,7 +406,12 @@ brought_back_by_a_legacy_finalizer_prints : Prints brought_back_by_a_legacy_fina
 unfolding digits ◌>>=◌
 brought_back_by_a_legacy_finalizer_prints = record {
   steps = steps_of brought_back_by_a_legacy_finalizer;
-  run = record { run = first_steps_run brought_back_by_a_legacy_finalizer.script 200 (opening brought_back_by_a_legacy_finalizer.script brought_back_by_a_legacy_finalizer.budget) tt; whole = λ e. cc; ends = refl };
+  run = record {
+    run = first_steps_run brought_back_by_a_legacy_finalizer.script 200 (opening brought_back_by_a_legacy_finalizer.script
+        brought_back_by_a_legacy_finalizer.budget) tt;
+    whole = λ e. cc;
+    ends = refl;
+  };
   text = refl;
 }
 
@@ -367,7 +427,12 @@ debug_lines_of_collectable_garbage_prints : Prints debug_lines_of_collectable_ga
 unfolding digits ◌>>=◌
 debug_lines_of_collectable_garbage_prints = record {
   steps = steps_of debug_lines_of_collectable_garbage;
-  run = record { run = first_steps_run debug_lines_of_collectable_garbage.script 200 (opening debug_lines_of_collectable_garbage.script debug_lines_of_collectable_garbage.budget) tt; whole = λ e. cc; ends = refl };
+  run = record {
+    run = first_steps_run debug_lines_of_collectable_garbage.script 200 (opening debug_lines_of_collectable_garbage.script
+        debug_lines_of_collectable_garbage.budget) tt;
+    whole = λ e. cc;
+    ends = refl;
+  };
   text = refl;
 }
 
@@ -407,7 +472,12 @@ lost_by_an_early_weak_reference_prints : Prints lost_by_an_early_weak_reference
 unfolding digits ◌>>=◌
 lost_by_an_early_weak_reference_prints = record {
   steps = steps_of lost_by_an_early_weak_reference;
-  run = record { run = first_steps_run lost_by_an_early_weak_reference.script 200 (opening lost_by_an_early_weak_reference.script lost_by_an_early_weak_reference.budget) tt; whole = λ e. cc; ends = refl };
+  run = record {
+    run = first_steps_run lost_by_an_early_weak_reference.script 200 (opening lost_by_an_early_weak_reference.script
+        lost_by_an_early_weak_reference.budget) tt;
+    whole = λ e. cc;
+    ends = refl;
+  };
   text = refl;
 }
 
@@ -415,7 +485,12 @@ a_condemned_weak_reference_is_cleared_late_prints : Prints a_condemned_weak_refe
 unfolding digits ◌>>=◌
 a_condemned_weak_reference_is_cleared_late_prints = record {
   steps = steps_of a_condemned_weak_reference_is_cleared_late;
-  run = record { run = first_steps_run a_condemned_weak_reference_is_cleared_late.script 200 (opening a_condemned_weak_reference_is_cleared_late.script a_condemned_weak_reference_is_cleared_late.budget) tt; whole = λ e. cc; ends = refl };
+  run = record {
+    run = first_steps_run a_condemned_weak_reference_is_cleared_late.script 200 (opening a_condemned_weak_reference_is_cleared_late.script
+        a_condemned_weak_reference_is_cleared_late.budget) tt;
+    whole = λ e. cc;
+    ends = refl;
+  };
   text = refl;
 }
 
@@ -431,7 +506,12 @@ a_name_is_bound_while_it_shuts_down_prints : Prints a_name_is_bound_while_it_shu
 unfolding digits ◌>>=◌
 a_name_is_bound_while_it_shuts_down_prints = record {
   steps = steps_of a_name_is_bound_while_it_shuts_down;
-  run = record { run = first_steps_run a_name_is_bound_while_it_shuts_down.script 200 (opening a_name_is_bound_while_it_shuts_down.script a_name_is_bound_while_it_shuts_down.budget) tt; whole = λ e. cc; ends = refl };
+  run = record {
+    run = first_steps_run a_name_is_bound_while_it_shuts_down.script 200 (opening a_name_is_bound_while_it_shuts_down.script
+        a_name_is_bound_while_it_shuts_down.budget) tt;
+    whole = λ e. cc;
+    ends = refl;
+  };
   text = refl;
 }
 
@@ -439,7 +519,12 @@ what_the_last_collection_binds_is_left_prints : Prints what_the_last_collection_
 unfolding digits ◌>>=◌
 what_the_last_collection_binds_is_left_prints = record {
   steps = steps_of what_the_last_collection_binds_is_left;
-  run = record { run = first_steps_run what_the_last_collection_binds_is_left.script 200 (opening what_the_last_collection_binds_is_left.script what_the_last_collection_binds_is_left.budget) tt; whole = λ e. cc; ends = refl };
+  run = record {
+    run = first_steps_run what_the_last_collection_binds_is_left.script 200 (opening what_the_last_collection_binds_is_left.script
+        what_the_last_collection_binds_is_left.budget) tt;
+    whole = λ e. cc;
+    ends = refl;
+  };
   text = refl;
 }
 
@@ -460,4 +545,166 @@ no_inspection_in_a_collection_prints = record {
 }
 
 pub all_print : EachPrints worked_scripts
-all_print = (an_empty_script_prints, (made_and_freed_prints, (a_list_that_holds_itself_prints, (brought_back_by_its_finalizer_prints, (a_name_bound_twice_prints, (deaths_in_depth_prints, (refused_kinds_prints, (key_and_value_of_a_dying_dictionary_prints, (printed_values_prints, (brought_back_from_a_death_by_count_prints, (callbacks_newest_first_prints, (condemned_weak_references_call_nothing_back_prints, (a_cycle_through_a_tuple_prints, (a_cycle_that_survived_prints, (a_legacy_cycle_prints, (saved_cycles_prints, (an_automatic_collection_prints, (the_quarter_rule_prints, (tracking_prints, (a_weak_reference_made_by_a_finalizer_prints, (dereferenced_before_it_is_made_prints, (brought_back_by_a_weak_reference_prints, (a_collection_inside_a_death_prints, (re_entrance_and_refusal_in_a_callback_prints, (counted_twice_prints, (a_tree_with_weak_parents_prints, (a_tree_with_strong_parents_prints, (refusals_prints, (a_weak_reference_that_dies_after_its_callback_prints, (cells_prints, (held_twice_by_itself_prints, (a_call_inside_a_finalizer_prints, (a_weak_reference_that_dies_first_prints, (a_weak_reference_that_the_finalizer_makes_prints, (debug_lines_of_legacy_garbage_prints, (freezing_prints, (switched_off_and_on_prints, (a_referent_that_the_weak_phase_cleared_prints, (a_spent_budget_prints, (replaced_items_and_attributes_prints, (keys_of_a_dictionary_prints, (a_legacy_finalizer_by_count_prints, (brought_back_by_a_legacy_finalizer_prints, (late_weak_references_prints, (debug_lines_of_collectable_garbage_prints, (stopped_at_the_top_prints, (locals_of_frames_prints, (a_refusal_ends_a_frame_prints, (kept_by_a_late_weak_reference_prints, (lost_by_an_early_weak_reference_prints, (a_condemned_weak_reference_is_cleared_late_prints, (shut_down_prints, (a_name_is_bound_while_it_shuts_down_prints, (what_the_last_collection_binds_is_left_prints, (referrers_and_referents_prints, (no_inspection_in_a_collection_prints, tt))))))))))))))))))))))))))))))))))))))))))))))))))))))))
+all_print = (
+  an_empty_script_prints,
+  (
+    made_and_freed_prints,
+    (
+      a_list_that_holds_itself_prints,
+      (
+        brought_back_by_its_finalizer_prints,
+        (
+          a_name_bound_twice_prints,
+          (
+            deaths_in_depth_prints,
+            (
+              refused_kinds_prints,
+              (
+                key_and_value_of_a_dying_dictionary_prints,
+                (
+                  printed_values_prints,
+                  (
+                    brought_back_from_a_death_by_count_prints,
+                    (
+                      callbacks_newest_first_prints,
+                      (
+                        condemned_weak_references_call_nothing_back_prints,
+                        (
+                          a_cycle_through_a_tuple_prints,
+                          (
+                            a_cycle_that_survived_prints,
+                            (
+                              a_legacy_cycle_prints,
+                              (
+                                saved_cycles_prints,
+                                (
+                                  an_automatic_collection_prints,
+                                  (
+                                    the_quarter_rule_prints,
+                                    (
+                                      tracking_prints,
+                                      (
+                                        a_weak_reference_made_by_a_finalizer_prints,
+                                        (
+                                          dereferenced_before_it_is_made_prints,
+                                          (
+                                            brought_back_by_a_weak_reference_prints,
+                                            (
+                                              a_collection_inside_a_death_prints,
+                                              (
+                                                re_entrance_and_refusal_in_a_callback_prints,
+                                                (
+                                                  counted_twice_prints,
+                                                  (
+                                                    a_tree_with_weak_parents_prints,
+                                                    (
+                                                      a_tree_with_strong_parents_prints,
+                                                      (
+                                                        refusals_prints,
+                                                        (
+                                                          a_weak_reference_that_dies_after_its_callback_prints,
+                                                          (
+                                                            cells_prints,
+                                                            (
+                                                              held_twice_by_itself_prints,
+                                                              (
+                                                                a_call_inside_a_finalizer_prints,
+                                                                (
+                                                                  a_weak_reference_that_dies_first_prints,
+                                                                  (
+                                                                    a_weak_reference_that_the_finalizer_makes_prints,
+                                                                    (
+                                                                      debug_lines_of_legacy_garbage_prints,
+                                                                      (
+                                                                        freezing_prints,
+                                                                        (
+                                                                          switched_off_and_on_prints,
+                                                                          (
+                                                                            a_referent_that_the_weak_phase_cleared_prints,
+                                                                            (
+                                                                              a_spent_budget_prints,
+                                                                              (
+                                                                                replaced_items_and_attributes_prints,
+                                                                                (
+                                                                                  keys_of_a_dictionary_prints,
+                                                                                  (
+                                                                                    a_legacy_finalizer_by_count_prints,
+                                                                                    (
+                                                                                      brought_back_by_a_legacy_finalizer_prints,
+                                                                                      (
+                                                                                        late_weak_references_prints,
+                                                                                        (
+                                                                                          debug_lines_of_collectable_garbage_prints,
+                                                                                          (
+                                                                                            stopped_at_the_top_prints,
+                                                                                            (
+                                                                                              locals_of_frames_prints,
+                                                                                              (
+                                                                                                a_refusal_ends_a_frame_prints,
+                                                                                                (
+                                                                                                  kept_by_a_late_weak_reference_prints,
+                                                                                                  (
+                                                                                                    lost_by_an_early_weak_reference_prints,
+                                                                                                    (
+                                                                                                      a_condemned_weak_reference_is_cleared_late_prints,
+                                                                                                      (
+                                                                                                        shut_down_prints,
+                                                                                                        (
+                                                                                                          a_name_is_bound_while_it_shuts_down_prints,
+                                                                                                          (
+                                                                                                            what_the_last_collection_binds_is_left_prints,
+                                                                                                            (referrers_and_referents_prints, (no_inspection_in_a_collection_prints, tt)),
+                                                                                                          ),
+                                                                                                        ),
+                                                                                                      ),
+                                                                                                    ),
+                                                                                                  ),
+                                                                                                ),
+                                                                                              ),
+                                                                                            ),
+                                                                                          ),
+                                                                                        ),
+                                                                                      ),
+                                                                                    ),
+                                                                                  ),
+                                                                                ),
+                                                                              ),
+                                                                            ),
+                                                                          ),
+                                                                        ),
+                                                                      ),
+                                                                    ),
+                                                                  ),
+                                                                ),
+                                                              ),
+                                                            ),
+                                                          ),
+                                                        ),
+                                                      ),
+                                                    ),
+                                                  ),
+                                                ),
+                                              ),
+                                            ),
+                                          ),
+                                        ),
+                                      ),
+                                    ),
+                                  ),
+                                ),
+                              ),
+                            ),
+                          ),
+                        ),
+                      ),
+                    ),
+                  ),
+                ),
+              ),
+            ),
+          ),
+        ),
+      ),
+    ),
+  ),
+)

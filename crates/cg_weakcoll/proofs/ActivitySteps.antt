@@ -44,7 +44,8 @@ all_to_call stack = flat_map to_call stack
 
 -- an object dies and its weak references are cleared, or it is condemned
 abbrev pub IsLost : World → ℕ → Type 0
-IsLost w referent = ((d : Death) × (waiting : List ℕ) × Includes w.stack (Dying d) × (d.object ≡ referent) × (d.phase ≡ Clearing waiting)) ⊎ ((z : Object) × Includes w.objects z × (z.serial ≡ referent) × (is_condemned z ≡ true))
+IsLost w referent = ((d : Death) × (waiting : List ℕ) × Includes w.stack (Dying d) × (d.object ≡ referent) × (d.phase ≡ Clearing waiting))
+    ⊎ ((z : Object) × Includes w.objects z × (z.serial ≡ referent) × (is_condemned z ≡ true))
 
 pub record Loses (w : World) (weak : ℕ) : Type 0 where
   pub object : Object
@@ -131,21 +132,32 @@ grows_same w = (came (Ages w) (ages w)).same
 pub grows_trans : (w : World) (before now after : List Object) → Grows w before now → Grows w now after → Grows w before after
 grows_trans w = (came (Ages w) (ages w)).trans
 
-pub grows_if : (w : World) (f : Object → Object) (test : Object → Bool) (objects : List Object) → ((x : Object) → Includes objects x → test x ≡ true → Ages w x (f x)) → Grows w objects (map (λ x. if test x then f x else x) objects)
+pub grows_if : (w : World) (f : Object → Object) (test : Object → Bool) (objects : List Object) → ((x : Object) → Includes objects x → test x ≡ true
+    → Ages w x (f x)) → Grows w objects (map (λ x. if test x then f x else x) objects)
 grows_if w = came_if (Ages w) (same_ages w)
 
 -- a place of unpartitioned objects
 pub grows_place : (w : World) (p : Place) (s : ℕ) (objects : List Object) → ¬ IsFound p → Grows w objects (change (with_place p) s objects)
-grows_place w p s objects apart = grows_if w (with_place p) (λ x. x.serial == s) objects (λ x m t. record { later = record { serial = refl; code = refl; class = refl; referent = inl refl }; refers = λ n i. inl i; place = λ f. absurd (apart f) })
+grows_place w p s objects apart = grows_if w (with_place p) (λ x. x.serial == s) objects
+    (λ x m t. record { later = record { serial = refl; code = refl; class = refl; referent = inl refl }; refers = λ n i. inl i; place = λ f. absurd (apart f) })
 
 pub grows_lost : (w : World) (s : ℕ) (objects : List Object) → Grows w objects (loses_referent s objects)
-grows_lost w s objects = grows_if w (with_referent None) (λ x. x.serial == s) objects (λ x m t. record { later = record { serial = refl; code = refl; class = refl; referent = inr refl }; refers = λ n i. inl i; place = λ f. inl f })
+grows_lost w s objects = grows_if w (with_referent None) (λ x. x.serial == s) objects
+    (λ x m t. record { later = record { serial = refl; code = refl; class = refl; referent = inr refl }; refers = λ n i. inl i; place = λ f. inl f })
 
 module _ (script : Script) (w : World) (below : List Activity) where
   -- a step that starts no callback
   pub acts : (events : List Event) (after : World) → after.names ≡ w.names → after.next_serial ≡ w.next_serial → Grows w w.objects after.objects → (tops : List Activity) → after.stack ≡ tops ++ below
       → ((a : Activity) → Includes tops a → IsRaised script w a) → ((n : ℕ) → ¬ Includes events (Enter Callback n)) → Acts script w below events after
-  acts events after names serial grows tops stack raised none = record { names = names; serial = serial; grows = grows; tops = tops; stack = stack; raised = raised; callbacks = λ n m. absurd (none n m) }
+  acts events after names serial grows tops stack raised none = record {
+    names = names;
+    serial = serial;
+    grows = grows;
+    tops = tops;
+    stack = stack;
+    raised = raised;
+    callbacks = λ n m. absurd (none n m);
+  }
 
   pub one_raised : (t : Activity) → IsRaised script w t → (a : Activity) → Includes (t ∷ []) a → IsRaised script w a
   one_raised t h a (inl e) = subst (IsRaised script w) e h
@@ -162,8 +174,10 @@ module _ (script : Script) (w : World) (below : List Activity) where
   either_acts true x y h k = h
   either_acts false x y h k = k
 
-  pub starts_acts : (spec : FrameSpec) (u : World) (t : Activity) → u.names ≡ w.names → u.next_serial ≡ w.next_serial → Grows w w.objects u.objects → u.stack ≡ t ∷ below → IsRaised script w t → BegunBy script w spec.sort spec.subject spec.proc
-      → (spec.sort ≡ Callback → (rest : List ℕ) × (all_to_call w.stack ≡ spec.subject ∷ (rest ++ all_to_call below)) × ((m : ℕ) → Includes (to_call t) m → Includes rest m)) → (let s : Transition = start_frame script spec u in Acts script w below s.0 s.1)
+  pub starts_acts : (spec : FrameSpec) (u : World) (t : Activity) → u.names ≡ w.names → u.next_serial ≡ w.next_serial → Grows w w.objects u.objects → u.stack
+      ≡ t ∷ below → IsRaised script w t → BegunBy script w spec.sort spec.subject spec.proc
+      → (spec.sort ≡ Callback → (rest : List ℕ) × (all_to_call w.stack ≡ spec.subject ∷ (rest ++ all_to_call below)) × ((m : ℕ) → Includes (to_call t) m
+      → Includes rest m)) → (let s : Transition = start_frame script spec u in Acts script w below s.0 s.1)
   starts_acts spec u t names serial grows stack raised by called = go (u.budget == 0)
     where
       frame : Activity
@@ -178,11 +192,15 @@ module _ (script : Script) (w : World) (below : List Activity) where
           record {
             rest = k.0;
             first = subst (λ i. all_to_call w.stack ≡ i ∷ (k.0 ++ all_to_call below)) same k.1;
-            others = λ a m i r. either m (λ is. absurd (subst (λ (b : Activity). Includes (to_call b) i) (sym is) r)) (λ is. either is (λ q. k.2 i (subst (λ (b : Activity). Includes (to_call b) i) (sym q) r)) (λ no. absurd no));
+            others = λ a m i r. either m (λ is. absurd (subst (λ (b : Activity). Includes (to_call b) i) (sym is) r))
+                (λ is. either is (λ q. k.2 i (subst (λ (b : Activity). Includes (to_call b) i) (sym q) r)) (λ no. absurd no));
             alone = ap (λ (x : Event). x ∷ []) e;
           }
 
-      go : (b : Bool) → (let s : Transition = if b then (BudgetSpent ∷ [], record u { outcome = BudgetIsSpent }) else (Enter spec.sort spec.subject ∷ [], record u { budget = u.budget - 1; stack = frame ∷ u.stack }) in Acts script w below s.0 s.1)
+      go : (b : Bool) → (let s : Transition = if b then (BudgetSpent ∷ [], record u { outcome = BudgetIsSpent }) else (
+        Enter spec.sort spec.subject ∷ [],
+        record u { budget = u.budget - 1; stack = frame ∷ u.stack },
+      ) in Acts script w below s.0 s.1)
       go true = acts (BudgetSpent ∷ []) (record u { outcome = BudgetIsSpent }) names serial grows (t ∷ []) stack (one_raised t raised) (λ n m. either m (λ e. cc) (λ no. no))
       go false = record {
         names = names;

@@ -100,13 +100,17 @@ module _ (script : Script) (c : Collection) (below : List Activity) (v : World) 
   to : (w after next : World) (events : List Event) → after ≡ next → Acts script w below events next → Acts script w below events after
   to w after next events e h = subst (Acts script w below events) (sym e) h
 
-  goes : (phase : CollectPhase) (d : Collection) (events : List Event) (after : World) → after.names ≡ v.names → after.next_serial ≡ v.next_serial → after.stack ≡ Collecting d ∷ below → Grows (at phase) v.objects after.objects
+  goes : (phase : CollectPhase) (d : Collection) (events : List Event) (after : World) → after.names ≡ v.names → after.next_serial ≡ v.next_serial → after.stack
+      ≡ Collecting d ∷ below → Grows (at phase) v.objects after.objects
       → ((weak : ℕ) → Includes (to_call_in d.phase) weak → Waited (at phase) weak) → ((n : ℕ) → ¬ Includes events (Enter Callback n)) → Acts script (at phase) below events after
-  goes phase d events after names serial stack grows waits none = acts script (at phase) below events after names serial grows (Collecting d ∷ []) stack (one_raised script (at phase) below (Collecting d) waits) none
+  goes phase d events after names serial stack grows waits none = acts script (at phase) below events after names serial grows (Collecting d ∷ []) stack
+      (one_raised script (at phase) below (Collecting d) waits) none
 
-  gives : (phase : CollectPhase) (refs : List ℕ) (d : Collection) (after : World) → after.names ≡ v.names → after.next_serial ≡ v.next_serial → after.stack ≡ Releasing refs ∷ Collecting d ∷ below → Grows (at phase) v.objects after.objects
+  gives : (phase : CollectPhase) (refs : List ℕ) (d : Collection) (after : World) → after.names ≡ v.names → after.next_serial ≡ v.next_serial → after.stack
+      ≡ Releasing refs ∷ Collecting d ∷ below → Grows (at phase) v.objects after.objects
       → ((weak : ℕ) → Includes (to_call_in d.phase) weak → Waited (at phase) weak) → Acts script (at phase) below [] after
-  gives phase refs d after names serial stack grows waits = acts script (at phase) below [] after names serial grows (Releasing refs ∷ Collecting d ∷ []) stack (two_raised script (at phase) below (Releasing refs) (Collecting d) tt waits) (λ n m. m)
+  gives phase refs d after names serial stack grows waits = acts script (at phase) below [] after names serial grows (Releasing refs ∷ Collecting d ∷ []) stack
+      (two_raised script (at phase) below (Releasing refs) (Collecting d) tt waits) (λ n m. m)
 
   waits_still : (phase : CollectPhase) (n : ℕ) → Includes (to_call_in phase) n → Waited (at phase) n
   waits_still phase n m = inl (Includes-append_left (to_call_in phase) (all_to_call below) n m)
@@ -118,9 +122,11 @@ module _ (script : Script) (c : Collection) (below : List Activity) (v : World) 
     abbrev in_merge : Object → Object
     in_merge x = with_place (merged_place c.generation x.place) x
 
-    one_started : (x : Object) → Includes v.objects x → (b : Bool) → is_at (Gen c.generation) (in_merge x) ≡ b → Ages (at Start) x (if b then with_place (step.places (in_merge x)) (in_merge x) else in_merge x)
+    one_started : (x : Object) → Includes v.objects x → (b : Bool) → is_at (Gen c.generation) (in_merge x) ≡ b
+        → Ages (at Start) x (if b then with_place (step.places (in_merge x)) (in_merge x) else in_merge x)
     one_started x m true t =
-        let there : Includes (objects_at (merged c.generation (at Start)).objects (Gen c.generation)) (in_merge x) = Includes-filter (is_at (Gen c.generation)) (merged c.generation (at Start)).objects (in_merge x) t (Includes-map in_merge v.objects x m) in
+        let there : Includes (objects_at (merged c.generation (at Start)).objects (Gen c.generation)) (in_merge x) = Includes-filter (is_at (Gen c.generation))
+        (merged c.generation (at Start)).objects (in_merge x) t (Includes-map in_merge v.objects x m) in
         record {
           later = record { serial = refl; code = refl; class = refl; referent = inl refl };
           refers = λ n i. inl i;
@@ -135,17 +141,24 @@ module _ (script : Script) (c : Collection) (below : List Activity) (v : World) 
     start_grows : Grows (at Start) v.objects (sorted c.generation step.places (map in_merge v.objects))
     start_grows y m =
         let z = Includes-map_cases (λ x. if is_at (Gen c.generation) x then with_place (step.places x) x else x) (map in_merge v.objects) y m in
-        let x = Includes-map_cases in_merge v.objects z.0 z.1 in
-        (x.0, x.1, subst (Ages (at Start) x.0) z.2 (subst (λ (q : Object). Ages (at Start) x.0 (if is_at (Gen c.generation) q then with_place (step.places q) q else q)) x.2 (one_started x.0 x.1 (is_at (Gen c.generation) (in_merge x.0)) refl)))
+        let x = Includes-map_cases in_merge v.objects z.0 z.1 in (
+          x.0,
+          x.1,
+          subst (Ages (at Start) x.0) z.2 (subst (λ (q : Object). Ages (at Start) x.0 (if is_at (Gen c.generation) q then with_place (step.places q) q
+              else q)) x.2 (one_started x.0 x.1 (is_at (Gen c.generation) (in_merge x.0)) refl)),
+        )
 
     start_none : (n : ℕ) → ¬ Includes events (Enter Callback n)
-    start_none n m = none_appended ((GcStart c.generation ∷ []) ++ lines_if (has_flag c.flags stats) (gens_line v.objects ∷ [])) (lines_if (has_flag c.flags collectable) (map GcCollectable step.collectables)) n
-        (none_appended (GcStart c.generation ∷ []) (lines_if (has_flag c.flags stats) (gens_line v.objects ∷ [])) n (λ i. either i (λ e. cc) (λ no. no)) (none_if (has_flag c.flags stats) (gens_line v.objects ∷ []) n (λ i. either i (λ e. cc) (λ no. no))))
+    start_none n m = none_appended ((GcStart c.generation ∷ []) ++ lines_if (has_flag c.flags stats) (gens_line v.objects ∷ []))
+        (lines_if (has_flag c.flags collectable) (map GcCollectable step.collectables)) n
+        (none_appended (GcStart c.generation ∷ []) (lines_if (has_flag c.flags stats) (gens_line v.objects ∷ [])) n (λ i. either i (λ e. cc) (λ no. no))
+        (none_if (has_flag c.flags stats) (gens_line v.objects ∷ []) n (λ i. either i (λ e. cc) (λ no. no))))
         (none_if (has_flag c.flags collectable) (map GcCollectable step.collectables) n (none_mapped GcCollectable step.collectables n (λ x e. cc)))
         (subst (λ (es : List Event). Includes es (Enter Callback n)) step.lines m)
 
     start_acts : Acts script (at Start) below events after
-    start_acts = subst (λ (u : World). Acts script (at Start) below events u) (sym step.world) (goes Start (record c { phase = WeakClearing [] }) events _ refl refl refl start_grows (λ weak m. absurd m) start_none)
+    start_acts = subst (λ (u : World). Acts script (at Start) below events u) (sym step.world) (goes Start (record c { phase = WeakClearing [] }) events _ refl
+        refl refl start_grows (λ weak m. absurd m) start_none)
 
   referent_of : (w : World) → w.objects ≡ v.objects → (x : Object) → Includes v.objects x → (test : Bool) (r : Option ℕ) → x.referent ≡ r → waits v.objects x.serial ≡ true
       → (test && unwrap_or (option_map (λ o. is_condemned_in v.objects o || is_condemned x) r) false) ≡ true → Loses w x.serial
@@ -156,13 +169,15 @@ module _ (script : Script) (c : Collection) (below : List Activity) (v : World) 
     same = refl;
     referent = q;
     refers = e;
-    lost = inr (either (true_or (is_condemned_in v.objects q) (is_condemned x) (true_and test (is_condemned_in v.objects q || is_condemned x) t).1) (λ k. subst (λ os. (z : Object) × Includes os z × (z.serial ≡ q) × (is_condemned z ≡ true)) (sym is) (condemned_at v.objects q k))
+    lost = inr (either (true_or (is_condemned_in v.objects q) (is_condemned x) (true_and test (is_condemned_in v.objects q || is_condemned x) t).1)
+        (λ k. subst (λ os. (z : Object) × Includes os z × (z.serial ≡ q) × (is_condemned z ≡ true)) (sym is) (condemned_at v.objects q k))
         (λ k. let calm = (true_and (not (is_condemned_in v.objects x.serial)) (is_some (callback_of v.objects x.serial)) calls).0 in
         let own : is_condemned_in v.objects x.serial ≡ is_condemned x = ap (λ z. unwrap_or (option_map is_condemned z) false) (at_member 1 v.next_serial v.objects x rises m) in
         absurd (let no : false ≡ true = sym (ap not (own ∙ k)) ∙ calm in cc)));
   }
 
-  weak_clearing_acts : (waiting : List ℕ) (events : List Event) (after : World) → WeakClearingStep (profile_of script.items) c waiting below (at (WeakClearing waiting)) events after → Acts script (at (WeakClearing waiting)) below events after
+  weak_clearing_acts : (waiting : List ℕ) (events : List Event) (after : World) → WeakClearingStep (profile_of script.items) c waiting below
+      (at (WeakClearing waiting)) events after → Acts script (at (WeakClearing waiting)) below events after
   weak_clearing_acts waiting events after (inl step) = yields_acts script w below (clears_one c waiting below w step.weak) events after step.yields (go (waits v.objects step.weak) refl)
     where
       w : World
@@ -179,56 +194,88 @@ module _ (script : Script) (c : Collection) (below : List Activity) (v : World) 
           let k = subst (λ (n : ℕ). waits v.objects n ≡ true) (sym step.newest.is) t in
           subst (Loses w) step.newest.is (referent_of w refl step.newest.object step.newest.member _ step.newest.object.referent refl k step.newest.to_lose)
 
-      go : (b : Bool) → waits v.objects step.weak ≡ b → (let next : World = if b then collection_at c (WeakClearing (waiting ++ step.weak ∷ [])) below (with_objects (change (with_place Pend) step.weak lost) w) else collection_at c (WeakClearing waiting) below (with_objects lost w) in Acts script w below (Cleared step.weak ∷ []) next)
+      go : (b : Bool) → waits v.objects step.weak ≡ b → (let next : World = if b then collection_at c (WeakClearing (waiting ++ step.weak ∷ [])) below
+          (with_objects (change (with_place Pend) step.weak lost) w) else collection_at c (WeakClearing waiting) below (with_objects lost w)
+          in Acts script w below (Cleared step.weak ∷ []) next)
       go true t = goes (WeakClearing waiting) (record c { phase = WeakClearing (waiting ++ step.weak ∷ []) }) (Cleared step.weak ∷ []) _ refl refl refl
           (grows_trans w v.objects lost (change (with_place Pend) step.weak lost) (grows_lost w step.weak v.objects) (grows_place w Pend step.weak lost (λ f. f)))
           (λ n m. either (Includes-append_cases waiting (step.weak ∷ []) n m) (waits_still (WeakClearing waiting) n) (λ i. either i (λ e. inr (subst (Loses w) e (loses t))) (λ no. absurd no))) none
-      go false t = goes (WeakClearing waiting) (record c { phase = WeakClearing waiting }) (Cleared step.weak ∷ []) _ refl refl refl (grows_lost w step.weak v.objects) (waits_still (WeakClearing waiting)) none
-  weak_clearing_acts waiting events after (inr step) = to (at (WeakClearing waiting)) after _ events step.1.1 (subst (λ es. Acts script (at (WeakClearing waiting)) below es (at (WeakCalling waiting))) (sym step.1.0) (goes (WeakClearing waiting) (record c { phase = WeakCalling waiting }) [] _ refl refl refl (same (WeakClearing waiting)) (waits_still (WeakClearing waiting)) (λ n m. m)))
+      go false t = goes (WeakClearing waiting) (record c { phase = WeakClearing waiting }) (Cleared step.weak ∷ []) _ refl refl refl
+          (grows_lost w step.weak v.objects) (waits_still (WeakClearing waiting)) none
+  weak_clearing_acts waiting events after (inr step) = to (at (WeakClearing waiting)) after _ events step.1.1
+      (subst (λ es. Acts script (at (WeakClearing waiting)) below es (at (WeakCalling waiting))) (sym step.1.0)
+      (goes (WeakClearing waiting) (record c { phase = WeakCalling waiting }) [] _ refl refl refl (same (WeakClearing waiting))
+      (waits_still (WeakClearing waiting)) (λ n m. m)))
 
   weak_calling_acts : (waiting : List ℕ) → (let t : Transition = calls_back script c waiting below (at (WeakCalling waiting)) in Acts script (at (WeakCalling waiting)) below t.0 t.1)
   weak_calling_acts [] = goes (WeakCalling []) (record c { phase = Finalizing }) [] _ refl refl refl (same (WeakCalling [])) (λ weak m. absurd m) (λ n m. m)
   weak_calling_acts (weak ∷ waiting) =
       let w : World = at (WeakCalling (weak ∷ waiting)) in
       let callback = unwrap_or (callback_of v.objects weak) 0 in
-      starts_acts script w below (record { sort = Callback; proc = procedure_of w callback; subject = weak; func = Some callback }) (collection_at c (AfterCallback weak waiting) below w) (Collecting (record c { phase = AfterCallback weak waiting })) refl refl (same (WeakCalling (weak ∷ waiting))) refl
+      starts_acts script w below (record { sort = Callback; proc = procedure_of w callback; subject = weak; func = Some callback })
+      (collection_at c (AfterCallback weak waiting) below w) (Collecting (record c { phase = AfterCallback weak waiting })) refl refl
+      (same (WeakCalling (weak ∷ waiting))) refl
       (λ n m. waits_still (WeakCalling (weak ∷ waiting)) n (inr m)) (inl refl, refl) (λ s. (waiting, refl, λ m i. i))
 
-  after_release_acts : (weak : ℕ) (waiting : List ℕ) → (let t : Transition = after_release c weak waiting below (at (AfterRelease weak waiting)) in Acts script (at (AfterRelease weak waiting)) below t.0 t.1)
+  after_release_acts : (weak : ℕ) (waiting : List ℕ) → (let t : Transition = after_release c weak waiting below (at (AfterRelease weak waiting))
+      in Acts script (at (AfterRelease weak waiting)) below t.0 t.1)
   after_release_acts weak waiting = either_acts script (at (AfterRelease weak waiting)) below (is_in_map v.objects weak)
       ([], collection_at c (WeakCalling waiting) below (with_change (with_place (Gen (older c.generation))) weak (at (AfterRelease weak waiting))))
       ([], collection_at (record c { collected = c.collected + 1 }) (WeakCalling waiting) below (at (AfterRelease weak waiting)))
-      (goes (AfterRelease weak waiting) (record c { phase = WeakCalling waiting }) [] _ refl refl refl (grows_place (at (AfterRelease weak waiting)) (Gen (older c.generation)) weak v.objects (λ f. f)) (waits_still (AfterRelease weak waiting)) (λ n m. m))
-      (goes (AfterRelease weak waiting) (record c { collected = c.collected + 1; phase = WeakCalling waiting }) [] _ refl refl refl (same (AfterRelease weak waiting)) (waits_still (AfterRelease weak waiting)) (λ n m. m))
+      (goes (AfterRelease weak waiting) (record c { phase = WeakCalling waiting }) [] _ refl refl refl (grows_place (at (AfterRelease weak waiting))
+      (Gen (older c.generation)) weak v.objects (λ f. f)) (waits_still (AfterRelease weak waiting)) (λ n m. m))
+      (goes (AfterRelease weak waiting) (record c { collected = c.collected + 1; phase = WeakCalling waiting }) [] _ refl refl refl
+      (same (AfterRelease weak waiting)) (waits_still (AfterRelease weak waiting)) (λ n m. m))
 
   -- a condemned object is visited
-  seen_ages : (f : Object → Object) (o : ℕ) → Includes (serials_at v.objects Cand) o → ((x : Object) → Includes v.objects x → IsFound x.place → Ages (at Finalizing) x (f x)) → Grows (at Finalizing) v.objects (change f o v.objects)
+  seen_ages : (f : Object → Object) (o : ℕ) → Includes (serials_at v.objects Cand) o → ((x : Object) → Includes v.objects x → IsFound x.place
+      → Ages (at Finalizing) x (f x)) → Grows (at Finalizing) v.objects (change f o v.objects)
   seen_ages f o cand h = grows_if (at Finalizing) f (λ x. x.serial == o) v.objects (λ x m t.
       let z = Includes-map_cases (λ (q : Object). q.serial) (objects_at v.objects Cand) o cand in
       let k = Includes-filter_cases (is_at Cand) v.objects z.0 z.1 in
       let is : z.0 ≡ x = same_object 1 v.next_serial v.objects z.0 x rises k.0 m (z.2 ∙ sym (eqb-true x.serial o t)) in
       h x m (found_at_place x.place Cand tt (subst (λ (q : Object). is_at Cand q ≡ true) is k.1)))
 
-  looks_at_acts : (o : ℕ) → Includes (serials_at v.objects Cand) o → (m : Option ℕ) → option_and_then (finalizer_to_run script) (object_at v.objects o) ≡ m → (let t : Transition = looks_at script c o below (at Finalizing) m in Acts script (at Finalizing) below t.0 t.1)
-  looks_at_acts o cand None e = goes Finalizing (record c { phase = Finalizing }) [] _ refl refl refl (seen_ages (with_place Seen) o cand (λ x m f. record { later = record { serial = refl; code = refl; class = refl; referent = inl refl }; refers = λ n i. inl i; place = λ g. inl f })) (λ weak m. absurd m) (λ n m. m)
-  looks_at_acts o cand (Some p) e = starts_acts script (at Finalizing) below (record { sort = Del; proc = p; subject = o; func = None }) (collection_at c (AfterFinalizing o) below (with_change (λ x. marked (with_place Seen x)) o (at Finalizing))) (Collecting (record c { phase = AfterFinalizing o })) refl refl
-      (seen_ages (λ x. marked (with_place Seen x)) o cand (λ x m f. record { later = record { serial = refl; code = refl; class = refl; referent = inl refl }; refers = λ n i. inl i; place = λ g. inl f })) refl (λ weak m. absurd m) (to_run_is script v.objects o p e) (λ s. absurd (let no : Del ≡ Callback = s in cc))
+  looks_at_acts : (o : ℕ) → Includes (serials_at v.objects Cand) o → (m : Option ℕ) → option_and_then (finalizer_to_run script) (object_at v.objects o) ≡ m
+      → (let t : Transition = looks_at script c o below (at Finalizing) m in Acts script (at Finalizing) below t.0 t.1)
+  looks_at_acts o cand None e = goes Finalizing (record c { phase = Finalizing }) [] _ refl refl refl (seen_ages (with_place Seen) o cand
+      (λ x m f. record { later = record { serial = refl; code = refl; class = refl; referent = inl refl }; refers = λ n i. inl i; place = λ g. inl f })) (λ weak
+      m. absurd m) (λ n m. m)
+  looks_at_acts o cand (Some p) e = starts_acts script (at Finalizing) below (record { sort = Del; proc = p; subject = o; func = None })
+      (collection_at c (AfterFinalizing o) below (with_change (λ x. marked (with_place Seen x)) o (at Finalizing)))
+      (Collecting (record c { phase = AfterFinalizing o })) refl refl
+      (seen_ages (λ x. marked (with_place Seen x)) o cand (λ x m f. record {
+        later = record { serial = refl; code = refl; class = refl; referent = inl refl };
+        refers = λ n i. inl i;
+        place = λ g. inl f;
+      })) refl (λ weak m. absurd m) (to_run_is script v.objects o p e) (λ s. absurd (let no : Del ≡ Callback = s
+      in cc))
 
   finalizing_acts : (events : List Event) (after : World) → FinalizingStep script c below (at Finalizing) events after → Acts script (at Finalizing) below events after
-  finalizing_acts events after (inl step) = yields_acts script (at Finalizing) below (looks_at script c step.object below (at Finalizing) (option_and_then (finalizer_to_run script) (object_at v.objects step.object))) events after step.yields (looks_at_acts step.object step.condemned (option_and_then (finalizer_to_run script) (object_at v.objects step.object)) refl)
+  finalizing_acts events after (inl step) = yields_acts script (at Finalizing) below (looks_at script c step.object below (at Finalizing)
+      (option_and_then (finalizer_to_run script) (object_at v.objects step.object))) events after step.yields (looks_at_acts step.object step.condemned
+      (option_and_then (finalizer_to_run script) (object_at v.objects step.object)) refl)
   finalizing_acts events after (inr step) = yields_acts script (at Finalizing) below ([], collection_at c Split below (replaced_place Seen Cand (at Finalizing))) events after step.1
-      (goes Finalizing (record c { phase = Split }) [] _ refl refl refl (grows_if (at Finalizing) (with_place Cand) (is_at Seen) v.objects (λ x m t. record { later = record { serial = refl; code = refl; class = refl; referent = inl refl }; refers = λ n i. inl i; place = λ g. inl (found_at_place x.place Seen tt t) })) (λ weak m. absurd m) (λ n m. m))
+      (goes Finalizing (record c { phase = Split }) [] _ refl refl refl (grows_if (at Finalizing) (with_place Cand) (is_at Seen) v.objects
+      (λ x m t. record {
+        later = record { serial = refl; code = refl; class = refl; referent = inl refl };
+        refers = λ n i. inl i;
+        place = λ g. inl (found_at_place x.place Seen tt t);
+      })) (λ weak m. absurd m) (λ n m. m))
 
   -- the second reachability pass
   all_lose_grows : (w : World) (wanted : Object → Bool) (weaks : List ℕ) (objects after : List Object) → AllLose wanted objects weaks after → Grows w objects after
   all_lose_grows w = came_all_lose (Ages w) (ages w) (λ x. record { later = record { serial = refl; code = refl; class = refl; referent = inr refl }; refers = λ n i. inl i; place = λ f. inl f })
 
   split_acts : (events : List Event) (after : World) → SplitStep c below (at Split) events after → Acts script (at Split) below events after
-  split_acts events after step = to (at Split) after _ events step.world (goes Split (record c { collected = c.collected + length (serials_at step.objects Cand); phase = Turns }) events _ refl refl refl
+  split_acts events after step = to (at Split) after _ events step.world
+      (goes Split (record c { collected = c.collected + length (serials_at step.objects Cand); phase = Turns }) events _ refl refl refl
       (grows_trans (at Split) v.objects (get_older c.generation step.alive v.objects) step.objects
-      (grows_if (at Split) (with_place (Gen (older c.generation))) (λ x. includes step.alive x.serial) v.objects (λ x m t. record { later = record { serial = refl; code = refl; class = refl; referent = inl refl }; refers = λ n i. inl i; place = λ f. absurd f }))
+      (grows_if (at Split) (with_place (Gen (older c.generation))) (λ x. includes step.alive x.serial) v.objects
+      (λ x m t. record { later = record { serial = refl; code = refl; class = refl; referent = inl refl }; refers = λ n i. inl i; place = λ f. absurd f }))
       (all_lose_grows (at Split) _ step.cleared (get_older c.generation step.alive v.objects) step.objects step.lose))
-      (λ weak m. absurd m) (λ n m. none_appended (map Alive step.alive) (map Cleared step.cleared) n (none_mapped Alive step.alive n (λ x e. cc)) (none_mapped Cleared step.cleared n (λ x e. cc)) (subst (λ (es : List Event). Includes es (Enter Callback n)) step.lines m)))
+      (λ weak m. absurd m) (λ n m. none_appended (map Alive step.alive) (map Cleared step.cleared) n (none_mapped Alive step.alive n (λ x e. cc))
+      (none_mapped Cleared step.cleared n (λ x e. cc)) (subst (λ (es : List Event). Includes es (Enter Callback n)) step.lines m)))
 
   -- a saved object was partitioned
   saved_grows : (w : World) (o : ℕ) (objects : List Object) → IsAside w o → Grows w objects (saved o objects)
@@ -247,21 +294,31 @@ module _ (script : Script) (c : Collection) (below : List Activity) (v : World) 
       aside : IsAside (at Turns) x.serial
       aside = let k = Includes-filter_cases (is_at Cand) v.objects x member in (x, k.0, refl, found_at_place x.place Cand tt k.1)
 
-      go : (s t : Bool) → (let next : Transition = if s then (GcSaved x.serial ∷ [], collection_at c Turns below (with_objects (change (with_place (Gen (older c.generation))) x.serial (saved x.serial v.objects)) (at Turns)))
-          else if t then ([], collection_at c Turns below (with_change (with_place (Gen (older c.generation))) x.serial (at Turns))) else ([], collection_at c (Turn x.serial) below (at Turns)) in Acts script (at Turns) below next.0 next.1)
+      go : (s t : Bool) → (let next : Transition = if s
+          then (
+            GcSaved x.serial ∷ [],
+            collection_at c Turns below (with_objects (change (with_place (Gen (older c.generation))) x.serial
+                (saved x.serial v.objects)) (at Turns)),
+          )
+          else if t then ([], collection_at c Turns below (with_change (with_place (Gen (older c.generation))) x.serial (at Turns)))
+          else ([], collection_at c (Turn x.serial) below (at Turns)) in Acts script (at Turns) below next.0 next.1)
       go true t = goes Turns (record c { phase = Turns }) (GcSaved x.serial ∷ []) _ refl refl refl
-          (grows_trans (at Turns) v.objects (saved x.serial v.objects) (change (with_place (Gen (older c.generation))) x.serial (saved x.serial v.objects)) (saved_grows (at Turns) x.serial v.objects aside) (grows_place (at Turns) (Gen (older c.generation)) x.serial (saved x.serial v.objects) (λ f. f)))
+          (grows_trans (at Turns) v.objects (saved x.serial v.objects) (change (with_place (Gen (older c.generation))) x.serial (saved x.serial v.objects))
+          (saved_grows (at Turns) x.serial v.objects aside) (grows_place (at Turns) (Gen (older c.generation)) x.serial (saved x.serial v.objects)
+          (λ f. f)))
           (λ weak m. absurd m) (λ n m. either m (λ e. cc) (λ no. no))
       go false true = goes Turns (record c { phase = Turns }) [] _ refl refl refl (grows_place (at Turns) (Gen (older c.generation)) x.serial v.objects (λ f. f)) (λ weak m. absurd m) (λ n m. m)
       go false false = goes Turns (record c { phase = Turn x.serial }) [] _ refl refl refl (same Turns) (λ weak m. absurd m) (λ n m. m)
 
   turns_acts : (events : List Event) (after : World) → TurnsStep c below (at Turns) events after → Acts script (at Turns) below events after
   turns_acts events after (inl step) = yields_acts script (at Turns) below (takes_turn c step.object below (at Turns)) events after step.yields (turn_acts step.object step.member)
-  turns_acts events after (inr step) = yields_acts script (at Turns) below ([], at Ending) events after step.1 (goes Turns (record c { phase = Ending }) [] _ refl refl refl (same Turns) (λ weak m. absurd m) (λ n m. m))
+  turns_acts events after (inr step) = yields_acts script (at Turns) below ([], at Ending) events after step.1 (goes Turns (record c { phase = Ending }) [] _
+      refl refl refl (same Turns) (λ weak m. absurd m) (λ n m. m))
 
   empties_acts : (o : ℕ) (m : Option Entry) → (let t : Transition = empties c o below (at (Turn o)) m in Acts script (at (Turn o)) below t.0 t.1)
   empties_acts o None = gives (Turn o) (o ∷ []) (record c { phase = AfterTurn o }) _ refl refl refl (same (Turn o)) (λ weak m. absurd m)
-  empties_acts o (Some entry) = gives (Turn o) (entry_references entry) (record c { phase = Turn o }) _ refl refl refl (shortened_grows (at (Turn o)) 1 v.next_serial v.objects o rises) (λ weak m. absurd m)
+  empties_acts o (Some entry) = gives (Turn o) (entry_references entry) (record c { phase = Turn o }) _ refl refl refl
+      (shortened_grows (at (Turn o)) 1 v.next_serial v.objects o rises) (λ weak m. absurd m)
 
   end_acts : (events : List Event) (after : World) → EndStep script c below (at Ending) events after → Acts script (at Ending) below events after
   end_acts events after step = to (at Ending) after _ events step.world (acts script (at Ending) below events _ refl refl grows [] refl (λ a m. absurd m) none)
@@ -278,24 +335,41 @@ module _ (script : Script) (c : Collection) (below : List Activity) (v : World) 
 
       grows : Grows (at Ending) v.objects (map (λ x. if is_at Legacy x then with_place (Gen (older c.generation)) x else x) kept)
       grows = grows_trans (at Ending) v.objects kept _ (all_saved_grows (at Ending) step.keeps v.objects aside)
-          (grows_if (at Ending) (with_place (Gen (older c.generation))) (is_at Legacy) kept (λ x m t. record { later = record { serial = refl; code = refl; class = refl; referent = inl refl }; refers = λ n i. inl i; place = λ f. absurd f }))
+          (grows_if (at Ending) (with_place (Gen (older c.generation))) (is_at Legacy) kept
+          (λ x m t. record {
+            later = record { serial = refl; code = refl; class = refl; referent = inl refl };
+            refers = λ n i. inl i;
+            place = λ f. absurd f;
+          }))
 
       none : (n : ℕ) → ¬ Includes events (Enter Callback n)
-      none n m = none_appended (lines_if (has_flag c.flags uncollectable) (map GcUncollectable step.told) ++ map GcSaved step.keeps) (GcStop c.generation c.collected (length step.told) ∷ lines_if c.asked (Collected (c.collected + length step.told) ∷ [])) n
-          (none_appended (lines_if (has_flag c.flags uncollectable) (map GcUncollectable step.told)) (map GcSaved step.keeps) n (none_if (has_flag c.flags uncollectable) (map GcUncollectable step.told) n (none_mapped GcUncollectable step.told n (λ x e. cc))) (none_mapped GcSaved step.keeps n (λ x e. cc)))
+      none n m = none_appended (lines_if (has_flag c.flags uncollectable) (map GcUncollectable step.told) ++ map GcSaved step.keeps)
+          (GcStop c.generation c.collected (length step.told) ∷ lines_if c.asked (Collected (c.collected + length step.told) ∷ [])) n
+          (none_appended (lines_if (has_flag c.flags uncollectable) (map GcUncollectable step.told)) (map GcSaved step.keeps) n
+          (none_if (has_flag c.flags uncollectable) (map GcUncollectable step.told) n (none_mapped GcUncollectable step.told n (λ x e. cc)))
+          (none_mapped GcSaved step.keeps n (λ x e. cc)))
           (λ i. either i (λ e. cc) (none_if c.asked (Collected (c.collected + length step.told) ∷ []) n (λ k. either k (λ e. cc) (λ no. no))))
           (subst (λ (es : List Event). Includes es (Enter Callback n)) step.lines m)
 
   pub phase_acts : (phase : CollectPhase) (events : List Event) (after : World) → PhaseStep script c phase below (at phase) events after → Acts script (at phase) below events after
   phase_acts Start events after step = start_acts events after step
   phase_acts (WeakClearing waiting) events after step = weak_clearing_acts waiting events after step
-  phase_acts (WeakCalling waiting) events after step = yields_acts script (at (WeakCalling waiting)) below (calls_back script c waiting below (at (WeakCalling waiting))) events after step (weak_calling_acts waiting)
-  phase_acts (AfterCallback weak waiting) events after step = yields_acts script (at (AfterCallback weak waiting)) below ([], push (Releasing (weak ∷ [])) (at (AfterRelease weak waiting))) events after step (gives (AfterCallback weak waiting) (weak ∷ []) (record c { phase = AfterRelease weak waiting }) _ refl refl refl (same (AfterCallback weak waiting)) (waits_still (AfterCallback weak waiting)))
-  phase_acts (AfterRelease weak waiting) events after step = yields_acts script (at (AfterRelease weak waiting)) below (after_release c weak waiting below (at (AfterRelease weak waiting))) events after step (after_release_acts weak waiting)
+  phase_acts (WeakCalling waiting) events after step = yields_acts script (at (WeakCalling waiting)) below (calls_back script c waiting below
+      (at (WeakCalling waiting))) events after step (weak_calling_acts waiting)
+  phase_acts (AfterCallback weak waiting) events after step = yields_acts script (at (AfterCallback weak waiting)) below
+      ([], push (Releasing (weak ∷ [])) (at (AfterRelease weak waiting))) events after step (gives (AfterCallback weak waiting) (weak ∷ [])
+      (record c { phase = AfterRelease weak waiting }) _ refl refl refl (same (AfterCallback weak waiting)) (waits_still (AfterCallback weak waiting)))
+  phase_acts (AfterRelease weak waiting) events after step = yields_acts script (at (AfterRelease weak waiting)) below (after_release c weak waiting below
+      (at (AfterRelease weak waiting))) events after step (after_release_acts weak waiting)
   phase_acts Finalizing events after step = finalizing_acts events after step
-  phase_acts (AfterFinalizing o) events after step = yields_acts script (at (AfterFinalizing o)) below ([], push (Releasing (o ∷ [])) (at Finalizing)) events after step (gives (AfterFinalizing o) (o ∷ []) (record c { phase = Finalizing }) _ refl refl refl (same (AfterFinalizing o)) (λ weak m. absurd m))
+  phase_acts (AfterFinalizing o) events after step = yields_acts script (at (AfterFinalizing o)) below ([], push (Releasing (o ∷ [])) (at Finalizing)) events
+      after step (gives (AfterFinalizing o) (o ∷ []) (record c { phase = Finalizing }) _ refl refl refl (same (AfterFinalizing o)) (λ weak m. absurd m))
   phase_acts Split events after step = split_acts events after step
   phase_acts Turns events after step = turns_acts events after step
-  phase_acts (Turn o) events after step = yields_acts script (at (Turn o)) below (empties c o below (at (Turn o)) (last_entry (entries_of v.objects o))) events after step (empties_acts o (last_entry (entries_of v.objects o)))
-  phase_acts (AfterTurn o) events after step = yields_acts script (at (AfterTurn o)) below ([], collection_at c Turns below (with_change (with_place (Gen (older c.generation))) o (at (AfterTurn o)))) events after step (goes (AfterTurn o) (record c { phase = Turns }) [] _ refl refl refl (grows_place (at (AfterTurn o)) (Gen (older c.generation)) o v.objects (λ f. f)) (λ weak m. absurd m) (λ n m. m))
+  phase_acts (Turn o) events after step = yields_acts script (at (Turn o)) below (empties c o below (at (Turn o)) (last_entry (entries_of v.objects o))) events
+      after step (empties_acts o (last_entry (entries_of v.objects o)))
+  phase_acts (AfterTurn o) events after step = yields_acts script (at (AfterTurn o)) below
+      ([], collection_at c Turns below (with_change (with_place (Gen (older c.generation))) o (at (AfterTurn o)))) events after step
+      (goes (AfterTurn o) (record c { phase = Turns }) [] _ refl refl refl (grows_place (at (AfterTurn o)) (Gen (older c.generation)) o v.objects (λ f. f))
+      (λ weak m. absurd m) (λ n m. m))
   phase_acts Ending events after step = end_acts events after step

@@ -36,7 +36,8 @@ shortened_grows w low high objects o r = grows_if w (with_entries (without_last 
 })
 
 pub called_grows : (w : World) (weak : ℕ) (objects : List Object) → Grows w objects (change (with_entries []) weak objects)
-called_grows w weak objects = grows_if w (with_entries []) (λ x. x.serial == weak) objects (λ x m t. record { later = record { serial = refl; code = refl; class = refl; referent = inl refl }; refers = λ n i. absurd i; place = λ f. inl f })
+called_grows w weak objects = grows_if w (with_entries []) (λ x. x.serial == weak) objects
+    (λ x m t. record { later = record { serial = refl; code = refl; class = refl; referent = inl refl }; refers = λ n i. absurd i; place = λ f. inl f })
 
 -- the first weak reference to be cleared refers to the object
 refers_now : (test : Object → Bool) (objects : List Object) (o weak : ℕ) (weaks : List ℕ) → weak_references_if test objects o ≡ weak ∷ weaks → RefersNow objects weak o
@@ -55,7 +56,8 @@ refers_now test objects o weak weaks e = go (unwrap_or (option_map test (object_
     go false k = absurd (let no : [] ≡ weak ∷ weaks = k in cc)
 
 -- the object whose finalizer runs
-pub to_run_is : (script : Script) (objects : List Object) (o p : ℕ) → option_and_then (finalizer_to_run script) (object_at objects o) ≡ Some p → (x : Object) × Includes objects x × (x.serial ≡ o) × (finalizer_of script x ≡ Some p)
+pub to_run_is : (script : Script) (objects : List Object) (o p : ℕ) → option_and_then (finalizer_to_run script) (object_at objects o) ≡ Some p → (x : Object)
+    × Includes objects x × (x.serial ≡ o) × (finalizer_of script x ≡ Some p)
 to_run_is script objects o p e = let x = found_with (finalizer_to_run script) objects o p e in (x.0, x.1, x.2, (to_run script x.0 p x.3).1)
 
 module _ (script : Script) where
@@ -75,12 +77,16 @@ module _ (script : Script) where
       by_sort Del function = ends
       by_sort LegacyFrame function = ends
       by_sort Callback function = ends
-      by_sort CallFrame function = acts script w below (Leave ∷ []) (gives_up_function CallFrame function (with_stack below v)) refl refl (grows_same w v.objects) (Releasing (option_to_list function) ∷ []) refl (one_raised script w below (Releasing (option_to_list function)) tt) none
+      by_sort CallFrame function = acts script w below (Leave ∷ []) (gives_up_function CallFrame function (with_stack below v)) refl refl
+          (grows_same w v.objects) (Releasing (option_to_list function) ∷ []) refl (one_raised script w below (Releasing (option_to_list function)) tt) none
 
-  pub released_acts : (refs : List ℕ) (below : List Activity) (v : World) → (let t : Transition = released refs below (with_stack (Releasing refs ∷ below) v) in Acts script (with_stack (Releasing refs ∷ below) v) below t.0 t.1)
-  released_acts [] below v = acts script (with_stack (Releasing [] ∷ below) v) below [] (with_stack below v) refl refl (grows_same (with_stack (Releasing [] ∷ below) v) v.objects) [] refl (λ a m. absurd m) (λ n m. m)
+  pub released_acts : (refs : List ℕ) (below : List Activity) (v : World) → (let t : Transition = released refs below (with_stack (Releasing refs ∷ below) v)
+      in Acts script (with_stack (Releasing refs ∷ below) v) below t.0 t.1)
+  released_acts [] below v = acts script (with_stack (Releasing [] ∷ below) v) below [] (with_stack below v) refl refl
+      (grows_same (with_stack (Releasing [] ∷ below) v) v.objects) [] refl (λ a m. absurd m) (λ n m. m)
   released_acts (o ∷ refs) below v = either_acts script w below (not (is_dying now o) && (in_degree now o == 0)) ([], begin_death o now) ([], now)
-      (acts script w below [] (begin_death o now) refl refl dead (Dying (record { object = o; phase = Finalizer }) ∷ Releasing refs ∷ []) refl (two_raised script w below (Dying (record { object = o; phase = Finalizer })) (Releasing refs) (λ weak m. absurd m) tt) (λ n m. m))
+      (acts script w below [] (begin_death o now) refl refl dead (Dying (record { object = o; phase = Finalizer }) ∷ Releasing refs ∷ []) refl
+      (two_raised script w below (Dying (record { object = o; phase = Finalizer })) (Releasing refs) (λ weak m. absurd m) tt) (λ n m. m))
       (acts script w below [] now refl refl (grows_same w v.objects) (Releasing refs ∷ []) refl (one_raised script w below (Releasing refs) tt) (λ n m. m))
     where
       w : World
@@ -90,7 +96,8 @@ module _ (script : Script) where
       now = with_stack (Releasing refs ∷ below) v
 
       dead : Grows w v.objects (change (λ x. with_referent None (with_place Untracked x)) o v.objects)
-      dead = grows_if w (λ x. with_referent None (with_place Untracked x)) (λ x. x.serial == o) v.objects (λ x m t. record { later = record { serial = refl; code = refl; class = refl; referent = inr refl }; refers = λ n i. inl i; place = λ f. absurd f })
+      dead = grows_if w (λ x. with_referent None (with_place Untracked x)) (λ x. x.serial == o) v.objects
+          (λ x m t. record { later = record { serial = refl; code = refl; class = refl; referent = inr refl }; refers = λ n i. inl i; place = λ f. absurd f })
 
   module _ (o : ℕ) (below : List Activity) (v : World) (rises : Rises 1 v.next_serial v.objects) where
     abbrev at : DyingPhase → World
@@ -99,21 +106,30 @@ module _ (script : Script) where
     abbrev stands : DyingPhase → Activity
     stands phase = Dying (record { object = o; phase = phase })
 
-    goes : (phase next : DyingPhase) (events : List Event) (objects : List Object) → Grows (at phase) v.objects objects → ((weak : ℕ) → Includes (death_waits next) weak → Waited (at phase) weak) → ((n : ℕ) → ¬ Includes events (Enter Callback n))
+    goes : (phase next : DyingPhase) (events : List Event) (objects : List Object) → Grows (at phase) v.objects objects
+        → ((weak : ℕ) → Includes (death_waits next) weak → Waited (at phase) weak) → ((n : ℕ) → ¬ Includes events (Enter Callback n))
         → Acts script (at phase) below events (record (at next) { objects = objects })
-    goes phase next events objects grows waits none = acts script (at phase) below events (record (at next) { objects = objects }) refl refl grows (stands next ∷ []) refl (one_raised script (at phase) below (stands next) waits) none
+    goes phase next events objects grows waits none = acts script (at phase) below events (record (at next) { objects = objects }) refl refl grows (stands next
+        ∷ []) refl (one_raised script (at phase) below (stands next) waits) none
 
-    finalizer_acts : (m : Option ℕ) → option_and_then (finalizer_to_run script) (object_at v.objects o) ≡ m → (let t : Transition = run_finalizer script o below (at Finalizer) m in Acts script (at Finalizer) below t.0 t.1)
+    finalizer_acts : (m : Option ℕ) → option_and_then (finalizer_to_run script) (object_at v.objects o) ≡ m
+        → (let t : Transition = run_finalizer script o below (at Finalizer) m in Acts script (at Finalizer) below t.0 t.1)
     finalizer_acts None e = goes Finalizer (Clearing []) [] v.objects (grows_same (at Finalizer) v.objects) (λ weak m. absurd m) (λ n m. m)
-    finalizer_acts (Some p) e = starts_acts script (at Finalizer) below (record { sort = Del; proc = p; subject = o; func = None }) (death_at o AfterFinalizer below (with_change (λ x. marked (with_place (Gen 0) x)) o (at Finalizer))) (stands AfterFinalizer) refl refl revived refl (λ weak m. absurd m)
+    finalizer_acts (Some p) e = starts_acts script (at Finalizer) below (record { sort = Del; proc = p; subject = o; func = None })
+        (death_at o AfterFinalizer below (with_change (λ x. marked (with_place (Gen 0) x)) o (at Finalizer))) (stands AfterFinalizer) refl refl revived refl
+        (λ weak m. absurd m)
         (to_run_is script v.objects o p e) (λ s. absurd (let no : Del ≡ Callback = s in cc))
       where
         revived : Grows (at Finalizer) v.objects (change (λ x. marked (with_place (Gen 0) x)) o v.objects)
-        revived = grows_if (at Finalizer) (λ x. marked (with_place (Gen 0) x)) (λ x. x.serial == o) v.objects (λ x m t. record { later = record { serial = refl; code = refl; class = refl; referent = inl refl }; refers = λ n i. inl i; place = λ f. absurd f })
+        revived = grows_if (at Finalizer) (λ x. marked (with_place (Gen 0) x)) (λ x. x.serial == o) v.objects
+            (λ x m t. record { later = record { serial = refl; code = refl; class = refl; referent = inl refl }; refers = λ n i. inl i; place = λ f. absurd f })
 
-    legacy_acts : (m : Option ℕ) → option_and_then (legacy_of script) (object_at v.objects o) ≡ m → (let t : Transition = run_legacy script o below (at LegacyFinalizer) m in Acts script (at LegacyFinalizer) below t.0 t.1)
+    legacy_acts : (m : Option ℕ) → option_and_then (legacy_of script) (object_at v.objects o) ≡ m
+        → (let t : Transition = run_legacy script o below (at LegacyFinalizer) m in Acts script (at LegacyFinalizer) below t.0 t.1)
     legacy_acts None e = goes LegacyFinalizer Detaching [] v.objects (grows_same (at LegacyFinalizer) v.objects) (λ weak m. absurd m) (λ n m. m)
-    legacy_acts (Some p) e = starts_acts script (at LegacyFinalizer) below (record { sort = LegacyFrame; proc = p; subject = o; func = None }) (death_at o AfterLegacy below (with_change (with_place (Gen 0)) o (at LegacyFinalizer))) (stands AfterLegacy) refl refl (grows_place (at LegacyFinalizer) (Gen 0) o v.objects (λ f. f)) refl
+    legacy_acts (Some p) e = starts_acts script (at LegacyFinalizer) below (record { sort = LegacyFrame; proc = p; subject = o; func = None })
+        (death_at o AfterLegacy below (with_change (with_place (Gen 0)) o (at LegacyFinalizer))) (stands AfterLegacy) refl refl
+        (grows_place (at LegacyFinalizer) (Gen 0) o v.objects (λ f. f)) refl
         (λ weak m. absurd m) (found_with (legacy_of script) v.objects o p e) (λ s. absurd (let no : LegacyFrame ≡ Callback = s in cc))
 
     after_frame_acts : (phase next : DyingPhase) → death_waits next ≡ [] → (let t : Transition = after_frame o next below (at phase) in Acts script (at phase) below t.0 t.1)
@@ -128,9 +144,11 @@ module _ (script : Script) where
     waits_still : (phase : DyingPhase) (n : ℕ) → Includes (death_waits phase) n → Waited (at phase) n
     waits_still phase n m = inl (Includes-append_left (death_waits phase) (all_to_call below) n m)
 
-    clearing_acts : (waiting weaks : List ℕ) → weak_references_if has_weak_references v.objects o ≡ weaks → (let t : Transition = clear_one o waiting below (at (Clearing waiting)) weaks in Acts script (at (Clearing waiting)) below t.0 t.1)
+    clearing_acts : (waiting weaks : List ℕ) → weak_references_if has_weak_references v.objects o ≡ weaks
+        → (let t : Transition = clear_one o waiting below (at (Clearing waiting)) weaks in Acts script (at (Clearing waiting)) below t.0 t.1)
     clearing_acts waiting [] e = goes (Clearing waiting) (Calling waiting) [] v.objects (grows_same (at (Clearing waiting)) v.objects) (waits_still (Clearing waiting)) (λ n m. m)
-    clearing_acts waiting (weak ∷ weaks) e = goes (Clearing waiting) (Clearing (waiting ++ (if is_some (callback_of v.objects weak) then weak ∷ [] else []))) (Cleared weak ∷ []) (loses_referent weak v.objects) (grows_lost (at (Clearing waiting)) weak v.objects)
+    clearing_acts waiting (weak ∷ weaks) e = goes (Clearing waiting) (Clearing (waiting ++ (if is_some (callback_of v.objects weak) then weak ∷ [] else [])))
+        (Cleared weak ∷ []) (loses_referent weak v.objects) (grows_lost (at (Clearing waiting)) weak v.objects)
         (λ n m. either (Includes-append_cases waiting (if is_some (callback_of v.objects weak) then weak ∷ [] else []) n m) (waits_still (Clearing waiting) n)
         (λ k. inr (subst (Loses (at (Clearing waiting))) (perhaps (is_some (callback_of v.objects weak)) weak n k) (loses (refers_now has_weak_references v.objects o weak weaks e)))))
         (λ n m. either m (λ i. cc) (λ no. no))
@@ -142,17 +160,28 @@ module _ (script : Script) where
     calling_acts [] = goes (Calling []) LegacyFinalizer [] v.objects (grows_same (at (Calling [])) v.objects) (λ weak m. absurd m) (λ n m. m)
     calling_acts (weak ∷ waiting) =
         let callback = unwrap_or (callback_of v.objects weak) 0 in
-        starts_acts script (at (Calling (weak ∷ waiting))) below (record { sort = Callback; proc = procedure_of (at (Calling (weak ∷ waiting))) callback; subject = weak; func = Some callback }) (death_at o (AfterCall weak callback waiting) below (with_change (with_entries []) weak (at (Calling (weak ∷ waiting)))))
-        (stands (AfterCall weak callback waiting)) refl refl (called_grows (at (Calling (weak ∷ waiting))) weak v.objects) refl (λ n m. waits_still (Calling (weak ∷ waiting)) n (inr m)) (inl refl, refl)
+        starts_acts script (at (Calling (weak ∷ waiting))) below (record {
+          sort = Callback;
+          proc = procedure_of (at (Calling (weak ∷ waiting))) callback;
+          subject = weak;
+          func = Some callback;
+        }) (death_at o (AfterCall weak callback waiting) below (with_change (with_entries []) weak
+        (at (Calling (weak ∷ waiting)))))
+        (stands (AfterCall weak callback waiting)) refl refl (called_grows (at (Calling (weak ∷ waiting))) weak v.objects) refl
+        (λ n m. waits_still (Calling (weak ∷ waiting)) n (inr m)) (inl refl, refl)
         (λ s. (waiting, refl, λ m i. i))
 
     detaching_acts : (weaks : List ℕ) → (let t : Transition = detach_one o below (at Detaching) weaks in Acts script (at Detaching) below t.0 t.1)
     detaching_acts [] = goes Detaching Emptying [] v.objects (grows_same (at Detaching) v.objects) (λ weak m. absurd m) (λ n m. m)
-    detaching_acts (weak ∷ weaks) = goes Detaching Detaching (Cleared weak ∷ []) (loses_referent weak v.objects) (grows_lost (at Detaching) weak v.objects) (λ weak m. absurd m) (λ n m. either m (λ i. cc) (λ no. no))
+    detaching_acts (weak ∷ weaks) = goes Detaching Detaching (Cleared weak ∷ []) (loses_referent weak v.objects) (grows_lost (at Detaching) weak v.objects)
+        (λ weak m. absurd m) (λ n m. either m (λ i. cc) (λ no. no))
 
     emptying_acts : (m : Option Entry) → (let t : Transition = empty_one o below (at Emptying) m in Acts script (at Emptying) below t.0 t.1)
-    emptying_acts None = acts script (at Emptying) below (Free o ∷ []) (empty_one o below (at Emptying) None).1 refl refl (λ y m. grows_same (at Emptying) v.objects y (Includes-filter_cases (λ x. not (x.serial == o)) v.objects y m).0) [] refl (λ a m. absurd m) (λ n m. either m (λ i. cc) (λ no. no))
-    emptying_acts (Some entry) = acts script (at Emptying) below [] (empty_one o below (at Emptying) (Some entry)).1 refl refl (shortened_grows (at Emptying) 1 v.next_serial v.objects o rises) (Releasing (entry_references entry) ∷ stands Emptying ∷ []) refl
+    emptying_acts None = acts script (at Emptying) below (Free o ∷ []) (empty_one o below (at Emptying) None).1 refl refl
+        (λ y m. grows_same (at Emptying) v.objects y (Includes-filter_cases (λ x. not (x.serial == o)) v.objects y m).0) [] refl (λ a m. absurd m)
+        (λ n m. either m (λ i. cc) (λ no. no))
+    emptying_acts (Some entry) = acts script (at Emptying) below [] (empty_one o below (at Emptying) (Some entry)).1 refl refl
+        (shortened_grows (at Emptying) 1 v.next_serial v.objects o rises) (Releasing (entry_references entry) ∷ stands Emptying ∷ []) refl
         (two_raised script (at Emptying) below (Releasing (entry_references entry)) (stands Emptying) tt (λ weak m. absurd m)) (λ n m. m)
 
     pub dying_acts : (phase : DyingPhase) → (let t : Transition = dying script o phase below (at phase) in Acts script (at phase) below t.0 t.1)
@@ -160,7 +189,8 @@ module _ (script : Script) where
     dying_acts AfterFinalizer = after_frame_acts AfterFinalizer (Clearing []) refl
     dying_acts (Clearing waiting) = clearing_acts waiting (weak_references_if has_weak_references v.objects o) refl
     dying_acts (Calling waiting) = calling_acts waiting
-    dying_acts (AfterCall weak callback waiting) = acts script (at (AfterCall weak callback waiting)) below [] _ refl refl (grows_same (at (AfterCall weak callback waiting)) v.objects) (Releasing (callback ∷ weak ∷ []) ∷ stands (Calling waiting) ∷ []) refl
+    dying_acts (AfterCall weak callback waiting) = acts script (at (AfterCall weak callback waiting)) below [] _ refl refl
+        (grows_same (at (AfterCall weak callback waiting)) v.objects) (Releasing (callback ∷ weak ∷ []) ∷ stands (Calling waiting) ∷ []) refl
         (two_raised script (at (AfterCall weak callback waiting)) below (Releasing (callback ∷ weak ∷ [])) (stands (Calling waiting)) tt (waits_still (AfterCall weak callback waiting))) (λ n m. m)
     dying_acts LegacyFinalizer = legacy_acts (option_and_then (legacy_of script) (object_at v.objects o)) refl
     dying_acts AfterLegacy = after_frame_acts AfterLegacy Detaching refl

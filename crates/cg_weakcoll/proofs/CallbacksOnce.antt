@@ -82,14 +82,20 @@ pub record Tells (s : ℕ) (w : World) (events : List Event) (after : World) : T
   pub begins : Includes events (Enter Callback s) → Includes (all_to_call w.stack) s × (¬ Includes (all_to_call after.stack) s) × (events ≡ Enter Callback s ∷ [])
 
 -- a step of an activity other than commands
-pub acted_tells : (script : Script) (budget s : ℕ) (w : World) (a : Activity) (below : List Activity) (events : List Event) (after : World) → Known script budget w → w.stack ≡ a ∷ below → Acts script w below events after → Tells s w events after
+pub acted_tells : (script : Script) (budget s : ℕ) (w : World) (a : Activity) (below : List Activity) (events : List Event) (after : World)
+    → Known script budget w → w.stack ≡ a ∷ below → Acts script w below events after → Tells s w events after
 acted_tells script budget s w a below events after k top acts = record {
   serial = let e = acts.serial in omega (arith, e);
   comes = λ y m e. let x = acts.grows y m in (x.0, x.1, x.2.later);
-  waits = λ m. let b = to_call_of (acts.tops ++ below) s (subst (λ st. Includes (all_to_call st) s) acts.stack m) in either (Includes-append_cases acts.tops below b.0 b.1) (λ i. raised b.0 (acts.raised b.0 i) b.2)
+  waits = λ m. let b = to_call_of (acts.tops ++ below) s (subst (λ st. Includes (all_to_call st) s) acts.stack m)
+      in either (Includes-append_cases acts.tops below b.0 b.1) (λ i. raised b.0 (acts.raised b.0 i) b.2)
       (λ i. inl (subst (λ st. Includes (all_to_call st) s) (sym top) (Includes-append_right (to_call a) (all_to_call below) s (to_call_in_stack below b.0 s i b.2))));
   places = λ o y m i low f. let x = acts.grows y m in let is = sym x.2.later.serial ∙ i in either (x.2.place f) (λ g. inl (x.0, x.1, is, g)) (λ c. inr (subst (IsCollected w) is c));
-  begins = λ m. let c = acts.callbacks s m in (subst (λ xs. Includes xs s) (sym c.first) (inl refl), λ i. gone c (to_call_of (acts.tops ++ below) s (subst (λ st. Includes (all_to_call st) s) acts.stack i)), c.alone);
+  begins = λ m. let c = acts.callbacks s m in (
+    subst (λ xs. Includes xs s) (sym c.first) (inl refl),
+    λ i. gone c (to_call_of (acts.tops ++ below) s (subst (λ st. Includes (all_to_call st) s) acts.stack i)),
+    c.alone,
+  );
 }
   where
     raised : (b : Activity) → IsRaised script w b → Includes (to_call b) s → Waited w s
@@ -102,7 +108,9 @@ acted_tells script budget s w a below events after k top acts = record {
 
     gone : Called w below acts.tops events s → ((b : Activity) × Includes (acts.tops ++ below) b × Includes (to_call b) s) → ⊥
     gone c b =
-        let twice : Includes (c.rest ++ all_to_call below) s = either (Includes-append_cases acts.tops below b.0 b.1) (λ i. Includes-append_left c.rest (all_to_call below) s (c.others b.0 i s b.2)) (λ i. Includes-append_right c.rest (all_to_call below) s (to_call_in_stack below b.0 s i b.2)) in
+        let twice : Includes (c.rest ++ all_to_call below) s = either (Includes-append_cases acts.tops below b.0 b.1)
+        (λ i. Includes-append_left c.rest (all_to_call below) s (c.others b.0 i s b.2)) (λ i. Includes-append_right c.rest (all_to_call below) s
+        (to_call_in_stack below b.0 s i b.2)) in
         let once = k.lawful.orderly.once s in
         let all = all_wait s w.stack in
         let is : occurrences s (all_to_call w.stack) ≡ occurrences s (s ∷ (c.rest ++ all_to_call below)) = ap (occurrences s) c.first in
@@ -122,7 +130,8 @@ spent_stays s w events after t h = (
 )
 
 -- once its callback begins, it is spent
-pub begun_spent : (script : Script) (budget s : ℕ) (w : World) (events : List Event) (after : World) → Known script budget w → Tells s w events after → s < w.next_serial → Includes events (Enter Callback s) → Spent s after
+pub begun_spent : (script : Script) (budget s : ℕ) (w : World) (events : List Event) (after : World) → Known script budget w → Tells s w events after
+    → s < w.next_serial → Includes events (Enter Callback s) → Spent s after
 begun_spent script budget s w events after k t low m = record {
   made = let l = t.serial in omega (arith, low, l);
   unreferred = λ y i e. let x = t.comes y i e in none_later x.0 y x.2 (lost_referent script budget w s k (t.begins m).0 x.0 x.1 (sym x.2.serial ∙ e)).referent;

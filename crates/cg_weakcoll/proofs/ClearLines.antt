@@ -53,7 +53,8 @@ line_words l inside k line fine unpassed = clear_words l (words_of line) (none_k
     go None e = e
     go (Some form) e = second_none (form_fault form inside k line (words_of line)) (name_fault (words_of line)) e
 
-pub joined_clear : (Free : List ℕ → Type 0) (all names : List (List ℕ)) (lines : List (List (List ℕ))) → EachLine IsSound lines → EachLine (IsClear Free) lines → AreClearLines all names Free (map joined lines)
+pub joined_clear : (Free : List ℕ → Type 0) (all names : List (List ℕ)) (lines : List (List (List ℕ))) → EachLine IsSound lines → EachLine (IsClear Free) lines
+    → AreClearLines all names Free (map joined lines)
 joined_clear Free all names [] sound clear line m unpassed = absurd m
 joined_clear Free all names (words ∷ lines) sound clear line m unpassed = either m
     (λ e. subst (λ ws. AreClear Free ws) (sym (words_of-joined words (each_sound words sound.0)) ∙ ap words_of e) (each_clear Free words clear.0))
@@ -75,7 +76,8 @@ module _ (all names : List (List ℕ)) (l : ℕ) (low : l ≤ 400000) where
           (sound_lines k fits.low (words_of line) form (λ place h. sound_at (words_of line) place (sound_words line fits.printable) (omega (arith, h, count))))
           (clear_lines k l fits.low low apart (words_of line) form (λ place h. word_there (IsClear (IsElse l)) (words_of line) place clear (omega (arith, h, count))))
 
-  pub clear_from : (lines : List (List ℕ)) (inside : Bool) (k : ℕ) → first_bad_from inside k lines ≡ None → ((m : ℕ) → k ≤ m → m < k + length lines → m ≢ l) → AreClearLines all names (IsElse l) (written_from k lines)
+  pub clear_from : (lines : List (List ℕ)) (inside : Bool) (k : ℕ) → first_bad_from inside k lines ≡ None → ((m : ℕ) → k ≤ m → m < k + length lines → m ≢ l)
+      → AreClearLines all names (IsElse l) (written_from k lines)
   clear_from [] inside k fine apart line m unpassed = absurd m
   clear_from (line ∷ lines) inside k fine apart other m unpassed =
       let f = split_bad k (fault_of inside k line) (first_bad_from (inside_after inside (words_of line)) (k + 1) lines) fine in

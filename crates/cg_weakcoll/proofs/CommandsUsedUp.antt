@@ -48,14 +48,41 @@ pub record Burns (w after : World) : Type 0 where
 abbrev pub BurnsSo : World → List Event → World → Type 0
 BurnsSo w events after = count_by is_enter events ≡ 0 → after.outcome ≡ Running → Burns w after
 
-idle : (a : Activity) (below tops : List Activity) (w after : World) → weight a ≡ 0 → commands_on a ≡ [] → w.stack ≡ a ∷ below → after.stack ≡ tops ++ below → tally weight tops ≡ 0 → after.names ≡ w.names → Burns w after
-idle a below tops w after light none was now idle_tops names = record { top = a; below = below; tops = tops; was = was; now = now; burnt = record { light = omega (arith, light, idle_tops); kept = λ e. names; next = λ some. absurd (some none) } }
+idle : (a : Activity) (below tops : List Activity) (w after : World) → weight a ≡ 0 → commands_on a ≡ [] → w.stack ≡ a ∷ below → after.stack ≡ tops ++ below
+    → tally weight tops ≡ 0 → after.names ≡ w.names → Burns w after
+idle a below tops w after light none was now idle_tops names = record {
+  top = a;
+  below = below;
+  tops = tops;
+  was = was;
+  now = now;
+  burnt = record { light = omega (arith, light, idle_tops); kept = λ e. names; next = λ some. absurd (some none) };
+}
 
 takes_one : (a : Activity) (below tops : List Activity) (w after : World) → w.stack ≡ a ∷ below → after.stack ≡ tops ++ below → tally weight tops < weight a → Burns w after
-takes_one a below tops w after was now less = record { top = a; below = below; tops = tops; was = was; now = now; burnt = record { light = omega (arith, less); kept = λ e. absurd (omega (arith, less, e)); next = λ some. inl less } }
+takes_one a below tops w after was now less = record {
+  top = a;
+  below = below;
+  tops = tops;
+  was = was;
+  now = now;
+  burnt = record {
+    light = omega (arith, less);
+    kept = λ e. absurd (omega (arith, less, e));
+    next = λ some. inl less;
+  };
+}
 
-closes : (a : Activity) (below tops : List Activity) (w after : World) → commands_on a ≡ [] → 0 < weight a → w.stack ≡ a ∷ below → after.stack ≡ tops ++ below → tally weight tops ≤ weight a → Burns w after
-closes a below tops w after none some was now light = record { top = a; below = below; tops = tops; was = was; now = now; burnt = record { light = light; kept = λ e. absurd (omega (arith, some, e)); next = λ k. absurd (k none) } }
+closes : (a : Activity) (below tops : List Activity) (w after : World) → commands_on a ≡ [] → 0 < weight a → w.stack ≡ a ∷ below → after.stack ≡ tops ++ below
+    → tally weight tops ≤ weight a → Burns w after
+closes a below tops w after none some was now light = record {
+  top = a;
+  below = below;
+  tops = tops;
+  was = was;
+  now = now;
+  burnt = record { light = light; kept = λ e. absurd (omega (arith, some, e)); next = λ k. absurd (k none) };
+}
 
 -- what goes on in another activity's step
 continues_idle : (before after : List Object) (top a : Activity) → Continues before after top a → (weight top ≡ 0) × (commands_on top ≡ []) × (weight a ≡ 0)
@@ -64,7 +91,8 @@ continues_idle before after top a (DeathClears o weak waiting weaks t first lost
 continues_idle before after top a (CollectionGoesOn c d same begun early) = (refl, refl, refl)
 
 module _ (script : Script) (below : List Activity) (v : World) where
-  stands : (top : Activity) → (commands_on top ≡ []) → (objects : List Object) (numbers : Numbers) (tops : List Activity) → Tops v.objects objects top tops → Burns (on top below v) (record v { objects = objects; numbers = numbers; stack = tops ++ below })
+  stands : (top : Activity) → (commands_on top ≡ []) → (objects : List Object) (numbers : Numbers) (tops : List Activity) → Tops v.objects objects top tops
+      → Burns (on top below v) (record v { objects = objects; numbers = numbers; stack = tops ++ below })
   stands top none objects numbers tops (TopEnds a gone) = ends a none
     where
       w : World
@@ -81,11 +109,13 @@ module _ (script : Script) (below : List Activity) (v : World) where
   stands top none objects numbers tops (GivesReference o references) = idle top below tops (on top below v) _ refl refl refl refl refl refl
   stands top none objects numbers tops (BeginsDeath o references) = idle top below tops (on top below v) _ refl refl refl refl refl refl
   stands top none objects numbers tops (TopGoesOn b a c held) = let k = continues_idle v.objects objects b a c in idle b below (a ∷ []) (on b below v) _ k.0 k.1 refl refl (omega (arith, k.2)) refl
-  stands top none objects numbers tops (GivesReferences b a references few c held) = let k = continues_idle v.objects objects b a c in idle b below (Releasing references ∷ a ∷ []) (on b below v) _ k.0 k.1 refl refl (omega (arith, k.2)) refl
+  stands top none objects numbers tops (GivesReferences b a references few c held) = let k = continues_idle v.objects objects b a c
+      in idle b below (Releasing references ∷ a ∷ []) (on b below v) _ k.0 k.1 refl refl (omega (arith, k.2)) refl
 
   advance_burns : (top : Activity) → (commands_on top ≡ []) → (lines : List Event) (after : World) → Advance script v top below lines after → BurnsSo (on top below v) lines after
   advance_burns top none lines after (Plainly tops objects numbers ls t c n shown) quiet running = stands top none objects numbers tops t
-  advance_burns top none lines after (WithFrame spec a objects s c held m) quiet running = absurd (starts_none script spec (record v { objects = objects; stack = a ∷ below }) _ _ (refl, refl) quiet running)
+  advance_burns top none lines after (WithFrame spec a objects s c held m) quiet running =
+      absurd (starts_none script spec (record v { objects = objects; stack = a ∷ below }) _ _ (refl, refl) quiet running)
 
 fewer : (command : Command) (a b : Activity) → Takes command a b → weight b < weight a
 fewer command a b (FromTop commands) = omega arith
@@ -102,17 +132,28 @@ ends_never w lines quiet running = absurd (let no : Ended ≡ Running = running 
 
 burns_steps : (script : Script) → Steps script (λ w. Unit {0}) BurnsSo
 burns_steps script = record {
-  starts_due = λ a below v ha g e k quiet running. record { top = a; below = below; tops = new_collection g false (on a below v) ∷ a ∷ []; was = refl; now = refl; burnt = record { light = omega arith; kept = λ i. refl; next = λ some. inr (new_collection g false (on a below v), refl, refl, refl) } };
+  starts_due = λ a below v ha g e k quiet running. record {
+    top = a;
+    below = below;
+    tops = new_collection g false (on a below v) ∷ a ∷ [];
+    was = refl;
+    now = refl;
+    burnt = record { light = omega arith; kept = λ i. refl; next = λ some. inr (new_collection g false (on a below v), refl, refl, refl) };
+  };
   ends = λ a lines below v last k. ends_never (on a below v) lines;
   shuts_down = λ below v k quiet running. closes (TopLevel []) below (ShuttingDown false ∷ []) (on (TopLevel []) below v) (on (ShuttingDown false) below v) refl (omega arith) refl refl (omega arith);
   gives_up = λ name below v e k quiet running. closes (ShuttingDown false) below (Releasing _ ∷ ShuttingDown false ∷ []) (on (ShuttingDown false) below v) _ refl (omega arith) refl refl (omega arith);
-  collects_last = λ below v k quiet running. closes (ShuttingDown false) below (new_collection 2 false (on (ShuttingDown false) below v) ∷ ShuttingDown true ∷ []) (on (ShuttingDown false) below v) _ refl (omega arith) refl refl (omega arith);
+  collects_last = λ below v k quiet running. closes (ShuttingDown false) below (new_collection 2 false (on (ShuttingDown false) below v) ∷ ShuttingDown true
+      ∷ []) (on (ShuttingDown false) below v) _ refl (omega arith) refl refl (omega arith);
   commands = λ command a b below v takes hb k. record {
     stays = λ lines answers quiet running. takes_one a below (b ∷ []) (on a below v) (on b below v) refl refl (omega (arith, fewer command a b takes));
     stops = λ lines answers quiet running. takes_one a below (emptied b ∷ []) (on a below v) (on (emptied b) below v) refl refl (omega (arith, fewer command a b takes, emptied_light b hb));
-    changes = λ wants_memory lines given_up after shape quiet running. takes_one a below (Releasing given_up ∷ b ∷ []) (on a below v) (push (Releasing given_up) after) refl (ap (λ st. Releasing given_up ∷ st) (changes_leave (on b below v) command wants_memory lines given_up after shape).stack) (omega (arith, fewer command a b takes));
+    changes = λ wants_memory lines given_up after shape quiet running. takes_one a below (Releasing given_up ∷ b ∷ []) (on a below v)
+        (push (Releasing given_up) after) refl (ap (λ st. Releasing given_up ∷ st) (changes_leave (on b below v) command wants_memory lines given_up after
+        shape).stack) (omega (arith, fewer command a b takes));
     calls = λ f h quiet running. absurd (starts_none script _ _ _ _ (refl, refl) quiet running);
-    asks = λ g low e quiet running. takes_one a below (new_collection g true (on b below v) ∷ b ∷ []) (on a below v) (push (new_collection g true (on b below v)) (on b below v)) refl refl (omega (arith, fewer command a b takes));
+    asks = λ g low e quiet running. takes_one a below (new_collection g true (on b below v) ∷ b ∷ []) (on a below v)
+        (push (new_collection g true (on b below v)) (on b below v)) refl refl (omega (arith, fewer command a b takes));
   };
   frame_ends = λ f below v left k. advance_burns script below v (Framed f) left _ _ (frame_end_advances script f below v);
   releases = λ references below v k. advance_burns script below v (Releasing references) refl _ _ (released_advances script references below v);

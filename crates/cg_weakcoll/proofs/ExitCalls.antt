@@ -59,7 +59,8 @@ module _ (script : Script) (budget : ℕ) (e : Exit) (ex : IsExit script e) (bel
   HasObject w commands = (commands ≡ Call (Name e.function) ∷ []) ⊎ ((r : ℕ) × (slice_get w.names e.object ≡ Some (Some (Ref r))))
 
   pub data Alive (calls : ℕ) (w : World) : Type 0 where
-    Underway : (tops : List Activity) (frame : Frame) → w.stack ≡ tops ++ Framed frame ∷ below → AllHigh e tops → IsTail e frame.commands → (frame.commands ≢ exit_body e) → HasObject w frame.commands → Alive calls w
+    Underway : (tops : List Activity) (frame : Frame) → w.stack ≡ tops ++ Framed frame ∷ below → AllHigh e tops → IsTail e frame.commands
+        → (frame.commands ≢ exit_body e) → HasObject w frame.commands → Alive calls w
     Begun : 0 < calls → Alive calls w
 
   abbrev counts : World → List Event → ℕ
@@ -71,12 +72,14 @@ module _ (script : Script) (budget : ℕ) (e : Exit) (ex : IsExit script e) (bel
 
   module _ (w : World) (events : List Event) (after : World) (k : Known script budget w) (hidden : AreHidden e w) (step : Step script w events after) (calls : ℕ) where
     -- other activities on top
-    over : (t : Activity) (tops : List Activity) (frame : Frame) → w.stack ≡ t ∷ (tops ++ Framed frame ∷ below) → AllHigh e (t ∷ tops) → IsTail e frame.commands → (frame.commands ≢ exit_body e) → HasObject w frame.commands → Alive (calls + counts w events) after
+    over : (t : Activity) (tops : List Activity) (frame : Frame) → w.stack ≡ t ∷ (tops ++ Framed frame ∷ below) → AllHigh e (t ∷ tops) → IsTail e frame.commands
+        → (frame.commands ≢ exit_body e) → HasObject w frame.commands → Alive (calls + counts w events) after
     over t tops frame is high tail later has =
         let x = went script w events after k.fit.sound.rises step in
         let s = high_step script budget e ex w t (tops ++ Framed frame ∷ below) events after k hidden is (high t (inl refl)) x in
         let names = rests_names script budget e ex w events after e.object (inl refl) x (inl (t, tops ++ Framed frame ∷ below, is, high t (inl refl))) in
-        Underway (s.tops ++ tops) frame (s.is ∙ sym (append_assoc s.tops tops (Framed frame ∷ below))) (λ a m. either (Includes-append_cases s.tops tops a m) (s.high a) (λ i. high a (inr i))) tail later
+        Underway (s.tops ++ tops) frame (s.is ∙ sym (append_assoc s.tops tops (Framed frame ∷ below))) (λ a m. either (Includes-append_cases s.tops tops a m)
+        (s.high a) (λ i. high a (inr i))) tail later
         (either has (λ last. inl last) (λ r. inr (r.0, names ∙ r.1)))
 
     module _ (frame : Frame) (top : w.stack ≡ Framed frame ∷ below) (quiet : count_by is_refusal events ≡ 0) where
@@ -88,14 +91,30 @@ module _ (script : Script) (budget : ℕ) (e : Exit) (ex : IsExit script e) (bel
 
       at_command : (c : Command) (cs : List Command) → frame.commands ≡ c ∷ cs → IsTail e frame.commands → (frame.commands ≢ exit_body e) → HasObject w frame.commands
           → (CommandStep script (on (Framed (record frame { commands = cs })) below w) c events after → Alive (calls + counts w events) after) → Alive (calls + counts w events) after
-      at_command c cs left tail later has next = either (exactly script (Framed frame) (Framed (record frame { commands = cs })) below w c events after (FromFrame frame cs left) (subst (λ (z : World). Step script z events after) is_on step))
-          (λ d. Underway (new_collection d.0 false (on (Framed frame) below w) ∷ []) frame (ap (λ (z : World). z.stack) d.2) (one_high (new_collection d.0 false (on (Framed frame) below w)) tt) tail later (either has (λ last. inl last) (λ r. inr (r.0, ap (λ (z : World). slice_get z.names e.object) d.2 ∙ r.1))))
+      at_command c cs left tail later has next = either (exactly script (Framed frame) (Framed (record frame { commands = cs })) below w c events after
+          (FromFrame frame cs left) (subst (λ (z : World). Step script z events after) is_on step))
+          (λ d. Underway (new_collection d.0 false (on (Framed frame) below w) ∷ []) frame (ap (λ (z : World). z.stack) d.2)
+          (one_high (new_collection d.0 false (on (Framed frame) below w)) tt) tail later
+          (either has (λ last. inl last) (λ r. inr (r.0, ap (λ (z : World). slice_get z.names e.object) d.2 ∙ r.1))))
           next
 
-      begins : (u : World) (f p : ℕ) → Yields (start_frame script (record { sort = CallFrame; proc = p; subject = f; func = Some f }) u) events after → is_call e.function (next_command w.stack) ≡ true → 0 < calls + counts w events
+      begins : (u : World) (f p : ℕ) → Yields (start_frame script (record { sort = CallFrame; proc = p; subject = f; func = Some f }) u) events after
+          → is_call e.function (next_command w.stack) ≡ true → 0 < calls + counts w events
       begins u f p y called = go (u.budget == 0) y
         where
-          go : (b : Bool) → Yields (if b then (BudgetSpent ∷ [], record u { outcome = BudgetIsSpent }) else (Enter CallFrame f ∷ [], record u { budget = u.budget - 1; stack = Framed (record { sort = CallFrame; subject = f; function = Some f; commands = body_of script p }) ∷ u.stack })) events after → 0 < calls + counts w events
+          go : (b : Bool) → Yields (if b then (BudgetSpent ∷ [], record u { outcome = BudgetIsSpent })
+              else (
+                Enter CallFrame f ∷ [],
+                record u {
+                  budget = u.budget - 1;
+                  stack = Framed (record {
+                    sort = CallFrame;
+                    subject = f;
+                    function = Some f;
+                    commands = body_of script p;
+                  }) ∷ u.stack;
+                },
+              )) events after → 0 < calls + counts w events
           go true z = absurd (refusal_counted BudgetSpent refl (sym (ap (count_by is_refusal) z.0) ∙ quiet))
           go false z =
               let one : counts w events ≡ 1 = ap (λ t. if t then count_by is_enter events else 0) called ∙ ap (count_by is_enter) z.0 ∙ enter_counted f in omega (arith, one)
@@ -109,35 +128,55 @@ module _ (script : Script) (budget : ℕ) (e : Exit) (ex : IsExit script e) (bel
       own fs is AtQuit later has tail =
           let r = has_ref frame.commands has (λ same. let no : Quit (Name e.object) ∷ Del e.watch ∷ Del e.object ∷ Call (Name e.function) ∷ [] ≡ Call (Name e.function) ∷ [] = sym is ∙ same in cc) in
           let rest : List Command = Del e.watch ∷ Del e.object ∷ Call (Name e.function) ∷ [] in
-          at_command (Quit (Name e.object)) rest is tail later has (λ s. either (quit_step script (on (Framed (record frame { commands = rest })) below w) events after (Name e.object) s) (λ q. absurd (refuses q.0 q.1.0)) (λ v. quits r v.0 (name_value w.names e.object v.0 v.1) v.2))
+          at_command (Quit (Name e.object)) rest is tail later has (λ s. either (quit_step script (on (Framed (record frame { commands = rest })) below w)
+          events after (Name e.object) s) (λ q. absurd (refuses q.0 q.1.0)) (λ v. quits r v.0 (name_value w.names e.object v.0 v.1) v.2))
         where
           some_some : (a b : Val) → Some (Some a) ≡ Some (Some b) → a ≡ b
           some_some a b i = cc
 
-          quits : ((r : ℕ) × (slice_get w.names e.object ≡ Some (Some (Ref r)))) → (v : Val) → slice_get w.names e.object ≡ Some (Some v) → Quitted script (on (Framed (record frame { commands = Del e.watch ∷ Del e.object ∷ Call (Name e.function) ∷ [] })) below w) events after v → Alive (calls + counts w events) after
-          quits r (Ref i) at q = Underway (Releasing [] ∷ []) (record frame { commands = Del e.watch ∷ Del e.object ∷ Call (Name e.function) ∷ [] }) (ap (λ (z : World). z.stack) q.1) (one_high (Releasing []) tt) AtWatch (λ j. cc) (inr (i, ap (λ (z : World). slice_get z.names e.object) q.1 ∙ at))
+          quits : ((r : ℕ) × (slice_get w.names e.object ≡ Some (Some (Ref r)))) → (v : Val) → slice_get w.names e.object ≡ Some (Some v)
+              → Quitted script (on (Framed (record frame { commands = Del e.watch ∷ Del e.object ∷ Call (Name e.function) ∷ [] })) below w) events after v
+              → Alive (calls + counts w events) after
+          quits r (Ref i) at q = Underway (Releasing [] ∷ []) (record frame { commands = Del e.watch ∷ Del e.object ∷ Call (Name e.function) ∷ [] })
+              (ap (λ (z : World). z.stack) q.1) (one_high (Releasing []) tt) AtWatch (λ j. cc) (inr (
+                i,
+                ap (λ (z : World). slice_get z.names e.object) q.1
+                    ∙ at,
+              ))
           quits r Nothing at q = absurd (let no = some_some (Ref r.0) Nothing (sym r.1 ∙ at) in cc)
           quits r (Int i) at q = absurd (let no = some_some (Ref r.0) (Int i) (sym r.1 ∙ at) in cc)
           quits r (Str i) at q = absurd (let no = some_some (Ref r.0) (Str i) (sym r.1 ∙ at) in cc)
       own fs is AtWatch later has tail =
           let r = has_ref frame.commands has (λ same. let no : Del e.watch ∷ Del e.object ∷ Call (Name e.function) ∷ [] ≡ Call (Name e.function) ∷ [] = sym is ∙ same in cc) in
-          at_command (Del e.watch) (Del e.object ∷ Call (Name e.function) ∷ []) is tail later has (λ s. either (del_step script (on (Framed (record frame { commands = Del e.object ∷ Call (Name e.function) ∷ [] })) below w) events after e.watch s) (λ q. absurd (refuses q.0 q.1.0))
-          (λ y. Underway (Releasing (given_up_by w e.watch) ∷ []) (record frame { commands = Del e.object ∷ Call (Name e.function) ∷ [] }) (ap (λ (z : World). z.stack) y.1) (one_high (Releasing (given_up_by w e.watch)) tt) AtObject (λ j. cc)
+          at_command (Del e.watch) (Del e.object ∷ Call (Name e.function) ∷ []) is tail later has
+          (λ s. either (del_step script (on (Framed (record frame { commands = Del e.object ∷ Call (Name e.function) ∷ [] })) below w) events after e.watch
+          s) (λ q. absurd (refuses q.0 q.1.0))
+          (λ y. Underway (Releasing (given_up_by w e.watch) ∷ []) (record frame { commands = Del e.object ∷ Call (Name e.function) ∷ [] })
+          (ap (λ (z : World). z.stack) y.1) (one_high (Releasing (given_up_by w e.watch)) tt) AtObject (λ j. cc)
           (inr (r.0, ap (λ (z : World). slice_get z.names e.object) y.1 ∙ set_away w.names e.watch e.object None (λ i. ex.watch_object (sym i)) ∙ r.1))))
-      own fs is AtObject later has tail = at_command (Del e.object) (Call (Name e.function) ∷ []) is tail later has (λ s. either (del_step script (on (Framed (record frame { commands = Call (Name e.function) ∷ [] })) below w) events after e.object s) (λ q. absurd (refuses q.0 q.1.0))
-          (λ y. Underway (Releasing (given_up_by w e.object) ∷ []) (record frame { commands = Call (Name e.function) ∷ [] }) (ap (λ (z : World). z.stack) y.1) (one_high (Releasing (given_up_by w e.object)) tt) AtCall (λ j. cc) (inl refl)))
-      own fs is AtCall later has tail = at_command (Call (Name e.function)) [] is tail later has (λ s. either (call_step script (on (Framed (record frame { commands = [] })) below w) events after (Name e.function) s) (λ q. absurd (refuses q.0 q.1.0))
-          (λ c. Begun (begins (on (Framed (record frame { commands = [] })) below w) c.object.serial (procedure_of (on (Framed (record frame { commands = [] })) below w) c.object.serial) c.begins (ap (λ st. is_call e.function (next_command st)) top ∙ ap (λ xs. is_call e.function (first_of xs)) is ∙ eq-eqb e.function e.function refl))))
+      own fs is AtObject later has tail = at_command (Del e.object) (Call (Name e.function) ∷ []) is tail later has
+          (λ s. either (del_step script (on (Framed (record frame { commands = Call (Name e.function) ∷ [] })) below w) events after e.object s)
+          (λ q. absurd (refuses q.0 q.1.0))
+          (λ y. Underway (Releasing (given_up_by w e.object) ∷ []) (record frame { commands = Call (Name e.function) ∷ [] }) (ap (λ (z : World). z.stack) y.1)
+          (one_high (Releasing (given_up_by w e.object)) tt) AtCall (λ j. cc) (inl refl)))
+      own fs is AtCall later has tail = at_command (Call (Name e.function)) [] is tail later has
+          (λ s. either (call_step script (on (Framed (record frame { commands = [] })) below w) events after (Name e.function) s)
+          (λ q. absurd (refuses q.0 q.1.0))
+          (λ c. Begun (begins (on (Framed (record frame { commands = [] })) below w) c.object.serial
+          (procedure_of (on (Framed (record frame { commands = [] })) below w) c.object.serial) c.begins (ap (λ st. is_call e.function (next_command st))
+          top ∙ ap (λ xs. is_call e.function (first_of xs)) is ∙ eq-eqb e.function e.function refl))))
 
     alive_step : ((frame : Frame) → w.stack ≡ Framed frame ∷ below → count_by is_refusal events ≡ 0) → Alive calls w → Alive (calls + counts w events) after
     alive_step quiet (Underway [] frame is high tail later has) = own frame is (quiet frame is) frame.commands refl tail later has tail
     alive_step quiet (Underway (t ∷ tops) frame is high tail later has) = over t tops frame is high tail later has
     alive_step quiet (Begun more) = Begun (omega (arith, more))
 
-  alive_run : (calls early : ℕ) (w : World) (steps : List StepTaken) → Run script w steps → AllKnown script budget w → Early script budget e ex early w → NoneRefused below w steps → Alive calls w → Alive (calls + calls_from e.function w steps) (last_world w steps)
+  alive_run : (calls early : ℕ) (w : World) (steps : List StepTaken) → Run script w steps → AllKnown script budget w → Early script budget e ex early w
+      → NoneRefused below w steps → Alive calls w → Alive (calls + calls_from e.function w steps) (last_world w steps)
   alive_run calls early w [] run known h quiet alive = let same : calls ≡ calls + 0 = omega arith in subst (λ n. Alive n w) same alive
   alive_run calls early w (step ∷ steps) run known h quiet alive =
-      let next = alive_run (calls + counts w step.events) (early + counts w step.events) step.world steps run.1 (next_known script budget w step run.0 known) (early_step script budget e ex early w step.events step.world (known [] tt) run.0 h) quiet.1
+      let next = alive_run (calls + counts w step.events) (early + counts w step.events) step.world steps run.1 (next_known script budget w step run.0 known)
+      (early_step script budget e ex early w step.events step.world (known [] tt) run.0 h) quiet.1
       (alive_step w step.events step.world (known [] tt) h.hidden run.0 calls quiet.0 alive) in
       subst (λ n. Alive n (last_world step.world steps)) (sum_moved calls (counts w step.events) (calls_from e.function step.world steps)) next
 
@@ -152,7 +191,8 @@ module _ (script : Script) (budget : ℕ) (e : Exit) (ex : IsExit script e) (bel
   told calls w (Underway tops frame is high tail later has) = inl (record { tops = tops; frame = frame; is = is; left = tail_left frame.commands tail })
   told calls w (Begun more) = inr more
 
-  module _ (texts : TextsAreKnown script) (w : World) (events : List Event) (after : World) (k : Known script budget w) (step : Step script w events after) (calls : ℕ) (frame : Frame) (finds : FindsAlive e w frame below) (quiet : count_by is_refusal events ≡ 0) where
+  module _ (texts : TextsAreKnown script) (w : World) (events : List Event) (after : World) (k : Known script budget w) (step : Step script w events after)
+      (calls : ℕ) (frame : Frame) (finds : FindsAlive e w frame below) (quiet : count_by is_refusal events ≡ 0) where
     abbrev rest : List Command
     rest = Quit (Name e.object) ∷ Del e.watch ∷ Del e.object ∷ Call (Name e.function) ∷ []
 
@@ -166,7 +206,8 @@ module _ (script : Script) (budget : ℕ) (e : Exit) (ex : IsExit script e) (bel
     low : e.object < length w.names
     low =
         let member : Includes (flat_map commands_on w.stack) (Deref e.object (Name e.watch)) = subst (λ st. Includes (flat_map commands_on st) (Deref e.object (Name e.watch))) (sym finds.stack)
-        (Includes-append_left frame.commands (flat_map commands_on below) (Deref e.object (Name e.watch)) (subst (λ cs. Includes cs (Deref e.object (Name e.watch))) (sym finds.commands) (inl refl))) in
+        (Includes-append_left frame.commands (flat_map commands_on below) (Deref e.object (Name e.watch))
+        (subst (λ cs. Includes cs (Deref e.object (Name e.watch))) (sym finds.commands) (inl refl))) in
         let known = commands_name_texts script texts (Deref e.object (Name e.watch)) (k.lawful.origins.commands (Deref e.object (Name e.watch)) member) e.object (inl refl) in
         let count = k.minded.count in omega (arith, known, count)
 
@@ -179,15 +220,18 @@ module _ (script : Script) (budget : ℕ) (e : Exit) (ex : IsExit script e) (bel
         let there : object_of u (Ref finds.weak.serial) ≡ Some d.object = subst (λ v. object_of u v ≡ Some d.object) value d.found in
         let f = found_at w.objects finds.weak.serial d.object there in
         let same : d.object ≡ finds.weak = same_object 1 w.next_serial w.objects d.object finds.weak k.fit.sound.rises f.0 finds.member f.1 in
-        let is : referent_value script u events after d.object.referent ≡ Ref r = ap (λ (x : Object). referent_value script u events after x.referent) same ∙ ap (referent_value script u events after) some in
+        let is : referent_value script u events after d.object.referent ≡ Ref r = ap (λ (x : Object). referent_value script u events after x.referent) same
+        ∙ ap (referent_value script u events after) some in
         ap (λ (z : World). slice_get z.names e.object) d.yields.1 ∙ set_there w.names e.object (Some (referent_value script u events after d.object.referent)) low ∙ ap (λ v. Some (Some v)) is
 
     pub first_step : Alive (calls + counts w events) after
-    first_step = either (deref_step script u events after e.object (Name e.watch) does) (λ q. absurd (refusal_counted (Refused q.0) refl (sym (ap (count_by is_refusal) q.1.0) ∙ quiet))) (λ d. go d finds.weak.referent refl)
+    first_step = either (deref_step script u events after e.object (Name e.watch) does)
+        (λ q. absurd (refusal_counted (Refused q.0) refl (sym (ap (count_by is_refusal) q.1.0) ∙ quiet))) (λ d. go d finds.weak.referent refl)
       where
         go : IsDeref script u events after e.object (Name e.watch) → (m : Option ℕ) → finds.weak.referent ≡ m → Alive (calls + counts w events) after
         go d None none = absurd (finds.refers none)
-        go d (Some r) some = Underway (Releasing (given_up_by u e.object) ∷ []) (record frame { commands = rest }) (ap (λ (z : World). z.stack) d.yields.1) (one_high (Releasing (given_up_by u e.object)) tt) AtQuit (λ i. cc) (inr (r, gets d r some))
+        go d (Some r) some = Underway (Releasing (given_up_by u e.object) ∷ []) (record frame { commands = rest }) (ap (λ (z : World). z.stack) d.yields.1)
+            (one_high (Releasing (given_up_by u e.object)) tt) AtQuit (λ i. cc) (inr (r, gets d r some))
 
 -- the law, for every run
 pub begins_alive : ExitsBeginAlive
@@ -199,14 +243,18 @@ begins_alive script budget before during texts run e ex frame below finds quiet 
     all_known : AllKnown script budget (opening script budget)
     all_known front r = known_after script budget front texts r
 
-    go : (steps : List StepTaken) → IsRun script budget (before ++ steps) → NoneRefused below (world_after script budget before) steps → IsUnderway below (last_world (world_after script budget before) steps).stack ⊎ (0 < calls_from e.function (world_after script budget before) steps)
+    go : (steps : List StepTaken) → IsRun script budget (before ++ steps) → NoneRefused below (world_after script budget before) steps
+        → IsUnderway below (last_world (world_after script budget before) steps).stack ⊎ (0 < calls_from e.function (world_after script budget before) steps)
     go [] r q = inl (record { tops = []; frame = frame; is = finds.stack; left = λ none. let no = sym finds.commands ∙ none in cc })
     go (step ∷ more) r q =
         let front = run_front script (opening script budget) before (step ∷ more) r in
         let back = run_back script (opening script budget) before (step ∷ more) r in
         let k = all_known before front in
-        let known : AllKnown script budget (last_world (opening script budget) before) = λ steps s. subst (Known script budget) (last_world-append (opening script budget) before steps) (all_known (before ++ steps) (Run-append script (opening script budget) before steps front s)) in
+        let known : AllKnown script budget (last_world (opening script budget) before) = λ steps s. subst (Known script budget)
+        (last_world-append (opening script budget) before steps) (all_known (before ++ steps) (Run-append script (opening script budget) before steps front
+        s)) in
         let early = early_run script budget e ex 0 (opening script budget) before front all_known (early_opening script budget e ex) in
         let first = first_step script budget e ex below texts (last_world (opening script budget) before) step.events step.world k back.0 0 frame finds (q.0 frame finds.stack) in
-        let next = alive_run script budget e ex below _ _ step.world more back.1 (next_known script budget (last_world (opening script budget) before) step back.0 known) (early_step script budget e ex _ (last_world (opening script budget) before) step.events step.world k back.0 early) q.1 first in
+        let next = alive_run script budget e ex below _ _ step.world more back.1 (next_known script budget (last_world (opening script budget) before) step
+        back.0 known) (early_step script budget e ex _ (last_world (opening script budget) before) step.events step.world k back.0 early) q.1 first in
         either (told script budget e ex below _ (last_world step.world more) next) (λ left. inl left) (λ more_calls. inr (omega (arith, more_calls)))

@@ -24,7 +24,8 @@ abbrev pub IsElse : ℕ → List ℕ → Type 0
 IsElse l text = Includes (own_names l) text → ⊥
 
 -- All have the reserved prefix, and so do `del=` and `legacy=` words with one of them.
-own_kept : (l : ℕ) (prefix text : List ℕ) → ((rest : List ℕ) → begins_with (prefix ++ codes "wv_") (prefix ++ (codes "wv_" ++ rest)) ≡ true) → Includes (own_names l) text → begins_with (prefix ++ codes "wv_") (prefix ++ text) ≡ true
+own_kept : (l : ℕ) (prefix text : List ℕ) → ((rest : List ℕ) → begins_with (prefix ++ codes "wv_") (prefix ++ (codes "wv_" ++ rest)) ≡ true)
+    → Includes (own_names l) text → begins_with (prefix ++ codes "wv_") (prefix ++ text) ≡ true
 own_kept l prefix text told (inl e) = subst (λ t. begins_with (prefix ++ codes "wv_") (prefix ++ t) ≡ true) e (told (codes "p_" ++ decimal l))
 own_kept l prefix text told (inr (inl e)) = subst (λ t. begins_with (prefix ++ codes "wv_") (prefix ++ t) ≡ true) e (told (codes "o_" ++ decimal l))
 own_kept l prefix text told (inr (inr (inl e))) = subst (λ t. begins_with (prefix ++ codes "wv_") (prefix ++ t) ≡ true) e (told (codes "g_" ++ decimal l))
@@ -43,7 +44,8 @@ behind_prefix prefix word name e = go (bytes_eq (take (length prefix) word) pref
     go false is h = absurd (cc)
     go true is h =
         let rest : drop (length prefix) word ≡ name = cc in
-        sym (take-append-drop (length prefix) word) ∙ ap (λ (t : List ℕ). t ++ drop (length prefix) word) ((bytes_eq-Decides (take (length prefix) word) prefix).0 is) ∙ ap (λ (t : List ℕ). prefix ++ t) rest
+        sym (take-append-drop (length prefix) word) ∙ ap (λ (t : List ℕ). t ++ drop (length prefix) word)
+        ((bytes_eq-Decides (take (length prefix) word) prefix).0 is) ∙ ap (λ (t : List ℕ). prefix ++ t) rest
 
 -- a word that is not reserved
 pub clear_word : (l : ℕ) (word : List ℕ) → is_kept word ≡ false → IsClear (IsElse l) word
@@ -52,8 +54,10 @@ clear_word l word kept =
     let second = neither (begins_with (codes "wv_") word) (begins_with (codes "del=wv_") word) first.0 in
     record {
       itself = λ own. differs (codes "wv_") word (own_kept l [] word (λ rest. refl) own) second.0;
-      finalizer = λ name e own. differs (codes "del=wv_") word (ap (begins_with (codes "del=wv_")) (behind_prefix (codes "del=") word name e) ∙ own_kept l (codes "del=") name (λ rest. refl) own) second.1;
-      legacy = λ name e own. differs (codes "legacy=wv_") word (ap (begins_with (codes "legacy=wv_")) (behind_prefix (codes "legacy=") word name e) ∙ own_kept l (codes "legacy=") name (λ rest. refl) own) first.1;
+      finalizer = λ name e own. differs (codes "del=wv_") word (ap (begins_with (codes "del=wv_")) (behind_prefix (codes "del=") word name e)
+          ∙ own_kept l (codes "del=") name (λ rest. refl) own) second.1;
+      legacy = λ name e own. differs (codes "legacy=wv_") word (ap (begins_with (codes "legacy=wv_")) (behind_prefix (codes "legacy=") word name e)
+          ∙ own_kept l (codes "legacy=") name (λ rest. refl) own) first.1;
     }
 
 -- a generated name that is none of them
@@ -106,8 +110,10 @@ pub plain_clear : (l : ℕ) (word : List ℕ) → is_plain word ≡ true → IsC
 plain_clear l word e = let p = plain_parts word e in clear_word l word p.2
 
 -- those of another line are none of these names
-pub clear_lines : (m l : ℕ) → m ≤ 400000 → l ≤ 400000 → m ≢ l → (words : List (List ℕ)) (form : Form) → ((place : ℕ) → place < word_count form → IsClear (IsElse l) (word_at words place)) → EachLine (IsClear (IsElse l)) (form_lines form m words)
-clear_lines m l low low2 apart words form at = each_written (IsClear (IsElse l)) m words (plain_clear l) (clear_name l (decimal m) (weak_text m l low)) (λ c e. clear_name l (c ∷ 95 ∷ decimal m) (other_text c m l low low2 apart)) form at
+pub clear_lines : (m l : ℕ) → m ≤ 400000 → l ≤ 400000 → m ≢ l → (words : List (List ℕ)) (form : Form) → ((place : ℕ) → place < word_count form
+    → IsClear (IsElse l) (word_at words place)) → EachLine (IsClear (IsElse l)) (form_lines form m words)
+clear_lines m l low low2 apart words form at = each_written (IsClear (IsElse l)) m words (plain_clear l) (clear_name l (decimal m) (weak_text m l low))
+    (λ c e. clear_name l (c ∷ 95 ∷ decimal m) (other_text c m l low low2 apart)) form at
 
 pub each_clear : (Free : List ℕ → Type 0) (words : List (List ℕ)) → EachWord (IsClear Free) words → AreClear Free words
 each_clear Free [] h = tt

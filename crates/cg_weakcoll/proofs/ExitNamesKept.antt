@@ -36,12 +36,15 @@ module _ (u : World) (command : Command) (n : ℕ) (spoken : ¬ Includes (comman
   own_apart : (name : ℕ) → IsWordOf command (Name name) → n ≢ name
   own_apart name own e = spoken (subst (Includes (command_names command)) (sym e) (own operand_names name (inl refl)))
 
-  to_next : (told lines : List Event) (given_up given : List ℕ) (wanted wants : Bool) (after next : World) → slice_get after.names n ≡ slice_get u.names n → Changes wanted told given_up after ≡ Changes wants lines given next → slice_get next.names n ≡ slice_get u.names n
+  to_next : (told lines : List Event) (given_up given : List ℕ) (wanted wants : Bool) (after next : World) → slice_get after.names n ≡ slice_get u.names n
+      → Changes wanted told given_up after ≡ Changes wants lines given next → slice_get next.names n ≡ slice_get u.names n
   to_next told lines given_up given wanted wants after next h e = let same : after ≡ next = cc in subst (λ (z : World). slice_get z.names n ≡ slice_get u.names n) same h
 
-  shape_names : (e : Effect) → Shape u command e → (wants : Bool) (lines : List Event) (given : List ℕ) (next : World) → e ≡ Changes wants lines given next → slice_get next.names n ≡ slice_get u.names n
+  shape_names : (e : Effect) → Shape u command e → (wants : Bool) (lines : List Event) (given : List ℕ) (next : World) → e ≡ Changes wants lines given next
+      → slice_get next.names n ≡ slice_get u.names n
   shape_names e (Binds name v own hand) wants lines given next is = to_next _ lines _ given _ wants _ next (set_away u.names name n v (own_apart name own)) is
-  shape_names e (Makes name kind class entries referent own parts) wants lines given next is = to_next _ lines _ given _ wants _ next (set_away u.names name n (Some (Ref u.next_serial)) (own_apart name own)) is
+  shape_names e (Makes name kind class entries referent own parts) wants lines given next is = to_next _ lines _ given _ wants _ next
+      (set_away u.names name n (Some (Ref u.next_serial)) (own_apart name own)) is
   shape_names e (Edits wants_memory x entries given_up has mutable edit) wants lines given next is = to_next _ lines _ given _ wants _ next refl is
   shape_names e (Puts x key v has mutable hand_key hand room) wants lines given next is = to_next _ lines _ given _ wants _ next refl is
   shape_names e (Shows v hand) wants lines given next is = to_next _ lines _ given _ wants _ next refl is
@@ -56,17 +59,33 @@ module _ (u : World) (command : Command) (n : ℕ) (spoken : ¬ Includes (comman
   shape_names e (Inspects told calm there) wants lines given next is = to_next _ lines _ given _ wants _ next refl is
   shape_names e (AsksWhy x has calm) wants lines given next is = absurd (cc)
 
-pub call_names : (script : Script) (f p : ℕ) (u : World) (events : List Event) (after : World) → Yields (start_frame script (record { sort = CallFrame; proc = p; subject = f; func = Some f }) u) events after → after.names ≡ u.names
+pub call_names : (script : Script) (f p : ℕ) (u : World) (events : List Event) (after : World)
+    → Yields (start_frame script (record { sort = CallFrame; proc = p; subject = f; func = Some f }) u) events after → after.names ≡ u.names
 call_names script f p u events after step = go (u.budget == 0) step
   where
-    go : (b : Bool) → Yields (if b then (BudgetSpent ∷ [], record u { outcome = BudgetIsSpent }) else (Enter CallFrame f ∷ [], record u { budget = u.budget - 1; stack = Framed (record { sort = CallFrame; subject = f; function = Some f; commands = body_of script p }) ∷ u.stack })) events after → after.names ≡ u.names
+    go : (b : Bool) → Yields (if b then (BudgetSpent ∷ [], record u { outcome = BudgetIsSpent })
+        else (
+          Enter CallFrame f ∷ [],
+          record u {
+            budget = u.budget - 1;
+            stack = Framed (record {
+              sort = CallFrame;
+              subject = f;
+              function = Some f;
+              commands = body_of script p;
+            }) ∷ u.stack;
+          },
+        )) events after → after.names ≡ u.names
     go true y = ap (λ (z : World). z.names) y.1
     go false y = ap (λ (z : World). z.names) y.1
 
 -- a command that does not use a name leaves it alone
-pub done_names : (script : Script) (n : ℕ) (command : Command) (b : Activity) (below : List Activity) (v : World) (events : List Event) (after : World) → ¬ Includes (command_names command) n → Done script command (on b below v) b below events after → slice_get after.names n ≡ slice_get v.names n
+pub done_names : (script : Script) (n : ℕ) (command : Command) (b : Activity) (below : List Activity) (v : World) (events : List Event) (after : World)
+    → ¬ Includes (command_names command) n → Done script command (on b below v) b below events after → slice_get after.names n ≡ slice_get v.names n
 done_names script n command b below v events after spoken (Stood answers is) = ap (λ (z : World). slice_get z.names n) is
 done_names script n command b below v events after spoken (Stopped answers is) = ap (λ (z : World). slice_get z.names n) is
-done_names script n command b below v events after spoken (Changed wants given next is shape) = ap (λ (z : World). slice_get z.names n) is ∙ shape_names (on b below v) command n spoken (Changes wants events given next) shape wants events given next refl
-done_names script n command b below v events after spoken (Began f has step) = ap (λ ns. slice_get ns n) (call_names script f.serial (procedure_of (on b below v) f.serial) (on b below v) events after step)
+done_names script n command b below v events after spoken (Changed wants given next is shape) = ap (λ (z : World). slice_get z.names n) is
+    ∙ shape_names (on b below v) command n spoken (Changes wants events given next) shape wants events given next refl
+done_names script n command b below v events after spoken (Began f has step) = ap (λ ns. slice_get ns n)
+    (call_names script f.serial (procedure_of (on b below v) f.serial) (on b below v) events after step)
 done_names script n command b below v events after spoken (Asked g none is) = ap (λ (z : World). slice_get z.names n) is

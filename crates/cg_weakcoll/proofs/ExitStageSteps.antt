@@ -32,7 +32,8 @@ use Rattle.cg_weakcoll.proofs.KnownOfRuns.{Acted, Bottomed, Commanded, Done, Due
 
 -- a step while another activity than the procedure's frame is on top, or one that does nothing
 abbrev pub Rests : Exit → World → World → Type 0
-Rests e w after = ((a : Activity) × (below : List Activity) × (w.stack ≡ a ∷ below) × IsHigh e a) ⊎ ((after.objects ≡ w.objects) × (after.names ≡ w.names) × (after.next_serial ≡ w.next_serial) × (all_to_call after.stack ≡ all_to_call w.stack))
+Rests e w after = ((a : Activity) × (below : List Activity) × (w.stack ≡ a ∷ below) × IsHigh e a) ⊎ ((after.objects ≡ w.objects) × (after.names ≡ w.names)
+    × (after.next_serial ≡ w.next_serial) × (all_to_call after.stack ≡ all_to_call w.stack))
 
 -- the procedure's frame does a command and goes on
 pub record Advances (w after : World) (cs : List Command) : Type 0 where
@@ -75,11 +76,13 @@ module _ (script : Script) (budget : ℕ) (e : Exit) (ex : IsExit script e) (P :
   high_joined tops below h k a m = either (Includes-append_cases tops below a m) (h a) (k a)
 
   -- the script's own commands on top
-  before_done : (calls : ℕ) (done commands : List Command) (c : Command) (stack : List Activity) → calls ≡ 0 → commands_of script.items ≡ done ++ c ∷ commands → DoneStack script budget e ex (TopLevel commands) [] stack → IsStage calls stack
+  before_done : (calls : ℕ) (done commands : List Command) (c : Command) (stack : List Activity) → calls ≡ 0 → commands_of script.items ≡ done ++ c ∷ commands
+      → DoneStack script budget e ex (TopLevel commands) [] stack → IsStage calls stack
   before_done calls done commands c stack none at (GoesOn tops is high) = Before tops (done ++ c ∷ []) commands is high (at ∙ sym (append_assoc done (c ∷ []) commands)) none
   before_done calls done commands c stack none at (IsEnded is) = to_stack calls (TopLevel [] ∷ []) stack is (After (none_tame (TopLevel []) (λ d m. absurd m)) (omega (arith, none)))
 
-  called_before : (calls p f : ℕ) (done commands : List Command) (c : Command) (u : World) (events : List Event) (after : World) → calls ≡ 0 → commands_of script.items ≡ done ++ c ∷ commands → u.stack ≡ TopLevel commands ∷ [] → AllOther e commands
+  called_before : (calls p f : ℕ) (done commands : List Command) (c : Command) (u : World) (events : List Event) (after : World) → calls ≡ 0
+      → commands_of script.items ≡ done ++ c ∷ commands → u.stack ≡ TopLevel commands ∷ [] → AllOther e commands
       → Yields (start_frame script (record { sort = CallFrame; proc = p; subject = f; func = Some f }) u) events after → IsStage calls after.stack
   called_before calls p f done commands c u events after none at stack other step = either (call_stack script budget e ex f p u events after step)
       (λ s. Before [] (done ++ c ∷ []) commands (s ∙ stack) (λ a m. absurd m) (at ∙ sym (append_assoc done (c ∷ []) commands)) none)
@@ -89,27 +92,38 @@ module _ (script : Script) (budget : ℕ) (e : Exit) (ex : IsExit script e) (P :
       frame = record { sort = CallFrame; subject = f; function = Some f; commands = body_of script p }
 
       go : (p == e.proc ≡ true) ⊎ (p == e.proc ≡ false) → after.stack ≡ Framed frame ∷ TopLevel commands ∷ [] → IsStage calls after.stack
-      go (inl t) s = let is = ap (body_of script) (eqb-true p e.proc t) ∙ ex.body in During [] frame commands s (λ a m. absurd m) (subst (IsTail e) (sym is) AtDeref) other (subst P (sym is) begins) none
-      go (inr g) s = Before (Framed frame ∷ []) (done ++ c ∷ []) commands s (λ a m. either m (λ i. subst (IsHigh e) i (ex.bodies_other p (λ i. let no : true ≡ false = sym (eq-eqb p e.proc i) ∙ g in cc))) (λ n. absurd n)) (at ∙ sym (append_assoc done (c ∷ []) commands)) none
+      go (inl t) s = let is = ap (body_of script) (eqb-true p e.proc t) ∙ ex.body in During [] frame commands s (λ a m. absurd m)
+          (subst (IsTail e) (sym is) AtDeref) other (subst P (sym is) begins) none
+      go (inr g) s = Before (Framed frame ∷ []) (done ++ c ∷ []) commands s
+          (λ a m. either m (λ i. subst (IsHigh e) i (ex.bodies_other p (λ i. let no : true ≡ false = sym (eq-eqb p e.proc i) ∙ g in cc))) (λ n. absurd n))
+          (at ∙ sym (append_assoc done (c ∷ []) commands)) none
 
-  refused_before : (calls r : ℕ) (done commands : List Command) (c : Command) (u : World) (events : List Event) (after : World) → calls ≡ 0 → commands_of script.items ≡ done ++ c ∷ commands → u.stack ≡ TopLevel commands ∷ [] → Yields (refused r u) events after → IsStage calls after.stack
+  refused_before : (calls r : ℕ) (done commands : List Command) (c : Command) (u : World) (events : List Event) (after : World) → calls ≡ 0
+      → commands_of script.items ≡ done ++ c ∷ commands → u.stack ≡ TopLevel commands ∷ [] → Yields (refused r u) events after → IsStage calls after.stack
   refused_before calls r done commands c u events after none at stack step =
       Before [] (done ++ c ∷ []) commands (ap (λ (z : World). z.stack) step.1 ∙ ap stopped_frame stack) (λ a m. absurd m) (at ∙ sym (append_assoc done (c ∷ []) commands)) none
 
   -- a command of the script's own
-  top_command : (calls : ℕ) (done commands : List Command) (c : Command) (v : World) (events : List Event) (after : World) → calls ≡ 0 → commands_of script.items ≡ done ++ c ∷ commands → Known script budget (on (TopLevel (c ∷ commands)) [] v) → AreHidden e (on (TopLevel (c ∷ commands)) [] v)
+  top_command : (calls : ℕ) (done commands : List Command) (c : Command) (v : World) (events : List Event) (after : World) → calls ≡ 0
+      → commands_of script.items ≡ done ++ c ∷ commands → Known script budget (on (TopLevel (c ∷ commands)) [] v)
+      → AreHidden e (on (TopLevel (c ∷ commands)) [] v)
       → IsTold e c → Step script (on (TopLevel (c ∷ commands)) [] v) events after → Done script c (on (TopLevel commands) [] v) (TopLevel commands) [] events after → IsStage calls after.stack
-  top_command calls done commands c v events after none at k h (Quiet spoken makes) step d = before_done calls done commands c after.stack none at (done_stack script budget e ex c (TopLevel (c ∷ commands)) (TopLevel commands) [] v events after (FromTop commands) k h spoken d)
+  top_command calls done commands c v events after none at k h (Quiet spoken makes) step d = before_done calls done commands c after.stack none at
+      (done_stack script budget e ex c (TopLevel (c ∷ commands)) (TopLevel commands) [] v events after (FromTop commands) k h spoken d)
   top_command calls done commands c v events after none at k h (MakesIt is) step d = either (exactly script (TopLevel (c ∷ commands)) (TopLevel commands) [] v c events after (FromTop commands) step)
-      (λ s. Before (new_collection s.0 false (on (TopLevel (c ∷ commands)) [] v) ∷ []) done (c ∷ commands) (ap (λ (z : World). z.stack) s.2) (λ a m. either m (λ i. subst (IsHigh e) i tt) (λ n. absurd n)) at none)
+      (λ s. Before (new_collection s.0 false (on (TopLevel (c ∷ commands)) [] v) ∷ []) done (c ∷ commands) (ap (λ (z : World). z.stack) s.2)
+      (λ a m. either m (λ i. subst (IsHigh e) i tt) (λ n. absurd n)) at none)
       (λ s. either (func_step script (on (TopLevel commands) [] v) events after e.exit e.proc (subst (λ (x : Command). CommandStep script (on (TopLevel commands) [] v) x events after) is s))
       (λ r. refused_before calls r.0 done commands c (on (TopLevel commands) [] v) events after none at refl r.1)
-      (λ y. Before (Releasing _ ∷ []) (done ++ c ∷ []) commands (ap (λ (z : World). z.stack) y.1) (λ a m. either m (λ i. subst (IsHigh e) i tt) (λ n. absurd n)) (at ∙ sym (append_assoc done (c ∷ []) commands)) none))
+      (λ y. Before (Releasing _ ∷ []) (done ++ c ∷ []) commands (ap (λ (z : World). z.stack) y.1) (λ a m. either m (λ i. subst (IsHigh e) i tt) (λ n. absurd n))
+      (at ∙ sym (append_assoc done (c ∷ []) commands)) none))
   top_command calls done commands c v events after none at k h (CallsIt is) step d = either (exactly script (TopLevel (c ∷ commands)) (TopLevel commands) [] v c events after (FromTop commands) step)
-      (λ s. Before (new_collection s.0 false (on (TopLevel (c ∷ commands)) [] v) ∷ []) done (c ∷ commands) (ap (λ (z : World). z.stack) s.2) (λ a m. either m (λ i. subst (IsHigh e) i tt) (λ n. absurd n)) at none)
+      (λ s. Before (new_collection s.0 false (on (TopLevel (c ∷ commands)) [] v) ∷ []) done (c ∷ commands) (ap (λ (z : World). z.stack) s.2)
+      (λ a m. either m (λ i. subst (IsHigh e) i tt) (λ n. absurd n)) at none)
       (λ s. either (call_step script (on (TopLevel commands) [] v) events after (Name e.exit) (subst (λ (x : Command). CommandStep script (on (TopLevel commands) [] v) x events after) is s))
       (λ r. refused_before calls r.0 done commands c (on (TopLevel commands) [] v) events after none at refl r.1)
-      (λ y. called_before calls (procedure_of (on (TopLevel commands) [] v) y.object.serial) y.object.serial done commands c (on (TopLevel commands) [] v) events after none at refl (rest_other (positioned script e ex done commands c at)) y.begins))
+      (λ y. called_before calls (procedure_of (on (TopLevel commands) [] v) y.object.serial) y.object.serial done commands c (on (TopLevel commands) [] v)
+      events after none at refl (rest_other (positioned script e ex done commands c at)) y.begins))
     where
       rest_other : Position script e ex c commands → AllOther e commands
       rest_other (InOther o) = absurd (o.names e.exit (subst (λ (x : Command). Includes (command_names x) e.exit) (sym is) (inl refl)) (inr (inl refl)))
@@ -118,11 +132,14 @@ module _ (script : Script) (budget : ℕ) (e : Exit) (ex : IsExit script e) (P :
       rest_other (InThird i at) = absurd (let no : watch_command e ≡ Call (Name e.exit) = sym i ∙ is in cc)
       rest_other (InLast i at) = subst (AllOther e) (sym at) ex.back_other
 
-  taken_top : (calls : ℕ) (done commands : List Command) (command : Command) (a b : Activity) (below : List Activity) (v : World) (events : List Event) (after : World) → Takes command a b → TopLevel commands ≡ a → below ≡ [] → commands_of script.items ≡ done ++ commands → calls ≡ 0
+  taken_top : (calls : ℕ) (done commands : List Command) (command : Command) (a b : Activity) (below : List Activity) (v : World) (events : List Event)
+      (after : World) → Takes command a b → TopLevel commands ≡ a → below ≡ [] → commands_of script.items ≡ done ++ commands → calls ≡ 0
       → Known script budget (on a below v) → AreHidden e (on a below v) → Step script (on a below v) events after → Done script command (on b below v) b below events after → IsStage calls after.stack
   taken_top calls done commands command a b below v events after (FromFrame f cs left) is_top bottom at none k h step d = absurd (cc)
   taken_top calls done commands command a b below v events after (FromTop cs) is_top bottom at none k h step d =
-      subst (λ (under : List Activity). Known script budget (on (TopLevel (command ∷ cs)) under v) → AreHidden e (on (TopLevel (command ∷ cs)) under v) → Step script (on (TopLevel (command ∷ cs)) under v) events after → Done script command (on (TopLevel cs) under v) (TopLevel cs) under events after → IsStage calls after.stack) (sym bottom)
+      subst (λ (under : List Activity). Known script budget (on (TopLevel (command ∷ cs)) under v) → AreHidden e (on (TopLevel (command ∷ cs)) under v)
+      → Step script (on (TopLevel (command ∷ cs)) under v) events after → Done script command (on (TopLevel cs) under v) (TopLevel cs) under events after
+      → IsStage calls after.stack) (sym bottom)
       (λ k h step d. top_command calls done cs command v events after none here k h (position_told script budget e ex command cs (positioned script e ex done cs command here)) step d) k h step d
     where
       here : commands_of script.items ≡ done ++ command ∷ cs
@@ -142,7 +159,8 @@ module _ (script : Script) (budget : ℕ) (e : Exit) (ex : IsExit script e) (P :
   last_enters : (w : World) (a : Activity) (lines : List Event) → AreLast w a lines → count_by is_enter lines ≡ 0
   last_enters w (TopLevel []) lines is = ap (count_by is_enter) is ∙ none_enters End refl
   last_enters w (TopLevel (c ∷ cs)) lines is = absurd is
-  last_enters w (ShuttingDown true) lines is = let s = sum_by-cons (λ y. cond (is_enter y) 1 0) (Left (live w)) (End ∷ []) in let z = none_enters End refl in ap (count_by is_enter) is ∙ omega (arith, s, z)
+  last_enters w (ShuttingDown true) lines is = let s = sum_by-cons (λ y. cond (is_enter y) 1 0) (Left (live w)) (End ∷ []) in let z = none_enters End refl
+      in ap (count_by is_enter) is ∙ omega (arith, s, z)
   last_enters w (ShuttingDown false) lines is = absurd is
   last_enters w a lines is = absurd is
 
@@ -154,8 +172,10 @@ module _ (script : Script) (budget : ℕ) (e : Exit) (ex : IsExit script e) (P :
       go false = omega (arith, none)
 
   -- no call counts while more of the procedure is left
-  early : (w : World) (events : List Event) (f : Frame) (commands : List Command) → w.stack ≡ Framed f ∷ TopLevel commands ∷ [] → (calls : ℕ) → calls ≡ 0 → (cs : List Command) (c : Command) → IsTail e f.commands → f.commands ≡ c ∷ cs → IsTail e cs → calls + step_calls w events ≡ 0
-  early w events f commands top calls none cs c tail left more = counted calls (count_by is_enter events) (is_call e.function (next_command w.stack)) (ap (λ st. is_call e.function (next_command st)) top ∙ go f.commands tail left) ∙ none
+  early : (w : World) (events : List Event) (f : Frame) (commands : List Command) → w.stack ≡ Framed f ∷ TopLevel commands ∷ [] → (calls : ℕ) → calls ≡ 0
+      → (cs : List Command) (c : Command) → IsTail e f.commands → f.commands ≡ c ∷ cs → IsTail e cs → calls + step_calls w events ≡ 0
+  early w events f commands top calls none cs c tail left more = counted calls (count_by is_enter events) (is_call e.function (next_command w.stack))
+      (ap (λ st. is_call e.function (next_command st)) top ∙ go f.commands tail left) ∙ none
     where
       go : (fs : List Command) → IsTail e fs → fs ≡ c ∷ cs → is_call e.function (first_of fs) ≡ false
       go fs AtDeref i = refl
@@ -172,7 +192,8 @@ module _ (script : Script) (budget : ℕ) (e : Exit) (ex : IsExit script e) (P :
           no_tail xs AtCall j = cc
 
   -- the last command starts at most one frame
-  few_calls : (w : World) (events : List Event) (after : World) (f : Frame) (commands : List Command) → w.stack ≡ Framed f ∷ TopLevel commands ∷ [] → IsTail e f.commands → (calls : ℕ) → calls ≡ 0 → Step script w events after → calls + step_calls w events ≤ 1
+  few_calls : (w : World) (events : List Event) (after : World) (f : Frame) (commands : List Command) → w.stack ≡ Framed f ∷ TopLevel commands ∷ []
+      → IsTail e f.commands → (calls : ℕ) → calls ≡ 0 → Step script w events after → calls + step_calls w events ≤ 1
   few_calls w events after f commands top tail calls none step = go f.commands refl tail
     where
       here : World
@@ -182,7 +203,8 @@ module _ (script : Script) (budget : ℕ) (e : Exit) (ex : IsExit script e) (P :
       here_step = subst (λ (z : World). Step script z events after) (ap (λ st. with_stack st w) top) step
 
       zero : (c : Command) (cs : List Command) → f.commands ≡ c ∷ cs → is_call e.function (Some c) ≡ false → calls + step_calls w events ≤ 1
-      zero c cs is no_call = let z = counted calls (count_by is_enter events) (is_call e.function (next_command w.stack)) (ap (λ st. is_call e.function (next_command st)) top ∙ ap (λ xs. is_call e.function (first_of xs)) is ∙ no_call) in omega (arith, z, none)
+      zero c cs is no_call = let z = counted calls (count_by is_enter events) (is_call e.function (next_command w.stack))
+          (ap (λ st. is_call e.function (next_command st)) top ∙ ap (λ xs. is_call e.function (first_of xs)) is ∙ no_call) in omega (arith, z, none)
 
       capped : count_by is_enter events ≤ 1 → calls + step_calls w events ≤ 1
       capped few = cap (is_call e.function (next_command w.stack))
@@ -194,7 +216,19 @@ module _ (script : Script) (budget : ℕ) (e : Exit) (ex : IsExit script e) (P :
       started : (p g : ℕ) (u : World) → Yields (start_frame script (record { sort = CallFrame; proc = p; subject = g; func = Some g }) u) events after → count_by is_enter events ≤ 1
       started p g u y = pick (u.budget == 0) y
         where
-          pick : (b : Bool) → Yields (if b then (BudgetSpent ∷ [], record u { outcome = BudgetIsSpent }) else (Enter CallFrame g ∷ [], record u { budget = u.budget - 1; stack = Framed (record { sort = CallFrame; subject = g; function = Some g; commands = body_of script p }) ∷ u.stack })) events after → count_by is_enter events ≤ 1
+          pick : (b : Bool) → Yields (if b then (BudgetSpent ∷ [], record u { outcome = BudgetIsSpent })
+              else (
+                Enter CallFrame g ∷ [],
+                record u {
+                  budget = u.budget - 1;
+                  stack = Framed (record {
+                    sort = CallFrame;
+                    subject = g;
+                    function = Some g;
+                    commands = body_of script p;
+                  }) ∷ u.stack;
+                },
+              )) events after → count_by is_enter events ≤ 1
           pick true z = let s = one_enters BudgetSpent in let i = ap (count_by is_enter) z.0 in omega (arith, s, i)
           pick false z = let s = one_enters (Enter CallFrame g) in let i = ap (count_by is_enter) z.0 in omega (arith, s, i)
 
@@ -231,68 +265,122 @@ module _ (script : Script) (budget : ℕ) (e : Exit) (ex : IsExit script e) (P :
       go (InLast is i) = ap (λ (x : Command). is_call e.function (Some x)) is ∙ ne_eqb e.exit e.function ex.exit_function
 
   -- where the script's own commands are on top
-  module _ (w : World) (events : List Event) (after : World) (k : Known script budget w) (h : AreHidden e w) (step : Step script w events after) (Q : List Command → Type 0) (rests : (cs : List Command) → IsTail e cs → Q cs → Rests e w after → P cs) (advances : (cs : List Command) → IsTail e cs → (a : Advances w after cs) → Q a.frame.commands → P cs) where
-    top_step : (calls : ℕ) (done commands : List Command) → w.stack ≡ TopLevel commands ∷ [] → commands_of script.items ≡ done ++ commands → calls ≡ 0 → Went script w events after → IsStage calls after.stack
+  module _ (w : World) (events : List Event) (after : World) (k : Known script budget w) (h : AreHidden e w) (step : Step script w events after)
+      (Q : List Command → Type 0) (rests : (cs : List Command) → IsTail e cs → Q cs → Rests e w after → P cs) (advances : (cs : List Command) → IsTail e cs
+      → (a : Advances w after cs) → Q a.frame.commands → P cs) where
+    top_step : (calls : ℕ) (done commands : List Command) → w.stack ≡ TopLevel commands ∷ [] → commands_of script.items ≡ done ++ commands → calls ≡ 0
+        → Went script w events after → IsStage calls after.stack
     top_step calls done commands top at none (Acted a below is acts) =
         let s = same_top script budget e ex (TopLevel commands) a [] below w.stack top is in
-        to_stack calls (acts.tops ++ below) after.stack acts.stack (After (joined_tame e acts.tops below (λ c m. raised_high script budget e ex w c k h (acts.raised c m)) (subst (AreTame e) s.1 nothing_tame)) (omega (arith, none)))
-    top_step calls done commands top at none (Due g set no_line is) = Before (new_collection g false w ∷ []) done commands (ap (λ (z : World). z.stack) is ∙ ap (λ st. new_collection g false w ∷ st) top) (λ a m. either m (λ i. subst (IsHigh e) i tt) (λ n. absurd n)) at none
+        to_stack calls (acts.tops ++ below) after.stack acts.stack
+        (After (joined_tame e acts.tops below (λ c m. raised_high script budget e ex w c k h (acts.raised c m)) (subst (AreTame e) s.1 nothing_tame))
+        (omega (arith, none)))
+    top_step calls done commands top at none (Due g set no_line is) = Before (new_collection g false w ∷ []) done commands (ap (λ (z : World). z.stack) is
+        ∙ ap (λ st. new_collection g false w ∷ st) top) (λ a m. either m (λ i. subst (IsHigh e) i tt) (λ n. absurd n)) at none
     top_step calls done commands top at none (Over a under place last is) = Before [] done commands (ap (λ (z : World). z.stack) is ∙ top) (λ a m. absurd m) at none
     top_step calls done commands top at none (Bottomed below under no_line is) =
         let s = same_top script budget e ex (TopLevel commands) (TopLevel []) [] below w.stack top under in
-        to_stack calls (ShuttingDown false ∷ below) after.stack (ap (λ (z : World). z.stack) is) (After (subst (λ st. AreTame e (ShuttingDown false ∷ st)) s.1 (none_tame (ShuttingDown false) (λ c m. absurd m))) (omega (arith, none)))
-    top_step calls done commands top at none (GaveUp name below under no_line is) = absurd (let s = same_top script budget e ex (TopLevel commands) (ShuttingDown false) [] below w.stack top under in let no : TopLevel commands ≡ ShuttingDown false = s.0 in cc)
-    top_step calls done commands top at none (Lasted below under no_line is) = absurd (let s = same_top script budget e ex (TopLevel commands) (ShuttingDown false) [] below w.stack top under in let no : TopLevel commands ≡ ShuttingDown false = s.0 in cc)
+        to_stack calls (ShuttingDown false ∷ below) after.stack (ap (λ (z : World). z.stack) is)
+        (After (subst (λ st. AreTame e (ShuttingDown false ∷ st)) s.1 (none_tame (ShuttingDown false) (λ c m. absurd m))) (omega (arith, none)))
+    top_step calls done commands top at none (GaveUp name below under no_line is) = absurd (let s = same_top script budget e ex (TopLevel commands)
+        (ShuttingDown false) [] below w.stack top under in let no : TopLevel commands ≡ ShuttingDown false = s.0 in cc)
+    top_step calls done commands top at none (Lasted below under no_line is) = absurd (let s = same_top script budget e ex (TopLevel commands)
+        (ShuttingDown false) [] below w.stack top under in let no : TopLevel commands ≡ ShuttingDown false = s.0 in cc)
     top_step calls done commands top at none (Commanded command a b below v is takes hb d) =
         let s = same_top script budget e ex (TopLevel commands) a [] below w.stack top (ap (λ (z : World). z.stack) is) in
-        taken_top calls done commands command a b below v events after takes s.0 (sym s.1) at none (subst (Known script budget) is k) (subst (AreHidden e) is h) (subst (λ (z : World). Step script z events after) is step) d
+        taken_top calls done commands command a b below v events after takes s.0 (sym s.1) at none (subst (Known script budget) is k) (subst (AreHidden e) is h)
+        (subst (λ (z : World). Step script z events after) is step) d
 
     -- where the procedure's frame is on top
-    frame_step : (calls : ℕ) (f : Frame) (commands : List Command) → w.stack ≡ Framed f ∷ TopLevel commands ∷ [] → IsTail e f.commands → AllOther e commands → Q f.commands → calls ≡ 0 → Went script w events after → IsStage (calls + step_calls w events) after.stack
+    frame_step : (calls : ℕ) (f : Frame) (commands : List Command) → w.stack ≡ Framed f ∷ TopLevel commands ∷ [] → IsTail e f.commands → AllOther e commands
+        → Q f.commands → calls ≡ 0 → Went script w events after → IsStage (calls + step_calls w events) after.stack
     frame_step calls f commands top tail other q none (Acted a below is acts) =
         let s = same_top script budget e ex (Framed f) a (TopLevel commands ∷ []) below w.stack top is in
-        to_stack (calls + step_calls w events) (acts.tops ++ below) after.stack acts.stack (After (joined_tame e acts.tops below (λ c m. raised_high script budget e ex w c k h (acts.raised c m)) (subst (AreTame e) s.1 (none_tame (TopLevel commands) other))) (few_calls w events after f commands top tail calls none step))
-    frame_step calls f commands top tail other q none (Due g set no_line is) = During (new_collection g false w ∷ []) f commands (ap (λ (z : World). z.stack) is ∙ ap (λ st. new_collection g false w ∷ st) top) (λ a m. either m (λ i. subst (IsHigh e) i tt) (λ n. absurd n)) tail other (rests f.commands tail q (inr (ap (λ (z : World). z.objects) is, ap (λ (z : World). z.names) is, ap (λ (z : World). z.next_serial) is, ap (λ (z : World). all_to_call z.stack) is)))
+        to_stack (calls + step_calls w events) (acts.tops ++ below) after.stack acts.stack
+        (After (joined_tame e acts.tops below (λ c m. raised_high script budget e ex w c k h (acts.raised c m))
+        (subst (AreTame e) s.1 (none_tame (TopLevel commands) other))) (few_calls w events after f commands top tail calls none step))
+    frame_step calls f commands top tail other q none (Due g set no_line is) = During (new_collection g false w ∷ []) f commands (ap (λ (z : World). z.stack) is
+        ∙ ap (λ st. new_collection g false w ∷ st) top) (λ a m. either m (λ i. subst (IsHigh e) i tt) (λ n. absurd n)) tail other (rests f.commands tail q
+        (inr (
+          ap (λ (z : World). z.objects) is,
+          ap (λ (z : World). z.names) is,
+          ap (λ (z : World). z.next_serial) is,
+          ap (λ (z : World). all_to_call z.stack)
+              is,
+        )))
         (uncounted w events calls none (ap (count_by is_enter) no_line))
-    frame_step calls f commands top tail other q none (Over a under place last is) = During [] f commands (ap (λ (z : World). z.stack) is ∙ top) (λ a m. absurd m) tail other (rests f.commands tail q (inr (ap (λ (z : World). z.objects) is, ap (λ (z : World). z.names) is, ap (λ (z : World). z.next_serial) is, ap (λ (z : World). all_to_call z.stack) is))) (uncounted w events calls none (last_enters w a events last))
-    frame_step calls f commands top tail other q none (Bottomed below under no_line is) = absurd (let s = same_top script budget e ex (Framed f) (TopLevel []) (TopLevel commands ∷ []) below w.stack top under in let no : Framed f ≡ TopLevel [] = s.0 in cc)
-    frame_step calls f commands top tail other q none (GaveUp name below under no_line is) = absurd (let s = same_top script budget e ex (Framed f) (ShuttingDown false) (TopLevel commands ∷ []) below w.stack top under in let no : Framed f ≡ ShuttingDown false = s.0 in cc)
-    frame_step calls f commands top tail other q none (Lasted below under no_line is) = absurd (let s = same_top script budget e ex (Framed f) (ShuttingDown false) (TopLevel commands ∷ []) below w.stack top under in let no : Framed f ≡ ShuttingDown false = s.0 in cc)
+    frame_step calls f commands top tail other q none (Over a under place last is) = During [] f commands (ap (λ (z : World). z.stack) is ∙ top)
+        (λ a m. absurd m) tail other (rests f.commands tail q (inr (
+          ap (λ (z : World). z.objects) is,
+          ap (λ (z : World). z.names) is,
+          ap (λ (z : World). z.next_serial) is,
+          ap (λ (z : World). all_to_call z.stack) is,
+        ))) (uncounted w events calls none (last_enters w a events last))
+    frame_step calls f commands top tail other q none (Bottomed below under no_line is) = absurd (let s = same_top script budget e ex (Framed f) (TopLevel [])
+        (TopLevel commands ∷ []) below w.stack top under in let no : Framed f ≡ TopLevel [] = s.0 in cc)
+    frame_step calls f commands top tail other q none (GaveUp name below under no_line is) =
+        absurd (let s = same_top script budget e ex (Framed f) (ShuttingDown false) (TopLevel commands ∷ []) below w.stack top under in let no : Framed f
+        ≡ ShuttingDown false = s.0 in cc)
+    frame_step calls f commands top tail other q none (Lasted below under no_line is) =
+        absurd (let s = same_top script budget e ex (Framed f) (ShuttingDown false) (TopLevel commands ∷ []) below w.stack top under in let no : Framed f
+        ≡ ShuttingDown false = s.0 in cc)
     frame_step calls f commands top tail other q none (Commanded command a b below v is takes hb d) =
         let s = same_top script budget e ex (Framed f) a (TopLevel commands ∷ []) below w.stack top (ap (λ (z : World). z.stack) is) in
         taken_frame command a b takes hb s.0 (λ spoken. done_stack script budget e ex command a b below v events after takes (subst (Known script budget) is k) (subst (AreHidden e) is h) spoken d)
       where
         -- the script's own commands are below
         own : AreTame e below
-        own = let s = same_top script budget e ex (Framed f) a (TopLevel commands ∷ []) below w.stack top (ap (λ (z : World). z.stack) is) in subst (AreTame e) s.1 (none_tame (TopLevel commands) other)
+        own = let s = same_top script budget e ex (Framed f) a (TopLevel commands ∷ []) below w.stack top (ap (λ (z : World). z.stack) is)
+            in subst (AreTame e) s.1 (none_tame (TopLevel commands) other)
 
         few : calls + step_calls w events ≤ 1
         few = few_calls w events after f commands top tail calls none step
 
-        goes : (g : Frame) (c : Activity) → below ≡ TopLevel commands ∷ [] → c ≡ Framed g → HasCommands c → IsTail e g.commands ⊎ (g.commands ≡ []) → (IsTail e g.commands → calls + step_calls w events ≡ 0)
-            → ((tops : List Activity) → IsTail e g.commands → after.stack ≡ tops ++ Framed g ∷ TopLevel commands ∷ [] → P g.commands) → DoneStack script budget e ex c below after.stack → IsStage (calls + step_calls w events) after.stack
-        goes g c same is_frame hc (inl t) zero known (GoesOn tops st high) = let now = st ∙ ap (λ x. tops ++ x ∷ below) is_frame ∙ ap (λ x. tops ++ Framed g ∷ x) same in During tops g commands now high t other (known tops t now) (zero t)
+        goes : (g : Frame) (c : Activity) → below ≡ TopLevel commands ∷ [] → c ≡ Framed g → HasCommands c → IsTail e g.commands ⊎ (g.commands ≡ [])
+            → (IsTail e g.commands → calls + step_calls w events ≡ 0)
+            → ((tops : List Activity) → IsTail e g.commands → after.stack ≡ tops ++ Framed g ∷ TopLevel commands ∷ [] → P g.commands) → DoneStack script budget
+            e ex c below after.stack → IsStage (calls + step_calls w events) after.stack
+        goes g c same is_frame hc (inl t) zero known (GoesOn tops st high) = let now = st ∙ ap (λ x. tops ++ x ∷ below) is_frame
+            ∙ ap (λ x. tops ++ Framed g ∷ x) same in During tops g commands now high t other (known tops t now) (zero t)
         goes g c same is_frame hc (inr end) zero known (GoesOn tops st high) = to_stack _ (tops ++ c ∷ below) after.stack st (After (joined_tame e tops (c ∷ below) high (λ x m. either m
             (λ i. subst (λ (y : Activity). AllOther e (commands_on y)) (sym is_frame ∙ i) (λ y n. absurd (subst (λ ys. Includes ys y) end n))) (own x))) few)
         goes g c same is_frame hc t zero known (IsEnded st) = to_stack _ (emptied c ∷ below) after.stack st (After (emptied_tame c below hc own) few)
 
-        taken_frame : (c : Command) (x y : Activity) → Takes c x y → HasCommands y → Framed f ≡ x → ((¬ Includes (command_names c) e.exit) → DoneStack script budget e ex y below after.stack) → IsStage (calls + step_calls w events) after.stack
+        taken_frame : (c : Command) (x y : Activity) → Takes c x y → HasCommands y → Framed f ≡ x → ((¬ Includes (command_names c) e.exit)
+            → DoneStack script budget e ex y below after.stack) → IsStage (calls + step_calls w events) after.stack
         taken_frame c x y (FromTop cs) hy is_f dones = absurd (cc)
         taken_frame c x y (FromFrame g cs left) hy is_f dones =
             let s = same_top script budget e ex (Framed f) a (TopLevel commands ∷ []) below w.stack top (ap (λ (z : World). z.stack) is) in
             let left_f : f.commands ≡ c ∷ cs = ap (λ (q : Frame). q.commands) (frame_is f g is_f) ∙ left in
             let quiet = tail_quiet script budget e ex f.commands cs c tail left_f in
             goes (record g { commands = cs }) (Framed (record g { commands = cs })) (sym s.1) refl hy quiet.1 (λ t. early w events f commands top calls none cs c tail left_f t)
-            (λ tops t now. advances cs t (record { frame = g; below = commands; stack = subst (λ (y : Frame). w.stack ≡ Framed y ∷ TopLevel commands ∷ []) (frame_is f g is_f) top; command = c; left = left; tops = tops; now = now }) (subst (λ (y : Frame). Q y.commands) (frame_is f g is_f) q)) (dones quiet.0.0)
+            (λ tops t now. advances cs t (record {
+              frame = g;
+              below = commands;
+              stack = subst (λ (y : Frame). w.stack ≡ Framed y ∷ TopLevel commands ∷ [])
+                  (frame_is f g is_f) top;
+              command = c;
+              left = left;
+              tops = tops;
+              now = now;
+            }) (subst (λ (y : Frame). Q y.commands) (frame_is f g is_f) q)) (dones
+            quiet.0.0)
 
     -- where only commands of other lines are left
     after_step : (calls : ℕ) → AreTame e w.stack → calls ≤ 1 → Went script w events after → IsStage calls after.stack
-    after_step calls tame few (Acted a below is acts) = to_stack calls (acts.tops ++ below) after.stack acts.stack (After (joined_tame e acts.tops below (λ c m. raised_high script budget e ex w c k h (acts.raised c m)) (λ c m. tame c (subst (λ st. Includes st c) (sym is) (inr m)))) few)
-    after_step calls tame few (Due g set no_line is) = to_stack calls (new_collection g false w ∷ w.stack) after.stack (ap (λ (z : World). z.stack) is) (After (λ a m. either m (λ i. subst (λ (y : Activity). AllOther e (commands_on y)) i (λ c n. absurd n)) (tame a)) few)
+    after_step calls tame few (Acted a below is acts) = to_stack calls (acts.tops ++ below) after.stack acts.stack
+        (After (joined_tame e acts.tops below (λ c m. raised_high script budget e ex w c k h (acts.raised c m))
+        (λ c m. tame c (subst (λ st. Includes st c) (sym is) (inr m)))) few)
+    after_step calls tame few (Due g set no_line is) = to_stack calls (new_collection g false w ∷ w.stack) after.stack (ap (λ (z : World). z.stack) is)
+        (After (λ a m. either m (λ i. subst (λ (y : Activity). AllOther e (commands_on y)) i (λ c n. absurd n)) (tame a)) few)
     after_step calls tame few (Over a under place last is) = to_stack calls w.stack after.stack (ap (λ (z : World). z.stack) is) (After tame few)
-    after_step calls tame few (Bottomed below under no_line is) = to_stack calls (ShuttingDown false ∷ below) after.stack (ap (λ (z : World). z.stack) is) (After (λ a m. either m (λ i. subst (λ (y : Activity). AllOther e (commands_on y)) i (λ c n. absurd n)) (λ i. tame a (subst (λ st. Includes st a) (sym under) (inr i)))) few)
-    after_step calls tame few (GaveUp name below under no_line is) = to_stack calls (Releasing _ ∷ w.stack) after.stack (ap (λ (z : World). z.stack) is) (After (λ a m. either m (λ i. subst (λ (y : Activity). AllOther e (commands_on y)) i (λ c n. absurd n)) (tame a)) few)
-    after_step calls tame few (Lasted below under no_line is) = to_stack calls (new_collection 2 false w ∷ ShuttingDown true ∷ below) after.stack (ap (λ (z : World). z.stack) is) (After (λ a m. either m (λ i. subst (λ (y : Activity). AllOther e (commands_on y)) i (λ c n. absurd n))
+    after_step calls tame few (Bottomed below under no_line is) = to_stack calls (ShuttingDown false ∷ below) after.stack (ap (λ (z : World). z.stack) is)
+        (After (λ a m. either m (λ i. subst (λ (y : Activity). AllOther e (commands_on y)) i (λ c n. absurd n))
+        (λ i. tame a (subst (λ st. Includes st a) (sym under) (inr i)))) few)
+    after_step calls tame few (GaveUp name below under no_line is) = to_stack calls (Releasing _ ∷ w.stack) after.stack (ap (λ (z : World). z.stack) is)
+        (After (λ a m. either m (λ i. subst (λ (y : Activity). AllOther e (commands_on y)) i (λ c n. absurd n)) (tame a)) few)
+    after_step calls tame few (Lasted below under no_line is) = to_stack calls (new_collection 2 false w ∷ ShuttingDown true ∷ below) after.stack
+        (ap (λ (z : World). z.stack) is) (After (λ a m. either m (λ i. subst (λ (y : Activity). AllOther e (commands_on y)) i (λ c n. absurd n))
         (λ j. either j (λ i. subst (λ (y : Activity). AllOther e (commands_on y)) i (λ c n. absurd n)) (λ i. tame a (subst (λ st. Includes st a) (sym under) (inr i))))) few)
     after_step calls tame few (Commanded command a b below v is takes hb d) =
         let t = tame_taken command a b takes (tame a (subst (λ st. Includes st a) (sym (ap (λ (z : World). z.stack) is)) (inl refl))) in
@@ -302,18 +390,31 @@ module _ (script : Script) (budget : ℕ) (e : Exit) (ex : IsExit script e) (P :
         under c m = tame c (subst (λ st. Includes st c) (sym (ap (λ (z : World). z.stack) is)) (inr m))
 
         go : DoneStack script budget e ex b below after.stack → AllOther e (commands_on b) → IsStage calls after.stack
-        go (GoesOn tops st high) hc = to_stack calls (tops ++ b ∷ below) after.stack st (After (joined_tame e tops (b ∷ below) high (λ x m. either m (λ i. subst (λ (y : Activity). AllOther e (commands_on y)) i hc) (under x))) few)
+        go (GoesOn tops st high) hc = to_stack calls (tops ++ b ∷ below) after.stack st
+            (After (joined_tame e tops (b ∷ below) high (λ x m. either m (λ i. subst (λ (y : Activity). AllOther e (commands_on y)) i hc) (under x))) few)
         go (IsEnded st) hc = to_stack calls (emptied b ∷ below) after.stack st (After (emptied_tame b below hb under) few)
 
     pub stage_step : (calls : ℕ) → Stage script e Q calls w.stack → Went script w events after → IsStage (calls + step_calls w events) after.stack
-    stage_step calls (Before [] done commands is high at none) x = subst (λ n. IsStage n after.stack) (sym (counted calls (count_by is_enter events) (is_call e.function (next_command w.stack)) (ap (λ st. is_call e.function (next_command st)) is ∙ top_call done commands at))) (top_step calls done commands is at none x)
+    stage_step calls (Before [] done commands is high at none) x = subst (λ n. IsStage n after.stack)
+        (sym (counted calls (count_by is_enter events) (is_call e.function (next_command w.stack)) (ap (λ st. is_call e.function (next_command st)) is
+        ∙ top_call done commands at))) (top_step calls done commands is at none x)
     stage_step calls (Before (t ∷ tops) done commands is high at none) x =
         let s = high_step script budget e ex w t (tops ++ TopLevel commands ∷ []) events after k h is (high t (inl refl)) x in
-        subst (λ n. IsStage n after.stack) (sym (counted calls (count_by is_enter events) (is_call e.function (next_command w.stack)) (ap (λ st. is_call e.function (next_command st)) is ∙ high_call script budget e ex t (tops ++ TopLevel commands ∷ []) (high t (inl refl)))))
+        subst (λ n. IsStage n after.stack) (sym (counted calls (count_by is_enter events) (is_call e.function (next_command w.stack))
+        (ap (λ st. is_call e.function (next_command st)) is ∙ high_call script budget e ex t (tops ++ TopLevel commands ∷ []) (high t (inl refl)))))
         (Before (s.tops ++ tops) done commands (joined s.tops tops (TopLevel commands ∷ []) after.stack s.is) (high_joined s.tops tops s.high (λ a m. high a (inr m))) at none)
     stage_step calls (During [] f commands is high tail other q none) x = frame_step calls f commands is tail other q none x
     stage_step calls (During (t ∷ tops) f commands is high tail other q none) x =
         let s = high_step script budget e ex w t (tops ++ Framed f ∷ TopLevel commands ∷ []) events after k h is (high t (inl refl)) x in
-        subst (λ n. IsStage n after.stack) (sym (counted calls (count_by is_enter events) (is_call e.function (next_command w.stack)) (ap (λ st. is_call e.function (next_command st)) is ∙ high_call script budget e ex t (tops ++ Framed f ∷ TopLevel commands ∷ []) (high t (inl refl)))))
-        (During (s.tops ++ tops) f commands (joined s.tops tops (Framed f ∷ TopLevel commands ∷ []) after.stack s.is) (high_joined s.tops tops s.high (λ a m. high a (inr m))) tail other (rests f.commands tail q (inl (t, tops ++ Framed f ∷ TopLevel commands ∷ [], is, high t (inl refl)))) none)
-    stage_step calls (After tame few) x = subst (λ n. IsStage n after.stack) (sym (counted calls (count_by is_enter events) (is_call e.function (next_command w.stack)) (tame_call w.stack tame))) (after_step calls tame few x)
+        subst (λ n. IsStage n after.stack) (sym (counted calls (count_by is_enter events) (is_call e.function (next_command w.stack))
+        (ap (λ st. is_call e.function (next_command st)) is ∙ high_call script budget e ex t (tops ++ Framed f ∷ TopLevel commands ∷ [])
+        (high t (inl refl)))))
+        (During (s.tops ++ tops) f commands (joined s.tops tops (Framed f ∷ TopLevel commands ∷ []) after.stack s.is)
+        (high_joined s.tops tops s.high (λ a m. high a (inr m))) tail other (rests f.commands tail q (inl (
+          t,
+          tops ++ Framed f ∷ TopLevel commands ∷ [],
+          is,
+          high t (inl refl),
+        ))) none)
+    stage_step calls (After tame few) x = subst (λ n. IsStage n after.stack)
+        (sym (counted calls (count_by is_enter events) (is_call e.function (next_command w.stack)) (tame_call w.stack tame))) (after_step calls tame few x)

@@ -48,7 +48,8 @@ module _ (script : Script) (e : Exit) (ex : IsExit script e) where
 
   at_end : (later rest : List Command) (c : Command) → Call (Name e.exit) ∷ ex.back ≡ later ++ c ∷ rest → Position script e ex c rest
   at_end [] rest c is = let h = heads (Call (Name e.exit)) c ex.back rest is in InLast (sym h.0) (sym h.1)
-  at_end (l ∷ later) rest c is = let h = heads (Call (Name e.exit)) l ex.back (later ++ c ∷ rest) is in InOther (ex.back_other c (subst (λ xs. Includes xs c) (sym h.1) (Includes-append_right later (c ∷ rest) c (inl refl))))
+  at_end (l ∷ later) rest c is = let h = heads (Call (Name e.exit)) l ex.back (later ++ c ∷ rest) is
+      in InOther (ex.back_other c (subst (λ xs. Includes xs c) (sym h.1) (Includes-append_right later (c ∷ rest) c (inl refl))))
 
   at_tail : (later rest : List Command) (c : Command) → tail_lines ≡ later ++ c ∷ rest → Position script e ex c rest
   at_tail later rest c is = either (cut later rest ex.middle (Call (Name e.exit) ∷ ex.back) c (sym is)) (λ m. InOther (ex.middle_other c m)) (λ k. at_end k.0 rest c k.1)
@@ -57,7 +58,8 @@ module _ (script : Script) (e : Exit) (ex : IsExit script e) where
   at_lines [] rest c is = InFirst (sym (heads _ c _ rest is).0)
   at_lines (x ∷ []) rest c is = let h = heads _ x _ (c ∷ rest) is in InSecond (sym (heads _ c _ rest h.1).0)
   at_lines (x ∷ y ∷ []) rest c is = let h = heads _ x _ (y ∷ c ∷ rest) is in let i = heads _ y _ (c ∷ rest) h.1 in let j = heads (watch_command e) c tail_lines rest i.1 in InThird (sym j.0) (sym j.1)
-  at_lines (x ∷ y ∷ z ∷ later) rest c is = let h = heads _ x _ (y ∷ z ∷ (later ++ c ∷ rest)) is in let i = heads _ y _ (z ∷ (later ++ c ∷ rest)) h.1 in let j = heads (watch_command e) z tail_lines (later ++ c ∷ rest) i.1 in at_tail later rest c j.1
+  at_lines (x ∷ y ∷ z ∷ later) rest c is = let h = heads _ x _ (y ∷ z ∷ (later ++ c ∷ rest)) is in let i = heads _ y _ (z ∷ (later ++ c ∷ rest)) h.1 in let j =
+      heads (watch_command e) z tail_lines (later ++ c ∷ rest) i.1 in at_tail later rest c j.1
 
   pub positioned : (done rest : List Command) (c : Command) → commands_of script.items ≡ done ++ c ∷ rest → Position script e ex c rest
   positioned done rest c is = either (cut done rest ex.front (exit_commands e ++ tail_lines) c (sym is ∙ ex.commands)) (λ m. InOther (ex.front_other c m)) (λ k. at_lines k.0 rest c k.1)
@@ -68,8 +70,10 @@ AreTame e stack = (a : Activity) → Includes stack a → AllOther e (commands_o
 
 -- the stage of a run after this many calls, and what is known while the procedure's frame is on the stack
 pub data Stage (script : Script) (e : Exit) (Q : List Command → Type 0) (calls : ℕ) (stack : List Activity) : Type 0 where
-  Before : (tops : List Activity) (done commands : List Command) → stack ≡ tops ++ TopLevel commands ∷ [] → AllHigh e tops → commands_of script.items ≡ done ++ commands → calls ≡ 0 → Stage script e Q calls stack
-  During : (tops : List Activity) (f : Frame) (commands : List Command) → stack ≡ tops ++ Framed f ∷ TopLevel commands ∷ [] → AllHigh e tops → IsTail e f.commands → AllOther e commands → Q f.commands → calls ≡ 0 → Stage script e Q calls stack
+  Before : (tops : List Activity) (done commands : List Command) → stack ≡ tops ++ TopLevel commands ∷ [] → AllHigh e tops → commands_of script.items ≡ done
+      ++ commands → calls ≡ 0 → Stage script e Q calls stack
+  During : (tops : List Activity) (f : Frame) (commands : List Command) → stack ≡ tops ++ Framed f ∷ TopLevel commands ∷ [] → AllHigh e tops
+      → IsTail e f.commands → AllOther e commands → Q f.commands → calls ≡ 0 → Stage script e Q calls stack
   After : AreTame e stack → calls ≤ 1 → Stage script e Q calls stack
 
 -- what a taken command may be
@@ -105,10 +109,26 @@ module _ (script : Script) (budget : ℕ) (e : Exit) (ex : IsExit script e) wher
   IsQuiet c = (¬ Includes (command_names c) e.exit) × ((name : ℕ) (cells : List Operand) → c ≢ MakeFunc name e.proc cells)
 
   pub tail_quiet : (commands rest : List Command) (c : Command) → IsTail e commands → commands ≡ c ∷ rest → IsQuiet c × (IsTail e rest ⊎ (rest ≡ []))
-  tail_quiet commands rest c AtDeref is = let h = heads _ c _ rest is in (subst IsQuiet h.0 (λ m. either m (λ i. ex.exit_object (sym i)) (λ k. either k (λ i. ex.watch_exit i) (λ none. none)), λ n cs i. cc), inl (subst (IsTail e) h.1 AtQuit))
-  tail_quiet commands rest c AtQuit is = let h = heads _ c _ rest is in (subst IsQuiet h.0 (λ m. either m (λ i. ex.exit_object (sym i)) (λ none. none), λ n cs i. cc), inl (subst (IsTail e) h.1 AtWatch))
+  tail_quiet commands rest c AtDeref is = let h = heads _ c _ rest is
+      in (
+        subst IsQuiet h.0 (λ m. either m (λ i. ex.exit_object (sym i)) (λ k. either k (λ i. ex.watch_exit i) (λ none. none)), λ n cs i. cc),
+        inl (subst (IsTail e) h.1 AtQuit),
+      )
+  tail_quiet commands rest c AtQuit is = let h = heads _ c _ rest is in (
+    subst IsQuiet h.0 (
+      λ m. either m (λ i. ex.exit_object (sym i)) (λ none. none),
+      λ n cs i. cc,
+    ),
+    inl (subst (IsTail e) h.1 AtWatch),
+  )
   tail_quiet commands rest c AtWatch is = let h = heads _ c _ rest is in (subst IsQuiet h.0 (λ m. either m (λ i. ex.watch_exit i) (λ none. none), λ n cs i. cc), inl (subst (IsTail e) h.1 AtObject))
-  tail_quiet commands rest c AtObject is = let h = heads _ c _ rest is in (subst IsQuiet h.0 (λ m. either m (λ i. ex.exit_object (sym i)) (λ none. none), λ n cs i. cc), inl (subst (IsTail e) h.1 AtCall))
+  tail_quiet commands rest c AtObject is = let h = heads _ c _ rest is in (
+    subst IsQuiet h.0 (
+      λ m. either m (λ i. ex.exit_object (sym i)) (λ none. none),
+      λ n cs i. cc,
+    ),
+    inl (subst (IsTail e) h.1 AtCall),
+  )
   tail_quiet commands rest c AtCall is = let h = heads _ c _ rest is in (subst IsQuiet h.0 (λ m. either m (λ i. ex.exit_function (sym i)) (λ none. none), λ n cs i. cc), inr (sym h.1))
 
   other_told : (c : Command) → IsOther e c → IsTold e c
@@ -121,7 +141,9 @@ module _ (script : Script) (budget : ℕ) (e : Exit) (ex : IsExit script e) wher
   position_told c rest (InOther h) = other_told c h
   position_told c rest (InFirst is) = MakesIt is
   position_told c rest (InSecond is) = subst (IsTold e) (sym is) (Quiet (λ m. either m (λ i. ex.exit_function (sym i)) (not_exit (operand_names e.source) ex.source_other)) (λ n cs i. cc))
-  position_told c rest (InThird is at) = subst (IsTold e) (sym is) (Quiet (λ m. either m (λ i. ex.watch_exit i) (λ k. either (Includes-append_cases (operand_names e.target) (e.function ∷ []) e.exit k) (not_exit (operand_names e.target) ex.target_other) (λ l. either l (λ i. ex.exit_function (sym i)) (λ none. none)))) (λ n cs i. cc))
+  position_told c rest (InThird is at) = subst (IsTold e) (sym is)
+      (Quiet (λ m. either m (λ i. ex.watch_exit i) (λ k. either (Includes-append_cases (operand_names e.target) (e.function ∷ []) e.exit k)
+      (not_exit (operand_names e.target) ex.target_other) (λ l. either l (λ i. ex.exit_function (sym i)) (λ none. none)))) (λ n cs i. cc))
   position_told c rest (InLast is at) = CallsIt is
 
   high_told : (c : Command) (a b : Activity) → Takes c a b → AllOther e (commands_on a) → IsTold e c
@@ -137,9 +159,16 @@ module _ (script : Script) (budget : ℕ) (e : Exit) (ex : IsExit script e) wher
   top_told cs done c a b (FromFrame g commands left) is at = absurd (cc)
 
   -- what is taken from the top of the stack
-  pub stage_told : (Q : List Command → Type 0) (calls : ℕ) (stack : List Activity) (c : Command) (a b : Activity) (below : List Activity) → Stage script e Q calls stack → stack ≡ a ∷ below → Takes c a b → IsTold e c
-  stage_told Q calls stack c a b below (Before [] done commands is high at none) top takes = top_told commands done c a b takes (same_top script budget e ex (TopLevel commands) a [] below stack is top).0 at
-  stage_told Q calls stack c a b below (Before (t ∷ tops) done commands is high at none) top takes = high_told c a b takes (subst (λ (x : Activity). AllOther e (commands_on x)) (same_top script budget e ex t a (tops ++ TopLevel commands ∷ []) below stack is top).0 (high_tame e t (high t (inl refl))))
-  stage_told Q calls stack c a b below (During [] f commands is high tail other q none) top takes = frame_told f c a b takes (same_top script budget e ex (Framed f) a (TopLevel commands ∷ []) below stack is top).0 tail
-  stage_told Q calls stack c a b below (During (t ∷ tops) f commands is high tail other q none) top takes = high_told c a b takes (subst (λ (x : Activity). AllOther e (commands_on x)) (same_top script budget e ex t a (tops ++ Framed f ∷ TopLevel commands ∷ []) below stack is top).0 (high_tame e t (high t (inl refl))))
+  pub stage_told : (Q : List Command → Type 0) (calls : ℕ) (stack : List Activity) (c : Command) (a b : Activity) (below : List Activity)
+      → Stage script e Q calls stack → stack ≡ a ∷ below → Takes c a b → IsTold e c
+  stage_told Q calls stack c a b below (Before [] done commands is high at none) top takes = top_told commands done c a b takes
+      (same_top script budget e ex (TopLevel commands) a [] below stack is top).0 at
+  stage_told Q calls stack c a b below (Before (t ∷ tops) done commands is high at none) top takes =
+      high_told c a b takes (subst (λ (x : Activity). AllOther e (commands_on x)) (same_top script budget e ex t a (tops ++ TopLevel commands ∷ []) below stack
+      is top).0 (high_tame e t (high t (inl refl))))
+  stage_told Q calls stack c a b below (During [] f commands is high tail other q none) top takes =
+      frame_told f c a b takes (same_top script budget e ex (Framed f) a (TopLevel commands ∷ []) below stack is top).0 tail
+  stage_told Q calls stack c a b below (During (t ∷ tops) f commands is high tail other q none) top takes =
+      high_told c a b takes (subst (λ (x : Activity). AllOther e (commands_on x)) (same_top script budget e ex t a (tops ++ Framed f ∷ TopLevel commands ∷ [])
+      below stack is top).0 (high_tame e t (high t (inl refl))))
   stage_told Q calls stack c a b below (After tame few) top takes = high_told c a b takes (tame a (subst (λ st. Includes st a) (sym top) (inl refl)))

@@ -50,7 +50,8 @@ numbers-append (line ∷ front) lines l =
 
 number_range : (lines : List (List ℕ)) (l m : ℕ) → Includes (finalize_numbers_from l lines) m → (l ≤ m) × (m < l + length lines)
 number_range [] l m k = absurd k
-number_range (line ∷ lines) l m k = either (Includes-append_cases (finalize_number l line) (finalize_numbers_from (l + 1) lines) m k) (here (finalizes line)) (λ h. let r = number_range lines (l + 1) m h in let from = r.0 in let to = r.1 in (omega (arith, from), omega (arith, to)))
+number_range (line ∷ lines) l m k = either (Includes-append_cases (finalize_number l line) (finalize_numbers_from (l + 1) lines) m k) (here (finalizes line))
+    (λ h. let r = number_range lines (l + 1) m h in let from = r.0 in let to = r.1 in (omega (arith, from), omega (arith, to)))
   where
     here : (b : Bool) → Includes (cond b (l ∷ []) []) m → (l ≤ m) × (m < l + suc (length lines))
     here false h = absurd h
@@ -64,11 +65,13 @@ is_finalize_form (Some form) e = absurd (cc)
 
 Includes-reversed : (xs : List ℕ) (x : ℕ) → Includes xs x → Includes (reverse xs) x
 Includes-reversed [] x m = m
-Includes-reversed (y ∷ xs) x m = subst (λ ys. Includes ys x) (sym (reverse-append (y ∷ []) xs)) (either m (λ e. Includes-append_right (reverse xs) (y ∷ []) x (inl e)) (λ k. Includes-append_left (reverse xs) (y ∷ []) x (Includes-reversed xs x k)))
+Includes-reversed (y ∷ xs) x m = subst (λ ys. Includes ys x) (sym (reverse-append (y ∷ []) xs))
+    (either m (λ e. Includes-append_right (reverse xs) (y ∷ []) x (inl e)) (λ k. Includes-append_left (reverse xs) (y ∷ []) x (Includes-reversed xs x k)))
 
 reversed_from : (xs : List Exit) (x : Exit) → Includes (reverse xs) x → Includes xs x
 reversed_from [] x m = m
-reversed_from (y ∷ xs) x m = either (Includes-append_cases (reverse xs) (y ∷ []) x (subst (λ ys. Includes ys x) (reverse-append (y ∷ []) xs) m)) (λ k. inr (reversed_from xs x k)) (λ k. either k (λ e. inl e) (λ e. absurd e))
+reversed_from (y ∷ xs) x m = either (Includes-append_cases (reverse xs) (y ∷ []) x (subst (λ ys. Includes ys x) (reverse-append (y ∷ []) xs) m))
+    (λ k. inr (reversed_from xs x k)) (λ k. either k (λ e. inl e) (λ e. absurd e))
 
 map-reversed : {X : Type 0} (f : X → Command) (xs : List X) → map f (reverse xs) ≡ reverse (map f xs)
 map-reversed f [] = refl
@@ -246,7 +249,8 @@ module _ (bytes : List ℕ) (fine : first_bad bytes ≡ None) (all : List (List 
         ap commands_of (sym items_are)
         ∙ commands_split X F false
         ∙ ap (λ b. commands_X ++ commands_of (items_of b F)) X_ends
-        ∙ ap (λ cs. commands_X ++ (exit_commands e ++ cs)) (commands_split Y Z false ∙ ap (λ b. commands_Y ++ commands_of (items_of b Z)) Y_ends ∙ ap (λ cs. commands_Y ++ cs) (run_each (calls_of all (reverse numbers))))
+        ∙ ap (λ cs. commands_X ++ (exit_commands e ++ cs)) (commands_split Y Z false ∙ ap (λ b. commands_Y ++ commands_of (items_of b Z)) Y_ends
+        ∙ ap (λ cs. commands_Y ++ cs) (run_each (calls_of all (reverse numbers))))
 
     abbrev procs_X : List Proc
     procs_X = procedures (items_of false X)
@@ -349,7 +353,9 @@ module _ (bytes : List ℕ) (fine : first_bad bytes ≡ None) (all : List (List 
       middle = commands_Y ++ calls_of all (reverse after);
       back = calls_of all (reverse before);
       commands = commands_are ∙ ap (λ cs. commands_X ++ (exit_commands e ++ (commands_Y ++ cs))) calls_are
-          ∙ ap (λ cs. commands_X ++ (exit_commands e ++ cs)) (sym (append_assoc commands_Y (calls_of all (reverse after)) (commands.Call (operands.Name (text_number all (exit_name l))) ∷ calls_of all (reverse before))));
+          ∙ ap (λ cs. commands_X ++ (exit_commands e ++ cs))
+          (sym (append_assoc commands_Y (calls_of all (reverse after)) (commands.Call (operands.Name (text_number all (exit_name l)))
+          ∷ calls_of all (reverse before))));
       front_other = X_other;
       middle_other = λ c m. either (Includes-append_cases commands_Y (calls_of all (reverse after)) c m) (Y_other c) (calls_other (reverse after) after_apart c);
       back_other = calls_other (reverse before) before_apart;
@@ -384,7 +390,8 @@ module _ (bytes : List ℕ) (fine : first_bad bytes ≡ None) (all : List (List 
     its_call_away : (ls : List Command) → commands_of its ≡ ls ++ calls_of all (reverse numbers) → ¬ Includes ls (commands.Call (operands.Name e.exit))
     its_call_away ls whole m =
         let same : ls ≡ commands_X ++ (exit_commands e ++ commands_Y) = append_cancel_right ls (commands_X ++ (exit_commands e ++ commands_Y)) (calls_of all (reverse numbers))
-        (sym whole ∙ commands_are ∙ ap (λ cs. commands_X ++ cs) (sym (append_assoc (exit_commands e) commands_Y (calls_of all (reverse numbers)))) ∙ sym (append_assoc commands_X (exit_commands e ++ commands_Y) (calls_of all (reverse numbers)))) in
+        (sym whole ∙ commands_are ∙ ap (λ cs. commands_X ++ cs) (sym (append_assoc (exit_commands e) commands_Y (calls_of all (reverse numbers))))
+        ∙ sym (append_assoc commands_X (exit_commands e ++ commands_Y) (calls_of all (reverse numbers)))) in
         either (Includes-append_cases commands_X (exit_commands e ++ commands_Y) (commands.Call (operands.Name e.exit)) (subst (λ cs. Includes cs (commands.Call (operands.Name e.exit))) same m))
         (λ k. (X_other (commands.Call (operands.Name e.exit)) k).names e.exit (inl refl) (inr (inl refl)))
         behind
@@ -417,8 +424,10 @@ module _ (bytes : List ℕ) (fine : first_bad bytes ≡ None) (all : List (List 
         }
         go true is later = record {
           exits = e front line back parts is ∷ later.exits;
-          of_lines = Finalizes k line back (e front line back parts is) later.exits is (subst (λ n. IsExitOf all its n line (e front line back parts is)) (sym same) (is_of front line back parts is)) later.of_lines;
-          each = λ x m. either m (λ i. subst (λ (x : Exit). IsExit script x × ¬ Includes ls (commands.Call (operands.Name x.exit))) i (its_exit front line back parts is, its_call_away front line back parts is ls whole)) (later.each x);
+          of_lines = Finalizes k line back (e front line back parts is) later.exits is (subst (λ n. IsExitOf all its n line (e front line back parts is))
+              (sym same) (is_of front line back parts is)) later.of_lines;
+          each = λ x m. either m (λ i. subst (λ (x : Exit). IsExit script x × ¬ Includes ls (commands.Call (operands.Name x.exit))) i
+              (its_exit front line back parts is, its_call_away front line back parts is ls whole)) (later.each x);
           calls_are =
               ap (λ cs. commands.Call (operands.Name (text_number all (exit_name (1 + length front)))) ∷ cs) later.calls_are
               ∙ ap (λ n. commands.Call (operands.Name (text_number all (exit_name n))) ∷ calls_of all (finalize_numbers_from (k + 1) back)) (sym same)

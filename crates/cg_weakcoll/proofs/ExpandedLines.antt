@@ -92,7 +92,9 @@ no_fault : (form : Form) (inside : Bool) (l : ℕ) (line : List ℕ) (words : Li
 no_fault form inside l line words e = go (list_all is_printable line) (nat_lt 1000 (length line)) (nat_lt 400000 l) (length words == word_count form) (words_fit form words) refl refl refl refl e
   where
     go : (a b c d f : Bool) → list_all is_printable line ≡ a → nat_lt 400000 l ≡ c → (length words == word_count form) ≡ d → words_fit form words ≡ f
-        → cond {A = Option ℕ} (not a) (Some 1) (cond (b || c) (Some 5) (cond (not d) (Some 3) (cond (not f) (Some 4) (cond (is_finalize (Some form) && inside) (Some 7) None)))) ≡ None → Fits form l line words
+        → cond {A = Option ℕ} (not a) (Some 1)
+        (cond (b || c) (Some 5) (cond (not d) (Some 3) (cond (not f) (Some 4) (cond (is_finalize (Some form) && inside) (Some 7) None)))) ≡ None
+        → Fits form l line words
     go false b c d f ea ec ed ef k = absurd (cc)
     go true true c d f ea ec ed ef k = absurd (cc)
     go true false true d f ea ec ed ef k = absurd (cc)
@@ -105,7 +107,8 @@ first_none None n e = refl
 first_none (Some k) n e = absurd (cc)
 
 pub fits_of : (form : Form) (inside : Bool) (l : ℕ) (line : List ℕ) → form_of (words_of line) ≡ Some form → fault_of inside l line ≡ None → Fits form l line (words_of line)
-fits_of form inside l line is e = no_fault form inside l line (words_of line) (first_none (form_fault form inside l line (words_of line)) (name_fault (words_of line)) (ap (λ m. fault_by m inside l line (words_of line)) (sym is) ∙ e))
+fits_of form inside l line is e = no_fault form inside l line (words_of line) (first_none (form_fault form inside l line (words_of line))
+    (name_fault (words_of line)) (ap (λ m. fault_by m inside l line (words_of line)) (sym is) ∙ e))
 
 -- the first of some good lines
 pub split_bad : (l : ℕ) (m : Option ℕ) (later : Option (ℕ × ℕ)) → bad_or l m later ≡ None → (m ≡ None) × (later ≡ None)
@@ -131,7 +134,8 @@ all_written : (lines : List (List ℕ)) (inside : Bool) (l : ℕ) → AreUnfed l
 all_written [] inside l h e = none_unfed
 all_written (line ∷ lines) inside l h e =
     let k = split_bad l (fault_of inside l line) (first_bad_from (inside_after inside (words_of line)) (l + 1) lines) e in
-    both_unfed (written l line) (written_from (l + 1) lines) (written_unfed inside l line (h line (inl refl)) k.0) (all_written lines (inside_after inside (words_of line)) (l + 1) (λ other m. h other (inr m)) k.1)
+    both_unfed (written l line) (written_from (l + 1) lines) (written_unfed inside l line (h line (inl refl)) k.0)
+    (all_written lines (inside_after inside (words_of line)) (l + 1) (λ other m. h other (inr m)) k.1)
 
 -- the numbers of `finalize` lines are small
 AreLow : List ℕ → Type 0
@@ -149,7 +153,8 @@ pub numbers_low : (lines : List (List ℕ)) (inside : Bool) (l : ℕ) → first_
 numbers_low [] inside l e n m = absurd m
 numbers_low (line ∷ lines) inside l e n m =
     let k = split_bad l (fault_of inside l line) (first_bad_from (inside_after inside (words_of line)) (l + 1) lines) e in
-    either (Includes-append_cases (finalize_number l line) (finalize_numbers_from (l + 1) lines) n m) (number_low inside l line k.0 n) (numbers_low lines (inside_after inside (words_of line)) (l + 1) k.1 n)
+    either (Includes-append_cases (finalize_number l line) (finalize_numbers_from (l + 1) lines) n m) (number_low inside l line k.0 n)
+    (numbers_low lines (inside_after inside (words_of line)) (l + 1) k.1 n)
 
 calls_unfed : (numbers : List ℕ) → ((n : ℕ) → Includes numbers n → n ≤ 400000) → AreUnfed (call_lines numbers)
 calls_unfed numbers low line m =
@@ -181,12 +186,18 @@ none_first : (l : ℕ) (m : Option ℕ) (later : Option (ℕ × ℕ)) → m ≡ 
 none_first l None later e k = k
 none_first l (Some code) later e k = absurd (cc)
 
-pub parted : (front : List (List ℕ)) (line : List ℕ) (back : List (List ℕ)) (inside : Bool) (l : ℕ) → first_bad_from inside l (front ++ line ∷ back) ≡ None → (first_bad_from inside l front ≡ None) × Parted front line back l
+pub parted : (front : List (List ℕ)) (line : List ℕ) (back : List (List ℕ)) (inside : Bool) (l : ℕ) → first_bad_from inside l (front ++ line ∷ back) ≡ None
+    → (first_bad_from inside l front ≡ None) × Parted front line back l
 parted [] line back inside l e =
     let f = split_bad l (fault_of inside l line) (first_bad_from (inside_after inside (words_of line)) (l + 1) back) e in
     let same : l ≡ l + 0 = omega arith in (
       refl,
-      record { inside = inside; inside_behind = inside_after inside (words_of line); here = subst (λ n. fault_of inside n line ≡ None) same f.0; behind = subst (λ n. first_bad_from (inside_after inside (words_of line)) (n + 1) back ≡ None) same f.1 },
+      record {
+        inside = inside;
+        inside_behind = inside_after inside (words_of line);
+        here = subst (λ n. fault_of inside n line ≡ None) same f.0;
+        behind = subst (λ n. first_bad_from (inside_after inside (words_of line)) (n + 1) back ≡ None) same f.1;
+      },
     )
 parted (other ∷ front) line back inside l e =
     let f = split_bad l (fault_of inside l other) (first_bad_from (inside_after inside (words_of other)) (l + 1) (front ++ line ∷ back)) e in
@@ -210,9 +221,11 @@ pub record FormLines (bytes : List ℕ) (front : List (List ℕ)) (line : List �
   pub parts : (first_bad_from false 1 front ≡ None) × Parted front line back 1
   pub fits : Fits form (1 + length front) line (words_of line)
   pub sound : EachLine IsSound (form_lines form (1 + length front) (words_of line))
-  pub lines_are : lines_of (expansion bytes) ≡ written_from 1 front ++ (map joined (form_lines form (1 + length front) (words_of line)) ++ (written_from (1 + length front + 1) back ++ final_lines (lines_of bytes)))
+  pub lines_are : lines_of (expansion bytes) ≡ written_from 1 front ++ (map joined (form_lines form (1 + length front) (words_of line))
+      ++ (written_from (1 + length front + 1) back ++ final_lines (lines_of bytes)))
 
-pub form_written : (bytes : List ℕ) → first_bad bytes ≡ None → (front : List (List ℕ)) (line : List ℕ) (back : List (List ℕ)) → lines_of bytes ≡ front ++ line ∷ back → (form : Form) → form_of (words_of line) ≡ Some form → FormLines bytes front line back form
+pub form_written : (bytes : List ℕ) → first_bad bytes ≡ None → (front : List (List ℕ)) (line : List ℕ) (back : List (List ℕ)) → lines_of bytes ≡ front ++ line
+    ∷ back → (form : Form) → form_of (words_of line) ≡ Some form → FormLines bytes front line back form
 unfolding first_bad
 form_written bytes fine front line back all form is =
     let parts = parted front line back false 1 (ap (first_bad_from false 1) (sym all) ∙ fine) in

@@ -35,10 +35,12 @@ weak_variable l low =
     let few : nat_le (length (weak_name l)) 32 ≡ true = grind (arith, nat_tests, short) in
     and_both (is_identifier (weak_name l)) (not (is_reserved (weak_name l)))
     (and_both (nat_le 1 (length (weak_name l)) && nat_le (length (weak_name l)) 32 && begins_name (slice_index (weak_name l) 0)) (list_all is_name_byte (weak_name l))
-    (and_both (nat_le 1 (length (weak_name l)) && nat_le (length (weak_name l)) 32) (begins_name (slice_index (weak_name l) 0)) (and_both (nat_le 1 (length (weak_name l))) (nat_le (length (weak_name l)) 32) some few) refl) bytes)
+    (and_both (nat_le 1 (length (weak_name l)) && nat_le (length (weak_name l)) 32) (begins_name (slice_index (weak_name l) 0))
+    (and_both (nat_le 1 (length (weak_name l))) (nat_le (length (weak_name l)) 32) some few) refl) bytes)
     (ap not (not_reserved (decimal l)))
 
-three_lines : (bytes : List ℕ) (first second third : List (List ℕ)) (front back : List (List ℕ)) → EachLine IsSound (first ∷ second ∷ third ∷ []) → lines_of bytes ≡ front ++ joined first ∷ joined second ∷ joined third ∷ back → HasLines bytes first second third
+three_lines : (bytes : List ℕ) (first second third : List (List ℕ)) (front back : List (List ℕ)) → EachLine IsSound (first ∷ second ∷ third ∷ [])
+    → lines_of bytes ≡ front ++ joined first ∷ joined second ∷ joined third ∷ back → HasLines bytes first second third
 three_lines bytes first second third front back sound all = record {
   front = front;
   one = joined first;
@@ -62,5 +64,6 @@ pub expanded_stores : ExpandedStoresAreCommands
 expanded_stores bytes fine texts items e front line back all is =
     let w = form_written bytes fine front line back all Set is in
     let at = λ (place : ℕ). word_at (words_of line) place in
-    store_lines (expansion bytes) texts items e (weak_name (1 + length front)) (at 1) (at 2) (at 3) (weak_variable (1 + length front) w.fits.low) (first_of_three (is_value (at 1)) (is_value (at 2)) (is_value (at 3)) w.fits.fit)
+    store_lines (expansion bytes) texts items e (weak_name (1 + length front)) (at 1) (at 2) (at 3) (weak_variable (1 + length front) w.fits.low)
+    (first_of_three (is_value (at 1)) (is_value (at 2)) (is_value (at 3)) w.fits.fit)
     (three_lines (expansion bytes) _ _ _ (written_from 1 front) (written_from (1 + length front + 1) back ++ final_lines (lines_of bytes)) w.sound w.lines_are)

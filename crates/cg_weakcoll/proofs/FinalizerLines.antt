@@ -41,7 +41,8 @@ last_place : (xs : List (List ℕ)) (text : List ℕ) → has_text xs text ≡ f
 last_place [] text e = ap (λ b. cond (not b) 1 0) (same_text text)
 last_place (x ∷ xs) text e = go (bytes_eq text x) e (last_place xs text)
   where
-    go : (b : Bool) → (b || has_text xs text) ≡ false → (has_text xs text ≡ false → position_or_len (bytes_eq text) (xs ++ text ∷ []) ≡ length xs) → cond (not b) (1 + position_or_len (bytes_eq text) (xs ++ text ∷ [])) 0 ≡ suc (length xs)
+    go : (b : Bool) → (b || has_text xs text) ≡ false → (has_text xs text ≡ false → position_or_len (bytes_eq text) (xs ++ text ∷ []) ≡ length xs)
+        → cond (not b) (1 + position_or_len (bytes_eq text) (xs ++ text ∷ [])) 0 ≡ suc (length xs)
     go true k ih = absurd (cc)
     go false k ih = let n = ih k in omega (arith, n)
 
@@ -69,12 +70,21 @@ bind_worded x f value = ap (λ (k : Form). formed k (x ∷ codes "=" ∷ f ∷ [
     go false None ref is = refl
     go false (Some form) ref is =
         let told = ap (λ w. not (is_value w) || not (is_some (named bindings w)) || bytes_eq w (codes "ref")) (binding_is f form is).word ∙ no_binding_form form in
-        let no : false ≡ true = sym (ap (λ t. not t || not (is_some (named bindings f)) || bytes_eq f (codes "ref")) value ∙ ap (λ (m : Option Form). not (is_some m) || bytes_eq f (codes "ref")) is ∙ ref) ∙ told in
+        let no : false ≡ true = sym (ap (λ t. not t || not (is_some (named bindings f)) || bytes_eq f (codes "ref")) value
+        ∙ ap (λ (m : Option Form). not (is_some m) || bytes_eq f (codes "ref")) is ∙ ref) ∙ told in
         absurd (cc)
 
 -- its exit finalizer
 abbrev pub exit_of : List (List ℕ) → ℕ → ℕ → Operand → Operand → Exit
-exit_of all proc l source target = record { proc = proc; object = text_number all (object_name l); exit = text_number all (exit_name l); function = text_number all (function_name l); watch = text_number all (watch_name l); source = source; target = target }
+exit_of all proc l source target = record {
+  proc = proc;
+  object = text_number all (object_name l);
+  exit = text_number all (exit_name l);
+  function = text_number all (function_name l);
+  watch = text_number all (watch_name l);
+  source = source;
+  target = target;
+}
 
 -- what the lines say in the procedure and after it
 abbrev pub finalizer_says : List (List ℕ) → ℕ → Exit → List Said → List Said
@@ -123,7 +133,8 @@ meant l y f value = (
   ((refl, refl), ((refl, refl), ((refl, refl), ((refl, refl), ((refl, refl), ((refl, refl), ((refl, refl), ((refl, bind_worded (function_name l) f value), ((refl, refl), tt))))))))),
 )
 
-module _ (all : List (List ℕ)) (Free : List ℕ → Type 0) (known0 : Known) (number : ℕ) (rest : List (List ℕ)) (saids : List Said) (l : ℕ) (y f : List ℕ) (value : is_value f ≡ true) (clear_y : IsClear Free y) (clear_f : IsClear Free f) (sound : EachLine IsSound (finalize_lines l y f))
+module _ (all : List (List ℕ)) (Free : List ℕ → Type 0) (known0 : Known) (number : ℕ) (rest : List (List ℕ)) (saids : List Said) (l : ℕ) (y f : List ℕ)
+    (value : is_value f ≡ true) (clear_y : IsClear Free y) (clear_f : IsClear Free f) (sound : EachLine IsSound (finalize_lines l y f))
     (start : lines_from known0 number (map joined (finalize_lines l y f) ++ rest) ≡ good all saids) where
   t : Table all known0 (map written_row (rows_of l y f)) rest saids
   t = table all (map written_row (rows_of l y f)) known0 number rest saids (are_read (rows_of l y f) sound (meant l y f value)) start
@@ -178,7 +189,9 @@ pub record Calls (all : List (List ℕ)) (known : Known) (saids : List Said) (nu
   pub outside : known.inside ≡ false
   pub texts : (l : ℕ) → Includes numbers l → text_of all (text_number all (exit_name l)) ≡ exit_name l
 
-pub calls : (all : List (List ℕ)) (known : Known) (number : ℕ) (saids : List Said) (numbers : List ℕ) → ((l : ℕ) → Includes numbers l → EachWord IsSound (call_line l)) → lines_from known number (map (λ l. joined (call_line l)) numbers) ≡ good all saids → Calls all known saids numbers
+pub calls : (all : List (List ℕ)) (known : Known) (number : ℕ) (saids : List Said) (numbers : List ℕ)
+    → ((l : ℕ) → Includes numbers l → EachWord IsSound (call_line l)) → lines_from known number (map (λ l. joined (call_line l)) numbers) ≡ good all saids
+    → Calls all known saids numbers
 unfolding atoms openers
 calls all known number saids [] sound e = go known.inside refl e
   where
@@ -186,7 +199,8 @@ calls all known number saids [] sound e = go known.inside refl e
     go true i k = absurd (cc)
     go false i k = let none : [] ≡ saids = cc in record { is = sym none; outside = i; texts = λ l m. absurd m }
 calls all known number saids (l ∷ numbers) sound e =
-    let t = table all (written_row (forms.Call, call_line l) ∷ []) known number (map (λ k. joined (call_line k)) numbers) saids (are_read ((forms.Call, call_line l) ∷ []) (sound l (inl refl), tt) ((refl, refl), tt)) e in
+    let t = table all (written_row (forms.Call, call_line l) ∷ []) known number (map (λ k. joined (call_line k)) numbers) saids
+    (are_read ((forms.Call, call_line l) ∷ []) (sound l (inl refl), tt) ((refl, refl), tt)) e in
     let more = calls all (known_after known forms.Call (call_line l)) t.number t.later numbers (λ k m. sound k (inr m)) t.goes in
     record {
       is = sym t.is ∙ ap (λ (ss : List Said). Does (commands.Call (operands.Name (text_number all (exit_name l)))) ∷ ss) more.is;

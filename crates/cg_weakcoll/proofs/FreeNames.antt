@@ -83,12 +83,14 @@ module _ (all : List (List ℕ)) (Free : List ℕ → Type 0) where
   value_holds texts word None e clear begins = by (is_quoted word) (begins_name (slice_index word 0)) begins
     where
       by : (q b : Bool) → Begins (with_text_if texts (cond q (Some (string_text word)) (cond b (Some word) None))) all
-          → AllHold (λ n. Free (text_of all n)) (operand_names (cond q (operands.Str (text_number texts (string_text word))) (cond b (operands.Name (text_number texts word)) (operands.Int (number_of word)))))
+          → AllHold (λ n. Free (text_of all n)) (operand_names (cond q (operands.Str (text_number texts (string_text word)))
+          (cond b (operands.Name (text_number texts word)) (operands.Int (number_of word)))))
       by true b h = tt
       by false true h = (placed_free texts word clear.itself h, tt)
       by false false h = tt
 
-  pub value_free : (texts : List (List ℕ)) (word : List ℕ) (found : Option Operand) → named atoms word ≡ found → IsClear Free word → Begins (with_text_if texts (value_text found word)) all → AreFree (operand_names (operand_or found texts word))
+  pub value_free : (texts : List (List ℕ)) (word : List ℕ) (found : Option Operand) → named atoms word ≡ found → IsClear Free word
+      → Begins (with_text_if texts (value_text found word)) all → AreFree (operand_names (operand_or found texts word))
   value_free texts word found e clear begins = free_each (operand_names (operand_or found texts word)) (value_holds texts word found e clear begins)
 
   numbered_free : (found : Option ℕ) → PartFree (numbered found)
@@ -111,7 +113,8 @@ module _ (all : List (List ℕ)) (Free : List ℕ → Type 0) where
   finalizer_of_free procs None word = legacy_of_free procs (after_prefix (codes "legacy=") word)
   finalizer_of_free procs (Some name) word = finalizer_free (defined_number procs name)
 
-  part_free : (procs classes texts : List (List ℕ)) (sort : Sort) (word : List ℕ) → IsClear Free word → Begins (with_text_if texts (text_in sort word)) all → PartFree (part_of procs classes texts sort word)
+  part_free : (procs classes texts : List (List ℕ)) (sort : Sort) (word : List ℕ) → IsClear Free word → Begins (with_text_if texts (text_in sort word)) all
+      → PartFree (part_of procs classes texts sort word)
   part_free procs classes texts Key word clear begins = tt
   part_free procs classes texts Variable word clear begins = placed_free texts word clear.itself begins
   part_free procs classes texts Name word clear begins = placed_free texts word clear.itself begins
@@ -125,7 +128,8 @@ module _ (all : List (List ℕ)) (Free : List ℕ → Type 0) where
   part_free procs classes texts Count word clear begins = tt
   part_free procs classes texts Flag word clear begins = tt
 
-  parts_free : (procs classes : List (List ℕ)) (form : Form) (words texts : List (List ℕ)) (place : ℕ) → AreClear Free words → Begins (texts_from texts form place words) all → EachFree (parts_from procs classes texts form place words)
+  parts_free : (procs classes : List (List ℕ)) (form : Form) (words texts : List (List ℕ)) (place : ℕ) → AreClear Free words
+      → Begins (texts_from texts form place words) all → EachFree (parts_from procs classes texts form place words)
   parts_free procs classes form [] texts place clear begins = tt
   parts_free procs classes form (word ∷ words) texts place clear begins =
       let more = with_text_if texts (text_in (sort_at form place) word) in (
@@ -133,18 +137,21 @@ module _ (all : List (List ℕ)) (Free : List ℕ → Type 0) where
         parts_free procs classes form words more (place + 1) clear.1 begins,
       )
 
-  text_part : (procs classes texts : List (List ℕ)) (sort : Sort) (word : List ℕ) → is_text sort ≡ true → IsClear Free word → Begins (with_text_if texts (text_in sort word)) all → Free (text_of all (text_or (Some (part_of procs classes texts sort word))))
+  text_part : (procs classes texts : List (List ℕ)) (sort : Sort) (word : List ℕ) → is_text sort ≡ true → IsClear Free word
+      → Begins (with_text_if texts (text_in sort word)) all → Free (text_of all (text_or (Some (part_of procs classes texts sort word))))
   text_part procs classes texts Variable word e clear begins = placed_free texts word clear.itself begins
   text_part procs classes texts Name word e clear begins = placed_free texts word clear.itself begins
   text_part procs classes texts sort word e clear begins = absurd (cc)
 
-  text_at_free : (procs classes : List (List ℕ)) (form : Form) (words texts : List (List ℕ)) (place i : ℕ) → i < length words → is_text (sort_at form (place + i)) ≡ true → AreClear Free words → Begins (texts_from texts form place words) all
+  text_at_free : (procs classes : List (List ℕ)) (form : Form) (words texts : List (List ℕ)) (place i : ℕ) → i < length words
+      → is_text (sort_at form (place + i)) ≡ true → AreClear Free words → Begins (texts_from texts form place words) all
       → Free (text_of all (text_at (parts_from procs classes texts form place words) i))
   text_at_free procs classes form [] texts place i h e clear begins = absurd (omega arith)
   text_at_free procs classes form (word ∷ words) texts place zero h e clear begins =
       let more = with_text_if texts (text_in (sort_at form place) word) in
       let z : place + 0 ≡ place = omega arith in
-      text_part procs classes texts (sort_at form place) word (ap (λ k. is_text (sort_at form k)) (sym z) ∙ e) clear.0 (begins_along more (texts_from more form (place + 1) words) all (begins_texts form words more (place + 1)) begins)
+      text_part procs classes texts (sort_at form place) word (ap (λ k. is_text (sort_at form k)) (sym z) ∙ e) clear.0
+      (begins_along more (texts_from more form (place + 1) words) all (begins_texts form words more (place + 1)) begins)
   text_at_free procs classes form (word ∷ words) texts place (suc i) h e clear begins =
       let z : place + suc i ≡ (place + 1) + i = omega arith in
       text_at_free procs classes form words (with_text_if texts (text_in (sort_at form place) word)) (place + 1) i (omega arith) (ap (λ k. is_text (sort_at form k)) (sym z) ∙ e) clear.1 begins

@@ -44,22 +44,37 @@ HasLocals o stack = (f : Frame) → Includes stack (Framed f) → (self_in f.sor
 
 stopped_locals : (o : ℕ) (stack : List Activity) → HasLocals o stack → HasLocals o (stopped_frame stack)
 stopped_locals o [] h = h
-stopped_locals o (Framed g ∷ below) h = λ f m. either m (λ e. let same : record g { commands = [] } ≡ f = cc in subst (λ (q : Frame). (self_in q.sort q.subject ≢ Some o) × (weak_in q.sort q.subject ≢ Some o)) same (h g (inl refl))) (λ i. h f (inr i))
+stopped_locals o (Framed g ∷ below) h = λ f m. either m (λ e. let same : record g { commands = [] } ≡ f = cc
+    in subst (λ (q : Frame). (self_in q.sort q.subject ≢ Some o) × (weak_in q.sort q.subject ≢ Some o)) same (h g (inl refl))) (λ i. h f (inr i))
 stopped_locals o (a ∷ below) h = h
 
 pub refused_hidden : (n o r : ℕ) (u : World) (events : List Event) (after : World) → Yields (refused r u) events after → Hidden n o u → Hidden n o after
 refused_hidden n o r u events after step h = subst (Hidden n o) (sym step.1) (restacked n o u (with_stack (stopped_frame u.stack) u) refl refl refl (stopped_locals o u.stack h.locals) h)
 
 -- starting a frame leaves the objects
-pub called_objects : (script : Script) (f p : ℕ) (u : World) (events : List Event) (after : World) → Yields (start_frame script (record { sort = CallFrame; proc = p; subject = f; func = Some f }) u) events after → after.objects ≡ u.objects
+pub called_objects : (script : Script) (f p : ℕ) (u : World) (events : List Event) (after : World)
+    → Yields (start_frame script (record { sort = CallFrame; proc = p; subject = f; func = Some f }) u) events after → after.objects ≡ u.objects
 called_objects script f p u events after step = go (u.budget == 0) step
   where
-    go : (b : Bool) → Yields (if b then (BudgetSpent ∷ [], record u { outcome = BudgetIsSpent }) else (Enter CallFrame f ∷ [], record u { budget = u.budget - 1; stack = Framed (record { sort = CallFrame; subject = f; function = Some f; commands = body_of script p }) ∷ u.stack })) events after → after.objects ≡ u.objects
+    go : (b : Bool) → Yields (if b then (BudgetSpent ∷ [], record u { outcome = BudgetIsSpent })
+        else (
+          Enter CallFrame f ∷ [],
+          record u {
+            budget = u.budget - 1;
+            stack = Framed (record {
+              sort = CallFrame;
+              subject = f;
+              function = Some f;
+              commands = body_of script p;
+            }) ∷ u.stack;
+          },
+        )) events after → after.objects ≡ u.objects
     go true y = ap (λ (z : World). z.objects) y.1
     go false y = ap (λ (z : World). z.objects) y.1
 
 -- what makes a function of a procedure
-made_func : (command : Command) (code : KindCode) (class : Option ℕ) (p : ℕ) → IsMadeBy command code class → code ≡ Func → class ≡ Some p → (name : ℕ) × (cells : List Operand) × (command ≡ MakeFunc name p cells)
+made_func : (command : Command) (code : KindCode) (class : Option ℕ) (p : ℕ) → IsMadeBy command code class → code ≡ Func → class ≡ Some p → (name : ℕ)
+    × (cells : List Operand) × (command ≡ MakeFunc name p cells)
 made_func command code class p (ByFunc name proc cells) c is = (name, cells, let same : proc ≡ p = cc in ap (λ q. MakeFunc name q cells) same)
 made_func command code class p (ByList name items) c is = absurd (cc)
 made_func command code class p (ByTuple name items) c is = absurd (cc)
@@ -71,8 +86,14 @@ done_comes : (script : Script) (command : Command) (b : Activity) (below : List 
     → (y : Object) → Includes after.objects y → ((x : Object) × Includes v.objects x × IsLater x y) ⊎ IsMadeBy command y.code y.class
 done_comes script command b below v events after (Stood answers is) y m = inl (y, subst (λ (z : World). Includes z.objects y) is m, later_refl y)
 done_comes script command b below v events after (Stopped answers is) y m = inl (y, subst (λ (z : World). Includes z.objects y) is m, later_refl y)
-done_comes script command b below v events after (Changed wants given next is shape) y m = shape_comes (on b below v) command (Changes wants events given next) shape y (subst (λ (z : World). Includes z.objects y) is m)
-done_comes script command b below v events after (Began f has step) y m = inl (y, subst (λ os. Includes os y) (called_objects script f.serial (procedure_of (on b below v) f.serial) (on b below v) events after step) m, later_refl y)
+done_comes script command b below v events after (Changed wants given next is shape) y m = shape_comes (on b below v) command (Changes wants events given next)
+    shape y (subst (λ (z : World). Includes z.objects y) is m)
+done_comes script command b below v events after (Began f has step) y m =
+    inl (
+      y,
+      subst (λ os. Includes os y) (called_objects script f.serial (procedure_of (on b below v) f.serial) (on b below v) events after step) m,
+      later_refl y,
+    )
 done_comes script command b below v events after (Asked g none is) y m = inl (y, subst (λ (z : World). Includes z.objects y) is m, later_refl y)
 
 module _ (script : Script) (budget : ℕ) (e : Exit) where
@@ -88,17 +109,23 @@ module _ (script : Script) (budget : ℕ) (e : Exit) where
   same_kept : (w after : World) → after.objects ≡ w.objects → AreHidden e w → ((o : ℕ) → Hidden e.exit o w → Hidden e.exit o after) → AreHidden e after
   same_kept w after objects h step y m code class = step y.serial (h y (subst (λ os. Includes os y) objects m) code class)
 
-  acted_kept : (w : World) (a : Activity) (below : List Activity) (events : List Event) (after : World) → Known script budget w → w.stack ≡ a ∷ below → Acts script w below events after → AreHidden e w → AreHidden e after
-  acted_kept w a below events after k top acts h y m = let x = acts.grows y m in later_kept w after h (λ z i code hid. acted_hidden script budget e.exit z.serial w a below events after k top acts (uncalled w z k i code) hid) x.0 y x.1 x.2.later
+  acted_kept : (w : World) (a : Activity) (below : List Activity) (events : List Event) (after : World) → Known script budget w → w.stack ≡ a ∷ below
+      → Acts script w below events after → AreHidden e w → AreHidden e after
+  acted_kept w a below events after k top acts h y m = let x = acts.grows y m in later_kept w after h (λ z i code hid. acted_hidden script budget e.exit
+      z.serial w a below events after k top acts (uncalled w z k i code) hid) x.0 y x.1 x.2.later
 
-  due_kept : (g : ℕ) (asked : Bool) (w u after : World) → u.objects ≡ w.objects → ((o : ℕ) → Hidden e.exit o w → Hidden e.exit o u) → after ≡ push (new_collection g asked w) u → AreHidden e w → AreHidden e after
-  due_kept g asked w u after objects on_u is h = same_kept w after (ap (λ (z : World). z.objects) is ∙ objects) h (λ o hid. subst (Hidden e.exit o) (sym is) (pushed e.exit o (new_collection g asked w) u (λ f i. cc) (on_u o hid)))
+  due_kept : (g : ℕ) (asked : Bool) (w u after : World) → u.objects ≡ w.objects → ((o : ℕ) → Hidden e.exit o w → Hidden e.exit o u) → after
+      ≡ push (new_collection g asked w) u → AreHidden e w → AreHidden e after
+  due_kept g asked w u after objects on_u is h = same_kept w after (ap (λ (z : World). z.objects) is ∙ objects) h (λ o hid. subst (Hidden e.exit o) (sym is)
+      (pushed e.exit o (new_collection g asked w) u (λ f i. cc) (on_u o hid)))
 
-  module _ (command : Command) (a b : Activity) (below : List Activity) (v : World) (events : List Event) (after : World) (takes : Takes command a b) (k : Known script budget (on a below v)) (h : AreHidden e (on a below v)) where
+  module _ (command : Command) (a b : Activity) (below : List Activity) (v : World) (events : List Event) (after : World) (takes : Takes command a b)
+      (k : Known script budget (on a below v)) (h : AreHidden e (on a below v)) where
     turned : (o : ℕ) → Hidden e.exit o (on a below v) → Hidden e.exit o (on b below v)
     turned o hid = taken_hidden e.exit o command a b below v takes hid
 
-    quiet_kept : ¬ Includes (command_names command) e.exit → ((name : ℕ) (cells : List Operand) → command ≢ MakeFunc name e.proc cells) → Done script command (on b below v) b below events after → AreHidden e after
+    quiet_kept : ¬ Includes (command_names command) e.exit → ((name : ℕ) (cells : List Operand) → command ≢ MakeFunc name e.proc cells)
+        → Done script command (on b below v) b below events after → AreHidden e after
     quiet_kept spoken makes done y m code class = either (done_comes script command b below v events after done y m)
         (λ x. later_kept (on a below v) after h (λ z i c hid. done_hidden script e.exit z.serial command b below v events after spoken done (turned z.serial hid)) x.0 y x.1 x.2 code class)
         (λ made. let c = made_func command y.code y.class e.proc made code class in absurd (makes c.0 c.1 c.2))
@@ -117,7 +144,9 @@ module _ (script : Script) (budget : ℕ) (e : Exit) where
         in_next : AreHidden e next
         in_next y m code class = either (Includes-append_cases v.objects (_ ∷ []) y m)
             (λ i. old_hidden e.exit y.serial e.exit u Func (Some e.proc) [] None (given_up_by u e.exit) (λ n. n) (λ i. cc) (turned y.serial (h y i code class)))
-            (λ i. either i (λ is. subst (λ (z : Object). Hidden e.exit z.serial next) is (new_hidden e.exit u Func (Some e.proc) [] None (given_up_by u e.exit) (λ c. cc) (λ n. n) (λ c. cc) (unborn_taken u.next_serial command a b below v takes (unborn script budget (on a below v) k)))) (λ none. absurd none))
+            (λ i. either i (λ is. subst (λ (z : Object). Hidden e.exit z.serial next) is (new_hidden e.exit u Func (Some e.proc) [] None (given_up_by u e.exit)
+            (λ c. cc) (λ n. n) (λ c. cc) (unborn_taken u.next_serial command a b below v takes (unborn script budget (on a below v) k)))) (λ none. absurd
+            none))
 
         made : Yields (Made Func u.next_serial ∷ [], next) events after → AreHidden e after
         made y = subst (AreHidden e) (sym y.1) in_next
@@ -148,14 +177,22 @@ module _ (script : Script) (budget : ℕ) (e : Exit) where
 
   -- the script's own commands end
   pub bottom_hidden : (n o : ℕ) (w : World) (a b : Activity) (below : List Activity) → w.stack ≡ a ∷ below → ((f : Frame) → b ≢ Framed f) → Hidden n o w → Hidden n o (with_stack (b ∷ below) w)
-  bottom_hidden n o w a b below top apart h = restacked n o w (with_stack (b ∷ below) w) refl refl refl (λ f m. either m (λ i. absurd (apart f i)) (λ i. h.locals f (subst (λ st. Includes st (Framed f)) (sym top) (inr i)))) h
+  bottom_hidden n o w a b below top apart h = restacked n o w (with_stack (b ∷ below) w) refl refl refl (λ f m. either m (λ i. absurd (apart f i))
+      (λ i. h.locals f (subst (λ st. Includes st (Framed f)) (sym top) (inr i)))) h
 
-  pub hidden_kept : (w : World) (events : List Event) (after : World) → Known script budget w → AreHidden e w → ((command : Command) (a b : Activity) (below : List Activity) → w.stack ≡ a ∷ below → Takes command a b → IsTold e command) → Step script w events after → Went script w events after → AreHidden e after
+  pub hidden_kept : (w : World) (events : List Event) (after : World) → Known script budget w → AreHidden e w
+      → ((command : Command) (a b : Activity) (below : List Activity) → w.stack ≡ a ∷ below → Takes command a b → IsTold e command) → Step script w events after
+      → Went script w events after → AreHidden e after
   hidden_kept w events after k h told step (Acted a below top acts) = acted_kept w a below events after k top acts h
   hidden_kept w events after k h told step (Due g set none is) = due_kept g false w w after refl (λ o hid. hid) is h
-  hidden_kept w events after k h told step (Over a under place last is) = same_kept w after (ap (λ (z : World). z.objects) is) h (λ o hid. subst (Hidden e.exit o) (sym is) (restacked e.exit o w (record w { outcome = Ended }) refl refl refl hid.locals hid))
-  hidden_kept w events after k h told step (Bottomed below top none is) = same_kept w after (ap (λ (z : World). z.objects) is) h (λ o hid. subst (Hidden e.exit o) (sym is) (bottom_hidden e.exit o w (TopLevel []) (ShuttingDown false) below top (λ f i. cc) hid))
-  hidden_kept w events after k h told step (GaveUp name below top none is) = same_kept w after (ap (λ (z : World). z.objects) is) h (λ o hid. subst (Hidden e.exit o) (sym is) (dropped_hidden e.exit o name w (given_up_by w name) hid))
-  hidden_kept w events after k h told step (Lasted below top none is) = due_kept 2 false w (with_stack (ShuttingDown true ∷ below) w) after refl (λ o hid. bottom_hidden e.exit o w (ShuttingDown false) (ShuttingDown true) below top (λ f i. cc) hid) is h
+  hidden_kept w events after k h told step (Over a under place last is) = same_kept w after (ap (λ (z : World). z.objects) is) h
+      (λ o hid. subst (Hidden e.exit o) (sym is) (restacked e.exit o w (record w { outcome = Ended }) refl refl refl hid.locals hid))
+  hidden_kept w events after k h told step (Bottomed below top none is) = same_kept w after (ap (λ (z : World). z.objects) is) h
+      (λ o hid. subst (Hidden e.exit o) (sym is) (bottom_hidden e.exit o w (TopLevel []) (ShuttingDown false) below top (λ f i. cc) hid))
+  hidden_kept w events after k h told step (GaveUp name below top none is) = same_kept w after (ap (λ (z : World). z.objects) is) h
+      (λ o hid. subst (Hidden e.exit o) (sym is) (dropped_hidden e.exit o name w (given_up_by w name) hid))
+  hidden_kept w events after k h told step (Lasted below top none is) = due_kept 2 false w (with_stack (ShuttingDown true ∷ below) w) after refl
+      (λ o hid. bottom_hidden e.exit o w (ShuttingDown false) (ShuttingDown true) below top (λ f i. cc) hid) is h
   hidden_kept w events after k h told step (Commanded command a b below v is takes hb done) =
-      told_kept command a b below v events after takes (subst (Known script budget) is k) (subst (AreHidden e) is h) (told command a b below (ap (λ (z : World). z.stack) is) takes) (subst (λ (z : World). Step script z events after) is step) done
+      told_kept command a b below v events after takes (subst (Known script budget) is k) (subst (AreHidden e) is h)
+      (told command a b below (ap (λ (z : World). z.stack) is) takes) (subst (λ (z : World). Step script z events after) is step) done

@@ -64,8 +64,10 @@ pub held_survives : (w : World) (g o : ℕ) → Includes (others_hold w) o → I
 held_survives w g o k m =
     let more = present o (others_hold w) k in
     let less = less_held (is_at (Gen g)) (merged g w).objects o in
-    let same : occurrences o (entry_holdings (graph_of (merged g w).objects)) ≡ occurrences o (entry_holdings (graph_of w.objects)) = ap (λ (gr : Graph). occurrences o (entry_holdings gr)) (same_graph g w.objects) in
-    let all : occurrences o (holdings (merged g w)) ≡ occurrences o (holdings w) = ap (λ (gr : Graph). occurrences o (name_holdings w.names ++ (1 ∷ []) ++ entry_holdings gr ++ flat_map holds w.stack)) (same_graph g w.objects) in
+    let same : occurrences o (entry_holdings (graph_of (merged g w).objects)) ≡ occurrences o (entry_holdings (graph_of w.objects)) =
+    ap (λ (gr : Graph). occurrences o (entry_holdings gr)) (same_graph g w.objects) in
+    let all : occurrences o (holdings (merged g w)) ≡ occurrences o (holdings w) = ap (λ (gr : Graph). occurrences o (name_holdings w.names ++ (1 ∷ [])
+    ++ entry_holdings gr ++ flat_map holds w.stack)) (same_graph g w.objects) in
     let a = occurrences-append o (name_holdings w.names ++ (1 ∷ []) ++ entry_holdings (graph_of w.objects)) (flat_map holds w.stack) in
     let b = occurrences-append o (name_holdings w.names ++ (1 ∷ [])) (entry_holdings (graph_of w.objects)) in
     let d = occurrences-append o (name_holdings w.names ++ (1 ∷ [])) (flat_map holds w.stack) in
@@ -83,11 +85,13 @@ member_tracked w g o rises m x i s u =
     let at = Includes-filter_cases (is_at (Gen g)) (merged g w).objects z.0 z.1 in
     let y = Includes-map_cases (in_merge g) w.objects z.0 at.0 in
     let same : y.0 ≡ x = same_object 1 w.next_serial w.objects y.0 x rises y.1 i (ap (λ (q : Object). q.serial) y.2 ∙ z.2 ∙ sym s) in
-    let standing : same_place (merged_place g x.place) (Gen g) ≡ true = subst (λ (q : Object). same_place (merged_place g q.place) (Gen g) ≡ true) same (subst (λ (q : Object). is_at (Gen g) q ≡ true) (sym y.2) at.1) in
+    let standing : same_place (merged_place g x.place) (Gen g) ≡ true = subst (λ (q : Object). same_place (merged_place g q.place) (Gen g) ≡ true) same
+    (subst (λ (q : Object). is_at (Gen g) q ≡ true) (sym y.2) at.1) in
     let no : false ≡ true = sym (ap (λ p. same_place (merged_place g p) (Gen g)) u) ∙ standing in cc
 
 -- an object that only names and activities hold is not collected; when unheld, it is dying
-pub not_collected : (script : Script) (budget : ℕ) (w : World) (o : ℕ) → Known script budget w → ((x : Object) → Includes w.objects x → ¬ Includes (references x.entries) o) → o ≢ 1 → (x : Object) → Includes w.objects x → x.serial ≡ o → ¬ IsCollected w o
+pub not_collected : (script : Script) (budget : ℕ) (w : World) (o : ℕ) → Known script budget w → ((x : Object) → Includes w.objects x
+    → ¬ Includes (references x.entries) o) → o ≢ 1 → (x : Object) → Includes w.objects x → x.serial ≡ o → ¬ IsCollected w o
 not_collected script budget w o k entries root x i s collected = go (cases_of (includes (others_hold w) o))
   where
     go : (includes (others_hold w) o ≡ true) ⊎ (includes (others_hold w) o ≡ false) → ⊥
@@ -150,7 +154,8 @@ pub pushed : (n o : ℕ) (a : Activity) (w : World) → ((f : Frame) → a ≢ F
 pushed n o a w apart h = restacked n o w (with_stack (a ∷ w.stack) w) refl refl refl (λ f m. either m (λ e. absurd (apart f e)) (h.locals f)) h
 
 -- a step of an activity other than commands
-pub acted_hidden : (script : Script) (budget n o : ℕ) (w : World) (a : Activity) (below : List Activity) (events : List Event) (after : World) → Known script budget w → w.stack ≡ a ∷ below → Acts script w below events after
+pub acted_hidden : (script : Script) (budget n o : ℕ) (w : World) (a : Activity) (below : List Activity) (events : List Event) (after : World)
+    → Known script budget w → w.stack ≡ a ∷ below → Acts script w below events after
     → ¬ Includes (all_to_call w.stack) o → Hidden n o w → Hidden n o after
 acted_hidden script budget n o w a below events after k top acts uncalled h = record {
   names = λ x apart. subst (λ ns. ¬ Includes (held_by ns x) o) (sym acts.names) (h.names x apart);
@@ -174,19 +179,23 @@ acted_hidden script budget n o w a below events after k top acts uncalled h = re
     begun CallFrame subject p by = absurd by
 
     framed : (f : Frame) → Includes (acts.tops ++ below) (Framed f) → (self_in f.sort f.subject ≢ Some o) × (weak_in f.sort f.subject ≢ Some o)
-    framed f m = either (Includes-append_cases acts.tops below (Framed f) m) (λ i. let b = acts.raised (Framed f) i in begun f.sort f.subject b.proc b.by) (λ i. h.locals f (subst (λ st. Includes st (Framed f)) (sym top) (inr i)))
+    framed f m = either (Includes-append_cases acts.tops below (Framed f) m) (λ i. let b = acts.raised (Framed f) i in begun f.sort f.subject b.proc b.by)
+        (λ i. h.locals f (subst (λ st. Includes st (Framed f)) (sym top) (inr i)))
 
 -- a command is taken from the top, or the remaining commands are dropped
-pub taken_locals : (o : ℕ) (command : Command) (a b : Activity) (below : List Activity) → Takes command a b → ((f : Frame) → Includes (a ∷ below) (Framed f) → (self_in f.sort f.subject ≢ Some o) × (weak_in f.sort f.subject ≢ Some o))
+pub taken_locals : (o : ℕ) (command : Command) (a b : Activity) (below : List Activity) → Takes command a b → ((f : Frame) → Includes (a ∷ below) (Framed f)
+    → (self_in f.sort f.subject ≢ Some o) × (weak_in f.sort f.subject ≢ Some o))
     → (f : Frame) → Includes (b ∷ below) (Framed f) → (self_in f.sort f.subject ≢ Some o) × (weak_in f.sort f.subject ≢ Some o)
 taken_locals o command a b below (FromTop commands) h f (inl e) = cc
-taken_locals o command a b below (FromFrame g commands left) h f (inl e) = let same : record g { commands = commands } ≡ f = cc in subst (λ (q : Frame). (self_in q.sort q.subject ≢ Some o) × (weak_in q.sort q.subject ≢ Some o)) same (h g (inl refl))
+taken_locals o command a b below (FromFrame g commands left) h f (inl e) = let same : record g { commands = commands } ≡ f = cc
+    in subst (λ (q : Frame). (self_in q.sort q.subject ≢ Some o) × (weak_in q.sort q.subject ≢ Some o)) same (h g (inl refl))
 taken_locals o command a b below takes h f (inr m) = h f (inr m)
 
 emptied_locals : (o : ℕ) (a : Activity) (below : List Activity) → ((f : Frame) → Includes (a ∷ below) (Framed f) → (self_in f.sort f.subject ≢ Some o) × (weak_in f.sort f.subject ≢ Some o))
     → (f : Frame) → Includes (emptied a ∷ below) (Framed f) → (self_in f.sort f.subject ≢ Some o) × (weak_in f.sort f.subject ≢ Some o)
 emptied_locals o (TopLevel commands) below h f (inl e) = cc
-emptied_locals o (Framed g) below h f (inl e) = let same : record g { commands = [] } ≡ f = cc in subst (λ (q : Frame). (self_in q.sort q.subject ≢ Some o) × (weak_in q.sort q.subject ≢ Some o)) same (h g (inl refl))
+emptied_locals o (Framed g) below h f (inl e) = let same : record g { commands = [] } ≡ f = cc in subst (λ (q : Frame). (self_in q.sort q.subject ≢ Some o)
+    × (weak_in q.sort q.subject ≢ Some o)) same (h g (inl refl))
 emptied_locals o (Releasing references) below h f (inl e) = cc
 emptied_locals o (Dying d) below h f (inl e) = cc
 emptied_locals o (Collecting c) below h f (inl e) = cc
@@ -258,7 +267,8 @@ module _ (n o : ℕ) (u : World) (command : Command) (h : Hidden n o u) (spoken 
   items_free entries items = all_free o entries (λ e m. let i = items e m in entry_free e o (hand_not n o u h command e.val spoken i.1) (nothing_not e.key i.0))
 
   edit_free : (x : Object) (entries : List Entry) (given : List ℕ) → Includes u.objects x → IsEdit u command x entries given → HoldNone o entries
-  edit_free x entries given m edit = all_free o entries (λ e i. either (edit.come e i) (λ was k. h.entries x m (references_of_member x.entries e o was k)) (λ new. entry_free e o (hand_not n o u h command e.val spoken new.2) (nothing_not e.key new.1)))
+  edit_free x entries given m edit = all_free o entries (λ e i. either (edit.come e i) (λ was k. h.entries x m (references_of_member x.entries e o was k))
+      (λ new. entry_free e o (hand_not n o u h command e.val spoken new.2) (nothing_not e.key new.1)))
 
   changed : (f : Object → Object) (s : ℕ) → ((x : Object) → Includes u.objects x → x.serial ≡ s → Unshown (f x)) → (y : Object) → Includes (change f s u.objects) y → Unshown y
   changed f s k y m = let x = Includes-map_cases (λ x. if x.serial == s then f x else x) u.objects y m in subst Unshown x.2 (one (x.0.serial == s) x.0 refl x.1)
@@ -268,7 +278,11 @@ module _ (n o : ℕ) (u : World) (command : Command) (h : Hidden n o u) (spoken 
       one false x t i = old x i
 
   placed : (f : Place → Place) → ((p : Place) → IsFound (f p) → IsFound p) → (y : Object) → Includes (map (λ x. with_place (f x.place) x) u.objects) y → Unshown y
-  placed f k y m = let x = Includes-map_cases (λ x. with_place (f x.place) x) u.objects y m in subst Unshown x.2 (h.entries x.0 x.1, h.referents x.0 x.1, λ s. (λ i. h.apart x.0 x.1 s (k x.0.place i), h.kind x.0 x.1 s))
+  placed f k y m = let x = Includes-map_cases (λ x. with_place (f x.place) x) u.objects y m in subst Unshown x.2 (
+    h.entries x.0 x.1,
+    h.referents x.0 x.1,
+    λ s. (λ i. h.apart x.0 x.1 s (k x.0.place i), h.kind x.0 x.1 s),
+  )
 
   same_serial : (s t : ℕ) → Some s ≡ Some t → s ≡ t
   same_serial s t e = cc
@@ -280,7 +294,8 @@ module _ (n o : ℕ) (u : World) (command : Command) (h : Hidden n o u) (spoken 
       go true = (free, h.referents x m, λ e. (λ f. f, h.kind x m e))
       go false = (free, h.referents x m, λ e. (h.apart x m e, h.kind x m e))
 
-  new_unshown : (kind : KindCode) (class : Option ℕ) (entries : List Entry) (referent : Option ℕ) (y : Object) → y.entries ≡ entries → y.referent ≡ referent → y.serial ≡ u.next_serial → HasParts u command kind class entries referent → Unshown y
+  new_unshown : (kind : KindCode) (class : Option ℕ) (entries : List Entry) (referent : Option ℕ) (y : Object) → y.entries ≡ entries → y.referent ≡ referent
+      → y.serial ≡ u.next_serial → HasParts u command kind class entries referent → Unshown y
   new_unshown kind class entries referent y es rs ss parts = (
     subst (HoldNone o) (sym es) (items_free entries parts.items),
     λ e. let k = parts.refers o (sym rs ∙ e) in hand_not n o u h command (Ref k.1.0.serial) spoken k.1.1.hand (ap (λ i. Some i) k.1.2),
@@ -296,11 +311,14 @@ module _ (n o : ℕ) (u : World) (command : Command) (h : Hidden n o u) (spoken 
       let same : made ≡ next = cc in
       let fresh : ¬ Includes (references_of_value (Some (Ref u.next_serial))) o = λ m. either m (λ i. let low = h.made in absurd (omega (arith, low, i))) (λ no. no) in
       subst (Hidden n o) same (changed_hidden n o u made (λ x apart. set_free u.names name x o (Some (Ref u.next_serial)) fresh (h.names x apart)) (omega arith) refl
-      (λ y m. either (Includes-append_cases u.objects (_ ∷ []) y m) (old y) (λ k. either k (λ i. new_unshown kind class entries referent y (ap (λ (z : Object). z.entries) (sym i)) (ap (λ (z : Object). z.referent) (sym i)) (ap (λ (z : Object). z.serial) (sym i)) parts) (λ no. absurd no))) h)
+      (λ y m. either (Includes-append_cases u.objects (_ ∷ []) y m) (old y)
+      (λ k. either k (λ i. new_unshown kind class entries referent y (ap (λ (z : Object). z.entries) (sym i)) (ap (λ (z : Object). z.referent) (sym i))
+      (ap (λ (z : Object). z.serial) (sym i)) parts) (λ no. absurd no))) h)
   shape_hidden e (Edits wants_memory x entries given_up has mutable edit) wants lines given next is stack =
       let after : World = with_change (with_entries entries) x.serial u in
       let same : after ≡ next = cc in
-      subst (Hidden n o) same (changed_hidden n o u after h.names (omega arith) refl (changed (with_entries entries) x.serial (λ z m s. (edit_free x entries given_up has.member edit, h.referents z m, λ i. (h.apart z m i, h.kind z m i)))) h)
+      subst (Hidden n o) same (changed_hidden n o u after h.names (omega arith) refl (changed (with_entries entries) x.serial
+      (λ z m s. (edit_free x entries given_up has.member edit, h.referents z m, λ i. (h.apart z m i, h.kind z m i)))) h)
   shape_hidden e (Puts x key v has mutable hand_key hand room) wants lines given next is stack =
       let f : Object → Object = λ y. tracked_by u key v (with_entries (put x.entries key v) y) in
       let after : World = with_change f x.serial u in
@@ -310,7 +328,8 @@ module _ (n o : ℕ) (u : World) (command : Command) (h : Hidden n o u) (spoken 
   shape_hidden e (Shows v hand) wants lines given next is stack = let same : u ≡ next = cc in subst (Hidden n o) same h
   shape_hidden e (Tells line tells) wants lines given next is stack = let same : u ≡ next = cc in subst (Hidden n o) same h
   shape_hidden e Stays wants lines given next is stack = let same : u ≡ next = cc in subst (Hidden n o) same h
-  shape_hidden e (Sets numbers own keeps) wants lines given next is stack = let same : record u { numbers = numbers } ≡ next = cc in subst (Hidden n o) same (changed_hidden n o u (record u { numbers = numbers }) h.names (omega arith) refl old h)
+  shape_hidden e (Sets numbers own keeps) wants lines given next is stack = let same : record u { numbers = numbers } ≡ next = cc in subst (Hidden n o) same
+      (changed_hidden n o u (record u { numbers = numbers }) h.names (omega arith) refl old h)
   shape_hidden e (Freezes own) wants lines given next is stack =
       let after : World = record u { objects = replaced frozen u; numbers = record u.numbers { zero_count = 0; one_count = 0; two_count = 0 } } in
       let same : after ≡ next = cc in
@@ -325,7 +344,8 @@ module _ (n o : ℕ) (u : World) (command : Command) (h : Hidden n o u) (spoken 
   shape_hidden e (Inspects told calm there) wants lines given next is stack = let same : u ≡ next = cc in subst (Hidden n o) same h
   shape_hidden e (AsksWhy x has calm) wants lines given next is stack = absurd (cc)
 
-pub called_hidden : (script : Script) (n o f p : ℕ) (u : World) (events : List Event) (after : World) → Yields (start_frame script (record { sort = CallFrame; proc = p; subject = f; func = Some f }) u) events after → Hidden n o u → Hidden n o after
+pub called_hidden : (script : Script) (n o f p : ℕ) (u : World) (events : List Event) (after : World)
+    → Yields (start_frame script (record { sort = CallFrame; proc = p; subject = f; func = Some f }) u) events after → Hidden n o u → Hidden n o after
 called_hidden script n o f p u events after step h = go (u.budget == 0) step
   where
     frame : Frame
@@ -338,15 +358,18 @@ called_hidden script n o f p u events after step h = go (u.budget == 0) step
     frame_is : (g : Frame) → Framed frame ≡ Framed g → frame ≡ g
     frame_is g e = cc
 
-    go : (b : Bool) → Yields (if b then (BudgetSpent ∷ [], record u { outcome = BudgetIsSpent }) else (Enter CallFrame f ∷ [], record u { budget = u.budget - 1; stack = Framed frame ∷ u.stack })) events after → Hidden n o after
+    go : (b : Bool) → Yields (if b then (BudgetSpent ∷ [], record u { outcome = BudgetIsSpent })
+        else (Enter CallFrame f ∷ [], record u { budget = u.budget - 1; stack = Framed frame ∷ u.stack })) events after → Hidden n o after
     go true s = subst (Hidden n o) (sym s.1) (restacked n o u (record u { outcome = BudgetIsSpent }) refl refl refl h.locals h)
     go false s = subst (Hidden n o) (sym s.1) (restacked n o u _ refl refl refl (λ g m. locals g (either m (λ e. inl (frame_is g e)) (λ i. inr i))) h)
 
 -- a command that does not use the name
-pub done_hidden : (script : Script) (n o : ℕ) (command : Command) (b : Activity) (below : List Activity) (v : World) (events : List Event) (after : World) → ¬ Includes (command_names command) n → Done script command (on b below v) b below events after → Hidden n o (on b below v) → Hidden n o after
+pub done_hidden : (script : Script) (n o : ℕ) (command : Command) (b : Activity) (below : List Activity) (v : World) (events : List Event) (after : World)
+    → ¬ Includes (command_names command) n → Done script command (on b below v) b below events after → Hidden n o (on b below v) → Hidden n o after
 done_hidden script n o command b below v events after spoken (Stood answers is) h = subst (Hidden n o) (sym is) h
 done_hidden script n o command b below v events after spoken (Stopped answers is) h = subst (Hidden n o) (sym is) (emptied_hidden n o b below v h)
 done_hidden script n o command b below v events after spoken (Changed wants given next is shape) h = subst (Hidden n o) (sym is)
-    (pushed n o (Releasing given) next (λ f e. cc) (shape_hidden n o (on b below v) command h spoken (Changes wants events given next) shape wants events given next refl (changes_leave (on b below v) command wants events given next shape).stack))
+    (pushed n o (Releasing given) next (λ f e. cc) (shape_hidden n o (on b below v) command h spoken (Changes wants events given next) shape wants events given
+    next refl (changes_leave (on b below v) command wants events given next shape).stack))
 done_hidden script n o command b below v events after spoken (Began f has step) h = called_hidden script n o f.serial (procedure_of (on b below v) f.serial) (on b below v) events after step h
 done_hidden script n o command b below v events after spoken (Asked g none is) h = subst (Hidden n o) (sym is) (pushed n o _ (on b below v) (λ f e. cc) h)

@@ -52,7 +52,8 @@ module _ (n o : ℕ) (w : World) (h : Hidden n o w) where
   local_not None v k e = none_not v e
   local_not (Some s) v k e = same_not (Ref s) v e k
 
-  framed_not : (pick : FrameSort → ℕ → Option ℕ) (stack : List Activity) → ((f : Frame) → Includes stack (Framed f) → pick f.sort f.subject ≢ Some o) → option_and_then (λ (f : Frame). pick f.sort f.subject) (frame_on stack) ≢ Some o
+  framed_not : (pick : FrameSort → ℕ → Option ℕ) (stack : List Activity) → ((f : Frame) → Includes stack (Framed f) → pick f.sort f.subject ≢ Some o)
+      → option_and_then (λ (f : Frame). pick f.sort f.subject) (frame_on stack) ≢ Some o
   framed_not pick [] k e = let no : None ≡ Some o = e in cc
   framed_not pick (Framed f ∷ below) k e = k f (inl refl) e
   framed_not pick (a ∷ below) k e = let no : None ≡ Some o = e in cc
@@ -69,7 +70,9 @@ module _ (n o : ℕ) (w : World) (h : Hidden n o w) where
       found x there (Some entry) at k = same_not entry.val v k (λ r. got_free (entries_of w.objects s) i o entry at (free (object_at w.objects s) refl)
           (Includes-append_left (option_to_list (reference_in entry.val)) (option_to_list (reference_in entry.key)) o (option_held (reference_in entry.val) o r)))
 
-  cell_not : (m : Option Frame) (i : ℕ) (v : Val) → option_and_then (λ (f : Frame). option_and_then (λ s. option_map (λ (e : Entry). e.val) (slice_get (entries_of w.objects s) i)) f.function) m ≡ Some v → IsNot v
+  cell_not : (m : Option Frame) (i : ℕ) (v : Val)
+      → option_and_then (λ (f : Frame). option_and_then (λ s. option_map (λ (e : Entry). e.val) (slice_get (entries_of w.objects s) i)) f.function) m ≡ Some v
+      → IsNot v
   cell_not None i v e = none_not v e
   cell_not (Some f) i v e = go f.function e
     where
@@ -90,6 +93,10 @@ module _ (n o : ℕ) (w : World) (h : Hidden n o w) where
   pub hand_not : (command : Command) (v : Val) → ¬ Includes (command_names command) n → IsAtHand w command v → IsNot v
   hand_not command v apart NoneThere = λ r. let no : None ≡ Some o = r in cc
   hand_not command v apart (Word operand u own e) = operand_not operand v (λ m. apart (own operand_names n m)) e
-  hand_not command v apart (ValueIn x e m hand i) = λ r. h.entries x m (references_of_member x.entries e o i (Includes-append_left (option_to_list (reference_in e.val)) (option_to_list (reference_in e.key)) o (option_held (reference_in e.val) o r)))
-  hand_not command v apart (KeyIn x e m hand i) = λ r. h.entries x m (references_of_member x.entries e o i (Includes-append_right (option_to_list (reference_in e.val)) (option_to_list (reference_in e.key)) o (option_held (reference_in e.key) o r)))
+  hand_not command v apart (ValueIn x e m hand i) =
+      λ r. h.entries x m (references_of_member x.entries e o i (Includes-append_left (option_to_list (reference_in e.val)) (option_to_list (reference_in e.key))
+      o (option_held (reference_in e.val) o r)))
+  hand_not command v apart (KeyIn x e m hand i) =
+      λ r. h.entries x m (references_of_member x.entries e o i (Includes-append_right (option_to_list (reference_in e.val))
+      (option_to_list (reference_in e.key)) o (option_held (reference_in e.key) o r)))
   hand_not command v apart (ReferentOf x q m hand e) = λ r. h.referents x m (e ∙ r)

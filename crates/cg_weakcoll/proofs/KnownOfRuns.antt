@@ -47,8 +47,11 @@ known_after script budget steps texts run = record {
 pub data Done (script : Script) (command : Command) (u : World) (b : Activity) (below : List Activity) (events : List Event) (after : World) : Type 0 where
   Stood : AreAnswers events → after ≡ u → Done script command u b below events after
   Stopped : AreAnswers events → after ≡ on (emptied b) below u → Done script command u b below events after
-  Changed : (wants_memory : Bool) (given_up : List ℕ) (next : World) → after ≡ push (Releasing given_up) next → Shape u command (Changes wants_memory events given_up next) → Done script command u b below events after
-  Began : (f : Object) → HasObject u command is_function f → Yields (start_frame script (record { sort = CallFrame; proc = procedure_of u f.serial; subject = f.serial; func = Some f.serial }) u) events after → Done script command u b below events after
+  Changed : (wants_memory : Bool) (given_up : List ℕ) (next : World) → after ≡ push (Releasing given_up) next
+      → Shape u command (Changes wants_memory events given_up next) → Done script command u b below events after
+  Began : (f : Object) → HasObject u command is_function f
+      → Yields (start_frame script (record { sort = CallFrame; proc = procedure_of u f.serial; subject = f.serial; func = Some f.serial }) u) events after
+      → Done script command u b below events after
   Asked : (g : ℕ) → events ≡ [] → after ≡ push (new_collection g true u) u → Done script command u b below events after
 
 pub data Went (script : Script) (w : World) (events : List Event) (after : World) : Type 0 where
@@ -57,10 +60,13 @@ pub data Went (script : Script) (w : World) (events : List Event) (after : World
   Over : (a : Activity) (below : List Activity) → w.stack ≡ a ∷ below → AreLast w a events → after ≡ record w { outcome = Ended } → Went script w events after
   Bottomed : (below : List Activity) → w.stack ≡ TopLevel [] ∷ below → events ≡ [] → after ≡ with_stack (ShuttingDown false ∷ below) w → Went script w events after
   GaveUp : (name : ℕ) (below : List Activity) → w.stack ≡ ShuttingDown false ∷ below → events ≡ [] → after ≡ push (Releasing (given_up_by w name)) (bound w name None) → Went script w events after
-  Lasted : (below : List Activity) → w.stack ≡ ShuttingDown false ∷ below → events ≡ [] → after ≡ push (new_collection 2 false w) (with_stack (ShuttingDown true ∷ below) w) → Went script w events after
-  Commanded : (command : Command) (a b : Activity) (below : List Activity) (v : World) → w ≡ on a below v → Takes command a b → HasCommands b → Done script command (on b below v) b below events after → Went script w events after
+  Lasted : (below : List Activity) → w.stack ≡ ShuttingDown false ∷ below → events ≡ [] → after ≡ push (new_collection 2 false w)
+      (with_stack (ShuttingDown true ∷ below) w) → Went script w events after
+  Commanded : (command : Command) (a b : Activity) (below : List Activity) (v : World) → w ≡ on a below v → Takes command a b → HasCommands b
+      → Done script command (on b below v) b below events after → Went script w events after
 
-commanded : (script : Script) (command : Command) (a b : Activity) (below : List Activity) (v : World) → Takes command a b → HasCommands b → CommandSteps script (Went script) (on a below v) command (on b below v) b below
+commanded : (script : Script) (command : Command) (a b : Activity) (below : List Activity) (v : World) → Takes command a b → HasCommands b
+    → CommandSteps script (Went script) (on a below v) command (on b below v) b below
 commanded script command a b below v takes hb = record {
   stays = λ lines answers. Commanded command a b below v refl takes hb (Stood answers refl);
   stops = λ lines answers. Commanded command a b below v refl takes hb (Stopped answers refl);
@@ -90,21 +96,27 @@ went script w events after rises step = any_step script (λ w. Rises 1 w.next_se
 abbrev pub Exactly : Script → World → Activity → List Activity → World → Command → List Event → World → Type 0
 Exactly script w b below v command events after = ((g : ℕ) × (events ≡ []) × (after ≡ push (new_collection g false w) w)) ⊎ CommandStep script (on b below v) command events after
 
-pub exactly : (script : Script) (a b : Activity) (below : List Activity) (v : World) (command : Command) (events : List Event) (after : World) → Takes command a b → Step script (on a below v) events after → Exactly script (on a below v) b below v command events after
+pub exactly : (script : Script) (a b : Activity) (below : List Activity) (v : World) (command : Command) (events : List Event) (after : World)
+    → Takes command a b → Step script (on a below v) events after → Exactly script (on a below v) b below v command events after
 exactly script a b below v command events after (FromTop commands) step = go (due (on (TopLevel (command ∷ commands)) below v)) step.step
   where
-    go : (d : Option ℕ) → TopLevelStep script (on (TopLevel (command ∷ commands)) below v) d (command ∷ commands) below events after → Exactly script (on (TopLevel (command ∷ commands)) below v) (TopLevel commands) below v command events after
+    go : (d : Option ℕ) → TopLevelStep script (on (TopLevel (command ∷ commands)) below v) d (command ∷ commands) below events after
+        → Exactly script (on (TopLevel (command ∷ commands)) below v) (TopLevel commands) below v command events after
     go (Some g) s = inl (g, s.0, s.1)
     go None s = inr s
 exactly script a b below v command events after (FromFrame f commands left) step = framed f.commands left step.step
   where
-    go : (d : Option ℕ) → CommandInFrame script (on (Framed f) below v) d f command commands below events after → Exactly script (on (Framed f) below v) (Framed (record f { commands = commands })) below v command events after
+    go : (d : Option ℕ) → CommandInFrame script (on (Framed f) below v) d f command commands below events after → Exactly script (on (Framed f) below v)
+        (Framed (record f { commands = commands })) below v command events after
     go (Some g) s = inl (g, s.0, s.1)
     go None s = inr s
 
-    framed : (cs : List Command) → cs ≡ command ∷ commands → FrameStep script (on (Framed f) below v) f cs below events after → Exactly script (on (Framed f) below v) (Framed (record f { commands = commands })) below v command events after
+    framed : (cs : List Command) → cs ≡ command ∷ commands → FrameStep script (on (Framed f) below v) f cs below events after
+        → Exactly script (on (Framed f) below v) (Framed (record f { commands = commands })) below v command events after
     framed [] e s = absurd (let no : [] ≡ command ∷ commands = e in cc)
     framed (c ∷ cs) e s =
         let one : c ≡ command = cc in
         let rest : cs ≡ commands = cc in
-        go (due (on (Framed f) below v)) (subst (λ (x : Command). CommandInFrame script (on (Framed f) below v) (due (on (Framed f) below v)) f x commands below events after) one (subst (λ (xs : List Command). CommandInFrame script (on (Framed f) below v) (due (on (Framed f) below v)) f c xs below events after) rest s))
+        go (due (on (Framed f) below v)) (subst (λ (x : Command). CommandInFrame script (on (Framed f) below v) (due (on (Framed f) below v)) f x commands below
+        events after) one (subst (λ (xs : List Command). CommandInFrame script (on (Framed f) below v) (due (on (Framed f) below v)) f c xs below events
+        after) rest s))

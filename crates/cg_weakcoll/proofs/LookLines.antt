@@ -59,7 +59,8 @@ all_begin (line ∷ lines) known number texts saids e = go (λ k n ss h. all_beg
   where
     go : ((k : Known) (n : ℕ) (ss : List Said) → lines_from k n lines ≡ good texts ss → Begins k.texts texts) → First known number line lines texts saids → Begins known.texts texts
     go ih (Passes m rest) = ih known (number + 1) saids rest
-    go ih (Says form words m s) = begins_along known.texts (texts_from known.texts form 0 words) texts (begins_texts form words known.texts 0) (ih (known_after known form words) (number + 1) s.later s.goes)
+    go ih (Says form words m s) = begins_along known.texts (texts_from known.texts form 0 words) texts (begins_texts form words known.texts 0)
+        (ih (known_after known form words) (number + 1) s.later s.goes)
 
 -- the word of a variable
 pub record IsName (x : List ℕ) : Type 0 where
@@ -92,11 +93,13 @@ no_quote b e = grind (arith, nat_tests)
 pub name_stands : (texts : List (List ℕ)) (x : List ℕ) → IsName x → operand_or (named atoms x) texts x ≡ operands.Name (text_number texts x)
 name_stands texts x h =
     ap (λ (f : Option Operand). operand_or f texts x) h.no_atom
-    ∙ ap (λ b. cond b (operands.Str (text_number texts (string_text x))) (cond (begins_name (slice_index x 0)) (operands.Name (text_number texts x)) (operands.Int (number_of x)))) (no_quote (slice_index x 0) h.letter)
+    ∙ ap (λ b. cond b (operands.Str (text_number texts (string_text x))) (cond (begins_name (slice_index x 0)) (operands.Name (text_number texts x))
+    (operands.Int (number_of x)))) (no_quote (slice_index x 0) h.letter)
     ∙ ap (λ b. cond b (operands.Name (text_number texts x)) (operands.Int (number_of x))) h.letter
 
 -- a value that is no keyword is a string, a variable or a number
-unnamed : (word : List ℕ) (found : Option Operand) → named atoms word ≡ found → is_some found ≡ false → is_value word ≡ true → (is_quoted word ≡ false) → cond (begins_name (slice_index word 0)) (is_variable word) (is_number word) ≡ true
+unnamed : (word : List ℕ) (found : Option Operand) → named atoms word ≡ found → is_some found ≡ false → is_value word ≡ true → (is_quoted word ≡ false)
+    → cond (begins_name (slice_index word 0)) (is_variable word) (is_number word) ≡ true
 unnamed word found e none value unquoted = by (is_some (named atoms word)) (is_quoted word) _ _ value (ap is_some e ∙ none) unquoted
   where
     by : (s q a rest : Bool) → cond s true (cond q a rest) ≡ true → s ≡ false → q ≡ false → rest ≡ true
@@ -105,11 +108,13 @@ unnamed word found e none value unquoted = by (is_some (named atoms word)) (is_q
     by false false a rest h n u = h
 
 -- the word of a value stands for what is read
-pub stands_for : (all texts : List (List ℕ)) (word : List ℕ) (found : Option Operand) → named atoms word ≡ found → is_value word ≡ true → Begins (with_text_if texts (value_text found word)) all → WordStandsFor all word (operand_or found texts word)
+pub stands_for : (all texts : List (List ℕ)) (word : List ℕ) (found : Option Operand) → named atoms word ≡ found → is_value word ≡ true
+    → Begins (with_text_if texts (value_text found word)) all → WordStandsFor all word (operand_or found texts word)
 stands_for all texts word (Some operand) e value begins = Atom operand e
 stands_for all texts word None e value begins = by (is_quoted word) (begins_name (slice_index word 0)) refl (unnamed word None e refl value) begins
   where
-    by : (q b : Bool) → is_quoted word ≡ q → (is_quoted word ≡ false → cond b (is_variable word) (is_number word) ≡ true) → Begins (with_text_if texts (cond q (Some (string_text word)) (cond b (Some word) None))) all
+    by : (q b : Bool) → is_quoted word ≡ q → (is_quoted word ≡ false → cond b (is_variable word) (is_number word) ≡ true)
+        → Begins (with_text_if texts (cond q (Some (string_text word)) (cond b (Some word) None))) all
         → WordStandsFor all word (cond q (operands.Str (text_number texts (string_text word))) (cond b (operands.Name (text_number texts word)) (operands.Int (number_of word))))
     by true b quoted is h = Quoted (text_number texts (string_text word)) quoted (text_found all texts (string_text word) h)
     by false true quoted is h = Named (text_number texts word) (is quoted) (text_found all texts word h)

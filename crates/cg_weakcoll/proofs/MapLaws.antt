@@ -32,7 +32,8 @@ use Rattle.cg_weakcoll.proofs.Taking.{Done, Refs, changes_so, ref_refs, taken_do
 use Rattle.cg_weakcoll.proofs.MapRuns.{Found, found, parts}
 
 -- a weak reference that was just made
-new_keeps : (u : World) (name object : ℕ) (entries : List Entry) (given_up : List ℕ) → Rises 1 u.next_serial u.objects → Keeps [] u.next_serial object (push (Releasing given_up) (bound (with_new u Weak None entries (Some object)) name (Some (Ref u.next_serial))))
+new_keeps : (u : World) (name object : ℕ) (entries : List Entry) (given_up : List ℕ) → Rises 1 u.next_serial u.objects → Keeps [] u.next_serial object
+    (push (Releasing given_up) (bound (with_new u Weak None entries (Some object)) name (Some (Ref u.next_serial))))
 new_keeps u name object entries given_up rises = record {
   made = omega arith;
   code = λ y m e. either (Includes-append_cases u.objects (fresh ∷ []) y m) (λ k. absurd (old y k e)) (λ k. either k (λ i. ap (λ (z : Object). z.code) (sym i)) (λ n. absurd n));
@@ -54,13 +55,16 @@ module _ (script : Script) (w : World) (made : StepTaken) (weak object : ℕ) (f
   u = with_stack (did.top ∷ makes.below) w
 
   pub made_keeps : Keeps [] weak object made.world
-  made_keeps = subst (λ n. Keeps [] n object made.world) serial (subst (λ o. Keeps [] u.next_serial o made.world) same (subst (Keeps [] u.next_serial r.object) (sym so.1) (new_keeps u makes.name r.object r.entries (given_up_by u makes.name) fit.sound.rises)))
+  made_keeps = subst (λ n. Keeps [] n object made.world) serial (subst (λ o. Keeps [] u.next_serial o made.world) same (subst (Keeps [] u.next_serial r.object)
+      (sym so.1) (new_keeps u makes.name r.object r.entries (given_up_by u makes.name) fit.sound.rises)))
     where
       r : Refs u makes.name makes.target did.what
       r = ref_refs u makes.name makes.target makes.callback did.what did.is
 
-      so : (made.events ≡ Made Weak u.next_serial ∷ []) × (made.world ≡ push (Releasing (given_up_by u makes.name)) (bound (with_new u Weak None r.entries (Some r.object)) makes.name (Some (Ref u.next_serial))))
-      so = changes_so script u true (Made Weak u.next_serial ∷ []) (given_up_by u makes.name) (bound (with_new u Weak None r.entries (Some r.object)) makes.name (Some (Ref u.next_serial))) made.events made.world makes.takes.accepted
+      so : (made.events ≡ Made Weak u.next_serial ∷ []) × (made.world ≡ push (Releasing (given_up_by u makes.name))
+          (bound (with_new u Weak None r.entries (Some r.object)) makes.name (Some (Ref u.next_serial))))
+      so = changes_so script u true (Made Weak u.next_serial ∷ []) (given_up_by u makes.name) (bound (with_new u Weak None r.entries (Some r.object)) makes.name
+          (Some (Ref u.next_serial))) made.events made.world makes.takes.accepted
           (subst (λ e. DoesEffect script u (Ok e) made.events made.world) r.is did.does)
 
       serial : u.next_serial ≡ weak
@@ -80,7 +84,8 @@ references_keep script budget before made after run weak object makes =
     (run_keeps script weak object [] made.world after back.1 (step_fit script w made.events made.world back.0 fit) (made_keeps script w made weak object fit back.0 makes))
 
 -- what a look-up finds
-look_found : (script : Script) (budget : ℕ) (before : List StepTaken) (look : Look) → IsRun script budget (before ++ steps_of look) → (x : ℕ) (map key : Operand) → Looks (world_after script budget before) x map key look → Found look x map key
+look_found : (script : Script) (budget : ℕ) (before : List StepTaken) (look : Look) → IsRun script budget (before ++ steps_of look)
+    → (x : ℕ) (map key : Operand) → Looks (world_after script budget before) x map key look → Found look x map key
 look_found script budget before look run x map key looks =
     let w : World = last_world (opening script budget) before in
     found script w look (parts script w look (run_back script (opening script budget) before (steps_of look) run)) x map key looks
@@ -130,8 +135,10 @@ looks_answer_so script budget before made between look run weak object makes x m
     let fit : Fit script v = run_fit script start before (run_front script start before (made ∷ between) front) (opening_fit script budget) in
     let made_fit : Fit script made.world = step_fit script v made.events made.world first.0 fit in
     let joined : w ≡ last_world made.world between = last_world-append start before (made ∷ between) in
-    let since : Run script made.world (between ++ steps_before_third look) = Run-append script made.world between (steps_before_third look) first.1 (subst (λ (z : World). Run script z (steps_before_third look)) joined p.front) in
-    let there : last_world made.world (between ++ steps_before_third look) ≡ before_third look = last_world-append made.world between (steps_before_third look) ∙ ap (λ (z : World). last_world z (steps_before_third look)) (sym joined) ∙ p.world in
+    let since : Run script made.world (between ++ steps_before_third look) = Run-append script made.world between (steps_before_third look) first.1
+    (subst (λ (z : World). Run script z (steps_before_third look)) joined p.front) in
+    let there : last_world made.world (between ++ steps_before_third look) ≡ before_third look = last_world-append made.world between (steps_before_third look)
+    ∙ ap (λ (z : World). last_world z (steps_before_third look)) (sym joined) ∙ p.world in
     let kept = run_keeps script weak object [] made.world (between ++ steps_before_third look) since made_fit (made_keeps script v made weak object fit first.0 makes) in
     let keeps : Keeps (events_of (between ++ steps_before_third look)) weak object (before_third look) = subst (Keeps (events_of (between ++ steps_before_third look)) weak object) there kept in
     let calm : Calm script (before_third look) = subst (Calm script) there (run_fit script made.world (between ++ steps_before_third look) since made_fit).calm in

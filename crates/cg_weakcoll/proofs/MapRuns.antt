@@ -67,7 +67,13 @@ module _ (script : Script) (top : Activity) (below : List Activity) (some : comm
         let rest : b.below ≡ below = cc in
         either (b.burnt.next (subst (λ (a : Activity). commands_on a ≢ []) (sym first) some))
         (λ less. let t : weight b.top ≡ weight top = ap weight first in let r : tally weight b.below ≡ tally weight below = ap (tally weight) rest in inr (omega (arith, less, now, t, r)))
-        (λ waits. inl (waits.0 ∷ [], b.now ∙ ap (λ (st : List Activity). st ++ b.below) waits.1 ∙ ap (λ (a : Activity). waits.0 ∷ a ∷ b.below) first ∙ ap (λ (st : List Activity). waits.0 ∷ top ∷ st) rest, (let light = waits.2 in omega (arith, light)), waits.3 ∙ same))
+        (λ waits. inl (
+          waits.0 ∷ [],
+          b.now ∙ ap (λ (st : List Activity). st ++ b.below) waits.1 ∙ ap (λ (a : Activity). waits.0 ∷ a ∷ b.below) first
+              ∙ ap (λ (st : List Activity). waits.0 ∷ top ∷ st) rest,
+          (let light = waits.2 in omega (arith, light)),
+          waits.3 ∙ same,
+        ))
 
     under : (a : Activity) (tops : List Activity) → w.stack ≡ a ∷ tops ++ top ∷ below → tally weight (a ∷ tops) ≡ 0 → w.names ≡ names → Still after
     under a tops is light same =
@@ -100,7 +106,8 @@ module _ (script : Script) (top : Activity) (below : List Activity) (some : comm
       run_still step.world steps run.1 later running (step_still w step.world (step_burns script w step.events step.world run.0 here (running_first step.world steps run.1 running)) still)
 
   -- So names stay until its next command is taken.
-  pub names_stay : (w : World) (steps : List StepTaken) → Run script w steps → count_by is_enter (events_of steps) ≡ 0 → (last_world w steps).outcome ≡ Running → (given_up : List ℕ) → w.stack ≡ Releasing given_up ∷ top ∷ below → w.names ≡ names
+  pub names_stay : (w : World) (steps : List StepTaken) → Run script w steps → count_by is_enter (events_of steps) ≡ 0 → (last_world w steps).outcome ≡ Running
+      → (given_up : List ℕ) → w.stack ≡ Releasing given_up ∷ top ∷ below → w.names ≡ names
       → (next : Activity) → (last_world w steps).stack ≡ next ∷ below → commands_on next ≡ commands_on top → (last_world w steps).names ≡ names
   names_stay w steps run quiet running given_up is same next later left =
       either (run_still w steps run quiet running (inl (Releasing given_up ∷ [], is, refl, same))) (λ k. k.3)
@@ -170,10 +177,12 @@ module _ (script : Script) (w : World) (look : Look) (p : Parts script w look) (
       d = deref_derefs at_third x (Name x) asked.what asked.is
 
       second_so : (look.second.events ≡ []) × (look.second.world ≡ push (Releasing (given_up_by at_second x)) (bound at_second x (Some g.val)))
-      second_so = changes_so script at_second false [] (given_up_by at_second x) (bound at_second x (Some g.val)) look.second.events look.second.world looks.gets.accepted (subst (λ e. DoesEffect script at_second (Ok e) look.second.events look.second.world) g.is got.does)
+      second_so = changes_so script at_second false [] (given_up_by at_second x) (bound at_second x (Some g.val)) look.second.events look.second.world
+          looks.gets.accepted (subst (λ e. DoesEffect script at_second (Ok e) look.second.events look.second.world) g.is got.does)
 
       third_so : (look.third.events ≡ []) × (look.third.world ≡ push (Releasing (given_up_by at_third x)) (bound at_third x (Some (referent_value d.reference.referent))))
-      third_so = changes_so script at_third false [] (given_up_by at_third x) (bound at_third x (Some (referent_value d.reference.referent))) look.third.events look.third.world looks.derefs.accepted (subst (λ e. DoesEffect script at_third (Ok e) look.third.events look.third.world) d.is asked.does)
+      third_so = changes_so script at_third false [] (given_up_by at_third x) (bound at_third x (Some (referent_value d.reference.referent))) look.third.events
+          look.third.world looks.derefs.accepted (subst (λ e. DoesEffect script at_third (Ok e) look.third.events look.third.world) d.is asked.does)
 
       names : (before_third look).names ≡ slice_set (before_second look).names x (Some g.val)
       names = names_stay script got.top looks.below (λ e. absurd (let no : Deref x (Name x) ∷ looks.rest ≡ [] = sym got.commands ∙ e in cc)) (slice_set (before_second look).names x (Some g.val))

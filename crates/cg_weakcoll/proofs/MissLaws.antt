@@ -40,14 +40,18 @@ misses_leave_none script budget before first early second known run x map key mi
     let step2 : Step script w2 second.events second.world = subst (λ (z : World). Step script z second.events second.world) (last_world-append start before (first ∷ early)) last.0 in
     let done = taken_done script w (Bind x NoneWord) left misses.below first back.0 misses.binds in
     let u : World = with_stack (done.top ∷ misses.below) w in
-    let so = changes_so script u false [] (given_up_by u x) (bound u x (Some Nothing)) first.events first.world misses.binds.accepted (subst (λ e. DoesEffect script u (Ok e) first.events first.world) (none_binds u x done.what done.is) done.does) in
+    let so = changes_so script u false [] (given_up_by u x) (bound u x (Some Nothing)) first.events first.world misses.binds.accepted
+    (subst (λ e. DoesEffect script u (Ok e) first.events first.world) (none_binds u x done.what done.is) done.does) in
     let counts = count_append first.events (events_of early) in
     let quiet : count_by is_enter (events_of early) ≡ 0 = (let none = misses.no_frame in omega (arith, counts, none)) in
-    let names : w2.names ≡ slice_set w.names x (Some Nothing) = names_stay script done.top misses.below (λ e. absurd (let no : left ≡ [] = sym done.commands ∙ e in cc)) (slice_set w.names x (Some Nothing))
-    first.world early back.1 quiet step2.running (given_up_by u x) (ap (λ (z : World). z.stack) so.1) (ap (λ (z : World). z.names) so.1) misses.top misses.stack (misses.commands ∙ sym done.commands) in
+    let names : w2.names ≡ slice_set w.names x (Some Nothing) = names_stay script done.top misses.below (λ e. absurd (let no : left ≡ [] = sym done.commands ∙ e
+    in cc)) (slice_set w.names x (Some Nothing))
+    first.world early back.1 quiet step2.running (given_up_by u x) (ap (λ (z : World). z.stack) so.1) (ap (λ (z : World). z.names) so.1) misses.top misses.stack
+    (misses.commands ∙ sym done.commands) in
     let took = taken script w2 (Get x map key) (Deref x (Name x) ∷ misses.rest) misses.below second misses.top misses.stack misses.commands misses.not_due step2 in
     let kept : second.world.names ≡ w2.names = get_refused script (with_stack (took.top ∷ misses.below) w2) x map key second.events second.world misses.number took.does misses.refused in
-    let count : length w.names ≡ length script.names = (minded_after script known start before w_run (opening_fit script budget) (opening_origin script budget) (opening_minded script known budget)).count in
+    let count : length w.names ≡ length script.names = (minded_after script known start before w_run (opening_fit script budget) (opening_origin script budget)
+    (opening_minded script known budget)).count in
     let all : flat_map commands_on w.stack ≡ (Bind x NoneWord ∷ left) ++ flat_map commands_on misses.below =
     ap (flat_map commands_on) misses.binds.stack ∙ ap (λ (cs : List Command). cs ++ flat_map commands_on misses.below) misses.binds.commands in
     let own : Includes (flat_map commands_on w.stack) (Bind x NoneWord) = subst (λ (cs : List Command). Includes cs (Bind x NoneWord)) (sym all) (inl refl) in

@@ -69,9 +69,22 @@ module _ (script : Script) (budget : ℕ) (w : World) (k : Known script budget w
   some_is m n e = cc
 
   local_old : (f : Frame) (sort : FrameSort) → f.sort ≡ sort → Includes w.stack (Framed f) → (self_in sort f.subject ≢ Some w.next_serial) × (weak_in sort f.subject ≢ Some w.next_serial)
-  local_old f Del is m = (λ e. let low = lives_below f.subject (k.lawful.orderly.locals f m (λ c. let no : Del ≡ CallFrame = sym is ∙ c in cc)) in let s = some_is f.subject w.next_serial e in omega (arith, low, s), λ e. let no : None ≡ Some w.next_serial = e in cc)
-  local_old f LegacyFrame is m = (λ e. let low = lives_below f.subject (k.lawful.orderly.locals f m (λ c. let no : LegacyFrame ≡ CallFrame = sym is ∙ c in cc)) in let s = some_is f.subject w.next_serial e in omega (arith, low, s), λ e. let no : None ≡ Some w.next_serial = e in cc)
-  local_old f Callback is m = (λ e. let no : None ≡ Some w.next_serial = e in cc, λ e. let low = lives_below f.subject (k.lawful.orderly.locals f m (λ c. let no : Callback ≡ CallFrame = sym is ∙ c in cc)) in let s = some_is f.subject w.next_serial e in omega (arith, low, s))
+  local_old f Del is m = (
+    λ e. let low = lives_below f.subject (k.lawful.orderly.locals f m (λ c. let no : Del ≡ CallFrame = sym is ∙ c in cc))
+        in let s = some_is f.subject w.next_serial e in omega (arith, low, s),
+    λ e. let no : None ≡ Some w.next_serial = e in cc,
+  )
+  local_old f LegacyFrame is m = (
+    λ e. let low = lives_below f.subject (k.lawful.orderly.locals f m (λ c. let no : LegacyFrame ≡ CallFrame = sym is ∙ c in cc))
+        in let s = some_is f.subject w.next_serial e in omega (arith, low, s),
+    λ e. let no : None ≡ Some w.next_serial = e in cc,
+  )
+  local_old f Callback is m = (
+    λ e. let no : None ≡ Some w.next_serial = e in cc,
+    λ e. let low = lives_below f.subject
+        (k.lawful.orderly.locals f m (λ c. let no : Callback ≡ CallFrame = sym is ∙ c in cc)) in let s = some_is f.subject w.next_serial e
+        in omega (arith, low, s),
+  )
   local_old f CallFrame is m = (λ e. let no : None ≡ Some w.next_serial = e in cc, λ e. let no : None ≡ Some w.next_serial = e in cc)
 
   pub unborn : Unborn w.next_serial w
@@ -85,7 +98,14 @@ module _ (script : Script) (budget : ℕ) (w : World) (k : Known script budget w
   }
 
 pub unborn_taken : (o : ℕ) (command : Command) (a b : Activity) (below : List Activity) (v : World) → Takes command a b → Unborn o (on a below v) → Unborn o (on b below v)
-unborn_taken o command a b below v takes h = record { names = h.names; root = h.root; entries = h.entries; referents = h.referents; locals = taken_locals o command a b below takes h.locals; absent = h.absent }
+unborn_taken o command a b below v takes h = record {
+  names = h.names;
+  root = h.root;
+  entries = h.entries;
+  referents = h.referents;
+  locals = taken_locals o command a b below takes h.locals;
+  absent = h.absent;
+}
 
 -- the new object is no instance
 first_apart : (kind : KindCode) → ¬ IsFound (first_place kind)
@@ -96,21 +116,25 @@ first_apart Inst f = f
 first_apart Func f = f
 first_apart Weak f = f
 
-pub new_hidden : (n : ℕ) (u : World) (kind : KindCode) (class : Option ℕ) (entries : List Entry) (referent : Option ℕ) (given : List ℕ) → kind ≢ Inst → ¬ Includes (references entries) u.next_serial → referent ≢ Some u.next_serial → Unborn u.next_serial u
+pub new_hidden : (n : ℕ) (u : World) (kind : KindCode) (class : Option ℕ) (entries : List Entry) (referent : Option ℕ) (given : List ℕ) → kind ≢ Inst
+    → ¬ Includes (references entries) u.next_serial → referent ≢ Some u.next_serial → Unborn u.next_serial u
     → Hidden n u.next_serial (push (Releasing given) (bound (with_new u kind class entries referent) n (Some (Ref u.next_serial))))
 new_hidden n u kind class entries referent given apart free other h = record {
   names = λ x e m. h.names x (subst (λ hs. Includes hs u.next_serial) (set_other u.names n x (Some (Ref u.next_serial)) e) m);
   root = h.root;
   made = omega arith;
-  entries = λ y m. either (Includes-append_cases u.objects (_ ∷ []) y m) (h.entries y) (λ k. either k (λ i. subst (λ (z : Object). ¬ Includes (references z.entries) u.next_serial) i free) (λ none. absurd none));
+  entries = λ y m. either (Includes-append_cases u.objects (_ ∷ []) y m) (h.entries y)
+      (λ k. either k (λ i. subst (λ (z : Object). ¬ Includes (references z.entries) u.next_serial) i free) (λ none. absurd none));
   referents = λ y m. either (Includes-append_cases u.objects (_ ∷ []) y m) (h.referents y) (λ k. either k (λ i. subst (λ (z : Object). z.referent ≢ Some u.next_serial) i other) (λ none. absurd none));
   locals = λ f m. either m (λ e. cc) (h.locals f);
-  apart = λ y m s. either (Includes-append_cases u.objects (_ ∷ []) y m) (λ k. absurd (h.absent y k s)) (λ k. either k (λ i. subst (λ (z : Object). ¬ IsFound z.place) i (first_apart kind)) (λ none. absurd none));
+  apart = λ y m s. either (Includes-append_cases u.objects (_ ∷ []) y m) (λ k. absurd (h.absent y k s))
+      (λ k. either k (λ i. subst (λ (z : Object). ¬ IsFound z.place) i (first_apart kind)) (λ none. absurd none));
   kind = λ y m s. either (Includes-append_cases u.objects (_ ∷ []) y m) (λ k. absurd (h.absent y k s)) (λ k. either k (λ i. subst (λ (z : Object). z.code ≢ Inst) i apart) (λ none. absurd none));
 }
 
 -- an older hidden object, where a new object is bound to its own name or another
-pub old_hidden : (n o name : ℕ) (u : World) (kind : KindCode) (class : Option ℕ) (entries : List Entry) (referent : Option ℕ) (given : List ℕ) → ¬ Includes (references entries) o → referent ≢ Some o → Hidden n o u
+pub old_hidden : (n o name : ℕ) (u : World) (kind : KindCode) (class : Option ℕ) (entries : List Entry) (referent : Option ℕ) (given : List ℕ)
+    → ¬ Includes (references entries) o → referent ≢ Some o → Hidden n o u
     → Hidden n o (push (Releasing given) (bound (with_new u kind class entries referent) name (Some (Ref u.next_serial))))
 old_hidden n o name u kind class entries referent given free other h = pushed n o (Releasing given) (bound (with_new u kind class entries referent) name (Some (Ref u.next_serial))) (λ f e. cc)
     (changed_hidden n o u (bound (with_new u kind class entries referent) name (Some (Ref u.next_serial))) names (omega arith) refl objects h)
@@ -124,6 +148,11 @@ old_hidden n o name u kind class entries referent given free other h = pushed n 
     names : (x : ℕ) → x ≢ n → ¬ Includes (held_by (slice_set u.names name (Some (Ref u.next_serial))) x) o
     names x e = set_free u.names name x o (Some (Ref u.next_serial)) fresh (h.names x e)
 
-    objects : (y : Object) → Includes (with_new u kind class entries referent).objects y → (¬ Includes (references y.entries) o) × (y.referent ≢ Some o) × (y.serial ≡ o → (¬ IsFound y.place) × (y.code ≢ Inst))
+    objects : (y : Object) → Includes (with_new u kind class entries referent).objects y → (¬ Includes (references y.entries) o) × (y.referent ≢ Some o)
+        × (y.serial ≡ o → (¬ IsFound y.place) × (y.code ≢ Inst))
     objects y m = either (Includes-append_cases u.objects (_ ∷ []) y m) (λ k. (h.entries y k, h.referents y k, λ s. (h.apart y k s, h.kind y k s)))
-        (λ k. either k (λ i. (subst (λ (z : Object). ¬ Includes (references z.entries) o) i free, subst (λ (z : Object). z.referent ≢ Some o) i other, λ s. absurd (omega (arith, low, s, ap (λ (z : Object). z.serial) i)))) (λ none. absurd none))
+        (λ k. either k (λ i. (
+          subst (λ (z : Object). ¬ Includes (references z.entries) o) i free,
+          subst (λ (z : Object). z.referent ≢ Some o) i other,
+          λ s. absurd (omega (arith, low, s, ap (λ (z : Object). z.serial) i)),
+        )) (λ none. absurd none))

@@ -106,7 +106,8 @@ module _ (script : Script) (budget : ℕ) (e : Exit) (ex : IsExit script e) wher
   other_proc w z k hidden m t shown is =
       let code = function_code z t in
       let q = (k.lawful.origins.objects z m).procedure code in
-      let at : procedure_of w z.serial ≡ q.0 = ap (λ o. unwrap_or (option_and_then (λ (x : Object). x.class) o) 0) (at_member 1 w.next_serial w.objects z k.fit.sound.rises m) ∙ ap (λ c. unwrap_or c 0) q.1 in
+      let at : procedure_of w z.serial ≡ q.0 = ap (λ o. unwrap_or (option_and_then (λ (x : Object). x.class) o) 0) (at_member 1 w.next_serial w.objects z
+      k.fit.sound.rises m) ∙ ap (λ c. unwrap_or c 0) q.1 in
       shown (hidden z m code (q.1 ∙ ap (λ p. Some p) (sym at ∙ is)))
 
   del_other : (m : Option ℕ) (p : ℕ) → option_and_then (λ (c : ClassDef). c.del) (option_and_then (λ c. slice_get (classes script.items) c) m) ≡ Some p → p ≢ e.proc
@@ -129,7 +130,8 @@ module _ (script : Script) (budget : ℕ) (e : Exit) (ex : IsExit script e) wher
   callback_other w weak p k hidden waits is same =
       let x = to_call_lives script budget w weak k waits in
       let h = lost_referent script budget w weak k waits x.0 x.1 x.2 in
-      let at : callback_of w.objects weak ≡ callback_in x.0.entries = subst (λ n. callback_of w.objects n ≡ callback_in x.0.entries) x.2 (callback_at 1 w.next_serial w.objects x.0 k.fit.sound.rises x.1) in
+      let at : callback_of w.objects weak ≡ callback_in x.0.entries = subst (λ n. callback_of w.objects n ≡ callback_in x.0.entries) x.2
+      (callback_at 1 w.next_serial w.objects x.0 k.fit.sound.rises x.1) in
       go x.0 x.1 h.code (callback_in x.0.entries) refl h.callback (is ∙ ap (λ c. procedure_of w (unwrap_or c 0)) at)
     where
       go : (x : Object) → Includes w.objects x → x.code ≡ Weak → (m : Option ℕ) → callback_in x.entries ≡ m → m ≢ None → p ≡ procedure_of w (unwrap_or m 0) → ⊥
@@ -167,22 +169,38 @@ module _ (script : Script) (budget : ℕ) (e : Exit) (ex : IsExit script e) wher
       → (after.stack ≡ u.stack) ⊎ (after.stack ≡ Framed (record { sort = CallFrame; subject = f; function = Some f; commands = body_of script p }) ∷ u.stack)
   call_stack f p u events after step = go (u.budget == 0) step
     where
-      go : (b : Bool) → Yields (if b then (BudgetSpent ∷ [], record u { outcome = BudgetIsSpent }) else (Enter CallFrame f ∷ [], record u { budget = u.budget - 1; stack = Framed (record { sort = CallFrame; subject = f; function = Some f; commands = body_of script p }) ∷ u.stack })) events after
+      go : (b : Bool) → Yields (if b then (BudgetSpent ∷ [], record u { outcome = BudgetIsSpent })
+          else (
+            Enter CallFrame f ∷ [],
+            record u {
+              budget = u.budget - 1;
+              stack = Framed (record {
+                sort = CallFrame;
+                subject = f;
+                function = Some f;
+                commands = body_of script p;
+              }) ∷ u.stack;
+            },
+          )) events after
           → (after.stack ≡ u.stack) ⊎ (after.stack ≡ Framed (record { sort = CallFrame; subject = f; function = Some f; commands = body_of script p }) ∷ u.stack)
       go true y = inl (ap (λ (z : World). z.stack) y.1)
       go false y = inr (ap (λ (z : World). z.stack) y.1)
 
-  pub done_stack : (command : Command) (a b : Activity) (below : List Activity) (v : World) (events : List Event) (after : World) → Takes command a b → Known script budget (on a below v) → AreHidden e (on a below v) → ¬ Includes (command_names command) e.exit
+  pub done_stack : (command : Command) (a b : Activity) (below : List Activity) (v : World) (events : List Event) (after : World) → Takes command a b
+      → Known script budget (on a below v) → AreHidden e (on a below v) → ¬ Includes (command_names command) e.exit
       → Done script command (on b below v) b below events after → DoneStack b below after.stack
   done_stack command a b below v events after takes k hidden spoken (Stood answers is) = GoesOn [] (ap (λ (z : World). z.stack) is) (λ c m. absurd m)
   done_stack command a b below v events after takes k hidden spoken (Stopped answers is) = IsEnded (ap (λ (z : World). z.stack) is)
   done_stack command a b below v events after takes k hidden spoken (Changed wants given next is shape) =
-      GoesOn (Releasing given ∷ []) (ap (λ (z : World). z.stack) is ∙ ap (λ st. Releasing given ∷ st) (changes_leave (on b below v) command wants events given next shape).stack) (one_high (Releasing given) tt)
+      GoesOn (Releasing given ∷ []) (ap (λ (z : World). z.stack) is ∙ ap (λ st. Releasing given ∷ st) (changes_leave (on b below v) command wants events given
+      next shape).stack) (one_high (Releasing given) tt)
   done_stack command a b below v events after takes k hidden spoken (Began f has step) =
-      let shown : Hidden e.exit f.serial (on a below v) → ⊥ = λ h. hand_not e.exit f.serial (on b below v) (taken_hidden e.exit f.serial command a b below v takes h) command (Ref f.serial) spoken has.hand refl in
+      let shown : Hidden e.exit f.serial (on a below v) → ⊥ = λ h. hand_not e.exit f.serial (on b below v) (taken_hidden e.exit f.serial command a b below v
+      takes h) command (Ref f.serial) spoken has.hand refl in
       either (call_stack f.serial (procedure_of (on b below v) f.serial) (on b below v) events after step) (λ s. GoesOn [] s (λ c m. absurd m))
       (λ s. GoesOn (Framed _ ∷ []) s (one_high (Framed _) (ex.bodies_other (procedure_of (on b below v) f.serial) (other_proc (on a below v) f k hidden has.member has.passes shown))))
-  done_stack command a b below v events after takes k hidden spoken (Asked g none is) = GoesOn (new_collection g true (on b below v) ∷ []) (ap (λ (z : World). z.stack) is) (one_high (new_collection g true (on b below v)) tt)
+  done_stack command a b below v events after takes k hidden spoken (Asked g none is) = GoesOn (new_collection g true (on b below v) ∷ [])
+      (ap (λ (z : World). z.stack) is) (one_high (new_collection g true (on b below v)) tt)
 
   -- another line's command calls none of these
   pub other_exit : (command : Command) → IsOther e command → ¬ Includes (command_names command) e.exit
@@ -236,10 +254,16 @@ module _ (script : Script) (budget : ℕ) (e : Exit) (ex : IsExit script e) wher
   high_taken command a b (FromTop commands) h = absurd h
   high_taken command a b (FromFrame f commands left) h = (h command (subst (λ cs. Includes cs command) (sym left) (inl refl)), λ c m. h c (subst (λ cs. Includes cs c) (sym left) (inr m)))
 
-  pub high_step : (w : World) (a : Activity) (below : List Activity) (events : List Event) (after : World) → Known script budget w → AreHidden e w → w.stack ≡ a ∷ below → IsHigh e a → Went script w events after → HighStep below after.stack
+  pub high_step : (w : World) (a : Activity) (below : List Activity) (events : List Event) (after : World) → Known script budget w → AreHidden e w → w.stack ≡ a
+      ∷ below → IsHigh e a → Went script w events after → HighStep below after.stack
   high_step w a below events after k hidden top h (Acted b under is acts) = let s = same_top a b below under w.stack top is in
       record { tops = acts.tops; is = acts.stack ∙ ap (λ st. acts.tops ++ st) (sym s.1); high = λ c m. raised_high w c k hidden (acts.raised c m) }
-  high_step w a below events after k hidden top h (Due g set none is) = record { tops = new_collection g false w ∷ a ∷ []; is = ap (λ (z : World). z.stack) is ∙ ap (λ st. new_collection g false w ∷ st) top; high = two_high (new_collection g false w) a tt h }
+  high_step w a below events after k hidden top h (Due g set none is) = record {
+    tops = new_collection g false w ∷ a ∷ [];
+    is = ap (λ (z : World). z.stack) is
+        ∙ ap (λ st. new_collection g false w ∷ st) top;
+    high = two_high (new_collection g false w) a tt h;
+  }
   high_step w a below events after k hidden top h (Over b at_top place last is) = record { tops = a ∷ []; is = ap (λ (z : World). z.stack) is ∙ top; high = one_high a h }
   high_step w a below events after k hidden top h (Bottomed under is none q) = absurd (subst (IsHigh e) (same_top a (TopLevel []) below under w.stack top is).0 h)
   high_step w a below events after k hidden top h (GaveUp name under is none q) = absurd (subst (IsHigh e) (same_top a (ShuttingDown false) below under w.stack top is).0 h)

@@ -29,7 +29,8 @@ module _ (script : Script) (u : World) (events : List Event) (after : World) whe
   abbrev pub IsRefused : Type 0
   IsRefused = (n : ℕ) × Yields (refused n u) events after
 
-  asks : {A : Type 0} (m : Option A) (n : ℕ) (f : A → Result Effect ℕ) → DoesEffect script u (ok_or m n >>= f) events after → IsRefused ⊎ ((x : A) × (m ≡ Some x) × DoesEffect script u (f x) events after)
+  asks : {A : Type 0} (m : Option A) (n : ℕ) (f : A → Result Effect ℕ) → DoesEffect script u (ok_or m n >>= f) events after → IsRefused
+      ⊎ ((x : A) × (m ≡ Some x) × DoesEffect script u (f x) events after)
   unfolding ◌>>=◌
   asks None n f step = inl (n, step)
   asks (Some x) n f step = inr (x, refl, step)
@@ -39,15 +40,18 @@ module _ (script : Script) (u : World) (events : List Event) (after : World) whe
   checks true n f step = inr step
   checks false n f step = inl (n, step)
 
-  finds : (test : Object → Bool) (n : ℕ) (v : Val) (f : Object → Result Effect ℕ) → DoesEffect script u (object u test n v >>= f) events after → IsRefused ⊎ ((x : Object) × (object_of u v ≡ Some x) × (test x ≡ true) × DoesEffect script u (f x) events after)
+  finds : (test : Object → Bool) (n : ℕ) (v : Val) (f : Object → Result Effect ℕ) → DoesEffect script u (object u test n v >>= f) events after → IsRefused
+      ⊎ ((x : Object) × (object_of u v ≡ Some x) × (test x ≡ true) × DoesEffect script u (f x) events after)
   unfolding ◌>>=◌
   finds test n v f step = go (object_of u v) refl step
     where
-      tests : (x : Object) → object_of u v ≡ Some x → (b : Bool) → test x ≡ b → DoesEffect script u ((if b then Ok x else Err n) >>= f) events after → IsRefused ⊎ ((x : Object) × (object_of u v ≡ Some x) × (test x ≡ true) × DoesEffect script u (f x) events after)
+      tests : (x : Object) → object_of u v ≡ Some x → (b : Bool) → test x ≡ b → DoesEffect script u ((if b then Ok x else Err n) >>= f) events after → IsRefused
+          ⊎ ((x : Object) × (object_of u v ≡ Some x) × (test x ≡ true) × DoesEffect script u (f x) events after)
       tests x at true t s = inr (x, at, t, s)
       tests x at false t s = inl (n, s)
 
-      go : (m : Option Object) → object_of u v ≡ m → DoesEffect script u ((ok_or m n >>= tested test n) >>= f) events after → IsRefused ⊎ ((x : Object) × (object_of u v ≡ Some x) × (test x ≡ true) × DoesEffect script u (f x) events after)
+      go : (m : Option Object) → object_of u v ≡ m → DoesEffect script u ((ok_or m n >>= tested test n) >>= f) events after → IsRefused
+          ⊎ ((x : Object) × (object_of u v ≡ Some x) × (test x ≡ true) × DoesEffect script u (f x) events after)
       go None at s = inl (n, s)
       go (Some x) at s = tests x at (test x) refl s
 
@@ -98,13 +102,15 @@ module _ (script : Script) (u : World) (events : List Event) (after : World) whe
   deref_step name operand step = either (asks (value_of u operand) no_name _ step) (λ r. inl r) (λ k. either (finds is_weak not_weak k.0 _ k.2) (λ r. inl r)
       (λ x. inr (record { value = k.0; is = k.1; object = x.0; found = x.1; yields = binds_to x.0 x.0.referent x.3 })))
     where
-      binds_to : (x : Object) (r : Option ℕ) → DoesEffect script u (binds u name (elim r [ None ↦ Nothing | Some o ↦ Ref o ])) events after → Yields ([], push (Releasing (given_up_by u name)) (bound u name (Some (referent_value r)))) events after
+      binds_to : (x : Object) (r : Option ℕ) → DoesEffect script u (binds u name (elim r [ None ↦ Nothing | Some o ↦ Ref o ])) events after
+          → Yields ([], push (Releasing (given_up_by u name)) (bound u name (Some (referent_value r)))) events after
       binds_to x None s = either s (λ y. y) (λ k. absurd (let no : false ≡ true = k.0 in cc))
       binds_to x (Some o) s = either s (λ y. y) (λ k. absurd (let no : false ≡ true = k.0 in cc))
 
   makes_step : (name : ℕ) (kind : KindCode) (class : Option ℕ) (entries : List Entry) (referent : Option ℕ) → DoesEffect script u (makes u name kind class entries referent) events after
       → IsRefused ⊎ Yields (Made kind u.next_serial ∷ [], push (Releasing (given_up_by u name)) (bound (with_new u kind class entries referent) name (Some (Ref u.next_serial)))) events after
-  makes_step name kind class entries referent step = either (checks (nat_lt (live u) MOST_OBJECTS) object_limit _ step) (λ r. inl r) (λ k. either (checks (nat_le (entry_count u + length entries) MOST_ENTRIES) entry_limit _ k) (λ r. inl r)
+  makes_step name kind class entries referent step = either (checks (nat_lt (live u) MOST_OBJECTS) object_limit _ step) (λ r. inl r)
+      (λ k. either (checks (nat_le (entry_count u + length entries) MOST_ENTRIES) entry_limit _ k) (λ r. inl r)
       (λ d. either d (λ y. inr y) (λ r. inl (no_memory, r.1))))
 
   -- `x = func P`
@@ -125,18 +131,21 @@ module _ (script : Script) (u : World) (events : List Event) (after : World) whe
     pub entries_are : (entries ≡ []) ⊎ (entries ≡ item function ∷ [])
     pub yields : Yields (Made Weak u.next_serial ∷ [], push (Releasing (given_up_by u name)) (bound (with_new u Weak None entries (Some object.serial)) name (Some (Ref u.next_serial)))) events after
 
-  called_back : (f : Val) (k : List Entry → Result Effect ℕ) → DoesEffect script u (callback_entries u f >>= k) events after → IsRefused ⊎ ((entries : List Entry) × ((entries ≡ []) ⊎ (entries ≡ item f ∷ [])) × DoesEffect script u (k entries) events after)
+  called_back : (f : Val) (k : List Entry → Result Effect ℕ) → DoesEffect script u (callback_entries u f >>= k) events after → IsRefused
+      ⊎ ((entries : List Entry) × ((entries ≡ []) ⊎ (entries ≡ item f ∷ [])) × DoesEffect script u (k entries) events after)
   unfolding ◌>>=◌
   called_back Nothing k step = inr ([], inl refl, step)
   called_back (Int i) k step = inl (not_callable, step)
   called_back (Str i) k step = inl (not_callable, step)
   called_back (Ref i) k step = go (object u is_function not_callable (Ref i)) step
     where
-      go : (r : Result Object ℕ) → DoesEffect script u ((r >>= λ x. Ok (item (Ref i) ∷ [])) >>= k) events after → IsRefused ⊎ ((entries : List Entry) × ((entries ≡ []) ⊎ (entries ≡ item (Ref i) ∷ [])) × DoesEffect script u (k entries) events after)
+      go : (r : Result Object ℕ) → DoesEffect script u ((r >>= λ x. Ok (item (Ref i) ∷ [])) >>= k) events after → IsRefused
+          ⊎ ((entries : List Entry) × ((entries ≡ []) ⊎ (entries ≡ item (Ref i) ∷ [])) × DoesEffect script u (k entries) events after)
       go (Ok x) s = inr (item (Ref i) ∷ [], inr refl, s)
       go (Err n) s = inl (n, s)
 
   pub ref_step : (name : ℕ) (target callback : Operand) → CommandStep script u (MakeRef name target callback) events after → IsRefused ⊎ IsRef name target callback
-  ref_step name target callback step = either (asks (value_of u target) no_name _ step) (λ r. inl r) (λ v. either (asks (value_of u callback) no_name _ v.2) (λ r. inl r) (λ f. either (finds has_weak_references wrong_kind v.0 _ f.2) (λ r. inl r)
+  ref_step name target callback step = either (asks (value_of u target) no_name _ step) (λ r. inl r) (λ v. either (asks (value_of u callback) no_name _ v.2)
+      (λ r. inl r) (λ f. either (finds has_weak_references wrong_kind v.0 _ f.2) (λ r. inl r)
       (λ x. either (called_back f.0 _ x.3) (λ r. inl r) (λ es. either (makes_step name Weak None es.0 (Some x.0.serial) es.2) (λ r. inl r)
       (λ y. inr (record { value = v.0; is = v.1; function = f.0; calls = f.1; object = x.0; found = x.1; entries = es.0; entries_are = es.1; yields = y }))))))

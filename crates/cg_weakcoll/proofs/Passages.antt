@@ -49,13 +49,16 @@ no_whole form ps = record {
 }
 
 -- what a line begins goes to the procedures
-procs_begun : (all : List (List ℕ)) (known : Known) (form : Form) (words : List (List ℕ)) → (row form).fewest ≤ length words → is_repeated known form words ≡ false → Begins (texts_from known.texts form 0 words) all
+procs_begun : (all : List (List ℕ)) (known : Known) (form : Form) (words : List (List ℕ)) → (row form).fewest ≤ length words → is_repeated known form words
+    ≡ false → Begins (texts_from known.texts form 0 words) all
     → procs_after known.procs form words ≡ known.procs ++ map (text_of all) (begun_by (said form (parts_of known form words)))
 procs_begun all known forms.Def [] enough fresh begins = absurd (omega arith)
 procs_begun all known forms.Def (w ∷ []) enough fresh begins = absurd (omega arith)
 procs_begun all known forms.Def (w ∷ c ∷ ws) enough fresh begins =
     ap (λ b. cond b known.procs (known.procs ++ c ∷ [])) fresh
-    ∙ ap (λ (t : List ℕ). known.procs ++ t ∷ []) (sym (text_found all known.texts c (begins_along (with_text known.texts c) (texts_from (with_text known.texts c) forms.Def 2 ws) all (begins_texts forms.Def ws (with_text known.texts c) 2) begins)))
+    ∙ ap (λ (t : List ℕ). known.procs ++ t ∷ [])
+    (sym (text_found all known.texts c (begins_along (with_text known.texts c) (texts_from (with_text known.texts c) forms.Def 2 ws) all
+    (begins_texts forms.Def ws (with_text known.texts c) 2) begins)))
 procs_begun all known form words enough fresh begins = sym (append-nil known.procs)
 
 module _ (all names : List (List ℕ)) (Free : List ℕ → Type 0) where
@@ -74,14 +77,16 @@ module _ (all names : List (List ℕ)) (Free : List ℕ → Type 0) where
   found_free : (procs : List (List ℕ)) (word : List ℕ) (k : ℕ) → Begins procs names → Free word → defined_number procs word ≡ Some k → NameFree k
   found_free procs word k begins free e = subst Free (sym (name_found names procs word k begins e)) free
 
-  counted_free : (procs : List (List ℕ)) (word : List ℕ) (k : ℕ) → Begins procs names → Free word → is_unknown (numbered (defined_number procs word)) ≡ false → count_or (Some (numbered (defined_number procs word))) ≡ k → NameFree k
+  counted_free : (procs : List (List ℕ)) (word : List ℕ) (k : ℕ) → Begins procs names → Free word → is_unknown (numbered (defined_number procs word)) ≡ false
+      → count_or (Some (numbered (defined_number procs word))) ≡ k → NameFree k
   counted_free procs word k begins free there e = go (defined_number procs word) refl there e
     where
       go : (m : Option ℕ) → defined_number procs word ≡ m → is_unknown (numbered m) ≡ false → count_or (Some (numbered m)) ≡ k → NameFree k
       go None is u h = absurd (cc)
       go (Some j) is u h = found_free procs word k begins free (is ∙ ap Some h)
 
-  makes_free : (procs classes : List (List ℕ)) (form : Form) (words texts : List (List ℕ)) → Begins procs names → AreClear Free words → (row form).fewest ≤ length words → has_unknown (parts_from procs classes texts form 0 words) ≡ false
+  makes_free : (procs classes : List (List ℕ)) (form : Form) (words texts : List (List ℕ)) → Begins procs names → AreClear Free words
+      → (row form).fewest ≤ length words → has_unknown (parts_from procs classes texts form 0 words) ≡ false
       → (name k : ℕ) (cells : List Operand) → said form (parts_from procs classes texts form 0 words) ≡ Does (commands.MakeFunc name k cells) → NameFree k
   makes_free procs classes forms.MakeFunc [] texts begins clear enough there name k cells e = absurd (omega arith)
   makes_free procs classes forms.MakeFunc (a ∷ []) texts begins clear enough there name k cells e = absurd (omega arith)
@@ -111,7 +116,8 @@ module _ (all names : List (List ℕ)) (Free : List ℕ → Type 0) where
       go None is h = absurd (legacy_of_none procs (after_prefix (codes "legacy=") word) k h)
       go (Some name) is h = found name (clear.finalizer name is) (defined_number procs name) refl h
 
-  legacy_free : (procs : List (List ℕ)) (word : List ℕ) (k : ℕ) → Begins procs names → IsClear Free word → legacy_if (Some (finalizer_of procs (after_prefix (codes "del=") word) word)) ≡ Some k → NameFree k
+  legacy_free : (procs : List (List ℕ)) (word : List ℕ) (k : ℕ) → Begins procs names → IsClear Free word
+      → legacy_if (Some (finalizer_of procs (after_prefix (codes "del=") word) word)) ≡ Some k → NameFree k
   legacy_free procs word k begins clear e = go (after_prefix (codes "del=") word) e
     where
       found : (name : List ℕ) → Free name → (f : Option ℕ) → defined_number procs name ≡ f → legacy_if (Some (legacy f)) ≡ Some k → NameFree k
@@ -166,7 +172,8 @@ module _ (all names : List (List ℕ)) (Free : List ℕ → Type 0) where
       go (a ∷ b ∷ d ∷ f ∷ rest) clear h = either (one_some _ _ k h) (legacy_free procs d k begins clear.1.1.0) (legacy_free procs f k begins clear.1.1.1.0)
   class_legacy procs classes form words texts begins clear c k e is = absurd (cc)
 
-  pub line_fine : (known : Known) (form : Form) (words : List (List ℕ)) → Begins known.procs names → AreClear Free words → (row form).fewest ≤ length words → has_unknown (parts_of known form words) ≡ false → Begins (texts_from known.texts form 0 words) all
+  pub line_fine : (known : Known) (form : Form) (words : List (List ℕ)) → Begins known.procs names → AreClear Free words → (row form).fewest ≤ length words
+      → has_unknown (parts_of known form words) ≡ false → Begins (texts_from known.texts form 0 words) all
       → IsFine (said form (parts_of known form words))
   line_fine known form words procs clear enough there begins = record {
     plain = no_whole form (parts_of known form words);
@@ -193,7 +200,8 @@ module _ (all names : List (List ℕ)) (Free : List ℕ → Type 0) where
     pub whole : known.procs ++ map (text_of all) (begun later) ≡ names
     pub inside : known.inside ≡ through known0.inside before
 
-  pub passage : (front rest : List (List ℕ)) (known : Known) (number : ℕ) (saids : List Said) → AreClearLines front → lines_from known number (front ++ rest) ≡ good all saids → known.procs ++ map (text_of all) (begun saids) ≡ names → Passage known rest saids
+  pub passage : (front rest : List (List ℕ)) (known : Known) (number : ℕ) (saids : List Said) → AreClearLines front → lines_from known number (front ++ rest)
+      ≡ good all saids → known.procs ++ map (text_of all) (begun saids) ≡ names → Passage known rest saids
   passage [] rest known number saids clear e whole = record {
     before = [];
     later = saids;
@@ -206,9 +214,11 @@ module _ (all names : List (List ℕ)) (Free : List ℕ → Type 0) where
     whole = whole;
     inside = refl;
   }
-  passage (line ∷ front) rest known number saids clear e whole = go (λ k n ss h w. passage front rest k n ss (λ other m. clear other (inr m)) h w) (first_line known number (front ++ rest) all saids line e)
+  passage (line ∷ front) rest known number saids clear e whole = go (λ k n ss h w. passage front rest k n ss (λ other m. clear other (inr m)) h w)
+      (first_line known number (front ++ rest) all saids line e)
     where
-      go : ((k : Known) (n : ℕ) (ss : List Said) → lines_from k n (front ++ rest) ≡ good all ss → k.procs ++ map (text_of all) (begun ss) ≡ names → Passage k rest ss) → First known number line (front ++ rest) all saids → Passage known rest saids
+      go : ((k : Known) (n : ℕ) (ss : List Said) → lines_from k n (front ++ rest) ≡ good all ss → k.procs ++ map (text_of all) (begun ss) ≡ names
+          → Passage k rest ss) → First known number line (front ++ rest) all saids → Passage known rest saids
       go ih (Passes m more) =
           let o = ih known (number + 1) saids more whole in
           record { before = o.before; later = o.later; is = o.is; known = o.known; number = o.number; goes = o.goes; fine = o.fine; procs = o.procs; whole = o.whole; inside = o.inside }
@@ -240,7 +250,8 @@ module _ (all names : List (List ℕ)) (Free : List ℕ → Type 0) where
             number = o.number;
             goes = o.goes;
             fine = λ t k. either k (λ e. subst IsFine e here) (o.fine t);
-            procs = o.procs ∙ ap (λ l. l ++ map (text_of all) (begun o.before)) step ∙ append_assoc known.procs (map (text_of all) (begun_by s)) (map (text_of all) (begun o.before)) ∙ ap (λ l. known.procs ++ l) (sym (map-append (text_of all) (begun_by s) (begun o.before)));
+            procs = o.procs ∙ ap (λ l. l ++ map (text_of all) (begun o.before)) step ∙ append_assoc known.procs (map (text_of all) (begun_by s))
+                (map (text_of all) (begun o.before)) ∙ ap (λ l. known.procs ++ l) (sym (map-append (text_of all) (begun_by s) (begun o.before)));
             whole = o.whole;
             inside = o.inside ∙ ap (λ b. through b o.before) (sym (inside_said form (parts_of known form words) known.inside));
           }
@@ -253,5 +264,6 @@ clear_any : (words : List (List ℕ)) → AreClear Any words
 clear_any [] = tt
 clear_any (word ∷ words) = (record { itself = tt; finalizer = λ name i. tt; legacy = λ name i. tt }, clear_any words)
 
-pub behind : (all : List (List ℕ)) (front rest : List (List ℕ)) (saids : List Said) → lines_from nothing_known 1 (front ++ rest) ≡ good all saids → Passage all (map (text_of all) (begun saids)) Any nothing_known rest saids
+pub behind : (all : List (List ℕ)) (front rest : List (List ℕ)) (saids : List Said) → lines_from nothing_known 1 (front ++ rest) ≡ good all saids
+    → Passage all (map (text_of all) (begun saids)) Any nothing_known rest saids
 behind all front rest saids e = passage all (map (text_of all) (begun saids)) Any front rest nothing_known 1 saids (λ line m unpassed. clear_any (words_of line)) e refl

@@ -69,7 +69,8 @@ module _ (known : Known) (number : ℕ) (lines texts : List (List ℕ)) (saids :
   says_line : (form : Form) (words : List (List ℕ)) → AreGood (says form words) → Line texts known number form words lines saids
   says_line form words e = go (fault_in known form words) refl e
     where
-      go : (fault : Option ℕ) → fault_in known form words ≡ fault → with_later known number (says_or_bad fault form words) (λ behind. lines_from behind (number + 1) lines) ≡ good texts saids → Line texts known number form words lines saids
+      go : (fault : Option ℕ) → fault_in known form words ≡ fault → with_later known number (says_or_bad fault form words)
+          (λ behind. lines_from behind (number + 1) lines) ≡ good texts saids → Line texts known number form words lines saids
       go None f k = also form words f (lines_from (known_after known form words) (number + 1) lines) refl k
       go (Some code) f k = absurd (cc)
 
@@ -85,11 +86,14 @@ module _ (known : Known) (number : ℕ) (lines texts : List (List ℕ)) (saids :
       by_meaning (bad code) em k = absurd (cc)
 
   -- the words of a line that is not ignored select its form and fit it
-  pub one_line : (form : Form) (words : List (List ℕ)) (line : List ℕ) → words_of line ≡ words → is_passed words ≡ false → worded words ≡ formed form words → lines_from known number (line ∷ lines) ≡ good texts saids → Line texts known number form words lines saids × AllFit form 0 words
+  pub one_line : (form : Form) (words : List (List ℕ)) (line : List ℕ) → words_of line ≡ words → is_passed words ≡ false → worded words ≡ formed form words
+      → lines_from known number (line ∷ lines) ≡ good texts saids → Line texts known number form words lines saids × AllFit form 0 words
   unfolding meaning
   one_line form words line is unpassed meant e =
       let by : Meaning → Meaning = λ m. cond (not (list_all is_printable line)) (bad 1) (cond (nat_lt 1024 (length line) || nat_lt 64 (length (words_of line)) || (number == 400001)) (bad 5) m) in
-      let told : AreGood (says form words) × ((not (all_fit form 0 words) || repeats_finalizer form words) ≡ false) = go _ _ _ _ (ap (λ m. with_later known number (checked known (by m)) (λ behind. lines_from behind (number + 1) lines)) (sym (ap (λ ws. cond (is_passed ws) passed (worded ws)) is ∙ ap (λ b. cond b passed (worded words)) unpassed ∙ meant)) ∙ means line e) in
+      let told : AreGood (says form words) × ((not (all_fit form 0 words) || repeats_finalizer form words) ≡ false) =
+      go _ _ _ _ (ap (λ m. with_later known number (checked known (by m)) (λ behind. lines_from behind (number + 1) lines))
+      (sym (ap (λ ws. cond (is_passed ws) passed (worded ws)) is ∙ ap (λ b. cond b passed (worded words)) unpassed ∙ meant)) ∙ means line e) in
       (says_line form words told.0, every_fit form 0 words (not_false (all_fit form 0 words) (repeats_finalizer form words) told.1))
     where
       go : (a b c d : Bool) → AreGood (cond a (bad 1) (cond b (bad 5) (cond c (bad 3) (cond d (bad 4) (says form words))))) → AreGood (says form words) × (d ≡ false)

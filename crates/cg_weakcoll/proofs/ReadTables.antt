@@ -36,7 +36,8 @@ place_first : (xs more : List (List ℕ)) (text : List ℕ) → has_text xs text
 place_first [] more text e = absurd (let no : false ≡ true = e in cc)
 place_first (x ∷ xs) more text e = go (bytes_eq text x) e (place_first xs more text)
   where
-    go : (b : Bool) → (b || has_text xs text) ≡ true → (has_text xs text ≡ true → text_number (xs ++ more) text ≡ text_number xs text) → cond (not b) (1 + text_number (xs ++ more) text) 0 ≡ cond (not b) (1 + text_number xs text) 0
+    go : (b : Bool) → (b || has_text xs text) ≡ true → (has_text xs text ≡ true → text_number (xs ++ more) text ≡ text_number xs text)
+        → cond (not b) (1 + text_number (xs ++ more) text) 0 ≡ cond (not b) (1 + text_number xs text) 0
     go true k ih = refl
     go false k ih = ap (λ n. 1 + n) (ih k)
 
@@ -80,7 +81,8 @@ module _ (procs classes all : List (List ℕ)) where
   parts_are form [] texts place begins = refl
   parts_are form (word ∷ words) texts place begins =
       let more = with_text_if texts (text_in (sort_at form place) word) in
-      ap (λ (p : Part). p ∷ parts_from procs classes more form (place + 1) words) (part_in texts (sort_at form place) word (begins_along more (texts_from more form (place + 1) words) all (begins_texts form words more (place + 1)) begins))
+      ap (λ (p : Part). p ∷ parts_from procs classes more form (place + 1) words) (part_in texts (sort_at form place) word
+      (begins_along more (texts_from more form (place + 1) words) all (begins_texts form words more (place + 1)) begins))
       ∙ ap (λ ps. part_of procs classes all (sort_at form place) word ∷ ps) (parts_are form words more (place + 1) begins)
 
 -- the texts of words are known
@@ -141,7 +143,8 @@ pub record Table (all : List (List ℕ)) (known : Known) (rows : List Row) (rest
 abbrev pub lines_in : List Row → List (List ℕ)
 lines_in rows = map (λ (r : Row). r.line) rows
 
-pub table : (all : List (List ℕ)) (rows : List Row) (known : Known) (number : ℕ) (rest : List (List ℕ)) (saids : List Said) → AreRead rows → lines_from known number (lines_in rows ++ rest) ≡ good all saids → Table all known rows rest saids
+pub table : (all : List (List ℕ)) (rows : List Row) (known : Known) (number : ℕ) (rest : List (List ℕ)) (saids : List Said) → AreRead rows
+    → lines_from known number (lines_in rows ++ rest) ≡ good all saids → Table all known rows rest saids
 table all [] known number rest saids read e = record { later = saids; number = number; is = refl; goes = e; clean = tt; found = tt; fit = tt }
 table all (r ∷ rows) known number rest saids read e =
     let (line, fit) = one_line known number (lines_in rows ++ rest) all saids r.form r.words r.line read.0.0 read.0.1.0 read.0.1.1 e in
@@ -152,7 +155,8 @@ table all (r ∷ rows) known number rest saids read e =
     record {
       later = more.later;
       number = more.number;
-      is = ap (λ ps. said r.form ps ∷ (says_rows all after.procs after.classes rows ++ more.later)) (sym same) ∙ ap (λ (ss : List Said). said r.form (parts_from known.procs known.classes known.texts r.form 0 r.words) ∷ ss) more.is ∙ line.is;
+      is = ap (λ ps. said r.form ps ∷ (says_rows all after.procs after.classes rows ++ more.later)) (sym same)
+          ∙ ap (λ (ss : List Said). said r.form (parts_from known.procs known.classes known.texts r.form 0 r.words) ∷ ss) more.is ∙ line.is;
       goes = more.goes;
       clean = (line.clean, more.clean);
       found = (are_there all r.form r.words known.texts 0 begins, more.found);
@@ -178,7 +182,8 @@ pub record Middle (texts : List (List ℕ)) (items : List Item) (rows : List Row
   pub fit : AreFit rows
   pub together : (commands : List Command) → says_rows texts known.procs known.classes rows ≡ does_all commands → StandTogether items commands
 
-pub middle : (bytes : List ℕ) (texts : List (List ℕ)) (items : List Item) → reading bytes ≡ spells texts items → (front : List (List ℕ)) (rows : List Row) (back : List (List ℕ)) → lines_of bytes ≡ front ++ (lines_in rows ++ back) → AreRead rows → Middle texts items rows
+pub middle : (bytes : List ℕ) (texts : List (List ℕ)) (items : List Item) → reading bytes ≡ spells texts items → (front : List (List ℕ)) (rows : List Row)
+    (back : List (List ℕ)) → lines_of bytes ≡ front ++ (lines_in rows ++ back) → AreRead rows → Middle texts items rows
 middle bytes texts items e front rows back parts read =
     let r = read_as bytes texts items e in
     let start = ap (λ ls. lines_from nothing_known 1 ls) (sym parts) ∙ r.lines_are in

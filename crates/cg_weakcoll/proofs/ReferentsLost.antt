@@ -71,7 +71,8 @@ same_waned lost objects y m = (y, m, wanes_same lost y)
 pub map_waned : (lost : ℕ → Type 0) (f : Object → Object) → ((x : Object) → Wanes lost x (f x)) → (objects : List Object) → Waned lost objects (map f objects)
 map_waned lost f h objects = came_map (Wanes lost) (wanes_same lost) f objects (λ x m. h x)
 
-pub if_waned : (lost : ℕ → Type 0) (f : Object → Object) (test : Object → Bool) → ((x : Object) → test x ≡ true → Wanes lost x (f x)) → (objects : List Object) → Waned lost objects (map (λ x. if test x then f x else x) objects)
+pub if_waned : (lost : ℕ → Type 0) (f : Object → Object) (test : Object → Bool) → ((x : Object) → test x ≡ true → Wanes lost x (f x)) → (objects : List Object)
+    → Waned lost objects (map (λ x. if test x then f x else x) objects)
 if_waned lost f test h objects = came_if (Wanes lost) (wanes_same lost) f test objects (λ x m t. h x t)
 
 pub entries_waned : (es : List Entry) (s : ℕ) (objects : List Object) → Waned Never objects (change (with_entries es) s objects)
@@ -89,7 +90,15 @@ others_more event events h k n m = either m (λ e. subst IsOther e h) (k n)
 module _ (objects : List Object) (next : ℕ) where
   -- no referent is lost
   pub steady : (events : List Event) (after : World) → ClearNone events → Waned Never objects after.objects → Goes objects next events after
-  steady events after none waned = record { was = λ y m. let x = waned y m in inl (x.0, x.1, wanes_for Never (IsLost events after.stack) (λ n k. absurd k) x.0 y x.2); cleared = λ n m. absurd (none n m) }
+  steady events after none waned = record {
+    was = λ y m. let x = waned y m in inl (
+      x.0,
+      x.1,
+      wanes_for Never (IsLost events after.stack) (λ n k. absurd k) x.0 y
+          x.2,
+    );
+    cleared = λ n m. absurd (none n m);
+  }
 
   pub starts_going : (script : Script) (spec : FrameSpec) (u : World) → Waned Never objects u.objects → (let s : Transition = start_frame script spec u in Goes objects next s.0 s.1)
   starts_going script spec u waned = starts_either (Goes objects next) script spec u (steady (BudgetSpent ∷ []) (record u { outcome = BudgetIsSpent }) (other_line BudgetSpent tt) waned)
@@ -98,16 +107,35 @@ module _ (objects : List Object) (next : ℕ) where
 -- a step of an activity without commands
 waned : (top : Activity) (tops : List Activity) (lines : List Event) (before after : List Object) → HasChanged top tops lines before after → Waned (LosesBy lines tops) before after
 waned top tops lines before after c y m =
-    let x = changed_becomes top tops lines before after c y m in
-    (x.0, x.1, record { serial = x.2.later.serial; code = x.2.later.code; referent = either x.2.later.referent (λ e. inl e) (λ none. either x.2.referent (λ e. inl e) (λ l. inr (none, subst (LosesBy lines tops) (sym x.2.later.serial) l))) })
+    let x = changed_becomes top tops lines before after c y m in (
+      x.0,
+      x.1,
+      record {
+        serial = x.2.later.serial;
+        code = x.2.later.code;
+        referent = either x.2.later.referent (λ e. inl e)
+            (λ none. either x.2.referent (λ e. inl e) (λ l. inr (none, subst (LosesBy lines tops) (sym x.2.later.serial) l)));
+      },
+    )
 
 cleared : (before after : List Object) (top : Activity) (lines : List Event) → AreLinesOf before after top lines → (n : ℕ) → Includes lines (Cleared n) → HasNoReferent n after
 cleared before after top lines (Shows ls h) n m = (h (Cleared n) m).0
 cleared before after top lines (Frees o dies gone) n m = absurd (other_line (Free o) tt n m)
 
-pub advance_wanes : (script : Script) (v : World) (top : Activity) (below : List Activity) (lines : List Event) (after : World) → Advance script v top below lines after → Goes v.objects v.next_serial lines after
+pub advance_wanes : (script : Script) (v : World) (top : Activity) (below : List Activity) (lines : List Event) (after : World) → Advance script v top below
+    lines after → Goes v.objects v.next_serial lines after
 advance_wanes script v top below lines after (Plainly tops objects numbers ls t c n shown) = record {
-  was = λ y m. let x = waned top tops ls v.objects objects c y m in inl (x.0, x.1, wanes_for (LosesBy ls tops) (IsLost ls (tops ++ below)) (λ k l. either l (λ i. inl i) (λ i. inr (record { death = record { object = k; phase = Finalizer }; member = Includes-append_left tops below _ i; object = refl; frameless = refl }))) x.0 y x.2);
+  was = λ y m. let x = waned top tops ls v.objects objects c y m in inl (
+    x.0,
+    x.1,
+    wanes_for (LosesBy ls tops) (IsLost ls (tops ++ below))
+        (λ k l. either l (λ i. inl i) (λ i. inr (record {
+          death = record { object = k; phase = Finalizer };
+          member = Includes-append_left tops below _ i;
+          object = refl;
+          frameless = refl;
+        }))) x.0 y x.2,
+  );
   cleared = cleared v.objects objects top ls shown;
 }
 advance_wanes script v top below lines after (WithFrame spec a objects s g held c) = starts_going v.objects v.next_serial script spec (record v { objects = objects; stack = a ∷ below })

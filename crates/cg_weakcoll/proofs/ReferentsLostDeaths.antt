@@ -57,14 +57,41 @@ FadesOrGoes n after = IsFading after.stack n ⊎ (¬ Includes (serials after.obj
 
 -- a frame starts, by whether the budget is spent
 abbrev start_with : Script → FrameSpec → World → Bool → Transition
-start_with script spec u b = if b then (BudgetSpent ∷ [], record u { outcome = BudgetIsSpent }) else (Enter spec.sort spec.subject ∷ [], record u { budget = u.budget - 1; stack = Framed (record { sort = spec.sort; subject = spec.subject; function = spec.func; commands = body_of script spec.proc }) ∷ u.stack })
+start_with script spec u b = if b then (BudgetSpent ∷ [], record u { outcome = BudgetIsSpent }) else (
+  Enter spec.sort spec.subject ∷ [],
+  record u {
+    budget = u.budget - 1;
+    stack = Framed (record {
+      sort = spec.sort;
+      subject = spec.subject;
+      function = spec.func;
+      commands = body_of script
+          spec.proc;
+    }) ∷ u.stack;
+  },
+)
 
 module _ (script : Script) (o : ℕ) (below : List Activity) (w : World) (weak : IsWeak w.objects o) where
   on_top : (phase : DyingPhase) (after : World) (st : List Activity) → is_frameless phase ≡ true → after.stack ≡ Dying (record { object = o; phase = phase }) ∷ st → FadesOrGoes o after
-  on_top phase after st e is = inl (record { death = record { object = o; phase = phase }; member = subst (λ s. Includes s (Dying (record { object = o; phase = phase }))) (sym is) (inl refl); object = refl; frameless = e })
+  on_top phase after st e is =
+      inl (record {
+        death = record { object = o; phase = phase };
+        member = subst (λ s. Includes s (Dying (record { object = o; phase = phase }))) (sym is)
+            (inl refl);
+        object = refl;
+        frameless = e;
+      })
 
-  under_one : (phase : DyingPhase) (after : World) (a : Activity) (st : List Activity) → is_frameless phase ≡ true → after.stack ≡ a ∷ Dying (record { object = o; phase = phase }) ∷ st → FadesOrGoes o after
-  under_one phase after a st e is = inl (record { death = record { object = o; phase = phase }; member = subst (λ s. Includes s (Dying (record { object = o; phase = phase }))) (sym is) (inr (inl refl)); object = refl; frameless = e })
+  under_one : (phase : DyingPhase) (after : World) (a : Activity) (st : List Activity) → is_frameless phase ≡ true → after.stack ≡ a
+      ∷ Dying (record { object = o; phase = phase }) ∷ st → FadesOrGoes o after
+  under_one phase after a st e is =
+      inl (record {
+        death = record { object = o; phase = phase };
+        member = subst (λ s. Includes s (Dying (record { object = o; phase = phase }))) (sym is)
+            (inr (inl refl));
+        object = refl;
+        frameless = e;
+      })
 
   clearing_fades : (waiting weaks : List ℕ) → FadesOrGoes o (clear_one o waiting below w weaks).1
   clearing_fades waiting [] = on_top (Calling waiting) (clear_one o waiting below w []).1 below refl refl
@@ -82,7 +109,12 @@ module _ (script : Script) (o : ℕ) (below : List Activity) (w : World) (weak :
 
       go : (b : Bool) → FadesOrGoes o (start_with script (record { sort = Callback; proc = procedure_of w callback; subject = x; func = Some callback }) u b).1
       go true = on_top (AfterCall x callback waiting) (start_with script (record { sort = Callback; proc = procedure_of w callback; subject = x; func = Some callback }) u true).1 below refl refl
-      go false = under_one (AfterCall x callback waiting) (start_with script (record { sort = Callback; proc = procedure_of w callback; subject = x; func = Some callback }) u false).1 _ below refl refl
+      go false = under_one (AfterCall x callback waiting) (start_with script (record {
+        sort = Callback;
+        proc = procedure_of w callback;
+        subject = x;
+        func = Some callback;
+      }) u false).1 _ below refl refl
 
   detaching_fades : (weaks : List ℕ) → FadesOrGoes o (detach_one o below w weaks).1
   detaching_fades [] = on_top Emptying (detach_one o below w []).1 below refl refl
@@ -93,23 +125,33 @@ module _ (script : Script) (o : ℕ) (below : List Activity) (w : World) (weak :
   emptying_fades (Some entry) = under_one Emptying (empty_one o below w (Some entry)).1 (Releasing (entry_references entry)) below refl refl
 
   dying_fades : (phase : DyingPhase) → is_frameless phase ≡ true → FadesOrGoes o (dying script o phase below w).1
-  dying_fades Finalizer e = subst (λ m. FadesOrGoes o (run_finalizer script o below w m).1) (sym (none_to_run script w.objects o weak)) (on_top (Clearing []) (run_finalizer script o below w None).1 below refl refl)
+  dying_fades Finalizer e = subst (λ m. FadesOrGoes o (run_finalizer script o below w m).1) (sym (none_to_run script w.objects o weak))
+      (on_top (Clearing []) (run_finalizer script o below w None).1 below refl refl)
   dying_fades AfterFinalizer e = absurd (let no : false ≡ true = e in cc)
   dying_fades (Clearing waiting) e = clearing_fades waiting (weak_references_if has_weak_references w.objects o)
   dying_fades (Calling waiting) e = calling_fades waiting
   dying_fades (AfterCall x callback waiting) e = under_one (Calling waiting) (dying script o (AfterCall x callback waiting) below w).1 (Releasing (callback ∷ x ∷ [])) below refl refl
-  dying_fades LegacyFinalizer e = subst (λ m. FadesOrGoes o (run_legacy script o below w m).1) (sym (none_legacy script w.objects o weak)) (on_top Detaching (run_legacy script o below w None).1 below refl refl)
+  dying_fades LegacyFinalizer e = subst (λ m. FadesOrGoes o (run_legacy script o below w m).1) (sym (none_legacy script w.objects o weak))
+      (on_top Detaching (run_legacy script o below w None).1 below refl refl)
   dying_fades AfterLegacy e = absurd (let no : false ≡ true = e in cc)
   dying_fades Detaching e = detaching_fades (weak_references_if (has_finalizers script) w.objects o)
   dying_fades Emptying e = emptying_fades (last_entry (entries_of w.objects o))
 
 module _ (script : Script) (w : World) (events : List Event) (after : World) (n : ℕ) (weak : IsWeak w.objects n) where
-  on_stack : (stack : List Activity) → StepOf script w stack events after → LeavesUnder w stack after → (d : Death) → Includes stack (Dying d) → d.object ≡ n → is_frameless d.phase ≡ true → FadesOrGoes n after
+  on_stack : (stack : List Activity) → StepOf script w stack events after → LeavesUnder w stack after → (d : Death) → Includes stack (Dying d) → d.object ≡ n
+      → is_frameless d.phase ≡ true → FadesOrGoes n after
   on_stack [] step leaves d m e frameless = absurd m
-  on_stack (a ∷ below) step leaves d (inr m) e frameless = inl (record { death = d; member = subst (λ st. Includes st (Dying d)) (sym leaves.stack) (Includes-append_right leaves.tops below (Dying d) m); object = e; frameless = frameless })
+  on_stack (a ∷ below) step leaves d (inr m) e frameless =
+      inl (record {
+        death = d;
+        member = subst (λ st. Includes st (Dying d)) (sym leaves.stack) (Includes-append_right leaves.tops below (Dying d) m);
+        object = e;
+        frameless = frameless;
+      })
   on_stack (a ∷ below) step leaves d (inl i) e frameless =
       let dies = subst (λ b. StepOf script w (b ∷ below) events after) i step in
-      subst (FadesOrGoes n) (sym dies.1) (subst (λ k. FadesOrGoes k (dying script d.object d.phase below w).1) e (dying_fades script d.object below w (subst (IsWeak w.objects) (sym e) weak) d.phase frameless))
+      subst (FadesOrGoes n) (sym dies.1) (subst (λ k. FadesOrGoes k (dying script d.object d.phase below w).1) e (dying_fades script d.object below w
+      (subst (IsWeak w.objects) (sym e) weak) d.phase frameless))
 
   pub step_fades : Step script w events after → LeavesUnder w w.stack after → IsFading w.stack n → FadesOrGoes n after
   step_fades step leaves f = on_stack w.stack step.step leaves f.death f.member f.object f.frameless

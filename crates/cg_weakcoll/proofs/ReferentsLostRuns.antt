@@ -71,10 +71,12 @@ module _ (w : World) where
   sets o entries = steady w.objects w.next_serial [] (with_change (with_entries entries) o w) none_cleared (entries_waned entries o w.objects)
 
   places : (f : Place → Place) (numbers : Numbers) → Goes w.objects w.next_serial [] (record w { objects = replaced f w; numbers = numbers })
-  places f numbers = steady w.objects w.next_serial [] (record w { objects = replaced f w; numbers = numbers }) none_cleared (map_waned Never (λ x. with_place (f x.place) x) (λ x. record { serial = refl; code = refl; referent = inl refl }) w.objects)
+  places f numbers = steady w.objects w.next_serial [] (record w { objects = replaced f w; numbers = numbers }) none_cleared
+      (map_waned Never (λ x. with_place (f x.place) x) (λ x. record { serial = refl; code = refl; referent = inl refl }) w.objects)
 
   puts : (x : Object) (key v : Val) → Goes w.objects w.next_serial [] (with_change (λ y. tracked_by w key v (with_entries (put x.entries key v) y)) x.serial w)
-  puts x key v = steady w.objects w.next_serial [] (with_change put_in x.serial w) none_cleared (if_waned Never put_in (λ y. y.serial == x.serial) (λ y e. one (is_dict y && not (is_tracked y) && (may_track w key || may_track w v)) y) w.objects)
+  puts x key v = steady w.objects w.next_serial [] (with_change put_in x.serial w) none_cleared (if_waned Never put_in (λ y. y.serial == x.serial)
+      (λ y e. one (is_dict y && not (is_tracked y) && (may_track w key || may_track w v)) y) w.objects)
     where
       put_in : Object → Object
       put_in y = tracked_by w key v (with_entries (put x.entries key v) y)
@@ -83,9 +85,11 @@ module _ (w : World) where
       one true y = record { serial = refl; code = refl; referent = inl refl }
       one false y = record { serial = refl; code = refl; referent = inl refl }
 
-  makes : (name : ℕ) (kind : KindCode) (class : Option ℕ) (entries : List Entry) (referent : Option ℕ) → Goes w.objects w.next_serial (Made kind w.next_serial ∷ []) (bound (with_new w kind class entries referent) name (Some (Ref w.next_serial)))
+  makes : (name : ℕ) (kind : KindCode) (class : Option ℕ) (entries : List Entry) (referent : Option ℕ) → Goes w.objects w.next_serial (Made kind w.next_serial
+      ∷ []) (bound (with_new w kind class entries referent) name (Some (Ref w.next_serial)))
   makes name kind class entries referent = record {
-    was = λ y m. either (Includes-append_cases w.objects (fresh ∷ []) y m) (λ k. inl (y, k, record { serial = refl; code = refl; referent = inl refl })) (λ k. either k (λ e. inr (ap (λ (z : Object). z.serial) (sym e))) (λ n. absurd n));
+    was = λ y m. either (Includes-append_cases w.objects (fresh ∷ []) y m) (λ k. inl (y, k, record { serial = refl; code = refl; referent = inl refl }))
+        (λ k. either k (λ e. inr (ap (λ (z : Object). z.serial) (sym e))) (λ n. absurd n));
     cleared = λ n m. absurd (other_line (Made kind w.next_serial) tt n m);
   }
     where
@@ -127,13 +131,24 @@ module _ (script : Script) (below : List Activity) (v : World) where
     stays = λ lines answers. unchanged (on a below v) lines (answers_none lines answers) refl;
     stops = λ lines answers. unchanged (on (emptied a) below v) lines (answers_none lines answers) refl;
     changes = λ wants_memory lines given_up after shape. let t = shape_goes (on a below v) command (Changes wants_memory lines given_up after) shape in giving lines given_up after t;
-    calls = λ f k. starts_going v.objects v.next_serial script (record { sort = CallFrame; proc = procedure_of (on a below v) f.serial; subject = f.serial; func = Some f.serial }) (on a below v) (same_waned Never v.objects);
+    calls = λ f k. starts_going v.objects v.next_serial script (record {
+      sort = CallFrame;
+      proc = procedure_of (on a below v) f.serial;
+      subject = f.serial;
+      func = Some f.serial;
+    }) (on a below v) (same_waned Never v.objects);
     asks = λ g low e. unchanged (push (new_collection g true (on a below v)) (on a below v)) [] none_cleared refl;
   }
     where
       giving : (lines : List Event) (given_up : List ℕ) (after : World) → Goes v.objects v.next_serial lines after → Goes v.objects v.next_serial lines (push (Releasing given_up) after)
       giving lines given_up after g = record {
-        was = λ y m. either (g.was y m) (λ x. inl (x.0, x.1, wanes_for (IsLost lines after.stack) (IsLost lines (Releasing given_up ∷ after.stack)) (λ n k. either k (λ c. inl c) (λ f. inr (record { death = f.death; member = inr f.member; object = f.object; frameless = f.frameless }))) x.0 y x.2)) (λ e. inr e);
+        was = λ y m. either (g.was y m) (λ x. inl (
+          x.0,
+          x.1,
+          wanes_for (IsLost lines after.stack) (IsLost lines (Releasing given_up ∷ after.stack))
+              (λ n k. either k (λ c. inl c) (λ f. inr (record { death = f.death; member = inr f.member; object = f.object; frameless = f.frameless }))) x.0 y
+              x.2,
+        )) (λ e. inr e);
         cleared = g.cleared;
       }
 
@@ -169,7 +184,8 @@ pub record Keeps (since : List Event) (weak object : ℕ) (w : World) : Type 0 w
   pub cleared : Includes since (Cleared weak) → HasNoReferent weak w.objects
 
 module _ (script : Script) (weak object : ℕ) where
-  step_keeps : (since : List Event) (w : World) (events : List Event) (after : World) → Step script w events after → Fit script w → Keeps since weak object w → Keeps (since ++ events) weak object after
+  step_keeps : (since : List Event) (w : World) (events : List Event) (after : World) → Step script w events after → Fit script w → Keeps since weak object w
+      → Keeps (since ++ events) weak object after
   step_keeps since w events after step fit k = record {
     made = omega (arith, k.made, told.serial);
     code = λ y m e. either (goes.was y m) (λ x. x.2.code ∙ k.code x.0 x.1 (sym x.2.serial ∙ e)) (λ new. absurd (omega (arith, k.made, new, e)));
@@ -191,7 +207,8 @@ module _ (script : Script) (weak object : ℕ) where
       told : TellsSo w.objects w.next_serial events after
       told = step_goes script w events after step fit
 
-  pub run_keeps : (since : List Event) (w : World) (steps : List StepTaken) → Run script w steps → Fit script w → Keeps since weak object w → Keeps (since ++ events_of steps) weak object (last_world w steps)
+  pub run_keeps : (since : List Event) (w : World) (steps : List StepTaken) → Run script w steps → Fit script w → Keeps since weak object w
+      → Keeps (since ++ events_of steps) weak object (last_world w steps)
   run_keeps since w [] run fit k = subst (λ es. Keeps es weak object w) (sym (append-nil since)) k
   run_keeps since w (step ∷ steps) run fit k = subst (λ es. Keeps es weak object (last_world step.world steps)) (append_assoc since step.events (events_of steps))
       (run_keeps (since ++ step.events) step.world steps run.1 (step_fit script w step.events step.world run.0 fit) (step_keeps since w step.events step.world run.0 fit k))

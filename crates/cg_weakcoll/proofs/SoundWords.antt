@@ -25,7 +25,8 @@ low_digits (d ∷ ds) h =
 
 pub number_digits : (l : ℕ) → l ≤ 400000 → list_all is_digit (decimal l) ≡ true
 number_digits zero low = ap (list_all is_digit) (decimal_digit 0 (omega arith))
-number_digits (suc l) low = ap (list_all is_digit) (decimal-digits_of (suc l) (omega arith) (omega (arith, low))) ∙ low_digits (digits_of 10 (suc l)) (all_below_base_digits_of 10 (suc l) (omega arith))
+number_digits (suc l) low = ap (list_all is_digit) (decimal-digits_of (suc l) (omega arith) (omega (arith, low))) ∙ low_digits (digits_of 10 (suc l))
+    (all_below_base_digits_of 10 (suc l) (omega arith))
 
 pub digits_graphic : (ds : List ℕ) → list_all is_digit ds ≡ true → list_all (λ b. nat_le 33 b && nat_le b 126) ds ≡ true
 digits_graphic [] e = refl
@@ -66,7 +67,8 @@ EachLine Q (words ∷ lines) = EachWord Q words × EachLine Q lines
 abbrev pub is_plain : List ℕ → Bool
 is_plain word = nat_le 1 (length word) && list_all (λ b. nat_le 33 b && nat_le b 126) word && not (is_kept word)
 
-module _ (Q : List ℕ → Type 0) (m : ℕ) (words : List (List ℕ)) (plain : (word : List ℕ) → is_plain word ≡ true → Q word) (weak : Q (weak_name m)) (letter : (c : ℕ) → (nat_le 33 c && nat_le c 126) ≡ true → Q (codes "wv_" ++ c ∷ 95 ∷ decimal m)) where
+module _ (Q : List ℕ → Type 0) (m : ℕ) (words : List (List ℕ)) (plain : (word : List ℕ) → is_plain word ≡ true → Q word) (weak : Q (weak_name m))
+    (letter : (c : ℕ) → (nat_le 33 c && nat_le c 126) ≡ true → Q (codes "wv_" ++ c ∷ 95 ∷ decimal m)) where
   pub each_written : (form : Form) → ((place : ℕ) → place < word_count form → Q (word_at words place)) → EachLine Q (form_lines form m words)
   each_written MakeMap at = (
     (at 0 (omega arith), (plain (codes "=") refl, (plain (codes "dict") refl, tt))),
@@ -147,7 +149,11 @@ pub plain_sound : (word : List ℕ) → is_plain word ≡ true → IsSound word
 plain_sound word e = let p = plain_parts word e in let some : nat_le 1 (length word) ≡ true = p.0 in (grind (arith, nat_tests), graphic_by word p.1)
 
 letter_sound : (m : ℕ) → m ≤ 400000 → (c : ℕ) → (nat_le 33 c && nat_le c 126) ≡ true → IsSound (codes "wv_" ++ c ∷ 95 ∷ decimal m)
-letter_sound m low c e = (omega arith, graphic_by (codes "wv_" ++ c ∷ 95 ∷ decimal m) (ap (λ b. b && list_all (λ b. nat_le 33 b && nat_le b 126) (95 ∷ decimal m)) e ∙ digits_graphic (decimal m) (number_digits m low)))
+letter_sound m low c e = (
+  omega arith,
+  graphic_by (codes "wv_" ++ c ∷ 95 ∷ decimal m)
+      (ap (λ b. b && list_all (λ b. nat_le 33 b && nat_le b 126) (95 ∷ decimal m)) e ∙ digits_graphic (decimal m) (number_digits m low)),
+)
 
 weak_is_sound : (m : ℕ) → m ≤ 400000 → IsSound (weak_name m)
 weak_is_sound m low = (omega arith, graphic_by (weak_name m) (digits_graphic (decimal m) (number_digits m low)))

@@ -43,14 +43,18 @@ del_worded t e = ap (by_sign (codes "del" ∷ t ∷ []) (named openers (codes "d
 
 -- three lines as rows
 abbrev rows_of : {bytes : List ℕ} {first second third : List (List ℕ)} → HasLines bytes first second third → Form → Form → Form → List Row
-rows_of {bytes} {first} {second} {third} h f g k = record { line = h.one; form = f; words = first } ∷ record { line = h.two; form = g; words = second } ∷ record { line = h.three; form = k; words = third } ∷ []
+rows_of {bytes} {first} {second} {third} h f g k = record { line = h.one; form = f; words = first } ∷ record { line = h.two; form = g; words = second }
+    ∷ record { line = h.three; form = k; words = third } ∷ []
 
 pub look_lines : LookLinesAreCommands
 unfolding atoms bindings
 look_lines bytes texts items e x map key variable h =
     let name = name_of_variable x variable in
     let other : is_passed (x ∷ []) ≡ false = no_comment (slice_index x 0) name.letter in
-    let m = middle bytes texts items e h.front (rows_of h forms.Bind forms.Get forms.Deref) h.back h.all ((h.first_is, (other, refl)), ((h.second_is, (other, refl)), ((h.third_is, (other, refl)), tt))) in
+    let m = middle bytes texts items e h.front (rows_of h forms.Bind forms.Get forms.Deref) h.back h.all (
+      (h.first_is, (other, refl)),
+      ((h.second_is, (other, refl)), ((h.third_is, (other, refl)), tt)),
+    ) in
     let number = text_number texts x in
     let dict = operand_or (named atoms map) texts map in
     let at = operand_or (named atoms key) texts key in
@@ -61,7 +65,8 @@ look_lines bytes texts items e x map key variable h =
       name_is = text_found texts texts x m.found.0.0;
       dict_is = stands_for texts texts map (named atoms map) refl m.fit.1.0.1.1.1.0 m.found.1.0.1.1.1.0;
       at_is = stands_for texts texts key (named atoms key) refl m.fit.1.0.1.1.1.1.0 m.found.1.0.1.1.1.1.0;
-      together = m.together (wget_commands number dict at) (ap (λ v. Does (commands.Bind number operands.None) ∷ Does (commands.Get number dict at) ∷ Does (commands.Deref number v) ∷ []) (name_stands texts x name));
+      together = m.together (wget_commands number dict at) (ap (λ v. Does (commands.Bind number operands.None) ∷ Does (commands.Get number dict at)
+          ∷ Does (commands.Deref number v) ∷ []) (name_stands texts x name));
     }
 
 pub store_lines : StoreLinesAreCommands
@@ -71,7 +76,10 @@ store_lines bytes texts items e t map key v variable map_value h =
     let other : is_passed (t ∷ []) ≡ false = no_comment (slice_index t 0) name.letter in
     let put = put_worded map key t (never_sign Value map no_value map_value) in
     let del = del_worded t (never_sign Variable t no_variable variable) in
-    let m = middle bytes texts items e h.front (rows_of h forms.MakeRef forms.Put forms.Del) h.back h.all ((h.first_is, (other, refl)), ((h.second_is, (refl, put)), ((h.third_is, (refl, del)), tt))) in
+    let m = middle bytes texts items e h.front (rows_of h forms.MakeRef forms.Put forms.Del) h.back h.all (
+      (h.first_is, (other, refl)),
+      ((h.second_is, (refl, put)), ((h.third_is, (refl, del)), tt)),
+    ) in
     let number = text_number texts t in
     let dict = operand_or (named atoms map) texts map in
     let at = operand_or (named atoms key) texts key in
@@ -85,5 +93,6 @@ store_lines bytes texts items e t map key v variable map_value h =
       dict_is = stands_for texts texts map (named atoms map) refl m.fit.1.0.1.0 m.found.1.0.1.0;
       at_is = stands_for texts texts key (named atoms key) refl m.fit.1.0.1.1.0 m.found.1.0.1.1.0;
       value_is = stands_for texts texts v (named atoms v) refl m.fit.0.1.1.1.0 m.found.0.1.1.1.0;
-      together = m.together (wset_commands number dict at value) (ap (λ o. Does (commands.MakeRef number value operands.None) ∷ Does (commands.Put dict at o) ∷ Does (commands.Del number) ∷ []) (name_stands texts t name));
+      together = m.together (wset_commands number dict at value) (ap (λ o. Does (commands.MakeRef number value operands.None) ∷ Does (commands.Put dict at o)
+          ∷ Does (commands.Del number) ∷ []) (name_stands texts t name));
     }

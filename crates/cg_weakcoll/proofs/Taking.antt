@@ -35,7 +35,8 @@ IsAccepted events = (n : ℕ) → ¬ Includes events (Refused n)
 not_refused : (n : ℕ) (u : World) (events : List Event) (after : World) → IsAccepted events → Yields (refused n u) events after → ⊥
 not_refused n u events after none step = none n (subst (λ (es : List Event). Includes es (Refused n)) (sym step.0) (inl refl))
 
-accepts : (script : Script) (u : World) (r : Result Effect ℕ) (events : List Event) (after : World) → IsAccepted events → DoesEffect script u r events after → (e : Effect) × (r ≡ Ok e) × DoesEffect script u (Ok e) events after
+accepts : (script : Script) (u : World) (r : Result Effect ℕ) (events : List Event) (after : World) → IsAccepted events → DoesEffect script u r events after
+    → (e : Effect) × (r ≡ Ok e) × DoesEffect script u (Ok e) events after
 accepts script u (Err n) events after none step = absurd (not_refused n u events after none step)
 accepts script u (Ok e) events after none step = (e, refl, step)
 
@@ -62,7 +63,8 @@ pub record Done (script : Script) (w : World) (command : Command) (left : List C
   pub does : DoesEffect script (with_stack (top ∷ below) w) (Ok what) step.events step.world
 
 -- words mean the same whatever commands are left
-top_values : (cs ds : List Command) (below : List Activity) (w : World) (operand : Operand) → value_of (with_stack (TopLevel cs ∷ below) w) operand ≡ value_of (with_stack (TopLevel ds ∷ below) w) operand
+top_values : (cs ds : List Command) (below : List Activity) (w : World) (operand : Operand) → value_of (with_stack (TopLevel cs ∷ below) w) operand
+    ≡ value_of (with_stack (TopLevel ds ∷ below) w) operand
 top_values cs ds below w NoneWord = refl
 top_values cs ds below w (IntWord n) = refl
 top_values cs ds below w (StrWord s) = refl
@@ -72,7 +74,8 @@ top_values cs ds below w WeakLocal = refl
 top_values cs ds below w (Cell i) = refl
 top_values cs ds below w Garbage = refl
 
-frame_values : (f : Frame) (cs : List Command) (below : List Activity) (w : World) (operand : Operand) → value_of (with_stack (Framed (record f { commands = cs }) ∷ below) w) operand ≡ value_of (with_stack (Framed f ∷ below) w) operand
+frame_values : (f : Frame) (cs : List Command) (below : List Activity) (w : World) (operand : Operand)
+    → value_of (with_stack (Framed (record f { commands = cs }) ∷ below) w) operand ≡ value_of (with_stack (Framed f ∷ below) w) operand
 frame_values f cs below w NoneWord = refl
 frame_values f cs below w (IntWord n) = refl
 frame_values f cs below w (StrWord s) = refl
@@ -90,11 +93,23 @@ module _ (script : Script) (w : World) (command : Command) (left : List Command)
   by_top (TopLevel commands) e c d s =
       let first = subst (λ (cs : List Command). TopLevelStep script w (due w) cs below step.events step.world) c s in
       let does = subst (λ (m : Option ℕ). TopLevelStep script w m (command ∷ left) below step.events step.world) d first in
-      record { top = TopLevel left; commands = refl; values = λ operand. top_values left commands below w operand ∙ ap (λ (z : World). value_of z operand) (same_world (TopLevel commands) e); does = does }
+      record {
+        top = TopLevel left;
+        commands = refl;
+        values = λ operand. top_values left commands below w operand ∙ ap (λ (z : World). value_of z operand)
+            (same_world (TopLevel commands) e);
+        does = does;
+      }
   by_top (Framed f) e c d s =
       let first = subst (λ (cs : List Command). FrameStep script w f cs below step.events step.world) c s in
       let does = subst (λ (m : Option ℕ). CommandInFrame script w m f command left below step.events step.world) d first in
-      record { top = Framed (record f { commands = left }); commands = refl; values = λ operand. frame_values f left below w operand ∙ ap (λ (z : World). value_of z operand) (same_world (Framed f) e); does = does }
+      record {
+        top = Framed (record f { commands = left });
+        commands = refl;
+        values = λ operand. frame_values f left below w operand
+            ∙ ap (λ (z : World). value_of z operand) (same_world (Framed f) e);
+        does = does;
+      }
   by_top (Releasing references) e c d s = absurd (let no : [] ≡ command ∷ left = c in cc)
   by_top (Dying death) e c d s = absurd (let no : [] ≡ command ∷ left = c in cc)
   by_top (Collecting collection) e c d s = absurd (let no : [] ≡ command ∷ left = c in cc)
@@ -151,7 +166,8 @@ ok_object w test n v x h =
 pub none_binds : (u : World) (x : ℕ) (e : Effect) → effect u (Bind x NoneWord) ≡ Ok e → e ≡ Changes false [] (given_up_by u x) (bound u x (Some Nothing))
 none_binds u x e h =
     let v = then_ok _ _ e h in
-    unwrapped (Changes false [] (given_up_by u x) (bound u x (Some v.0))) e v.2 ∙ ap (λ (n : Val). Changes false [] (given_up_by u x) (bound u x (Some n))) (sym (inner v.0 (ok_found (Some Nothing) no_name v.0 v.1)))
+    unwrapped (Changes false [] (given_up_by u x) (bound u x (Some v.0))) e v.2 ∙ ap (λ (n : Val). Changes false [] (given_up_by u x) (bound u x (Some n)))
+    (sym (inner v.0 (ok_found (Some Nothing) no_name v.0 v.1)))
   where
     inner : (n : Val) → Some Nothing ≡ Some n → Nothing ≡ n
     inner n i = cc
@@ -185,7 +201,8 @@ get_gets u x map key e h =
     }
 
 -- a refused one binds nothing
-pub get_refused : (script : Script) (u : World) (x : ℕ) (map key : Operand) (events : List Event) (after : World) (n : ℕ) → DoesEffect script u (effect u (Get x map key)) events after → Includes events (Refused n) → after.names ≡ u.names
+pub get_refused : (script : Script) (u : World) (x : ℕ) (map key : Operand) (events : List Event) (after : World) (n : ℕ)
+    → DoesEffect script u (effect u (Get x map key)) events after → Includes events (Refused n) → after.names ≡ u.names
 get_refused script u x map key events after n does m = go (effect u (Get x map key)) refl does
   where
     never : (v : Val) → DoesEffect script u (Ok (Changes false [] (given_up_by u x) (bound u x (Some v)))) events after → ⊥
@@ -231,7 +248,8 @@ deref_derefs u x word e h =
       member = found.0;
       serial = found.1;
       code = weak_code o.0.code object.1;
-      is = unwrapped (Changes false [] (given_up_by u x) (bound u x (Some (elim o.0.referent [ None ↦ Nothing | Some r ↦ Ref r ])))) e o.2 ∙ ap (λ r. Changes false [] (given_up_by u x) (bound u x (Some r))) (referent_is o.0.referent);
+      is = unwrapped (Changes false [] (given_up_by u x) (bound u x (Some (elim o.0.referent [ None ↦ Nothing | Some r ↦ Ref r ])))) e o.2
+          ∙ ap (λ r. Changes false [] (given_up_by u x) (bound u x (Some r))) (referent_is o.0.referent);
     }
 
 -- `x = ref v f`

@@ -50,7 +50,8 @@ pub record Held (e : Exit) (s n : ℕ) (w : World) (referent : ℕ) : Type 0 whe
 -- what is known at each command of the procedure, after this many callbacks
 pub data Standing (e : Exit) (s n : ℕ) (w : World) : List Command → Type 0 where
   StandsDeref : Standing e s n w (Deref e.object (Name e.watch) ∷ Quit (Name e.object) ∷ Del e.watch ∷ Del e.object ∷ Call (Name e.function) ∷ [])
-  StandsQuit : ((v : Val) → slice_get w.names e.object ≡ Some (Some v) → (v ≡ Nothing) ⊎ ((r : ℕ) × (v ≡ Ref r) × Held e s n w r)) → Standing e s n w (Quit (Name e.object) ∷ Del e.watch ∷ Del e.object ∷ Call (Name e.function) ∷ [])
+  StandsQuit : ((v : Val) → slice_get w.names e.object ≡ Some (Some v) → (v ≡ Nothing) ⊎ ((r : ℕ) × (v ≡ Ref r) × Held e s n w r))
+      → Standing e s n w (Quit (Name e.object) ∷ Del e.watch ∷ Del e.object ∷ Call (Name e.function) ∷ [])
   StandsWatch : (r : ℕ) → Held e s n w r → Standing e s n w (Del e.watch ∷ Del e.object ∷ Call (Name e.function) ∷ [])
   StandsObject : (r : ℕ) → Held e s n w r → ¬ Includes (held_by w.names e.watch) s → Standing e s n w (Del e.object ∷ Call (Name e.function) ∷ [])
   StandsCall : n ≡ 0 → Spent s w → Standing e s n w (Call (Name e.function) ∷ [])
@@ -69,10 +70,12 @@ count_cases s [] = inl refl
 count_cases s (x ∷ events) = go x (count_cases s events)
   where
     other : (y : Event) → is_callback_of s y ≡ false → (callbacks s events ≡ 0) ⊎ Includes events (Enter Callback s) → (callbacks s (y ∷ events) ≡ 0) ⊎ Includes (y ∷ events) (Enter Callback s)
-    other y f (inl z) = inl (let c = sum_by-cons (λ t. cond (is_callback_of s t) 1 0) y events in let k : ◌≡◌ {A = ℕ} (cond (is_callback_of s y) 1 0) 0 = ap (λ b. cond b 1 0) f in omega (arith, c, k, z))
+    other y f (inl z) = inl (let c = sum_by-cons (λ t. cond (is_callback_of s t) 1 0) y events in let k : ◌≡◌ {A = ℕ} (cond (is_callback_of s y) 1 0) 0 = ap
+        (λ b. cond b 1 0) f in omega (arith, c, k, z))
     other y f (inr m) = inr (inr m)
 
-    callback : (n : ℕ) (b : Bool) → (n == s) ≡ b → (callbacks s events ≡ 0) ⊎ Includes events (Enter Callback s) → (callbacks s (Enter Callback n ∷ events) ≡ 0) ⊎ Includes (Enter Callback n ∷ events) (Enter Callback s)
+    callback : (n : ℕ) (b : Bool) → (n == s) ≡ b → (callbacks s events ≡ 0) ⊎ Includes events (Enter Callback s) → (callbacks s (Enter Callback n ∷ events) ≡ 0)
+        ⊎ Includes (Enter Callback n ∷ events) (Enter Callback s)
     callback n true t rest = inr (inl (ap (λ i. Enter Callback i) (eqb-true n s t)))
     callback n false t rest = other (Enter Callback n) t rest
 
@@ -90,7 +93,8 @@ pub none_counted : (s : ℕ) (events : List Event) → ¬ Includes events (Enter
 none_counted s events none = either (count_cases s events) (λ z. z) (λ m. absurd (none m))
 
 pub one_counted : (s : ℕ) → callbacks s (Enter Callback s ∷ []) ≡ 1
-one_counted s = let c = sum_by-cons (λ t. cond (is_callback_of s t) 1 0) (Enter Callback s) [] in let k : ◌≡◌ {A = ℕ} (cond (is_callback_of s (Enter Callback s)) 1 0) 1 = ap (λ b. cond b 1 0) (eq-eqb s s refl) in omega (arith, c, k)
+one_counted s = let c = sum_by-cons (λ t. cond (is_callback_of s t) 1 0) (Enter Callback s) []
+    in let k : ◌≡◌ {A = ℕ} (cond (is_callback_of s (Enter Callback s)) 1 0) 1 = ap (λ b. cond b 1 0) (eq-eqb s s refl) in omega (arith, c, k)
 
 condemned_found : (z : Object) → is_condemned z ≡ true → IsFound z.place
 condemned_found z t = go z.place refl
@@ -140,15 +144,18 @@ module _ (script : Script) (budget : ℕ) (e : Exit) (s n : ℕ) (w : World) (ev
       lost l = either (h.refers l.object l.member l.same) (λ none. let no : None ≡ Some l.referent = sym none ∙ l.refers in cc) (λ some. go (some_is l.referent r (sym l.refers ∙ some)))
         where
           held_at : Includes (holdings w) r
-          held_at = Includes-append_left (name_holdings w.names ++ (1 ∷ []) ++ _) (flat_map holds w.stack) r (Includes-append_left (name_holdings w.names ++ (1 ∷ [])) _ r (Includes-append_left (name_holdings w.names) (1 ∷ []) r held))
+          held_at = Includes-append_left (name_holdings w.names ++ (1 ∷ []) ++ _) (flat_map holds w.stack) r (Includes-append_left (name_holdings w.names
+              ++ (1 ∷ [])) _ r (Includes-append_left (name_holdings w.names) (1 ∷ []) r held))
 
           go : l.referent ≡ r → ⊥
           go is = either l.lost
-              (λ d. absent d.0.object (holdings w) (subst (λ phase. IsHeldInItsFramesAlone d.0.object phase (holdings w)) d.4 (k.lawful.unheld d.0 d.2)) (subst (Includes (holdings w)) (sym (d.3 ∙ is)) held_at))
+              (λ d. absent d.0.object (holdings w) (subst (λ phase. IsHeldInItsFramesAlone d.0.object phase (holdings w)) d.4 (k.lawful.unheld d.0 d.2))
+              (subst (Includes (holdings w)) (sym (d.3 ∙ is)) held_at))
               (λ z. h.apart z.0 z.1 (z.2 ∙ is) (condemned_found z.0 z.3))
 
   -- a step of another activity
-  pub standing_rests : (cs : List Command) → slice_get after.names e.object ≡ slice_get w.names e.object → slice_get after.names e.watch ≡ slice_get w.names e.watch → Standing e s n w cs → Standing e s (n + callbacks s events) after cs
+  pub standing_rests : (cs : List Command) → slice_get after.names e.object ≡ slice_get w.names e.object → slice_get after.names e.watch
+      ≡ slice_get w.names e.watch → Standing e s n w cs → Standing e s (n + callbacks s events) after cs
   standing_rests cs object watch StandsDeref = StandsDeref
   standing_rests cs object watch (StandsQuit h) = StandsQuit (λ v i. either (h v (sym object ∙ i)) (λ none. inl none) (λ r. inr (r.0, r.1, held_stays r.0 r.2 object)))
   standing_rests cs object watch (StandsWatch r h) = StandsWatch r (held_stays r h object)

@@ -89,11 +89,20 @@ module _ (script : Script) (budget : ℕ) (e : Exit) (ex : IsExit script e) wher
   frame_minds f c a b (FromTop commands) is t = absurd (cc)
   frame_minds f c a b (FromFrame g commands left) is t = tail_minds f.commands commands c t (ap (λ (q : Frame). q.commands) (frame_is f g is) ∙ left)
 
-  minded : (Q : List Command → Type 0) (calls : ℕ) (stack : List Activity) (c : Command) (a b : Activity) (below : List Activity) → Stage script e Q calls stack → ((cs : List Command) → Includes stack (TopLevel cs) → (d : Command) → Includes cs d → IsOther e d ⊎ (d ≡ Call (Name e.exit))) → stack ≡ a ∷ below → Takes c a b → Minds e c
-  minded Q calls stack c a b below (Before [] done commands is high at none) own top takes = top_minds commands c a b takes (same_top script budget e ex (TopLevel commands) a [] below stack is top).0 (own commands (subst (λ st. Includes st (TopLevel commands)) (sym is) (inl refl)))
-  minded Q calls stack c a b below (Before (t ∷ tops) done commands is high at none) own top takes = tame_minds c a b takes (subst (λ (x : Activity). AllOther e (commands_on x)) (same_top script budget e ex t a (tops ++ TopLevel commands ∷ []) below stack is top).0 (high_tame e t (high t (inl refl))))
-  minded Q calls stack c a b below (During [] f commands is high tail other q none) own top takes = frame_minds f c a b takes (same_top script budget e ex (Framed f) a (TopLevel commands ∷ []) below stack is top).0 tail
-  minded Q calls stack c a b below (During (t ∷ tops) f commands is high tail other q none) own top takes = tame_minds c a b takes (subst (λ (x : Activity). AllOther e (commands_on x)) (same_top script budget e ex t a (tops ++ Framed f ∷ TopLevel commands ∷ []) below stack is top).0 (high_tame e t (high t (inl refl))))
+  minded : (Q : List Command → Type 0) (calls : ℕ) (stack : List Activity) (c : Command) (a b : Activity) (below : List Activity) → Stage script e Q calls stack
+      → ((cs : List Command) → Includes stack (TopLevel cs) → (d : Command) → Includes cs d → IsOther e d ⊎ (d ≡ Call (Name e.exit))) → stack ≡ a ∷ below
+      → Takes c a b → Minds e c
+  minded Q calls stack c a b below (Before [] done commands is high at none) own top takes = top_minds commands c a b takes
+      (same_top script budget e ex (TopLevel commands) a [] below stack is top).0 (own commands (subst (λ st. Includes st (TopLevel commands)) (sym is)
+      (inl refl)))
+  minded Q calls stack c a b below (Before (t ∷ tops) done commands is high at none) own top takes =
+      tame_minds c a b takes (subst (λ (x : Activity). AllOther e (commands_on x)) (same_top script budget e ex t a (tops ++ TopLevel commands ∷ []) below stack
+      is top).0 (high_tame e t (high t (inl refl))))
+  minded Q calls stack c a b below (During [] f commands is high tail other q none) own top takes = frame_minds f c a b takes
+      (same_top script budget e ex (Framed f) a (TopLevel commands ∷ []) below stack is top).0 tail
+  minded Q calls stack c a b below (During (t ∷ tops) f commands is high tail other q none) own top takes =
+      tame_minds c a b takes (subst (λ (x : Activity). AllOther e (commands_on x)) (same_top script budget e ex t a (tops ++ Framed f ∷ TopLevel commands ∷ [])
+      below stack is top).0 (high_tame e t (high t (inl refl))))
   minded Q calls stack c a b below (After tame few) own top takes = tame_minds c a b takes (tame a (subst (λ st. Includes st a) (sym top) (inl refl)))
 
   -- it is spent before the last command
@@ -107,7 +116,8 @@ module _ (script : Script) (budget : ℕ) (e : Exit) (ex : IsExit script e) wher
   -- where a call counts
   counts : (s n calls : ℕ) (w : World) → Stage script e (Standing e s n w) calls w.stack → (is_call e.function (next_command w.stack) ≡ false) ⊎ ((n ≡ 0) × Spent s w)
   counts s n calls w (Before [] done commands is high at none) = inl (ap (λ st. is_call e.function (next_command st)) is ∙ top_call script budget e ex (λ cs. Unit {0}) tt done commands at)
-  counts s n calls w (Before (t ∷ tops) done commands is high at none) = inl (ap (λ st. is_call e.function (next_command st)) is ∙ high_call script budget e ex t (tops ++ TopLevel commands ∷ []) (high t (inl refl)))
+  counts s n calls w (Before (t ∷ tops) done commands is high at none) = inl (ap (λ st. is_call e.function (next_command st)) is ∙ high_call script budget e ex
+      t (tops ++ TopLevel commands ∷ []) (high t (inl refl)))
   counts s n calls w (During [] f commands is high tail other q none) = go f.commands refl tail q
     where
       first : (fs : List Command) → f.commands ≡ fs → is_call e.function (first_of fs) ≡ false → is_call e.function (next_command w.stack) ≡ false
@@ -119,10 +129,12 @@ module _ (script : Script) (budget : ℕ) (e : Exit) (ex : IsExit script e) wher
       go fs i AtWatch st = inl (first fs i refl)
       go fs i AtObject st = inl (first fs i refl)
       go fs i AtCall st = inr (at_call s n w _ refl st)
-  counts s n calls w (During (t ∷ tops) f commands is high tail other q none) = inl (ap (λ st. is_call e.function (next_command st)) is ∙ high_call script budget e ex t (tops ++ Framed f ∷ TopLevel commands ∷ []) (high t (inl refl)))
+  counts s n calls w (During (t ∷ tops) f commands is high tail other q none) = inl (ap (λ st. is_call e.function (next_command st)) is
+      ∙ high_call script budget e ex t (tops ++ Framed f ∷ TopLevel commands ∷ []) (high t (inl refl)))
   counts s n calls w (After tame few) = inl (tame_call script budget e ex (λ cs. Unit {0}) tt w.stack tame)
 
-  module _ (s n calls : ℕ) (w : World) (events : List Event) (after : World) (k : Known script budget w) (step : Step script w events after) (x : Went script w events after) (h : Watching e s n calls w) (stage : Stage script e (Standing e s n w) calls w.stack) where
+  module _ (s n calls : ℕ) (w : World) (events : List Event) (after : World) (k : Known script budget w) (step : Step script w events after)
+      (x : Went script w events after) (h : Watching e s n calls w) (stage : Stage script e (Standing e s n w) calls w.stack) where
     tells : Tells s w events after
     tells = went_tells script budget s w events after k h.made x
 
@@ -130,13 +142,20 @@ module _ (script : Script) (budget : ℕ) (e : Exit) (ex : IsExit script e) wher
     calm_after = either h.calm quiet (λ one. let p = spent_stays s w events after tells one.1 in inr (let z = none_counted s events p.1 in let o = one.0 in omega (arith, z, o), p.0))
       where
         quiet : n ≡ 0 → (n + callbacks s events ≡ 0) ⊎ ((n + callbacks s events ≡ 1) × Spent s after)
-        quiet z = either (count_cases s events) (λ c. inl (omega (arith, z, c))) (λ m. inr (let alone : callbacks s events ≡ callbacks s (Enter Callback s ∷ []) = ap (callbacks s) (tells.begins m).2 in let o = one_counted s in omega (arith, z, alone, o), begun_spent script budget s w events after k tells h.made m))
+        quiet z = either (count_cases s events) (λ c. inl (omega (arith, z, c)))
+            (λ m. inr (
+              let alone : callbacks s events ≡ callbacks s (Enter Callback s ∷ []) = ap (callbacks s) (tells.begins m).2 in let o = one_counted s
+                  in omega (arith, z, alone, o),
+              begun_spent script budget s w events after k tells h.made m,
+            ))
 
     spent_after : (n ≡ 0) × Spent s w → (n + callbacks s events ≡ 0) × Spent s after
     spent_after p = let q = spent_stays s w events after tells p.1 in (let z = none_counted s events q.1 in let o = p.0 in omega (arith, z, o), q.0)
 
     called_after : (calls + step_calls script budget e ex (λ cs. Unit {0}) tt w events ≡ 0) ⊎ ((n + callbacks s events ≡ 0) × Spent s after)
-    called_after = either h.called (λ z. either (counts s n calls w stage) (λ f. inl (counted calls (count_by is_enter events) (is_call e.function (next_command w.stack)) f ∙ z)) (λ p. inr (spent_after p))) (λ p. inr (spent_after p))
+    called_after = either h.called (λ z. either (counts s n calls w stage)
+        (λ f. inl (counted calls (count_by is_enter events) (is_call e.function (next_command w.stack)) f ∙ z)) (λ p. inr (spent_after p))) (λ p. inr
+        (spent_after p))
 
     hidden_after : ¬ Includes (all_to_call w.stack) s → Hidden e.watch s w → Hidden e.watch s after
     hidden_after uncalled hid = go x
@@ -144,31 +163,39 @@ module _ (script : Script) (budget : ℕ) (e : Exit) (ex : IsExit script e) wher
         due : (g : ℕ) → after ≡ push (new_collection g false w) w → Hidden e.watch s after
         due g is = subst (Hidden e.watch s) (sym is) (pushed e.watch s (new_collection g false w) w (λ f i. cc) hid)
 
-        commanded : (command : Command) (a b : Activity) (below : List Activity) (v : World) → w ≡ on a below v → Takes command a b → Done script command (on b below v) b below events after → Minds e command → Hidden e.watch s after
-        commanded command a b below v is takes d (Quiet spoken) = done_hidden script e.watch s command b below v events after spoken d (taken_hidden e.watch s command a b below v takes (subst (Hidden e.watch s) is hid))
-        commanded command a b below v is takes d (DerefIt same) = either (exactly script a b below v command events after takes (subst (λ (z : World). Step script z events after) is step)) (λ q. due q.0 (q.2 ∙ ap (λ z. push (new_collection q.0 false z) z) (sym is)))
-            (λ c. either (deref_step script (on b below v) events after e.object (Name e.watch) (subst (λ (y : Command). CommandStep script (on b below v) y events after) same c)) (λ r. refused_hidden e.watch s r.0 (on b below v) events after r.1 turned) got)
+        commanded : (command : Command) (a b : Activity) (below : List Activity) (v : World) → w ≡ on a below v → Takes command a b
+            → Done script command (on b below v) b below events after → Minds e command → Hidden e.watch s after
+        commanded command a b below v is takes d (Quiet spoken) = done_hidden script e.watch s command b below v events after spoken d
+            (taken_hidden e.watch s command a b below v takes (subst (Hidden e.watch s) is hid))
+        commanded command a b below v is takes d (DerefIt same) = either (exactly script a b below v command events after takes
+            (subst (λ (z : World). Step script z events after) is step)) (λ q. due q.0 (q.2 ∙ ap (λ z. push (new_collection q.0 false z) z) (sym is)))
+            (λ c. either (deref_step script (on b below v) events after e.object (Name e.watch)
+            (subst (λ (y : Command). CommandStep script (on b below v) y events after) same c)) (λ r. refused_hidden e.watch s r.0 (on b below v) events
+            after r.1 turned) got)
           where
             turned : Hidden e.watch s (on b below v)
             turned = taken_hidden e.watch s command a b below v takes (subst (Hidden e.watch s) is hid)
 
             got : IsDeref script (on b below v) events after e.object (Name e.watch) → Hidden e.watch s after
-            got d = subst (Hidden e.watch s) (sym d.yields.1) (pushed e.watch s (Releasing (given_up_by (on b below v) e.object)) (bound (on b below v) e.object (Some (referent_value script (on b below v) events after d.object.referent))) (λ f i. cc) (record {
-              names = λ y apart. set_free v.names e.object y s (Some (referent_value script (on b below v) events after d.object.referent)) (free d.object.referent refl) (turned.names y apart);
-              root = turned.root;
-              made = turned.made;
-              entries = turned.entries;
-              referents = turned.referents;
-              locals = turned.locals;
-              apart = turned.apart;
-              kind = turned.kind;
-            }))
+            got d = subst (Hidden e.watch s) (sym d.yields.1) (pushed e.watch s (Releasing (given_up_by (on b below v) e.object))
+                (bound (on b below v) e.object (Some (referent_value script (on b below v) events after d.object.referent))) (λ f i. cc) (record {
+                  names = λ y apart. set_free v.names e.object y s (Some (referent_value script (on b below v) events after d.object.referent)) (free d.object.referent refl) (turned.names y apart);
+                  root = turned.root;
+                  made = turned.made;
+                  entries = turned.entries;
+                  referents = turned.referents;
+                  locals = turned.locals;
+                  apart = turned.apart;
+                  kind = turned.kind;
+                }))
               where
                 free : (m : Option ℕ) → d.object.referent ≡ m → ¬ Includes (references_of_value (Some (referent_value script (on b below v) events after m))) s
                 free None at i = i
                 free (Some q) at i = either i (λ j. turned.referents d.object (object_there (on b below v) d.value d.object d.found) (at ∙ ap (λ z. Some z) j)) (λ none. none)
-        commanded command a b below v is takes d (DelIt same) = either (exactly script a b below v command events after takes (subst (λ (z : World). Step script z events after) is step)) (λ q. due q.0 (q.2 ∙ ap (λ z. push (new_collection q.0 false z) z) (sym is)))
-            (λ c. either (del_step script (on b below v) events after e.watch (subst (λ (y : Command). CommandStep script (on b below v) y events after) same c)) (λ r. refused_hidden e.watch s r.0 (on b below v) events after r.1 turned)
+        commanded command a b below v is takes d (DelIt same) = either (exactly script a b below v command events after takes
+            (subst (λ (z : World). Step script z events after) is step)) (λ q. due q.0 (q.2 ∙ ap (λ z. push (new_collection q.0 false z) z) (sym is)))
+            (λ c. either (del_step script (on b below v) events after e.watch (subst (λ (y : Command). CommandStep script (on b below v) y events after) same
+            c)) (λ r. refused_hidden e.watch s r.0 (on b below v) events after r.1 turned)
             (λ y. subst (Hidden e.watch s) (sym y.1) (dropped_hidden script budget e e.watch s e.watch (on b below v) (given_up_by (on b below v) e.watch) turned)))
           where
             turned : Hidden e.watch s (on b below v)
@@ -180,8 +207,10 @@ module _ (script : Script) (budget : ℕ) (e : Exit) (ex : IsExit script e) wher
         go (Over a under place last is) = subst (Hidden e.watch s) (sym is) (restacked e.watch s w (record w { outcome = Ended }) refl refl refl hid.locals hid)
         go (Bottomed below top none is) = subst (Hidden e.watch s) (sym is) (bottom_hidden script budget e e.watch s w (TopLevel []) (ShuttingDown false) below top (λ f i. cc) hid)
         go (GaveUp name below top none is) = subst (Hidden e.watch s) (sym is) (dropped_hidden script budget e e.watch s name w (given_up_by w name) hid)
-        go (Lasted below top none is) = subst (Hidden e.watch s) (sym is) (pushed e.watch s (new_collection 2 false w) (with_stack (ShuttingDown true ∷ below) w) (λ f i. cc) (bottom_hidden script budget e e.watch s w (ShuttingDown false) (ShuttingDown true) below top (λ f i. cc) hid))
-        go (Commanded command a b below v is takes hb d) = commanded command a b below v is takes d (minded (Standing e s n w) calls w.stack command a b below stage h.own (ap (λ (z : World). z.stack) is) takes)
+        go (Lasted below top none is) = subst (Hidden e.watch s) (sym is) (pushed e.watch s (new_collection 2 false w) (with_stack (ShuttingDown true ∷ below)
+            w) (λ f i. cc) (bottom_hidden script budget e e.watch s w (ShuttingDown false) (ShuttingDown true) below top (λ f i. cc) hid))
+        go (Commanded command a b below v is takes hb d) = commanded command a b below v is takes d (minded (Standing e s n w) calls w.stack command a b below
+            stage h.own (ap (λ (z : World). z.stack) is) takes)
 
     named_after : (q : ℕ) → Includes (held_by after.names e.watch) q → q ≡ s
     named_after q m = h.named q (go x)
@@ -192,13 +221,19 @@ module _ (script : Script) (budget : ℕ) (e : Exit) (ex : IsExit script e) wher
         kept : slice_get after.names e.watch ≡ slice_get w.names e.watch → Includes (held_by w.names e.watch) q
         kept is = subst (λ o. Includes (references_of_value (option_and_then (λ v. v) o)) q) is m
 
-        commanded : (command : Command) (a b : Activity) (below : List Activity) (v : World) → w ≡ on a below v → Takes command a b → Done script command (on b below v) b below events after → Minds e command → Includes (held_by w.names e.watch) q
+        commanded : (command : Command) (a b : Activity) (below : List Activity) (v : World) → w ≡ on a below v → Takes command a b
+            → Done script command (on b below v) b below events after → Minds e command → Includes (held_by w.names e.watch) q
         commanded command a b below v is takes d (Quiet spoken) = kept (done_names script e.watch command b below v events after spoken d ∙ ap (λ (z : World). slice_get z.names e.watch) (sym is))
-        commanded command a b below v is takes d (DerefIt i) = either (exactly script a b below v command events after takes (subst (λ (z : World). Step script z events after) is step)) (λ y. same (ap (λ (z : World). z.names) y.2 ∙ ap (λ (z : World). z.names) (sym is)))
-            (λ c. either (deref_step script (on b below v) events after e.object (Name e.watch) (subst (λ (y : Command). CommandStep script (on b below v) y events after) i c)) (λ r. same (ap (λ (z : World). z.names) r.1.1 ∙ ap (λ (z : World). z.names) (sym is)))
+        commanded command a b below v is takes d (DerefIt i) = either (exactly script a b below v command events after takes
+            (subst (λ (z : World). Step script z events after) is step)) (λ y. same (ap (λ (z : World). z.names) y.2 ∙ ap (λ (z : World). z.names) (sym is)))
+            (λ c. either (deref_step script (on b below v) events after e.object (Name e.watch)
+            (subst (λ (y : Command). CommandStep script (on b below v) y events after) i c)) (λ r. same (ap (λ (z : World). z.names) r.1.1
+            ∙ ap (λ (z : World). z.names) (sym is)))
             (λ y. kept (ap (λ (z : World). slice_get z.names e.watch) y.yields.1 ∙ set_away v.names e.object e.watch _ ex.watch_object ∙ ap (λ (z : World). slice_get z.names e.watch) (sym is))))
-        commanded command a b below v is takes d (DelIt i) = either (exactly script a b below v command events after takes (subst (λ (z : World). Step script z events after) is step)) (λ y. same (ap (λ (z : World). z.names) y.2 ∙ ap (λ (z : World). z.names) (sym is)))
-            (λ c. either (del_step script (on b below v) events after e.watch (subst (λ (y : Command). CommandStep script (on b below v) y events after) i c)) (λ r. same (ap (λ (z : World). z.names) r.1.1 ∙ ap (λ (z : World). z.names) (sym is)))
+        commanded command a b below v is takes d (DelIt i) = either (exactly script a b below v command events after takes
+            (subst (λ (z : World). Step script z events after) is step)) (λ y. same (ap (λ (z : World). z.names) y.2 ∙ ap (λ (z : World). z.names) (sym is)))
+            (λ c. either (del_step script (on b below v) events after e.watch (subst (λ (y : Command). CommandStep script (on b below v) y events after) i c))
+            (λ r. same (ap (λ (z : World). z.names) r.1.1 ∙ ap (λ (z : World). z.names) (sym is)))
             (λ y. subst (λ (z : World). Includes (held_by z.names e.watch) q) (sym is) (dropped v.names e.watch e.watch q (subst (λ (z : World). Includes (held_by z.names e.watch) q) y.1 m))))
 
         go : Went script w events after → Includes (held_by w.names e.watch) q
@@ -208,7 +243,8 @@ module _ (script : Script) (budget : ℕ) (e : Exit) (ex : IsExit script e) wher
         go (Bottomed below top none is) = same (ap (λ (z : World). z.names) is)
         go (GaveUp name below top none is) = dropped w.names name e.watch q (subst (λ (z : World). Includes (held_by z.names e.watch) q) is m)
         go (Lasted below top none is) = same (ap (λ (z : World). z.names) is)
-        go (Commanded command a b below v is takes hb d) = commanded command a b below v is takes d (minded (Standing e s n w) calls w.stack command a b below stage h.own (ap (λ (z : World). z.stack) is) takes)
+        go (Commanded command a b below v is takes hb d) = commanded command a b below v is takes d (minded (Standing e s n w) calls w.stack command a b below
+            stage h.own (ap (λ (z : World). z.stack) is) takes)
 
     -- the script's own commands that are left
     own_after : (cs : List Command) → Includes after.stack (TopLevel cs) → (c : Command) → Includes cs c → IsOther e c ⊎ (c ≡ Call (Name e.exit))
@@ -221,7 +257,8 @@ module _ (script : Script) (budget : ℕ) (e : Exit) (ex : IsExit script e) wher
         below_w a below top j = in_w (subst (λ st. Includes st (TopLevel cs)) (sym top) (inr j))
 
         turned : (command : Command) (a b : Activity) (below : List Activity) → w.stack ≡ a ∷ below → Takes command a b → Includes (b ∷ below) (TopLevel cs) → IsOther e c ⊎ (c ≡ Call (Name e.exit))
-        turned command a b below top (FromTop commands) (inl is) = h.own (command ∷ commands) (subst (λ st. Includes st (TopLevel (command ∷ commands))) (sym top) (inl refl)) c (inr (subst (λ xs. Includes xs c) (sym (top_is commands cs is)) i))
+        turned command a b below top (FromTop commands) (inl is) = h.own (command ∷ commands) (subst (λ st. Includes st (TopLevel (command ∷ commands)))
+            (sym top) (inl refl)) c (inr (subst (λ xs. Includes xs c) (sym (top_is commands cs is)) i))
         turned command a b below top (FromFrame f commands left) (inl is) = absurd (cc)
         turned command a b below top takes (inr j) = below_w a below top j
 
@@ -231,11 +268,15 @@ module _ (script : Script) (budget : ℕ) (e : Exit) (ex : IsExit script e) wher
         stopped (ShuttingDown started) hb is = cc
         stopped b hb is = absurd hb
 
-        done : (command : Command) (a b : Activity) (below : List Activity) (v : World) → w.stack ≡ a ∷ below → Takes command a b → HasCommands b → Done script command (on b below v) b below events after → IsOther e c ⊎ (c ≡ Call (Name e.exit))
+        done : (command : Command) (a b : Activity) (below : List Activity) (v : World) → w.stack ≡ a ∷ below → Takes command a b → HasCommands b
+            → Done script command (on b below v) b below events after → IsOther e c ⊎ (c ≡ Call (Name e.exit))
         done command a b below v top takes hb (Stood answers is) = turned command a b below top takes (subst (λ (z : World). Includes z.stack (TopLevel cs)) is m)
         done command a b below v top takes hb (Stopped answers is) = either (subst (λ (z : World). Includes z.stack (TopLevel cs)) is m) (λ j. absurd (stopped b hb j)) (λ j. below_w a below top j)
-        done command a b below v top takes hb (Changed wants given next is shape) = either (subst (λ (z : World). Includes z.stack (TopLevel cs)) is m) (λ j. cc) (λ j. turned command a b below top takes (subst (λ st. Includes st (TopLevel cs)) (changes_leave (on b below v) command wants events given next shape).stack j))
-        done command a b below v top takes hb (Began f has y) = either (call_stack script budget e ex f.serial (procedure_of (on b below v) f.serial) (on b below v) events after y) (λ st. turned command a b below top takes (subst (λ z. Includes z (TopLevel cs)) st m))
+        done command a b below v top takes hb (Changed wants given next is shape) = either (subst (λ (z : World). Includes z.stack (TopLevel cs)) is m)
+            (λ j. cc) (λ j. turned command a b below top takes (subst (λ st. Includes st (TopLevel cs)) (changes_leave (on b below v) command wants events given
+            next shape).stack j))
+        done command a b below v top takes hb (Began f has y) = either (call_stack script budget e ex f.serial (procedure_of (on b below v) f.serial)
+            (on b below v) events after y) (λ st. turned command a b below top takes (subst (λ z. Includes z (TopLevel cs)) st m))
             (λ st. either (subst (λ z. Includes z (TopLevel cs)) st m) (λ j. cc) (λ j. turned command a b below top takes j))
         done command a b below v top takes hb (Asked g none is) = either (subst (λ (z : World). Includes z.stack (TopLevel cs)) is m) (λ j. cc) (λ j. turned command a b below top takes j)
 
@@ -243,7 +284,8 @@ module _ (script : Script) (budget : ℕ) (e : Exit) (ex : IsExit script e) wher
         raised a r is = subst (IsRaised script w) is r
 
         go : Went script w events after → IsOther e c ⊎ (c ≡ Call (Name e.exit))
-        go (Acted a below top acts) = either (Includes-append_cases acts.tops below (TopLevel cs) (subst (λ st. Includes st (TopLevel cs)) acts.stack m)) (λ j. absurd (raised (TopLevel cs) (acts.raised (TopLevel cs) j) refl)) (λ j. below_w a below top j)
+        go (Acted a below top acts) = either (Includes-append_cases acts.tops below (TopLevel cs) (subst (λ st. Includes st (TopLevel cs)) acts.stack m))
+            (λ j. absurd (raised (TopLevel cs) (acts.raised (TopLevel cs) j) refl)) (λ j. below_w a below top j)
         go (Due g set none is) = either (subst (λ (z : World). Includes z.stack (TopLevel cs)) is m) (λ j. cc) in_w
         go (Over a under place last is) = in_w (subst (λ (z : World). Includes z.stack (TopLevel cs)) is m)
         go (Bottomed below top none is) = either (subst (λ (z : World). Includes z.stack (TopLevel cs)) is m) (λ j. cc) (λ j. below_w (TopLevel []) below top j)

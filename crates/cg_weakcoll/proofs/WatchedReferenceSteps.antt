@@ -69,7 +69,8 @@ three_last (x ∷ y ∷ []) a t c b u is = absurd (cc)
 three_last (x ∷ y ∷ z ∷ []) a t c b u is = absurd (cc)
 three_last (x ∷ y ∷ z ∷ q ∷ tops) a t c b u is = absurd (cc)
 
-module _ (script : Script) (budget : ℕ) (e : Exit) (ex : IsExit script e) (s n calls : ℕ) (w : World) (events : List Event) (after : World) (k : Known script budget w) (step : Step script w events after) (t : Tells s w events after) (h : Watching e s n calls w) where
+module _ (script : Script) (budget : ℕ) (e : Exit) (ex : IsExit script e) (s n calls : ℕ) (w : World) (events : List Event) (after : World)
+    (k : Known script budget w) (step : Step script w events after) (t : Tells s w events after) (h : Watching e s n calls w) where
   -- a frame with its script below
   module _ (f : Frame) (below : List Command) (top : w.stack ≡ Framed f ∷ TopLevel below ∷ []) where
     nothing_to_call : ¬ Includes (all_to_call w.stack) s
@@ -120,7 +121,8 @@ module _ (script : Script) (budget : ℕ) (e : Exit) (ex : IsExit script e) (s n
               names_none = λ j. let y = named_by w.names s j in by_name y.0 (y.0 == e.watch) refl y.1;
               root_not = hid.root;
               entries_none = hid.entries;
-              stack_none = λ j. let q = subst (λ st. Includes (flat_map holds st) s) top j in either (Includes-append_cases (call_holds f.sort f.function) [] s q) (not_function x m i r some f.function refl f.sort) (λ none. none);
+              stack_none = λ j. let q = subst (λ st. Includes (flat_map holds st) s) top j in either (Includes-append_cases (call_holds f.sort f.function) [] s
+                  q) (not_function x m i r some f.function refl f.sort) (λ none. none);
             } in
             let dying = k.minded.minds s (subst (Includes (serials w.objects)) i (Includes-map (λ (z : Object). z.serial) w.objects x m)) free in
             absurd (let no : false ≡ true = sym (ap (λ st. list_any (is_death_of s) st) top) ∙ dying in cc)
@@ -130,16 +132,19 @@ module _ (script : Script) (budget : ℕ) (e : Exit) (ex : IsExit script e) (s n
             by_name y false is j = (h.live x m i r some).names y (λ same. let no : true ≡ false = sym (eq-eqb y e.watch same) ∙ is in cc) j
 
     -- the object that the procedure gets
-    held_now : (r : ℕ) (x : Object) → Includes w.objects x → x.serial ≡ s → x.referent ≡ Some r → (u : World) → u.objects ≡ w.objects → ¬ Includes (all_to_call u.stack) s → slice_get u.names e.object ≡ Some (Some (Ref r)) → Held e s (n + callbacks s events) u r
+    held_now : (r : ℕ) (x : Object) → Includes w.objects x → x.serial ≡ s → x.referent ≡ Some r → (u : World) → u.objects ≡ w.objects
+        → ¬ Includes (all_to_call u.stack) s → slice_get u.names e.object ≡ Some (Some (Ref r)) → Held e s (n + callbacks s events) u r
     held_now r x m i some u objects uncalled named = record {
       quiet = either h.calm still_none (λ spent. let no : None ≡ Some r = sym (spent.1.unreferred x m i) ∙ some in cc);
       uncalled = uncalled;
       named = named;
-      refers = λ y j q. let both = same_object 1 w.next_serial w.objects x y k.fit.sound.rises m (subst (λ os. Includes os y) objects j) (i ∙ sym q) in inr (ap (λ (z : Object). z.referent) (sym both) ∙ some);
+      refers = λ y j q. let both = same_object 1 w.next_serial w.objects x y k.fit.sound.rises m (subst (λ os. Includes os y) objects j) (i ∙ sym q)
+          in inr (ap (λ (z : Object). z.referent) (sym both) ∙ some);
       apart = λ z j q. apart_now z (subst (λ os. Includes os z) objects j);
     }
 
-    held_again : (r : ℕ) → Held e s n w r → (u : World) → u.objects ≡ w.objects → ¬ Includes (all_to_call u.stack) s → slice_get u.names e.object ≡ slice_get w.names e.object → Held e s (n + callbacks s events) u r
+    held_again : (r : ℕ) → Held e s n w r → (u : World) → u.objects ≡ w.objects → ¬ Includes (all_to_call u.stack) s → slice_get u.names e.object
+        ≡ slice_get w.names e.object → Held e s (n + callbacks s events) u r
     held_again r old u objects uncalled named = record {
       quiet = still_none old.quiet;
       uncalled = uncalled;
@@ -188,12 +193,14 @@ module _ (script : Script) (budget : ℕ) (e : Exit) (ex : IsExit script e) (s n
     -- otherwise a collection would have started
     starts : (g : ℕ) → after ≡ push (new_collection g false (on (Framed f) under w)) (on (Framed f) under w) → ⊥
     starts g is =
-        let same = frame_same rest f (three_last a.tops (Framed rest) (TopLevel a.below) (new_collection g false (on (Framed f) under w)) (Framed f) (TopLevel a.below) (sym a.now ∙ ap (λ (z : World). z.stack) is)) in
+        let same = frame_same rest f (three_last a.tops (Framed rest) (TopLevel a.below) (new_collection g false (on (Framed f) under w)) (Framed f)
+        (TopLevel a.below) (sym a.now ∙ ap (λ (z : World). z.stack) is)) in
         let longer : length cs ≡ length (a.command ∷ cs) = ap length (same ∙ a.left) in
         absurd (omega (arith, longer))
 
     does : CommandStep script u a.command events after
-    does = either (exactly script (Framed f) (Framed rest) under w a.command events after (FromFrame f cs a.left) (subst (λ (z : World). Step script z events after) is_on step)) (λ d. absurd (starts d.0 d.2)) (λ c. c)
+    does = either (exactly script (Framed f) (Framed rest) under w a.command events after (FromFrame f cs a.left)
+        (subst (λ (z : World). Step script z events after) is_on step)) (λ d. absurd (starts d.0 d.2)) (λ c. c)
 
     does_as : (c : Command) → a.command ≡ c → CommandStep script u c events after
     does_as c is = subst (λ (x : Command). CommandStep script u x events after) is does
@@ -208,9 +215,11 @@ module _ (script : Script) (budget : ℕ) (e : Exit) (ex : IsExit script e) (s n
 
     -- `o = deref w`
     at_deref : a.command ≡ Deref e.object (Name e.watch) → cs ≡ Quit (Name e.object) ∷ Del e.watch ∷ Del e.object ∷ Call (Name e.function) ∷ [] → Standing e s (n + callbacks s events) after cs
-    at_deref is left = subst (Standing e s (n + callbacks s events) after) (sym left) (StandsQuit (λ v got. either (deref_step script u events after e.object (Name e.watch) (does_as _ is)) (λ r. absurd (refuses r)) (λ d. found d v got)))
+    at_deref is left = subst (Standing e s (n + callbacks s events) after) (sym left)
+        (StandsQuit (λ v got. either (deref_step script u events after e.object (Name e.watch) (does_as _ is)) (λ r. absurd (refuses r)) (λ d. found d v got)))
       where
-        found : IsDeref script u events after e.object (Name e.watch) → (v : Val) → slice_get after.names e.object ≡ Some (Some v) → (v ≡ Nothing) ⊎ ((r : ℕ) × (v ≡ Ref r) × Held e s (n + callbacks s events) after r)
+        found : IsDeref script u events after e.object (Name e.watch) → (v : Val) → slice_get after.names e.object ≡ Some (Some v) → (v ≡ Nothing)
+            ⊎ ((r : ℕ) × (v ≡ Ref r) × Held e s (n + callbacks s events) after r)
         found d v got = either (value_cases d.object.referent) (λ none. inl (is_value ∙ none)) (λ r. inr (r.0, is_value ∙ r.2, held r.0 r.1 (is_value ∙ r.2)))
           where
             now : World
@@ -220,7 +229,9 @@ module _ (script : Script) (budget : ℕ) (e : Exit) (ex : IsExit script e) (s n
             some_same p q i = cc
 
             is_value : v ≡ referent_value script u events after d.object.referent
-            is_value = some_same v (referent_value script u events after d.object.referent) (set_got w.names e.object (Some (referent_value script u events after d.object.referent)) (Some v) (subst (λ (z : World). slice_get z.names e.object ≡ Some (Some v)) d.yields.1 got))
+            is_value = some_same v (referent_value script u events after d.object.referent)
+                (set_got w.names e.object (Some (referent_value script u events after d.object.referent)) (Some v)
+                (subst (λ (z : World). slice_get z.names e.object ≡ Some (Some v)) d.yields.1 got))
 
             watch_is : (q : Val) → value_of u (Name e.watch) ≡ Some q → object_of u q ≡ Some d.object → Includes w.objects d.object × (d.object.serial ≡ s)
             watch_is (Ref q) at there = let z = found_at w.objects q d.object there in (z.0, z.1 ∙ h.named q (subst (λ m. Includes (references_of_value m) q) (sym at) (inl refl)))
@@ -231,18 +242,24 @@ module _ (script : Script) (budget : ℕ) (e : Exit) (ex : IsExit script e) (s n
             held : (r : ℕ) → d.object.referent ≡ Some r → v ≡ Ref r → Held e s (n + callbacks s events) after r
             held r some is_ref =
                 let x = watch_is d.value d.is d.found in
-                held_now f a.below a.stack r d.object x.0 x.1 some after (ap (λ (z : World). z.objects) d.yields.1) (λ m. subst (λ (z : World). Includes (all_to_call z.stack) s) d.yields.1 m) (got ∙ ap (λ q. Some (Some q)) is_ref)
+                held_now f a.below a.stack r d.object x.0 x.1 some after (ap (λ (z : World). z.objects) d.yields.1)
+                (λ m. subst (λ (z : World). Includes (all_to_call z.stack) s) d.yields.1 m) (got ∙ ap (λ q. Some (Some q)) is_ref)
 
     -- `quit o`
     at_quit : a.command ≡ Quit (Name e.object) → cs ≡ Del e.watch ∷ Del e.object ∷ Call (Name e.function) ∷ []
         → ((v : Val) → slice_get w.names e.object ≡ Some (Some v) → (v ≡ Nothing) ⊎ ((r : ℕ) × (v ≡ Ref r) × Held e s n w r)) → Standing e s (n + callbacks s events) after cs
-    at_quit is left h_quit = subst (Standing e s (n + callbacks s events) after) (sym left) (either (quit_step script u events after (Name e.object) (does_as _ is)) (λ r. absurd (refuses r)) (λ v. go v.0 (name_value w.names e.object v.0 v.1) v.2))
+    at_quit is left h_quit = subst (Standing e s (n + callbacks s events) after) (sym left)
+        (either (quit_step script u events after (Name e.object) (does_as _ is)) (λ r. absurd (refuses r)) (λ v. go v.0 (name_value w.names e.object v.0 v.1)
+        v.2))
       where
-        go : (v : Val) → slice_get w.names e.object ≡ Some (Some v) → Quitted script u events after v → Standing e s (n + callbacks s events) after (Del e.watch ∷ Del e.object ∷ Call (Name e.function) ∷ [])
+        go : (v : Val) → slice_get w.names e.object ≡ Some (Some v) → Quitted script u events after v → Standing e s (n + callbacks s events) after (Del e.watch
+            ∷ Del e.object ∷ Call (Name e.function) ∷ [])
         go Nothing got q = absurd (stopped (ap (λ (z : World). z.stack) q.1))
         go (Int i) got q = absurd (either (h_quit (Int i) got) (λ no_value. cc) (λ r. let bad : Int i ≡ Ref r.0 = r.1 in cc))
         go (Str i) got q = absurd (either (h_quit (Str i) got) (λ no_value. cc) (λ r. let bad : Str i ≡ Ref r.0 = r.1 in cc))
-        go (Ref i) got q = either (h_quit (Ref i) got) (λ no_value. absurd (cc)) (λ r. StandsWatch r.0 (held_again f a.below a.stack r.0 r.2 after (ap (λ (z : World). z.objects) q.1) (λ m. subst (λ (z : World). Includes (all_to_call z.stack) s) q.1 m) (ap (λ (z : World). slice_get z.names e.object) q.1)))
+        go (Ref i) got q = either (h_quit (Ref i) got) (λ no_value. absurd (cc))
+            (λ r. StandsWatch r.0 (held_again f a.below a.stack r.0 r.2 after (ap (λ (z : World). z.objects) q.1)
+            (λ m. subst (λ (z : World). Includes (all_to_call z.stack) s) q.1 m) (ap (λ (z : World). slice_get z.names e.object) q.1)))
 
     -- `del w`
     at_watch : a.command ≡ Del e.watch → cs ≡ Del e.object ∷ Call (Name e.function) ∷ [] → (r : ℕ) → Held e s n w r → Standing e s (n + callbacks s events) after cs
@@ -257,7 +274,8 @@ module _ (script : Script) (budget : ℕ) (e : Exit) (ex : IsExit script e) (s n
 
     -- `del o`
     at_object : cs ≡ Call (Name e.function) ∷ [] → (r : ℕ) → Held e s n w r → ¬ Includes (held_by w.names e.watch) s → Standing e s (n + callbacks s events) after cs
-    at_object left r held unnamed = subst (Standing e s (n + callbacks s events) after) (sym left) (StandsCall (still_none f a.below a.stack held.quiet) (spent_stays s w events after t (unnamed_spent f a.below a.stack unnamed)).0)
+    at_object left r held unnamed = subst (Standing e s (n + callbacks s events) after) (sym left) (StandsCall (still_none f a.below a.stack held.quiet)
+        (spent_stays s w events after t (unnamed_spent f a.below a.stack unnamed)).0)
 
     pub standing_advances : Standing e s n w f.commands → Standing e s (n + callbacks s events) after cs
     standing_advances st = go f.commands a.left st

@@ -49,7 +49,8 @@ there_quiet w lines there n m = there (Enter Callback n) m
 
 module _ (u : World) (command : Command) where
   -- the objects and lines of a changed world
-  next_follows : (lines told : List Event) (given_up given : List ℕ) (wanted wants : Bool) (after next : World) → Follows u told after → Changes wanted told given_up after ≡ Changes wants lines given next → Follows u lines next
+  next_follows : (lines told : List Event) (given_up given : List ℕ) (wanted wants : Bool) (after next : World) → Follows u told after
+      → Changes wanted told given_up after ≡ Changes wants lines given next → Follows u lines next
   next_follows lines told given_up given wanted wants after next h e =
       let same : after ≡ next = cc in
       let line : told ≡ lines = cc in
@@ -58,11 +59,22 @@ module _ (u : World) (command : Command) where
   nothing : (n : ℕ) → ¬ Includes [] (Enter Callback n)
   nothing n m = m
 
-  mapped_comes : (f : Object → Object) → ((x : Object) → IsLater x (f x)) → ((x : Object) → IsFound (f x).place → IsFound x.place) → (y : Object) → Includes (map f u.objects) y → (x : Object) × Includes u.objects x × IsLater x y × (IsFound y.place → IsFound x.place)
-  mapped_comes f later place y m = let x = Includes-map_cases f u.objects y m in (x.0, x.1, subst (IsLater x.0) x.2 (later x.0), subst (λ (z : Object). IsFound z.place → IsFound x.0.place) x.2 (place x.0))
+  mapped_comes : (f : Object → Object) → ((x : Object) → IsLater x (f x)) → ((x : Object) → IsFound (f x).place → IsFound x.place) → (y : Object)
+      → Includes (map f u.objects) y → (x : Object) × Includes u.objects x × IsLater x y × (IsFound y.place → IsFound x.place)
+  mapped_comes f later place y m = let x = Includes-map_cases f u.objects y m in (
+    x.0,
+    x.1,
+    subst (IsLater x.0) x.2 (later x.0),
+    subst (λ (z : Object). IsFound z.place → IsFound x.0.place) x.2 (place x.0),
+  )
 
   changed_follows : (f : Object → Object) (s : ℕ) → ((x : Object) → IsLater x (f x)) → ((x : Object) → IsFound (f x).place → IsFound x.place) → Follows u [] (with_change f s u)
-  changed_follows f s later place = record { serial = omega arith; comes = λ y m. inl (mapped_comes (λ x. if x.serial == s then f x else x) (λ x. one (x.serial == s) x) (λ x. stood (x.serial == s) x) y m); quiet = nothing }
+  changed_follows f s later place = record {
+    serial = omega arith;
+    comes = λ y m. inl (mapped_comes (λ x. if x.serial == s then f x else x)
+        (λ x. one (x.serial == s) x) (λ x. stood (x.serial == s) x) y m);
+    quiet = nothing;
+  }
     where
       one : (b : Bool) (x : Object) → IsLater x (if b then f x else x)
       one true x = later x
@@ -81,21 +93,45 @@ module _ (u : World) (command : Command) where
 
   pub shape_follows : (e : Effect) → Shape u command e → (wants : Bool) (lines : List Event) (given : List ℕ) (next : World) → e ≡ Changes wants lines given next → Follows u lines next
   shape_follows e (Binds name v own hand) wants lines given next is = next_follows lines [] _ given false wants (bound u name v) next (follows_same u (bound u name v) [] refl refl nothing) is
-  shape_follows e (Makes name kind class entries referent own parts) wants lines given next is = next_follows lines (Made kind u.next_serial ∷ []) _ given true wants (bound (with_new u kind class entries referent) name (Some (Ref u.next_serial))) next (record {
-    serial = omega arith;
-    comes = λ y m. either (Includes-append_cases u.objects (_ ∷ []) y m) (λ k. inl (y, k, later_refl y, λ f. f)) (λ k. either k (λ i. inr (ap (λ (z : Object). z.serial) (sym i))) (λ none. absurd none));
-    quiet = one_quiet (Made kind u.next_serial) (λ n k. cc);
-  }) is
-  shape_follows e (Edits wants_memory x entries given_up has mutable edit) wants lines given next is = next_follows lines [] given_up given wants_memory wants (with_change (with_entries entries) x.serial u) next (changed_follows (with_entries entries) x.serial (λ z. record { serial = refl; code = refl; class = refl; referent = inl refl }) (λ z f. f)) is
-  shape_follows e (Puts x key v has mutable hand_key hand room) wants lines given next is = next_follows lines [] _ given _ wants (with_change (λ y. tracked_by u key v (with_entries (put x.entries key v) y)) x.serial u) next (changed_follows (λ y. tracked_by u key v (with_entries (put x.entries key v) y)) x.serial (put_later u x key v) (put_place x key v)) is
-  shape_follows e (Shows v hand) wants lines given next is = next_follows lines (Value v ∷ []) [] given false wants u next (follows_same u u (Value v ∷ []) refl refl (one_quiet (Value v) (λ n k. cc))) is
-  shape_follows e (TellsOne line tells) wants lines given next is = next_follows lines (line ∷ []) [] given false wants u next (follows_same u u (line ∷ []) refl refl (one_quiet line (numbers_quiet line tells))) is
+  shape_follows e (Makes name kind class entries referent own parts) wants lines given next is = next_follows lines (Made kind u.next_serial ∷ []) _ given true
+      wants (bound (with_new u kind class entries referent) name (Some (Ref u.next_serial))) next (record {
+        serial = omega arith;
+        comes = λ y m. either (Includes-append_cases u.objects (_ ∷ []) y m) (λ k. inl (y, k, later_refl y, λ f. f))
+            (λ k. either k (λ i. inr (ap (λ (z : Object). z.serial) (sym i))) (λ none. absurd none));
+        quiet = one_quiet (Made kind u.next_serial) (λ n k. cc);
+      }) is
+  shape_follows e (Edits wants_memory x entries given_up has mutable edit) wants lines given next is = next_follows lines [] given_up given wants_memory wants
+      (with_change (with_entries entries) x.serial u) next (changed_follows (with_entries entries) x.serial (λ z. record {
+        serial = refl;
+        code = refl;
+        class = refl;
+        referent = inl refl;
+      }) (λ z f. f)) is
+  shape_follows e (Puts x key v has mutable hand_key hand room) wants lines given next is = next_follows lines [] _ given _ wants
+      (with_change (λ y. tracked_by u key v (with_entries (put x.entries key v) y)) x.serial u) next
+      (changed_follows (λ y. tracked_by u key v (with_entries (put x.entries key v) y)) x.serial (put_later u x key v) (put_place x key v)) is
+  shape_follows e (Shows v hand) wants lines given next is = next_follows lines (Value v ∷ []) [] given false wants u next (follows_same u u (Value v ∷ []) refl
+      refl (one_quiet (Value v) (λ n k. cc))) is
+  shape_follows e (TellsOne line tells) wants lines given next is = next_follows lines (line ∷ []) [] given false wants u next
+      (follows_same u u (line ∷ []) refl refl (one_quiet line (numbers_quiet line tells))) is
   shape_follows e Stays wants lines given next is = next_follows lines [] [] given false wants u next (follows_same u u [] refl refl nothing) is
-  shape_follows e (Sets numbers own keeps) wants lines given next is = next_follows lines [] [] given false wants (record u { numbers = numbers }) next (follows_same u (record u { numbers = numbers }) [] refl refl nothing) is
-  shape_follows e (Freezes own) wants lines given next is = next_follows lines [] [] given false wants (record u { objects = replaced frozen u; numbers = record u.numbers { zero_count = 0; one_count = 0; two_count = 0 } }) next
-      (record { serial = omega arith; comes = λ y m. inl (mapped_comes (λ x. with_place (frozen x.place) x) (λ x. place_later (frozen x.place) x) (λ x. frozen_found x.place) y m); quiet = nothing }) is
+  shape_follows e (Sets numbers own keeps) wants lines given next is = next_follows lines [] [] given false wants (record u { numbers = numbers }) next
+      (follows_same u (record u { numbers = numbers }) [] refl refl nothing) is
+  shape_follows e (Freezes own) wants lines given next is = next_follows lines [] [] given false wants
+      (record u { objects = replaced frozen u; numbers = record u.numbers { zero_count = 0; one_count = 0; two_count = 0 } }) next
+      (record {
+        serial = omega arith;
+        comes = λ y m. inl (mapped_comes (λ x. with_place (frozen x.place) x) (λ x. place_later (frozen x.place) x)
+            (λ x. frozen_found x.place) y m);
+        quiet = nothing;
+      }) is
   shape_follows e (Unfreezes own) wants lines given next is = next_follows lines [] [] given false wants (record u { objects = replaced unfrozen u }) next
-      (record { serial = omega arith; comes = λ y m. inl (mapped_comes (λ x. with_place (unfrozen x.place) x) (λ x. place_later (unfrozen x.place) x) (λ x. unfrozen_found x.place) y m); quiet = nothing }) is
+      (record {
+        serial = omega arith;
+        comes = λ y m. inl (mapped_comes (λ x. with_place (unfrozen x.place) x) (λ x. place_later (unfrozen x.place) x)
+            (λ x. unfrozen_found x.place) y m);
+        quiet = nothing;
+      }) is
   shape_follows e (StartsFrame f has) wants lines given next is = absurd (cc)
   shape_follows e (StartsCollection g low) wants lines given next is = absurd (cc)
   shape_follows e Ends wants lines given next is = absurd (cc)
@@ -134,29 +170,64 @@ taken_to_call command a b (FromFrame f commands left) = refl
 
 -- the same objects, and no new callbacks
 module _ (s : ℕ) (w : World) (events : List Event) (after : World) where
-  plainly : w.next_serial ≤ after.next_serial → ((o : ℕ) (y : Object) → Includes after.objects y → y.serial ≡ o → o < w.next_serial → (x : Object) × Includes w.objects x × IsLater x y × (IsFound y.place → IsFound x.place)) → s < w.next_serial → all_to_call after.stack ≡ all_to_call w.stack → ((n : ℕ) → ¬ Includes events (Enter Callback n)) → Tells s w events after
-  plainly serial comes low waits quiet = record { serial = serial; comes = λ y m e. let x = comes s y m e low in (x.0, x.1, x.2); places = λ o y m e k f. let x = comes o y m e k in inl (x.0, x.1, sym x.2.serial ∙ e, x.3 f); waits = λ m. inl (subst (λ xs. Includes xs s) waits m); begins = λ m. absurd (quiet s m) }
+  plainly : w.next_serial ≤ after.next_serial → ((o : ℕ) (y : Object) → Includes after.objects y → y.serial ≡ o → o < w.next_serial → (x : Object)
+      × Includes w.objects x × IsLater x y × (IsFound y.place → IsFound x.place)) → s < w.next_serial → all_to_call after.stack ≡ all_to_call w.stack → ((n : ℕ)
+      → ¬ Includes events (Enter Callback n)) → Tells s w events after
+  plainly serial comes low waits quiet = record {
+    serial = serial;
+    comes = λ y m e. let x = comes s y m e low in (x.0, x.1, x.2);
+    places = λ o y m e k f. let x = comes o y m e k in inl (x.0, x.1, sym x.2.serial ∙ e, x.3 f);
+    waits = λ m. inl (subst (λ xs. Includes xs s) waits m);
+    begins = λ m. absurd (quiet s m);
+  }
 
-  same_tells : s < w.next_serial → after.next_serial ≡ w.next_serial → after.objects ≡ w.objects → all_to_call after.stack ≡ all_to_call w.stack → ((n : ℕ) → ¬ Includes events (Enter Callback n)) → Tells s w events after
+  same_tells : s < w.next_serial → after.next_serial ≡ w.next_serial → after.objects ≡ w.objects → all_to_call after.stack ≡ all_to_call w.stack
+      → ((n : ℕ) → ¬ Includes events (Enter Callback n)) → Tells s w events after
   same_tells low serial objects waits quiet = plainly (omega (arith, serial)) (λ o y m e k. (y, subst (λ os. Includes os y) objects m, later_refl y, λ f. f)) low waits quiet
 
 none_events : (events : List Event) → events ≡ [] → (n : ℕ) → ¬ Includes events (Enter Callback n)
 none_events events e n m = subst (λ (ls : List Event). Includes ls (Enter Callback n)) e m
 
-call_quiet : (script : Script) (f p : ℕ) (u : World) (events : List Event) (after : World) → Yields (start_frame script (record { sort = CallFrame; proc = p; subject = f; func = Some f }) u) events after
+call_quiet : (script : Script) (f p : ℕ) (u : World) (events : List Event) (after : World)
+    → Yields (start_frame script (record { sort = CallFrame; proc = p; subject = f; func = Some f }) u) events after
     → ((n : ℕ) → ¬ Includes events (Enter Callback n)) × (after.objects ≡ u.objects) × (after.next_serial ≡ u.next_serial) × (all_to_call after.stack ≡ all_to_call u.stack)
 call_quiet script f p u events after step = go (u.budget == 0) step
   where
-    go : (b : Bool) → Yields (if b then (BudgetSpent ∷ [], record u { outcome = BudgetIsSpent }) else (Enter CallFrame f ∷ [], record u { budget = u.budget - 1; stack = Framed (record { sort = CallFrame; subject = f; function = Some f; commands = body_of script p }) ∷ u.stack })) events after
+    go : (b : Bool) → Yields (if b then (BudgetSpent ∷ [], record u { outcome = BudgetIsSpent })
+        else (
+          Enter CallFrame f ∷ [],
+          record u {
+            budget = u.budget - 1;
+            stack = Framed (record {
+              sort = CallFrame;
+              subject = f;
+              function = Some f;
+              commands = body_of script p;
+            }) ∷ u.stack;
+          },
+        )) events after
         → ((n : ℕ) → ¬ Includes events (Enter Callback n)) × (after.objects ≡ u.objects) × (after.next_serial ≡ u.next_serial) × (all_to_call after.stack ≡ all_to_call u.stack)
-    go true y = (λ n m. either (subst (λ (ls : List Event). Includes ls (Enter Callback n)) y.0 m) (λ i. cc) (λ none. none), ap (λ (z : World). z.objects) y.1, ap (λ (z : World). z.next_serial) y.1, ap (λ (z : World). all_to_call z.stack) y.1)
-    go false y = (λ n m. either (subst (λ (ls : List Event). Includes ls (Enter Callback n)) y.0 m) (λ i. cc) (λ none. none), ap (λ (z : World). z.objects) y.1, ap (λ (z : World). z.next_serial) y.1, ap (λ (z : World). all_to_call z.stack) y.1)
+    go true y = (
+      λ n m. either (subst (λ (ls : List Event). Includes ls (Enter Callback n)) y.0 m) (λ i. cc) (λ none. none),
+      ap (λ (z : World). z.objects) y.1,
+      ap (λ (z : World). z.next_serial) y.1,
+      ap (λ (z : World). all_to_call z.stack) y.1,
+    )
+    go false y = (
+      λ n m. either (subst (λ (ls : List Event). Includes ls (Enter Callback n)) y.0 m) (λ i. cc) (λ none. none),
+      ap (λ (z : World). z.objects) y.1,
+      ap (λ (z : World). z.next_serial) y.1,
+      ap (λ (z : World). all_to_call z.stack) y.1,
+    )
 
-done_tells : (script : Script) (s : ℕ) (command : Command) (a b : Activity) (below : List Activity) (v : World) (events : List Event) (after : World) → s < v.next_serial → to_call a ≡ [] → HasCommands b
+done_tells : (script : Script) (s : ℕ) (command : Command) (a b : Activity) (below : List Activity) (v : World) (events : List Event) (after : World)
+    → s < v.next_serial → to_call a ≡ [] → HasCommands b
     → Done script command (on b below v) b below events after → Tells s (on a below v) events after
-done_tells script s command a b below v events after low none hb (Stood answers is) = same_tells s (on a below v) events after low (ap (λ (z : World). z.next_serial) is) (ap (λ (z : World). z.objects) is)
+done_tells script s command a b below v events after low none hb (Stood answers is) = same_tells s (on a below v) events after low
+    (ap (λ (z : World). z.next_serial) is) (ap (λ (z : World). z.objects) is)
     (ap (λ (z : World). all_to_call z.stack) is ∙ ap (λ xs. xs ++ all_to_call below) (none_to_call b hb ∙ sym none)) (answers_quiet events answers)
-done_tells script s command a b below v events after low none hb (Stopped answers is) = same_tells s (on a below v) events after low (ap (λ (z : World). z.next_serial) is) (ap (λ (z : World). z.objects) is)
+done_tells script s command a b below v events after low none hb (Stopped answers is) = same_tells s (on a below v) events after low
+    (ap (λ (z : World). z.next_serial) is) (ap (λ (z : World). z.objects) is)
     (ap (λ (z : World). all_to_call z.stack) is ∙ ap (λ xs. xs ++ all_to_call below) (emptied_to_call b hb ∙ sym none)) (answers_quiet events answers)
 done_tells script s command a b below v events after low none hb (Changed wants given next is shape) =
     let f = shape_follows (on b below v) command (Changes wants events given next) shape wants events given next refl in
@@ -167,15 +238,22 @@ done_tells script s command a b below v events after low none hb (Changed wants 
 done_tells script s command a b below v events after low none hb (Began f has step) =
     let q = call_quiet script f.serial (procedure_of (on b below v) f.serial) (on b below v) events after step in
     same_tells s (on a below v) events after low q.2 q.1 (q.3 ∙ ap (λ xs. xs ++ all_to_call below) (none_to_call b hb ∙ sym none)) q.0
-done_tells script s command a b below v events after low none hb (Asked g no_line is) = same_tells s (on a below v) events after low (ap (λ (z : World). z.next_serial) is) (ap (λ (z : World). z.objects) is)
+done_tells script s command a b below v events after low none hb (Asked g no_line is) = same_tells s (on a below v) events after low
+    (ap (λ (z : World). z.next_serial) is) (ap (λ (z : World). z.objects) is)
     (ap (λ (z : World). all_to_call z.stack) is ∙ ap (λ xs. xs ++ all_to_call below) (none_to_call b hb ∙ sym none)) (none_events events no_line)
 
 pub went_tells : (script : Script) (budget s : ℕ) (w : World) (events : List Event) (after : World) → Known script budget w → s < w.next_serial → Went script w events after → Tells s w events after
 went_tells script budget s w events after k low (Acted a below top acts) = acted_tells script budget s w a below events after k top acts
-went_tells script budget s w events after k low (Due g set none is) = same_tells s w events after low (ap (λ (z : World). z.next_serial) is) (ap (λ (z : World). z.objects) is) (ap (λ (z : World). all_to_call z.stack) is) (none_events events none)
-went_tells script budget s w events after k low (Over a under place last is) = same_tells s w events after low (ap (λ (z : World). z.next_serial) is) (ap (λ (z : World). z.objects) is) (ap (λ (z : World). all_to_call z.stack) is) (last_quiet w a events last)
-went_tells script budget s w events after k low (Bottomed below top none is) = same_tells s w events after low (ap (λ (z : World). z.next_serial) is) (ap (λ (z : World). z.objects) is) (ap (λ (z : World). all_to_call z.stack) is ∙ sym (ap all_to_call top)) (none_events events none)
-went_tells script budget s w events after k low (GaveUp name below top none is) = same_tells s w events after low (ap (λ (z : World). z.next_serial) is) (ap (λ (z : World). z.objects) is) (ap (λ (z : World). all_to_call z.stack) is) (none_events events none)
-went_tells script budget s w events after k low (Lasted below top none is) = same_tells s w events after low (ap (λ (z : World). z.next_serial) is) (ap (λ (z : World). z.objects) is) (ap (λ (z : World). all_to_call z.stack) is ∙ sym (ap all_to_call top)) (none_events events none)
+went_tells script budget s w events after k low (Due g set none is) = same_tells s w events after low (ap (λ (z : World). z.next_serial) is)
+    (ap (λ (z : World). z.objects) is) (ap (λ (z : World). all_to_call z.stack) is) (none_events events none)
+went_tells script budget s w events after k low (Over a under place last is) = same_tells s w events after low (ap (λ (z : World). z.next_serial) is)
+    (ap (λ (z : World). z.objects) is) (ap (λ (z : World). all_to_call z.stack) is) (last_quiet w a events last)
+went_tells script budget s w events after k low (Bottomed below top none is) = same_tells s w events after low (ap (λ (z : World). z.next_serial) is)
+    (ap (λ (z : World). z.objects) is) (ap (λ (z : World). all_to_call z.stack) is ∙ sym (ap all_to_call top)) (none_events events none)
+went_tells script budget s w events after k low (GaveUp name below top none is) = same_tells s w events after low (ap (λ (z : World). z.next_serial) is)
+    (ap (λ (z : World). z.objects) is) (ap (λ (z : World). all_to_call z.stack) is) (none_events events none)
+went_tells script budget s w events after k low (Lasted below top none is) = same_tells s w events after low (ap (λ (z : World). z.next_serial) is)
+    (ap (λ (z : World). z.objects) is) (ap (λ (z : World). all_to_call z.stack) is ∙ sym (ap all_to_call top)) (none_events events none)
 went_tells script budget s w events after k low (Commanded command a b below v is takes hb done) =
-    subst (λ (z : World). Tells s z events after) (sym is) (done_tells script s command a b below v events after (subst (λ (z : World). s < z.next_serial) is low) (taken_to_call command a b takes) hb done)
+    subst (λ (z : World). Tells s z events after) (sym is) (done_tells script s command a b below v events after (subst (λ (z : World). s < z.next_serial) is
+    low) (taken_to_call command a b takes) hb done)

@@ -50,7 +50,8 @@ not_true false i = refl
 
 pub others_told : (e : Exit) (names : List ℕ) → others_pass e names ≡ true → AreOthers e names
 others_told e [] passes name m = absurd m
-others_told e (t ∷ names) passes name (inl is) = λ own. let p = not_true (includes (names_of e) t) (true_and (not (includes (names_of e) t)) (others_pass e names) passes).0 in let no : true ≡ false = sym (includes-of (names_of e) t (subst (Includes (names_of e)) (sym is) own)) ∙ p in cc
+others_told e (t ∷ names) passes name (inl is) = λ own. let p = not_true (includes (names_of e) t) (true_and (not (includes (names_of e) t))
+    (others_pass e names) passes).0 in let no : true ≡ false = sym (includes-of (names_of e) t (subst (Includes (names_of e)) (sym is) own)) ∙ p in cc
 others_told e (t ∷ names) passes name (inr m) = others_told e names (true_and (not (includes (names_of e) t)) (others_pass e names) passes).1 name m
 
 other_told : (e : Exit) (command : Command) → other_passes e command ≡ true → IsOther e command
@@ -68,8 +69,10 @@ all_told e (c ∷ commands) passes command (inr m) = all_told e commands (true_a
 
 pub bodies_told : (e : Exit) (n : ℕ) (procs : List Proc) → bodies_pass e n procs ≡ true → (i : ℕ) → n + i ≢ e.proc → AllOther e (unwrap_or (option_map (λ (x : Proc). x.body) (slice_get procs i)) [])
 bodies_told e n [] passes i apart = λ command m. absurd m
-bodies_told e n (p ∷ procs) passes zero apart = either (true_or (n == e.proc) (all_pass e p.body) (true_and (n == e.proc || all_pass e p.body) (bodies_pass e (n + 1) procs) passes).0) (λ t. absurd (apart (let same = eqb-true n e.proc t in omega (arith, same)))) (all_told e p.body)
-bodies_told e n (p ∷ procs) passes (suc i) apart = bodies_told e (n + 1) procs (true_and (n == e.proc || all_pass e p.body) (bodies_pass e (n + 1) procs) passes).1 i (λ same. apart (omega (arith, same)))
+bodies_told e n (p ∷ procs) passes zero apart = either (true_or (n == e.proc) (all_pass e p.body) (true_and (n == e.proc || all_pass e p.body)
+    (bodies_pass e (n + 1) procs) passes).0) (λ t. absurd (apart (let same = eqb-true n e.proc t in omega (arith, same)))) (all_told e p.body)
+bodies_told e n (p ∷ procs) passes (suc i) apart = bodies_told e (n + 1) procs (true_and (n == e.proc || all_pass e p.body) (bodies_pass e (n + 1) procs)
+    passes).1 i (λ same. apart (omega (arith, same)))
 
 pub classes_told : (p : ℕ) (class : ClassDef) → Includes (classes their_script.items) class → (class.del ≢ Some p) × (class.legacy ≢ Some p)
 classes_told p class (inl is) = subst (λ (c : ClassDef). (c.del ≢ Some p) × (c.legacy ≢ Some p)) is (λ i. cc, λ i. cc)
@@ -130,11 +133,13 @@ none_calls (command ∷ commands) = not (calls command) && none_calls commands
 
 apart_told : (commands : List Command) → none_calls commands ≡ true → (command : Command) → Includes commands command → calls command ≡ true → ⊥
 apart_told [] passes command m t = m
-apart_told (c ∷ commands) passes command (inl is) t = let n = not_true (calls c) (true_and (not (calls c)) (none_calls commands) passes).0 in let no : true ≡ false = sym t ∙ ap calls (sym is) ∙ n in cc
+apart_told (c ∷ commands) passes command (inl is) t = let n = not_true (calls c) (true_and (not (calls c)) (none_calls commands) passes).0 in let no : true
+    ≡ false = sym t ∙ ap calls (sym is) ∙ n in cc
 apart_told (c ∷ commands) passes command (inr m) t = apart_told commands (true_and (not (calls c)) (none_calls commands) passes).1 command m t
 
 the_lines : List Command
-the_lines = MakeFunc 2 0 [] ∷ MakeInst 3 0 ∷ MakeInst 4 0 ∷ MakeFunc 9 1 [] ∷ Bind 8 (Name 2) ∷ MakeRef 7 (Name 3) (Name 8) ∷ MakeFunc 14 2 [] ∷ Bind 13 (Name 2) ∷ MakeRef 12 (Name 4) (Name 13) ∷ Del 3 ∷ Print (StrWord 6) ∷ []
+the_lines = MakeFunc 2 0 [] ∷ MakeInst 3 0 ∷ MakeInst 4 0 ∷ MakeFunc 9 1 [] ∷ Bind 8 (Name 2) ∷ MakeRef 7 (Name 3) (Name 8) ∷ MakeFunc 14 2 []
+    ∷ Bind 13 (Name 2) ∷ MakeRef 12 (Name 4) (Name 13) ∷ Del 3 ∷ Print (StrWord 6) ∷ []
 
 pub both : HasBoth
 unfolding the_lines

@@ -160,7 +160,8 @@ pub record CallsFall (script : Script) (budget : ℕ) (steps : List StepTaken) (
 
 -- This holds in every run of a fit script.
 abbrev pub ExitsAreCalledLastFirstIn : (Script → Type 0) → Type 0
-ExitsAreCalledLastFirstIn Fit = (script : Script) (budget : ℕ) (steps : List StepTaken) → Fit script → IsRun script budget steps → (exits : List Exit) → (a : AreExits script exits) → CallsFall script budget steps a.lines exits
+ExitsAreCalledLastFirstIn Fit = (script : Script) (budget : ℕ) (steps : List StepTaken) → Fit script → IsRun script budget steps → (exits : List Exit)
+    → (a : AreExits script exits) → CallsFall script budget steps a.lines exits
 
 -- the same for each script that names only its own texts
 abbrev pub ExitsAreCalledLastFirst : Type 0

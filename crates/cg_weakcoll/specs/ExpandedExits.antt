@@ -21,7 +21,8 @@ pub record IsExitOf (texts : List (List ℕ)) (items : List Item) (l : ℕ) (lin
 -- these belong to the `finalize` lines among some lines, in order, where the first line has this number
 pub data AreExitsOf (texts : List (List ℕ)) (items : List Item) : ℕ → List (List ℕ) → List Exit → Type 0 where
   NoLine : (l : ℕ) → AreExitsOf texts items l [] []
-  Finalizes : (l : ℕ) (line : List ℕ) (lines : List (List ℕ)) (e : Exit) (exits : List Exit) → finalizes line ≡ true → IsExitOf texts items l line e → AreExitsOf texts items (l + 1) lines exits → AreExitsOf texts items l (line ∷ lines) (e ∷ exits)
+  Finalizes : (l : ℕ) (line : List ℕ) (lines : List (List ℕ)) (e : Exit) (exits : List Exit) → finalizes line ≡ true → IsExitOf texts items l line e
+      → AreExitsOf texts items (l + 1) lines exits → AreExitsOf texts items l (line ∷ lines) (e ∷ exits)
   Other : (l : ℕ) (line : List ℕ) (lines : List (List ℕ)) (exits : List Exit) → finalizes line ≡ false → AreExitsOf texts items (l + 1) lines exits → AreExitsOf texts items l (line ∷ lines) exits
 
 -- a script has the exit finalizers of these lines

@@ -69,7 +69,8 @@ pub record HasStore (texts : List (List ℕ)) (items : List Item) (temporary map
 
 -- A script with the three lines has these commands.
 abbrev pub StoreLinesAreCommands : Type 0
-StoreLinesAreCommands = (bytes : List ℕ) (texts : List (List ℕ)) (items : List Item) → reading bytes ≡ spells texts items → (temporary map key v : List ℕ) → is_variable temporary ≡ true → is_value map ≡ true
+StoreLinesAreCommands = (bytes : List ℕ) (texts : List (List ℕ)) (items : List Item) → reading bytes ≡ spells texts items → (temporary map key v : List ℕ)
+    → is_variable temporary ≡ true → is_value map ≡ true
     → HasLines bytes (temporary ∷ codes "=" ∷ codes "ref" ∷ v ∷ []) (codes "put" ∷ map ∷ key ∷ temporary ∷ []) (codes "del" ∷ temporary ∷ []) → HasStore texts items temporary map key v
 
 -- In the script that an expansion spells, each `wget` line has its commands.

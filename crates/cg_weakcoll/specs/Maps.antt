@@ -109,7 +109,8 @@ pub record Misses (w : World) (x : ℕ) (map key : Operand) (first : StepTaken) 
 
 -- Then the variable is none, in each fit script.
 abbrev pub MissesLeaveNoneIn : (Script → Type 0) → Type 0
-MissesLeaveNoneIn Fit = (script : Script) (budget : ℕ) (before : List StepTaken) (first : StepTaken) (early : List StepTaken) (second : StepTaken) → Fit script → IsRun script budget (before ++ first ∷ early ++ second ∷ [])
+MissesLeaveNoneIn Fit = (script : Script) (budget : ℕ) (before : List StepTaken) (first : StepTaken) (early : List StepTaken) (second : StepTaken) → Fit script
+    → IsRun script budget (before ++ first ∷ early ++ second ∷ [])
     → (x : ℕ) (map key : Operand) → Misses (world_after script budget before) x map key first early second → value_of second.world (Name x) ≡ Some Nothing
 
 -- the same for each script that names only its own texts
@@ -180,7 +181,8 @@ since_making store between = store.early ++ store.second ∷ between
 -- A `wget` finds what a `wset` put into a map, while the entry has it, exactly if it was not cleared since it was
 -- made.
 abbrev pub WeakMapsAnswer : Type 0
-WeakMapsAnswer = (script : Script) (budget : ℕ) (before : List StepTaken) (store : MapStore) (between : List StepTaken) (look : Look) → IsRun script budget (before ++ store.first ∷ since_making store between ++ steps_of look)
+WeakMapsAnswer = (script : Script) (budget : ℕ) (before : List StepTaken) (store : MapStore) (between : List StepTaken) (look : Look)
+    → IsRun script budget (before ++ store.first ∷ since_making store between ++ steps_of look)
     → (temporary : ℕ) (stored_map stored_key v : Operand) (weak object : ℕ) → Stores (world_after script budget before) temporary stored_map stored_key v store weak object
     → (x : ℕ) (map key : Operand) → Looks (world_after script budget (before ++ store.first ∷ since_making store between)) x map key look → IsUnder (before_second look) map key weak
     → LookAnswers (events_of (since_making store between ++ steps_before_third look)) weak object x look.third.world

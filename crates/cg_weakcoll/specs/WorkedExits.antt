@@ -27,7 +27,8 @@ the_second = record { proc = 2; object = 11; exit = 14; function = 13; watch = 1
 -- what its expansion spells; the string has number 6, and so has the name
 abbrev pub their_script : Script
 their_script = record {
-  names = codes "p" ∷ codes "C" ∷ codes "f" ∷ codes "a" ∷ codes "b" ∷ codes "wv_p_8" ∷ codes "wv_o_8" ∷ codes "wv_w_8" ∷ codes "wv_f_8" ∷ codes "wv_g_8" ∷ codes "wv_p_9" ∷ codes "wv_o_9" ∷ codes "wv_w_9" ∷ codes "wv_f_9" ∷ codes "wv_g_9" ∷ [];
+  names = codes "p" ∷ codes "C" ∷ codes "f" ∷ codes "a" ∷ codes "b" ∷ codes "wv_p_8" ∷ codes "wv_o_8" ∷ codes "wv_w_8" ∷ codes "wv_f_8" ∷ codes "wv_g_8"
+      ∷ codes "wv_p_9" ∷ codes "wv_o_9" ∷ codes "wv_w_9" ∷ codes "wv_f_9" ∷ codes "wv_g_9" ∷ [];
   items = Def (record { name = 0; body = Print (IntWord (pos 5)) ∷ [] }) ∷ Class (record { name = 1; del = None; legacy = None }) ∷ Line (MakeFunc 2 0 []) ∷ Line (MakeInst 3 0) ∷ Line (MakeInst 4 0)
       ∷ Def (record { name = 5; body = exit_body the_first }) ∷ Line (MakeFunc 9 1 []) ∷ Line (Bind 8 (Name 2)) ∷ Line (MakeRef 7 (Name 3) (Name 8))
       ∷ Def (record { name = 10; body = exit_body the_second }) ∷ Line (MakeFunc 14 2 []) ∷ Line (Bind 13 (Name 2)) ∷ Line (MakeRef 12 (Name 4) (Name 13))

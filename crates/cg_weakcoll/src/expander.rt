@@ -18,7 +18,8 @@ struct Draft {
     inside: bool,
 }
 
-/// Takes the line with this number, or answers what is wrong with it. All lines share one list for their words.
+/// Takes the line with this number, or answers what is wrong with it. All lines share one list for
+/// their words.
 fn take_line<'a>(
     draft: &mut Draft,
     number: u32,
@@ -26,9 +27,12 @@ fn take_line<'a>(
     words: &mut Vec<&'a [u8]>,
 ) -> Result<Option<u8>, AllocError>
     ensures fault { IfOk result (λ code. code ≡ fault_of draft.old.inside number line.now) }
-    ensures text { result ≡ Ok None → draft.new.text.items ≡ draft.old.text.items ++ with_feeds (written number line.now) }
-    ensures finalizes { result ≡ Ok None → draft.new.finalizes.items ≡ draft.old.finalizes.items ++ finalize_number number line.now }
-    ensures inside { result ≡ Ok None → draft.new.inside ≡ inside_after draft.old.inside (words_of line.now) }
+    ensures text { result ≡ Ok None → draft.new.text.items ≡ draft.old.text.items
+        ++ with_feeds (written number line.now) }
+    ensures finalizes { result ≡ Ok None → draft.new.finalizes.items ≡ draft.old.finalizes.items
+        ++ finalize_number number line.now }
+    ensures inside { result ≡ Ok None → draft.new.inside ≡ inside_after draft.old.inside
+        (words_of line.now) }
 {
     find_words(line, words)?;
     let words = words.as_slice();
@@ -48,9 +52,12 @@ fn take_line<'a>(
 fn take_lines(draft: &mut Draft, alloc: Global, bytes: &[u8]) -> Result<(), ScriptFault>
     requires few { length bytes.now < 4294967295 }
     ensures good { OnOk result (first_bad_from draft.old.inside 1 (lines_of bytes.now) ≡ None) }
-    ensures fault { IfErr result (λ fault. IsFirstBad fault (first_bad_from draft.old.inside 1 (lines_of bytes.now))) }
-    ensures text { OnOk result (draft.new.text.items ≡ draft.old.text.items ++ with_feeds (written_from 1 (lines_of bytes.now))) }
-    ensures finalizes { OnOk result (draft.new.finalizes.items ≡ draft.old.finalizes.items ++ finalize_numbers_from 1 (lines_of bytes.now)) }
+    ensures fault { IfErr result (λ fault. IsFirstBad fault (first_bad_from draft.old.inside 1
+        (lines_of bytes.now))) }
+    ensures text { OnOk result (draft.new.text.items ≡ draft.old.text.items
+        ++ with_feeds (written_from 1 (lines_of bytes.now))) }
+    ensures finalizes { OnOk result (draft.new.finalizes.items ≡ draft.old.finalizes.items
+        ++ finalize_numbers_from 1 (lines_of bytes.now)) }
 {
     let mut number: u32 = 1;
     let mut rest = bytes;
@@ -71,7 +78,8 @@ fn take_lines(draft: &mut Draft, alloc: Global, bytes: &[u8]) -> Result<(), Scri
 
 /// The text, with the final calls appended.
 fn finish(draft: Draft) -> Result<Vec<u8>, ScriptFault>
-    ensures text { IfOk result (λ text. text.items ≡ draft.text.items ++ with_feeds (call_lines draft.finalizes.items)) }
+    ensures text { IfOk result (λ text. text.items ≡ draft.text.items
+        ++ with_feeds (call_lines draft.finalizes.items)) }
     ensures memory { OnErr result (result ≡ Err ScriptFault.OutOfMemory) }
 {
     let mut text = draft.text;
@@ -81,15 +89,16 @@ fn finish(draft: Draft) -> Result<Vec<u8>, ScriptFault>
     }
 }
 
-/// The expansion of an extended script. Lines with weak value maps and exit finalizers become lines of the base language, all
-/// others are copied, and at the end comes a call for each exit finalizer, last one first. Lines end with line feeds and count
-/// from 1.
+/// The expansion of an extended script. Lines with weak value maps and exit finalizers become lines
+/// of the base language, all others are copied, and at the end comes a call for each exit
+/// finalizer, last one first. Lines end with line feeds and count from 1.
 ///
-/// `Bad` has the first bad line and its code. For a line with `wmap`, `wset`, `wget`, `wdrop` or `finalize`: 1 if it has a byte
-/// that is not printable ASCII, 5 if it is longer than 1,000 bytes or comes after the first 400,000 lines, 3 if it has the wrong
-/// number of words, 4 if a word has the wrong form for its place or a look-up names its own variable, 7 if a `finalize` is inside
-/// a procedure. For any line: 4 if a word begins with `wv_`, `del=wv_` or `legacy=wv_`. `OutOfMemory` may come for any bytes.
-/// (Ours.)
+/// `Bad` has the first bad line and its code. For a line with `wmap`, `wset`, `wget`, `wdrop` or
+/// `finalize`: 1 if it has a byte that is not printable ASCII, 5 if it is longer than 1,000 bytes
+/// or comes after the first 400,000 lines, 3 if it has the wrong number of words, 4 if a word has
+/// the wrong form for its place or a look-up names its own variable, 7 if a `finalize` is inside a
+/// procedure. For any line: 4 if a word begins with `wv_`, `del=wv_` or `legacy=wv_`. `OutOfMemory`
+/// may come for any bytes. (Ours.)
 #[tactic(auto, unfolding(crate::specs::Expansion::first_bad))]
 pub fn expand(alloc: Global, bytes: &[u8]) -> Result<Vec<u8>, ScriptFault>
     requires few { length bytes.now < 4294967295 }

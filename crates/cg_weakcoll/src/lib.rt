@@ -1,7 +1,8 @@
 //! Weak value maps and exit finalizers: extended scripts, expanded to scripts of the base language.
 //!
-//! The layer above uses `expand`: it answers the expansion of some bytes by `specs/Expansion`, or their first bad line. The
-//! laws say what weak value maps answer in every run of the machine, and when the functions of exit finalizers begin.
+//! The layer above uses `expand`: it answers the expansion of some bytes by `specs/Expansion`, or
+//! their first bad line. The laws say what weak value maps answer in every run of the machine, and
+//! when the functions of exit finalizers begin.
 #![tactic(auto)]
 
 mod exit_laws;

@@ -30,7 +30,8 @@ fn write_word(out: &mut Vec<u8>, word: Word<'_>) -> Result<(), AllocError>
 }
 
 fn write_behind(out: &mut Vec<u8>, words: &[Word<'_>]) -> Result<(), AllocError>
-    ensures { OnOk result (out.new.items ≡ out.old.items ++ flat_map behind_space (map word_bytes words.now)) }
+    ensures { OnOk result (out.new.items ≡ out.old.items ++ flat_map behind_space
+        (map word_bytes words.now)) }
 {
     'words: for word in words {
         out.push(b' ')?;
@@ -41,7 +42,8 @@ fn write_behind(out: &mut Vec<u8>, words: &[Word<'_>]) -> Result<(), AllocError>
 
 /// Writes a line of these words, with one space between them.
 fn write_words(out: &mut Vec<u8>, words: &[Word<'_>]) -> Result<(), AllocError>
-    ensures { OnOk result (out.new.items ≡ out.old.items ++ with_feed (joined (map word_bytes words.now))) }
+    ensures { OnOk result (out.new.items ≡ out.old.items
+        ++ with_feed (joined (map word_bytes words.now))) }
 {
     if let Some((first, others)) = words.split_first() {
         write_word(out, *first)?;
@@ -63,7 +65,8 @@ fn write_lines(out: &mut Vec<u8>, lines: &[&[Word<'_>]]) -> Result<(), AllocErro
 
 /// Writes `x = wmap`.
 fn write_wmap(out: &mut Vec<u8>, x: &[u8]) -> Result<(), AllocError>
-    ensures { OnOk result (out.new.items ≡ out.old.items ++ with_feeds (map joined (wmap_lines x.now))) }
+    ensures { OnOk result (out.new.items ≡ out.old.items
+        ++ with_feeds (map joined (wmap_lines x.now))) }
 {
     write_lines(
         out,
@@ -79,7 +82,8 @@ fn write_wset<'a>(
     key: &'a [u8],
     value: &'a [u8],
 ) -> Result<(), AllocError>
-    ensures { OnOk result (out.new.items ≡ out.old.items ++ with_feeds (map joined (wset_lines number dict.now key.now value.now))) }
+    ensures { OnOk result (out.new.items ≡ out.old.items
+        ++ with_feeds (map joined (wset_lines number dict.now key.now value.now))) }
 {
     let weak = Word::Own(b"wv_", number);
     write_lines(
@@ -104,7 +108,8 @@ fn write_wget<'a>(
     dict: &'a [u8],
     key: &'a [u8],
 ) -> Result<(), AllocError>
-    ensures { OnOk result (out.new.items ≡ out.old.items ++ with_feeds (map joined (wget_lines x.now dict.now key.now))) }
+    ensures { OnOk result (out.new.items ≡ out.old.items
+        ++ with_feeds (map joined (wget_lines x.now dict.now key.now))) }
 {
     write_lines(
         out,
@@ -129,7 +134,8 @@ fn write_wget<'a>(
 
 /// Writes `wdrop M k`.
 fn write_wdrop<'a>(out: &mut Vec<u8>, dict: &'a [u8], key: &'a [u8]) -> Result<(), AllocError>
-    ensures { OnOk result (out.new.items ≡ out.old.items ++ with_feeds (map joined (wdrop_lines dict.now key.now))) }
+    ensures { OnOk result (out.new.items ≡ out.old.items
+        ++ with_feeds (map joined (wdrop_lines dict.now key.now))) }
 {
     write_lines(
         out,
@@ -139,7 +145,8 @@ fn write_wdrop<'a>(out: &mut Vec<u8>, dict: &'a [u8], key: &'a [u8]) -> Result<(
 
 /// Writes the procedure of a `finalize` line.
 fn write_exit(out: &mut Vec<u8>, number: u32) -> Result<(), AllocError>
-    ensures { OnOk result (out.new.items ≡ out.old.items ++ with_feeds (map joined (exit_lines number))) }
+    ensures { OnOk result (out.new.items ≡ out.old.items
+        ++ with_feeds (map joined (exit_lines number))) }
 {
     let object = Word::Own(b"wv_o_", number);
     let watch = Word::Own(b"wv_w_", number);
@@ -157,15 +164,16 @@ fn write_exit(out: &mut Vec<u8>, number: u32) -> Result<(), AllocError>
     )
 }
 
-/// Writes what follows the procedure: its function, the function to call, and the weak reference with the
-/// callback.
+/// Writes what follows the procedure: its function, the function to call, and the weak reference
+/// with the callback.
 fn write_watch<'a>(
     out: &mut Vec<u8>,
     number: u32,
     object: &'a [u8],
     function: &'a [u8],
 ) -> Result<(), AllocError>
-    ensures { OnOk result (out.new.items ≡ out.old.items ++ with_feeds (map joined (watch_lines number object.now function.now))) }
+    ensures { OnOk result (out.new.items ≡ out.old.items
+        ++ with_feeds (map joined (watch_lines number object.now function.now))) }
 {
     let own = Word::Own(b"wv_f_", number);
     write_lines(
@@ -196,7 +204,8 @@ fn write_finalize(
     object: &[u8],
     function: &[u8],
 ) -> Result<(), AllocError>
-    ensures { OnOk result (out.new.items ≡ out.old.items ++ with_feeds (map joined (finalize_lines number object.now function.now))) }
+    ensures { OnOk result (out.new.items ≡ out.old.items
+        ++ with_feeds (map joined (finalize_lines number object.now function.now))) }
 {
     write_exit(out, number)?;
     write_watch(out, number, object, function)?;
@@ -205,7 +214,8 @@ fn write_finalize(
 
 /// Writes the expansion of the line with this number, this form and these words.
 fn write_form(out: &mut Vec<u8>, form: Form, number: u32, words: &[&[u8]]) -> Result<(), AllocError>
-    ensures { OnOk result (out.new.items ≡ out.old.items ++ with_feeds (map joined (form_lines form number (map (λ w. w.now) words.now)))) }
+    ensures { OnOk result (out.new.items ≡ out.old.items
+        ++ with_feeds (map joined (form_lines form number (map (λ w. w.now) words.now)))) }
 {
     match form {
         Form::MakeMap => write_wmap(out, word_in(words, 0)),
@@ -239,7 +249,8 @@ pub(crate) fn write_line(
     line: &[u8],
     words: &[&[u8]],
 ) -> Result<(), AllocError>
-    ensures { OnOk result (out.new.items ≡ out.old.items ++ with_feeds (written_by form number line.now (map (λ w. w.now) words.now))) }
+    ensures { OnOk result (out.new.items ≡ out.old.items
+        ++ with_feeds (written_by form number line.now (map (λ w. w.now) words.now))) }
 {
     match form {
         Some(form) => write_form(out, form, number, words),

@@ -30,7 +30,8 @@ unfolding clap_on_literals
 line_is_free = refl
 
 -- the chosen subcommand, by its name and its rows
-pub entered : {Z : Type 0} (o : Option (Box SubCommand Z)) (name : Text) (rows : List Row) → Some name ≡ option_map (λ b. (out-SubCommand (box_value b)).name.now) o → Some rows ≡ option_map (λ p. p.1) (subcommand_rows o)
+pub entered : {Z : Type 0} (o : Option (Box SubCommand Z)) (name : Text) (rows : List Row) → Some name
+    ≡ option_map (λ b. (out-SubCommand (box_value b)).name.now) o → Some rows ≡ option_map (λ p. p.1) (subcommand_rows o)
     → subcommand_rows o ≡ Some (name, rows)
 entered None name rows n r = absurd (cc)
 entered (Some b) name rows n r =

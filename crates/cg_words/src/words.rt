@@ -166,12 +166,13 @@ fn job_in_matches(matches: &ArgMatches<'_>) -> Option<Job>
     }
 }
 
-/// What the arguments ask for: `run` for a run, `run --budget N` for a run with a budget of N frames (one to six digits, 0 to
-/// 100,000), `generate N` for the generated script of N blocks (one to six digits, 1 to 10,000), `expand` for the expansion of
-/// an extended script, and `record` for the records of a run.
+/// What the arguments ask for: `run` for a run, `run --budget N` for a run with a budget of N
+/// frames (one to six digits, 0 to 100,000), `generate N` for the generated script of N blocks (one
+/// to six digits, 1 to 10,000), `expand` for the expansion of an extended script, and `record` for
+/// the records of a run.
 ///
-/// `clap` parses the arguments. Answers `None` if clap refuses them or N has another form or range, and `AllocError` only if
-/// memory runs out. (Ours.)
+/// `clap` parses the arguments. Answers `None` if clap refuses them or N has another form or range,
+/// and `AllocError` only if memory runs out. (Ours.)
 pub fn read_words(alloc: Global, words: &[String]) -> Result<Option<Job>, AllocError>
     ensures job { IfOk result (λ job. job ≡ asked (map string_bytes words.now)) }
     ensures range { IfOk result (λ job. IfSome job IsInRange) }

@@ -8,7 +8,8 @@ pub returns-in-Ok-clause-write : goal.returns-in-Ok-clause-write
 returns-in-Ok-clause-write g c = λ e. record {
   text = expansion c.args.bytes.now;
   row = expansion_text c.requires.few c.in-Ok.ensures.good;
-  wrote = subst (λ (t : List ℕ). AppendsFront (g.K.Sink.written c.args.sink.now) (g.K.Sink.written c.tell_text.new.sink) t) (c.as_slice.ensures.value ∙ c.in-Ok.ensures.ok) (c.tell_text.ensures.write e);
+  wrote = subst (λ (t : List ℕ). AppendsFront (g.K.Sink.written c.args.sink.now) (g.K.Sink.written c.tell_text.new.sink) t) (c.as_slice.ensures.value
+      ∙ c.in-Ok.ensures.ok) (c.tell_text.ensures.write e);
 }
 
 pub returns-in-Err-Bad-clause-bad_script : goal.returns-in-Err-Bad-clause-bad_script

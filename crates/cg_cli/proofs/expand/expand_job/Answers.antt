@@ -8,7 +8,8 @@ pub returns-in-Ok : goal.returns-in-Ok
 returns-in-Ok g c =
     subst (λ snk. ExpandAnswers c.expand_in_hand.result
     (outside (g.S.Source.left c.args.source.now) (g.S.Source.faults c.args.source.now) (g.K.Sink.written snk) (g.K.Sink.faults snk))
-    (outside (g.S.Source.left c.read_whole.new.source) (g.S.Source.faults c.read_whole.new.source) (g.K.Sink.written c.expand_in_hand.new.sink) (g.K.Sink.faults c.expand_in_hand.new.sink))) c.in-Ok.ensures.nothing
+    (outside (g.S.Source.left c.read_whole.new.source) (g.S.Source.faults c.read_whole.new.source) (g.K.Sink.written c.expand_in_hand.new.sink)
+    (g.K.Sink.faults c.expand_in_hand.new.sink))) c.in-Ok.ensures.nothing
     (expand_answers c.expand_in_hand.result
     (outside (g.S.Source.left c.args.source.now) (g.S.Source.faults c.args.source.now) (g.K.Sink.written c.read_whole.new.sink) (g.K.Sink.faults c.read_whole.new.sink))
     (outside (g.S.Source.left c.read_whole.new.source) (g.S.Source.faults c.read_whole.new.source) (g.K.Sink.written c.expand_in_hand.new.sink) (g.K.Sink.faults c.expand_in_hand.new.sink))
@@ -22,7 +23,8 @@ returns-in-Err g c =
     expand_unread c.in-Err.status
     (outside (g.S.Source.left c.args.source.now) (g.S.Source.faults c.args.source.now) (g.K.Sink.written c.args.sink.now) (g.K.Sink.faults c.args.sink.now))
     (outside (g.S.Source.left c.read_whole.new.source) (g.S.Source.faults c.read_whole.new.source) (g.K.Sink.written c.read_whole.new.sink) (g.K.Sink.faults c.read_whole.new.sink))
-    f.only (λ e. f.too_large (ap Err e)) (λ e. f.taken (ap Err e)) (λ e. f.read_cause (ap Err e)) (λ e. f.read (ap Err e)) (λ e. f.write_cause (ap Err e)) (λ e. f.write (ap Err e)) (λ e. f.memory (ap Err e))
+    f.only (λ e. f.too_large (ap Err e)) (λ e. f.taken (ap Err e)) (λ e. f.read_cause (ap Err e)) (λ e. f.read (ap Err e)) (λ e. f.write_cause (ap Err e))
+    (λ e. f.write (ap Err e)) (λ e. f.memory (ap Err e))
     (λ e. elim e [
       | inl is ↦ f.many (inl (ap Err is))
       | inr is ↦ f.many (inr (ap Err is))

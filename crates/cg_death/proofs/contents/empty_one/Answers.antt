@@ -35,5 +35,6 @@ returns-in-Some g c = λ script. record {
 pub returns-in-None : goal.returns-in-None
 returns-in-None g c = λ script.
     let new_is = c.free.ensures ∙ ap (gone c.args.object) c.in-None.ensures.none in
-    tells script c.args.heap.now _ c.free.new.self new_is c.args.object phase_of.Emptying phase_of.Over c.tells.result (rest-gone c.args.object c.args.heap.now) (steady-gone script c.args.heap.now c.args.object) (Free c.args.object) c.tells.ensures
+    tells script c.args.heap.now _ c.free.new.self new_is c.args.object phase_of.Emptying phase_of.Over c.tells.result (rest-gone c.args.object c.args.heap.now)
+    (steady-gone script c.args.heap.now c.args.object) (Free c.args.object) c.tells.ensures
     (turn-gone script c.args.heap.now c.free.new.self c.args.object c.requires.unheld.none (c.in-None.ensures.empty.0 refl) new_is) refl

@@ -13,8 +13,10 @@ use Rattle.cg_death.proofs.finalizers.end_finalizer.Goals as goal
 pub returns-then-is_unheld_now : goal.returns-then-is_unheld_now
 returns-then-is_unheld_now g c = λ script.
     let none = c.is_unheld_now.ensures.answer.0 c.if-is_unheld_now.true in
-    let new_is = c.is_unheld_now.ensures.rest ∙ ap (λ b. if b then moved c.args.object Untracked (unheld (c.args.object ∷ []) c.args.heap.now) else unheld (c.args.object ∷ []) c.args.heap.now) c.if-is_unheld_now.true in
-    goes_on script c.args.heap.now _ c.is_unheld_now.new.heap new_is c.args.object phase_of.AfterFinalizer phase_of.Clearing c.to.result (rest-frame_ended true c.args.object Untracked c.args.heap.now) (steady-frame_ended script c.args.heap.now c.args.object c.requires none) c.to.ensures
+    let new_is = c.is_unheld_now.ensures.rest ∙ ap (λ b. if b then moved c.args.object Untracked (unheld (c.args.object ∷ []) c.args.heap.now)
+    else unheld (c.args.object ∷ []) c.args.heap.now) c.if-is_unheld_now.true in
+    goes_on script c.args.heap.now _ c.is_unheld_now.new.heap new_is c.args.object phase_of.AfterFinalizer phase_of.Clearing c.to.result
+    (rest-frame_ended true c.args.object Untracked c.args.heap.now) (steady-frame_ended script c.args.heap.now c.args.object c.requires none) c.to.ensures
     (turn-unheld_again script c.args.heap.now c.is_unheld_now.new.heap c.args.object none new_is) (omega arith) (λ over. absurd (cc))
 
 no : (b : Bool) → b ≡ false → IsTrue b → ⊥
@@ -23,7 +25,8 @@ no false e t = cc
 
 pub returns-else-is_unheld_now : goal.returns-else-is_unheld_now
 returns-else-is_unheld_now g c = λ script.
-    let new_is = c.is_unheld_now.ensures.rest ∙ ap (λ b. if b then moved c.args.object Untracked (unheld (c.args.object ∷ []) c.args.heap.now) else unheld (c.args.object ∷ []) c.args.heap.now) c.if-is_unheld_now.false in
+    let new_is = c.is_unheld_now.ensures.rest ∙ ap (λ b. if b then moved c.args.object Untracked (unheld (c.args.object ∷ []) c.args.heap.now)
+    else unheld (c.args.object ∷ []) c.args.heap.now) c.if-is_unheld_now.false in
     tells script c.args.heap.now _ c.is_unheld_now.new.heap new_is c.args.object phase_of.AfterFinalizer phase_of.Over c.tells.result (rest-frame_ended false c.args.object Untracked c.args.heap.now)
     (λ s. steady-over script (unheld (c.args.object ∷ []) c.args.heap.now) c.args.object s.no_own_row) (Alive c.args.object) c.tells.ensures
     (turn-brought_back script c.args.heap.now c.is_unheld_now.new.heap c.args.object (λ z. no c.is_unheld_now.result c.if-is_unheld_now.false (c.is_unheld_now.ensures.answer.1 z)) new_is) refl

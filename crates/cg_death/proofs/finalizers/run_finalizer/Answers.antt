@@ -20,7 +20,8 @@ set_finalized-requires g c =
 pub hold-requires-clause-live : goal.hold-requires-clause-live
 hold-requires-clause-live g c =
     subst (λ st. IsLive st c.args.object) (sym (c.set_finalized.ensures ∙ ap (with_node marked c.args.object) c.move_to.ensures))
-    (lives_on (moved c.args.object (Gen 0) c.args.heap.now) (with_node marked c.args.object (moved c.args.object (Gen 0) c.args.heap.now)) (kinds-with_node marked (λ n. refl) c.args.object (moved c.args.object (Gen 0) c.args.heap.now)) c.args.object
+    (lives_on (moved c.args.object (Gen 0) c.args.heap.now) (with_node marked c.args.object (moved c.args.object (Gen 0) c.args.heap.now))
+    (kinds-with_node marked (λ n. refl) c.args.object (moved c.args.object (Gen 0) c.args.heap.now)) c.args.object
     (lives_on c.args.heap.now (moved c.args.object (Gen 0) c.args.heap.now) (kinds-moved c.args.object (Gen 0) c.args.heap.now) c.args.object c.requires.unheld.live))
 
 pub hold-requires-clause-few : goal.hold-requires-clause-few
@@ -39,12 +40,15 @@ returns-then-is_plain g c =
 
 pub returns-in-None : goal.returns-in-None
 returns-in-None g c =
-    goes_on c.args.script.now c.args.heap.now _ _ refl c.args.object phase_of.Finalizer phase_of.Clearing c.to-in-None.result (rest-same c.args.heap.now) (steady-no_finalizer c.args.script.now c.args.heap.now c.args.object) c.to-in-None.ensures
+    goes_on c.args.script.now c.args.heap.now _ _ refl c.args.object phase_of.Finalizer phase_of.Clearing c.to-in-None.result (rest-same c.args.heap.now)
+    (steady-no_finalizer c.args.script.now c.args.heap.now c.args.object) c.to-in-None.ensures
     (turn-no_finalizer c.args.script.now c.args.heap.now c.args.heap.now c.args.object (sym c.in-None.ensures)) (omega arith) (λ over. absurd (cc))
 
 pub returns-in-Some : goal.returns-in-Some
 returns-in-Some g c =
     let new_is = c.hold.ensures ∙ ap (held (c.args.object ∷ [])) (c.set_finalized.ensures ∙ ap (with_node marked c.args.object) c.move_to.ensures) in
-    runs c.args.script.now c.args.heap.now _ c.hold.new.self new_is c.args.object phase_of.Finalizer phase_of.AfterFinalizer c.runs.result (rest-own_frame c.args.object (Gen 0) c.args.heap.now) (steady-finalizer c.args.script.now c.args.heap.now c.args.object)
+    runs c.args.script.now c.args.heap.now _ c.hold.new.self new_is c.args.object phase_of.Finalizer phase_of.AfterFinalizer c.runs.result
+    (rest-own_frame c.args.object (Gen 0) c.args.heap.now) (steady-finalizer c.args.script.now c.args.heap.now c.args.object)
     _ (c.runs.ensures ∙ ap (running phase_of.AfterFinalizer) c.finalizer_frame.ensures)
-    (turn-finalizer c.args.script.now c.args.heap.now c.hold.new.self c.args.object c.in-Some.proc (sym c.in-Some.ensures) c.requires.unheld.live c.requires.unheld.none new_is) refl refl (λ over. absurd (cc))
+    (turn-finalizer c.args.script.now c.args.heap.now c.hold.new.self c.args.object c.in-Some.proc (sym c.in-Some.ensures) c.requires.unheld.live
+    c.requires.unheld.none new_is) refl refl (λ over. absurd (cc))

@@ -15,6 +15,7 @@ returns-else-unhold-clause-leaves g c = subst (LeavesTheRest c.args.heap.now) (s
 
 pub returns-then-unhold-clause-died : goal.returns-then-unhold-clause-died
 returns-then-unhold-clause-died g c = record {
-  live = subst (λ st. IsLive st c.args.object) (sym c.unhold.ensures.less) (lives_on c.args.heap.now (unheld (c.args.object ∷ []) c.args.heap.now) (kinds-unheld (c.args.object ∷ []) c.args.heap.now) c.args.object (outside_live c.args.heap.now c.args.object c.requires));
+  live = subst (λ st. IsLive st c.args.object) (sym c.unhold.ensures.less) (lives_on c.args.heap.now (unheld (c.args.object ∷ []) c.args.heap.now)
+      (kinds-unheld (c.args.object ∷ []) c.args.heap.now) c.args.object (outside_live c.args.heap.now c.args.object c.requires));
   none = c.unhold.ensures.none.0 c.if-unhold.true;
 }

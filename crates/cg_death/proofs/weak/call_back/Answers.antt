@@ -26,7 +26,8 @@ take_callback-callback-requires-clause-callback g c = c.requires.callbacks c.arg
 pub forget_weak-requires-clause-live : goal.forget_weak-requires-clause-live
 forget_weak-requires-clause-live g c =
     subst (λ st. IsLive st c.args.weak) (sym c.take_callback-callback.ensures.rest)
-    (lives_on (rewritten c.args.weak [] c.args.heap.now) (held (c.take_callback-callback.result ∷ []) (rewritten c.args.weak [] c.args.heap.now)) (kinds-held (c.take_callback-callback.result ∷ []) (rewritten c.args.weak [] c.args.heap.now)) c.args.weak
+    (lives_on (rewritten c.args.weak [] c.args.heap.now) (held (c.take_callback-callback.result ∷ []) (rewritten c.args.weak [] c.args.heap.now))
+    (kinds-held (c.take_callback-callback.result ∷ []) (rewritten c.args.weak [] c.args.heap.now)) c.args.weak
     (lives_on c.args.heap.now (rewritten c.args.weak [] c.args.heap.now) (kinds-rewritten c.args.weak [] c.args.heap.now) c.args.weak
     (newest-waits c.args.heap.now c.args.object c.args.weak c.sound.ensures.rows c.requires.newest).1))
 
@@ -43,8 +44,10 @@ callback_frame-requires g c =
 pub returns : goal.returns
 returns g c = λ script.
     let f : ℕ = c.take_callback-callback.result in
-    let new_is : c.forget_weak.new.self ≡ forgotten_weak c.args.weak (held (f ∷ []) (rewritten c.args.weak [] c.args.heap.now)) = c.forget_weak.ensures ∙ ap (forgotten_weak c.args.weak) c.take_callback-callback.ensures.rest in
-    let proc_is = ap (λ (st : Store). unwrap_or (option_and_then (λ (x : Object). x.class) (object_at (objects_of st) f)) 0) new_is ∙ ap (λ k. unwrap_or k 0) (procedure-after c.args.heap.now c.args.weak f [] (f ∷ [])) in
+    let new_is : c.forget_weak.new.self ≡ forgotten_weak c.args.weak (held (f ∷ []) (rewritten c.args.weak [] c.args.heap.now)) = c.forget_weak.ensures
+    ∙ ap (forgotten_weak c.args.weak) c.take_callback-callback.ensures.rest in
+    let proc_is = ap (λ (st : Store). unwrap_or (option_and_then (λ (x : Object). x.class) (object_at (objects_of st) f)) 0) new_is ∙ ap (λ k. unwrap_or k 0)
+    (procedure-after c.args.heap.now c.args.weak f [] (f ∷ [])) in
     let frame_is = c.callback_frame.ensures ∙ ap (λ (p : ℕ). record { sort = Callback; proc = p; subject = c.args.weak; func = Some f }) proc_is in
     runs script c.args.heap.now _ c.forget_weak.new.self new_is c.args.object phase_of.Calling (phase_of.AfterCall c.args.weak f) c.runs.result (rest-called c.args.weak f c.args.heap.now)
     (steady-called script c.args.heap.now c.args.object c.args.weak f c.sound.ensures c.requires.newest c.take_callback-callback.ensures.callback)

@@ -8,5 +8,6 @@ use Rattle.cg_death.proofs.weak.call_one.Goals as goal
 
 pub returns-in-None : goal.returns-in-None
 returns-in-None g c = λ script.
-    goes_on script c.args.heap.now _ _ refl c.args.object phase_of.Calling phase_of.LegacyFinalizer c.to.result (rest-same c.args.heap.now) (steady-all_called script c.args.heap.now c.args.object (sym c.in-None.ensures)) c.to.ensures
+    goes_on script c.args.heap.now _ _ refl c.args.object phase_of.Calling phase_of.LegacyFinalizer c.to.result (rest-same c.args.heap.now)
+    (steady-all_called script c.args.heap.now c.args.object (sym c.in-None.ensures)) c.to.ensures
     (turn-all_called script c.args.heap.now c.args.object (sym c.in-None.ensures)) (omega arith) (λ over. absurd (cc))

@@ -21,4 +21,5 @@ returns-in-Some g c = λ script.
     let waits = is_some (callback_of (objects_of c.args.heap.now) c.in-Some.weak) in
     tells script c.args.heap.now _ c.lose_referent.new.heap c.lose_referent.ensures c.args.object phase_of.Clearing phase_of.Clearing c.tells.result (rest-lost waits c.in-Some.weak c.args.heap.now)
     (steady-cleared script c.args.heap.now c.args.object c.in-Some.weak c.sound.ensures c.in-Some.ensures.refers waits refl (sym c.in-Some.ensures.newest)) (Cleared c.in-Some.weak) c.tells.ensures
-    (turn-cleared script c.args.heap.now c.lose_referent.new.heap c.args.object c.in-Some.weak c.sound.ensures.rows c.in-Some.ensures.refers c.requires.newer (sym c.in-Some.ensures.newest) c.lose_referent.ensures) (c.in-Some.weak, refl)
+    (turn-cleared script c.args.heap.now c.lose_referent.new.heap c.args.object c.in-Some.weak c.sound.ensures.rows c.in-Some.ensures.refers c.requires.newer
+    (sym c.in-Some.ensures.newest) c.lose_referent.ensures) (c.in-Some.weak, refl)

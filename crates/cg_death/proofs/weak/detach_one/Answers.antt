@@ -15,6 +15,8 @@ returns-in-None g c =
 
 pub returns-in-Some : goal.returns-in-Some
 returns-in-Some g c =
-    tells c.args.script.now c.args.heap.now _ c.clear_weak.new.self c.clear_weak.ensures c.args.object phase_of.Detaching phase_of.Detaching c.tells.result (rest-lost false c.in-Some.weak c.args.heap.now)
+    tells c.args.script.now c.args.heap.now _ c.clear_weak.new.self c.clear_weak.ensures c.args.object phase_of.Detaching phase_of.Detaching c.tells.result
+    (rest-lost false c.in-Some.weak c.args.heap.now)
     (steady-detached c.args.script.now c.args.heap.now c.args.object c.in-Some.weak c.sound.ensures c.in-Some.ensures.refers) (Cleared c.in-Some.weak) c.tells.ensures
-    (turn-detached c.args.script.now c.args.heap.now c.clear_weak.new.self c.args.object c.in-Some.weak c.sound.ensures.rows c.in-Some.ensures.refers (sym c.in-Some.ensures.newest) c.clear_weak.ensures) (c.in-Some.weak, refl)
+    (turn-detached c.args.script.now c.args.heap.now c.clear_weak.new.self c.args.object c.in-Some.weak c.sound.ensures.rows c.in-Some.ensures.refers
+    (sym c.in-Some.ensures.newest) c.clear_weak.ensures) (c.in-Some.weak, refl)

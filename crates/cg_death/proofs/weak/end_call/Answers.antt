@@ -12,7 +12,9 @@ use Rattle.cg_death.proofs.weak.end_call.Goals as goal
 pub returns : goal.returns
 returns g c = λ script. record {
   steps =
-      subst (λ a. DeathSteps script c.args.heap.now (activities c.args.object (phase_of.AfterCall c.args.weak c.args.callback) None c.args.heap.now) c.give_up-answer.new.heap (activities c.args.object phase_of.Calling (Some c.of.result) c.give_up-answer.new.heap) a) (sym c.give_up-answer.ensures.answer)
+      subst (λ a. DeathSteps script c.args.heap.now (activities c.args.object (phase_of.AfterCall c.args.weak c.args.callback) None c.args.heap.now)
+      c.give_up-answer.new.heap (activities c.args.object phase_of.Calling (Some c.of.result) c.give_up-answer.new.heap) a) (sym
+      c.give_up-answer.ensures.answer)
       (turn-call_ended script c.args.heap.now c.args.object c.args.weak c.args.callback c.give_up-answer.new.heap c.of.result c.give_up-answer.ensures.rest c.of.ensures);
   answers = search rules;
   falls = λ e.

@@ -16,7 +16,8 @@ returns-in-Inst-clause-live g c = (newest-is c.args.heap.now c.args.object c.sou
 
 pub returns-in_default : goal.returns-in_default
 returns-in_default g c = record {
-  newest = none-if c.args.heap.now c.args.object c.sound.ensures.rows has_weak_references (not-supports-at c.args.heap.now c.args.object c.kind_of.result c.requires c.kind_of.ensures c.in_default.not-Inst c.in_default.not-Func);
+  newest = none-if c.args.heap.now c.args.object c.sound.ensures.rows has_weak_references (not-supports-at c.args.heap.now c.args.object c.kind_of.result
+      c.requires c.kind_of.ensures c.in_default.not-Inst c.in_default.not-Func);
   refers = tt;
   live = tt;
 }

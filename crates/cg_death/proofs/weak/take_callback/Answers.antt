@@ -15,7 +15,8 @@ pub unwrap-requires : goal.unwrap-requires
 unwrap-requires g c =
     let last : entries_of c.args.heap.now c.args.weak ≡ without_last (entries_of c.args.heap.now c.args.weak) ++ c.unwrap-entry.result ∷ [] =
     subst (λ r. IfSome r (λ e. entries_of c.args.heap.now c.args.weak ≡ without_last (entries_of c.args.heap.now c.args.weak) ++ e ∷ [])) c.unwrap-entry.ensures c.detach.ensures.last in
-    let entry : c.unwrap-entry.result ≡ item (Ref c.requires.callback.0) = entry-is (entries_of c.args.heap.now c.args.weak) (item (Ref c.requires.callback.0)) c.unwrap-entry.result c.requires.callback.1 last in
+    let entry : c.unwrap-entry.result ≡ item (Ref c.requires.callback.0) = entry-is (entries_of c.args.heap.now c.args.weak) (item (Ref c.requires.callback.0))
+    c.unwrap-entry.result c.requires.callback.1 last in
     subst IsSome (sym (c.reference_in.ensures ∙ ap (λ (e : Entry). reference_in e.val) entry)) refl
 
 pub returns-clause-callback : goal.returns-clause-callback
@@ -31,4 +32,5 @@ returns-clause-rest g c =
     taken-is c.args.heap.now c.detach.new.self c.args.weak c.unwrap.result c.unwrap-entry.result
     (callback-is c.args.heap.now c.args.weak c.requires.callback.0 c.unwrap.result c.unwrap-entry.result c.requires.callback.1 last (sym c.reference_in.ensures ∙ c.unwrap.ensures))
     last
-    (subst (λ r. IfSome r (λ e. c.detach.new.self ≡ held (entry_references e) (rewritten c.args.weak (without_last (entries_of c.args.heap.now c.args.weak)) c.args.heap.now))) c.unwrap-entry.ensures c.detach.ensures.rest)
+    (subst (λ r. IfSome r (λ e. c.detach.new.self ≡ held (entry_references e) (rewritten c.args.weak (without_last (entries_of c.args.heap.now c.args.weak))
+    c.args.heap.now))) c.unwrap-entry.ensures c.detach.ensures.rest)

@@ -5,7 +5,8 @@ use Rattle.cg_generator.proofs.line.value.Goals as goal
 pub digits-preserved : goal.digits-preserved
 digits-preserved c =
     record {
-      same = next_digit c.args.digits.now c.digits.digit-index c.digits.so_far c.from-unit.result c.saturating_add-so_far.result _ c.digits-test.true (c.from-unit.ensures ∙ c.saturating_sub.ensures) (omega (arith, c.saturating_add-so_far.ensures, c.saturating_mul.ensures)) c.digits.invariant.same;
+      same = next_digit c.args.digits.now c.digits.digit-index c.digits.so_far c.from-unit.result c.saturating_add-so_far.result _ c.digits-test.true
+          (c.from-unit.ensures ∙ c.saturating_sub.ensures) (omega (arith, c.saturating_add-so_far.ensures, c.saturating_mul.ensures)) c.digits.invariant.same;
       few = omega (arith, c.saturating_add-so_far.type_inv);
     }
 

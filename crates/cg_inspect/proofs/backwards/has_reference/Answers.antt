@@ -7,4 +7,8 @@ pub returns-then-holds-clause-found : goal.returns-then-holds-clause-found
 returns-then-holds-clause-found g c = sym (held_by_one (entries_of c.args.heap.now c.args.holder) c.entries.i c.look.result c.args.object c.look.ensures.entry (sym c.holds.ensures ∙ c.if-holds.true))
 
 pub entries-preserved : goal.entries-preserved
-entries-preserved g c = (held_by_next (entries_of c.args.heap.now c.args.holder) c.entries.i c.look.result c.args.object c.look.ensures.entry c.entries.invariant.0 (sym c.holds.ensures ∙ c.if-holds.false), omega (arith, c.entries.invariant.1, c.look.ensures.steps))
+entries-preserved g c = (
+  held_by_next (entries_of c.args.heap.now c.args.holder) c.entries.i c.look.result c.args.object c.look.ensures.entry
+      c.entries.invariant.0 (sym c.holds.ensures ∙ c.if-holds.false),
+  omega (arith, c.entries.invariant.1, c.look.ensures.steps),
+)

@@ -12,16 +12,23 @@ objects-preserved g c =
     elim c.if-is_held_else.branch [
       | then-is_held_else+in_ok-find w ↦
           let added = subst (λ m. FindsInOrder c.objects.found.entries (get_or c.args.objects.now c.objects.holder-index 0 ∷ []) None m.entries) (sym w.found-is) w.in_ok-find.ensures in (
-            start_held c.args.heap.now c.args.object c.args.objects.now c.objects.holder-index c.in_ok-numbers.numbers.entries c.objects-test.true c.in_ok-numbers.ensures.numbers c.is_held_else.result c.is_held_else.ensures c.objects.found.entries c.if-is_held_else.found.entries c.objects.invariant.0 w.if-is_held_else.true
+            start_held c.args.heap.now c.args.object c.args.objects.now c.objects.holder-index c.in_ok-numbers.numbers.entries c.objects-test.true
+                c.in_ok-numbers.ensures.numbers c.is_held_else.result c.is_held_else.ensures c.objects.found.entries c.if-is_held_else.found.entries
+                c.objects.invariant.0 w.if-is_held_else.true
                 added.finds,
-            roots_in_order (HeldElse c.args.heap.now c.args.object) c.args.objects.now c.objects.holder-index c.objects.found.entries c.if-is_held_else.found.entries (subst Ascends (sym c.requires) (ascends_serials c.args.heap.now)) c.objects-test.true c.objects.invariant.0 c.objects.invariant.1 added,
+            roots_in_order (HeldElse c.args.heap.now c.args.object) c.args.objects.now c.objects.holder-index c.objects.found.entries
+                c.if-is_held_else.found.entries (subst Ascends (sym c.requires) (ascends_serials c.args.heap.now)) c.objects-test.true c.objects.invariant.0
+                c.objects.invariant.1 added,
           )
       | else-is_held_else w ↦ (
-        start_unheld c.args.heap.now c.args.object c.args.objects.now c.objects.holder-index c.in_ok-numbers.numbers.entries c.objects-test.true c.in_ok-numbers.ensures.numbers c.is_held_else.result c.is_held_else.ensures c.objects.found.entries c.if-is_held_else.found.entries c.objects.invariant.0 w.if-is_held_else.false
+        start_unheld c.args.heap.now c.args.object c.args.objects.now c.objects.holder-index c.in_ok-numbers.numbers.entries c.objects-test.true
+            c.in_ok-numbers.ensures.numbers c.is_held_else.result c.is_held_else.ensures c.objects.found.entries c.if-is_held_else.found.entries
+            c.objects.invariant.0 w.if-is_held_else.false
             (ap (λ m. m.entries) w.found-is),
         subst (λ m. RiseBy (λ o. o) m.entries) (sym w.found-is) c.objects.invariant.1,
       )
     ]
 
 pub returns-clause-found : goal.returns-clause-found
-returns-clause-found g c = start_all c.args.heap.now c.sound.ensures.live c.args.object c.args.objects.now c.objects.holder-index c.objects.found.entries c.requires c.objects-test.false c.objects.invariant.0
+returns-clause-found g c = start_all c.args.heap.now c.sound.ensures.live c.args.object c.args.objects.now c.objects.holder-index c.objects.found.entries
+    c.requires c.objects-test.false c.objects.invariant.0

@@ -9,4 +9,5 @@ refs-requires g c = c.requires (get_or c.args.objects.now c.objects.object-index
 
 pub objects-preserved : goal.objects-preserved
 objects-preserved g c =
-    numbers_next (count_of c.args.heap.now) c.args.objects.now c.objects.object-index c.refs.result c.objects.numbers.entries c.set_number.new.numbers.entries c.objects-test.true c.objects.invariant c.refs.ensures.count c.in_ok-set_number.ensures
+    numbers_next (count_of c.args.heap.now) c.args.objects.now c.objects.object-index c.refs.result c.objects.numbers.entries c.set_number.new.numbers.entries
+    c.objects-test.true c.objects.invariant c.refs.ensures.count c.in_ok-set_number.ensures

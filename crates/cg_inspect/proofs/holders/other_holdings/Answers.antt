@@ -13,9 +13,11 @@ referents-requires g c = live_at c.args.heap.now c.args.objects.now c.objects.ob
 
 pub objects-preserved : goal.objects-preserved
 objects-preserved g c = (
-  lowered_next c.args.heap.now c.args.objects.now c.deref.result.now c.args.objects.now c.objects.object-index c.objects.numbers.entries c.lower_all.new.numbers.entries c.objects-test.true c.objects.invariant.0
+  lowered_next c.args.heap.now c.args.objects.now c.deref.result.now c.args.objects.now c.objects.object-index c.objects.numbers.entries
+      c.lower_all.new.numbers.entries c.objects-test.true c.objects.invariant.0
       (c.deref.ensures.value ∙ c.in_ok-references.ensures.listed) c.in_ok-lower_all.ensures,
-  looked_more c.args.heap.now c.args.objects.now c.objects.object-index c.args.steps.now c.objects.steps c.referents.new.steps c.objects-test.true c.objects.invariant.1 c.in_ok-references.ensures.looks,
+  looked_more c.args.heap.now c.args.objects.now c.objects.object-index c.args.steps.now c.objects.steps c.referents.new.steps c.objects-test.true
+      c.objects.invariant.1 c.in_ok-references.ensures.looks,
 )
 
 pub returns-clause-numbers : goal.returns-clause-numbers
@@ -27,9 +29,11 @@ returns-clause-looks g c = looked_all c.args.heap.now c.args.objects.now c.objec
 pub returns-in_err-references-clause-looks : goal.returns-in_err-references-clause-looks
 returns-in_err-references-clause-looks g c =
     looked_all c.args.heap.now c.args.objects.now (c.objects.object-index + 1) c.args.steps.now c.referents.new.steps c.requires
-    (looked_more c.args.heap.now c.args.objects.now c.objects.object-index c.args.steps.now c.objects.steps c.referents.new.steps c.objects-test.true c.objects.invariant.1 c.in_err-references.ensures.looks)
+    (looked_more c.args.heap.now c.args.objects.now c.objects.object-index c.args.steps.now c.objects.steps c.referents.new.steps c.objects-test.true
+    c.objects.invariant.1 c.in_err-references.ensures.looks)
 
 pub returns-in_err-lower_all-clause-looks : goal.returns-in_err-lower_all-clause-looks
 returns-in_err-lower_all-clause-looks g c =
     looked_all c.args.heap.now c.args.objects.now (c.objects.object-index + 1) c.args.steps.now c.referents.new.steps c.requires
-    (looked_more c.args.heap.now c.args.objects.now c.objects.object-index c.args.steps.now c.objects.steps c.referents.new.steps c.objects-test.true c.objects.invariant.1 c.in_ok-references.ensures.looks)
+    (looked_more c.args.heap.now c.args.objects.now c.objects.object-index c.args.steps.now c.objects.steps c.referents.new.steps c.objects-test.true
+    c.objects.invariant.1 c.in_ok-references.ensures.looks)

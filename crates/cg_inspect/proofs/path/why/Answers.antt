@@ -10,12 +10,14 @@ use Rattle.cg_inspect.proofs.path.why.Goals as goal
 
 pub returns-in-Some-clause-reason : goal.returns-in-Some-clause-reason
 returns-in-Some-clause-reason g c =
-    shortest_path (HeldElse c.args.heap.now c.args.object) (arrows_of c.args.heap.now) c.in_ok-found.found.entries c.in_ok-found.ensures.found c.args.object c.in-Some.last c.in_ok-path_back-in-Some.field-0.items
+    shortest_path (HeldElse c.args.heap.now c.args.object) (arrows_of c.args.heap.now) c.in_ok-found.found.entries c.in_ok-found.ensures.found c.args.object
+    c.in-Some.last c.in_ok-path_back-in-Some.field-0.items
     (placed c.args.object (objects_in c.in_ok-found.found.entries) c.in-Some.last (sym c.get_index_of.ensures.index ∙ c.in-Some.is)) c.in_ok-path_back-in-Some.ensures
 
 pub returns-in-Some-clause-first : goal.returns-in-Some-clause-first
 returns-in-Some-clause-first g c =
-    first_path (references_by c.args.heap.now) (HeldElse c.args.heap.now c.args.object) (arrows_of c.args.heap.now) (arrows_out c.args.heap.now) c.in_ok-found.found.entries c.in_ok-found.ensures.found c.in_ok-found.ensures.order c.args.object c.in-Some.last c.in_ok-path_back-in-Some.field-0.items
+    first_path (references_by c.args.heap.now) (HeldElse c.args.heap.now c.args.object) (arrows_of c.args.heap.now) (arrows_out c.args.heap.now)
+    c.in_ok-found.found.entries c.in_ok-found.ensures.found c.in_ok-found.ensures.order c.args.object c.in-Some.last c.in_ok-path_back-in-Some.field-0.items
     (placed c.args.object (objects_in c.in_ok-found.found.entries) c.in-Some.last (sym c.get_index_of.ensures.index ∙ c.in-Some.is)) c.in_ok-path_back-in-Some.ensures
 
 pub returns-clause-reason : goal.returns-clause-reason

@@ -13,4 +13,5 @@ returns-in_ok-insert c =
     (not_looked_up c.args.found.now.entries c.args.object absent)
 
 pub returns-else-not-contains_key : goal.returns-else-not-contains_key
-returns-else-not-contains_key c = present_in_order c.args.found.now.entries c.args.holder c.args.object (looked_up c.args.found.now.entries c.args.object (sym c.contains_key.ensures ∙ c.if-not-contains_key.false))
+returns-else-not-contains_key c = present_in_order c.args.found.now.entries c.args.holder c.args.object (looked_up c.args.found.now.entries c.args.object
+    (sym c.contains_key.ensures ∙ c.if-not-contains_key.false))

@@ -22,13 +22,16 @@ lose_own_referent-requires g c =
 
 pub returns-clause-begins : goal.returns-clause-begins
 returns-clause-begins g c = λ w r.
-    begins-death c.args.heap.now c.move_to.new.self c.lose_own_referent.new.heap c.args.object c.sound.ensures.rows c.requires.unheld.none c.requires.none_waits c.move_to.ensures c.lose_own_referent.ensures w r
+    begins-death c.args.heap.now c.move_to.new.self c.lose_own_referent.new.heap c.args.object c.sound.ensures.rows c.requires.unheld.none c.requires.none_waits
+    c.move_to.ensures c.lose_own_referent.ensures w r
 
 pub returns-clause-objects : goal.returns-clause-objects
-returns-clause-objects g c = subst (MakesNone c.args.heap.now) (sym (c.lose_own_referent.ensures ∙ ap (forgets_referent c.args.object) c.move_to.ensures)) (rest-begun c.args.object Untracked c.args.heap.now).objects
+returns-clause-objects g c = subst (MakesNone c.args.heap.now) (sym (c.lose_own_referent.ensures ∙ ap (forgets_referent c.args.object) c.move_to.ensures))
+    (rest-begun c.args.object Untracked c.args.heap.now).objects
 
 pub returns-clause-holds : goal.returns-clause-holds
-returns-clause-holds g c = subst (TakesFewHolds c.args.heap.now) (sym (c.lose_own_referent.ensures ∙ ap (forgets_referent c.args.object) c.move_to.ensures)) (rest-begun c.args.object Untracked c.args.heap.now).holds
+returns-clause-holds g c = subst (TakesFewHolds c.args.heap.now) (sym (c.lose_own_referent.ensures ∙ ap (forgets_referent c.args.object) c.move_to.ensures))
+    (rest-begun c.args.object Untracked c.args.heap.now).holds
 
 pub returns-clause-steady : goal.returns-clause-steady
 returns-clause-steady g c = λ script fresh.
@@ -36,4 +39,5 @@ returns-clause-steady g c = λ script fresh.
     (steady-begun script c.args.heap.now c.args.object c.sound.ensures.rows c.requires.unheld c.requires.none_waits fresh)
 
 pub returns-clause-names : goal.returns-clause-names
-returns-clause-names g c = subst (KeepsNames c.args.heap.now) (sym (c.lose_own_referent.ensures ∙ ap (forgets_referent c.args.object) c.move_to.ensures)) (rest-begun c.args.object Untracked c.args.heap.now).names
+returns-clause-names g c = subst (KeepsNames c.args.heap.now) (sym (c.lose_own_referent.ensures ∙ ap (forgets_referent c.args.object) c.move_to.ensures))
+    (rest-begun c.args.object Untracked c.args.heap.now).names
