@@ -2,7 +2,7 @@ pub mod RunFacts
 pub mod Budgets
 pub mod KeptLines
 pub mod Refusals
-pub mod Summed
+pub mod Summaries
 pub mod ExpandFacts
 pub mod RecordFacts
-pub mod Answered
+pub mod AnswersOfJobs

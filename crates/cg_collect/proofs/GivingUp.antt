@@ -24,7 +24,7 @@ use Rattle.cg_death.specs.declared.answer.DeathStep.TheVariants as death_answer
 use Rattle.cg_death.specs.Activities.{references_left}
 use Rattle.cg_death.specs.Answers as Death
 use Rattle.cg_death.specs.Answers.{ReleaseAnswer, once_released, release_answer}
-use Rattle.cg_death.proofs.Calling.{callback-at}
+use Rattle.cg_death.proofs.Callbacks.{callback-at}
 use Rattle.cg_collect.specs.declared.answer.CollectStep.{CollectStep}
 use Rattle.cg_collect.specs.declared.answer.CollectStep.TheVariants as answer_of
 use Rattle.cg_collect.specs.declared.collection.Collection.{Collection}

@@ -37,7 +37,7 @@ use Rattle.cg_trial.proofs.Placed.{where_is}
 use Rattle.cg_death.proofs.RowSplits.{split_at, referent-without, waiting-without, left-in}
 use Rattle.cg_death.proofs.WeakObjects.{objects-cleared, row_there}
 use Rattle.cg_death.proofs.Places.{change-change, only-one}
-use Rattle.cg_death.proofs.Calling.{callback-at}
+use Rattle.cg_death.proofs.Callbacks.{callback-at}
 use Rattle.cg_collect.specs.declared.answer.CollectStep.TheVariants as answer_of
 use Rattle.cg_collect.specs.declared.collection.Facts.{Facts}
 use Rattle.cg_collect.specs.declared.phase.Phase.TheVariants as phase_of

@@ -39,7 +39,7 @@ use Rattle.cg_trial.proofs.Placed.{where_is}
 use Rattle.cg_death.specs.declared.release.Release.{Release}
 use Rattle.cg_death.specs.Activities.{references_left}
 use Rattle.cg_death.proofs.Clearing.{none_first}
-use Rattle.cg_death.proofs.Calling.{callback-at}
+use Rattle.cg_death.proofs.Callbacks.{callback-at}
 use Rattle.cg_collect.specs.declared.answer.CollectStep.TheVariants as answer_of
 use Rattle.cg_collect.specs.declared.collection.Facts.{Facts}
 use Rattle.cg_collect.specs.declared.phase.Phase.TheVariants as phase_of

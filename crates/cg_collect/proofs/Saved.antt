@@ -26,7 +26,7 @@ use Rattle.cg_machine.specs.Collect.{has_flag, save_all, all_saved}
 use Rattle.cg_trial.proofs.Lists.{IsAt as Walked, ahead, ahead_is, occurrences-cons, once_before, absent}
 use Rattle.cg_trial.proofs.Placed.{once_at, where_is}
 use Rattle.cg_death.proofs.Worlds.{append_none}
-use Rattle.cg_death.proofs.Falling.{entries-rewritten}
+use Rattle.cg_death.proofs.WorkLeft.{entries-rewritten}
 use Rattle.cg_collect.specs.Phases.{is_saved_at}
 use Rattle.cg_collect.specs.Ready.{IsApartUnseen}
 use Rattle.cg_collect.specs.Saving.{with_saved, kept_aside}

@@ -37,7 +37,7 @@ use Rattle.cg_death.specs.declared.release.Release.{Release}
 use Rattle.cg_death.specs.Activities.{references_left}
 use Rattle.cg_death.proofs.Clearing.{none_first}
 use Rattle.cg_death.proofs.Emptying.{entries-agree}
-use Rattle.cg_death.proofs.Falling.{entries-held, entries-rewritten}
+use Rattle.cg_death.proofs.WorkLeft.{entries-held, entries-rewritten}
 use Rattle.cg_death.proofs.Places.{moved-cases, only-one}
 use Rattle.cg_collect.specs.declared.answer.CollectStep.TheVariants as answer_of
 use Rattle.cg_collect.specs.declared.collection.Facts.{Facts}

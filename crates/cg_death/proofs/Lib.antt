@@ -3,7 +3,7 @@ pub mod Worlds
 pub mod Releases
 pub mod Turns
 pub mod Places
-pub mod Falling
+pub mod WorkLeft
 pub mod Classes
 pub mod Finalizing
 pub mod Emptying
@@ -12,14 +12,14 @@ pub mod WeakObjects
 pub mod Clearing
 pub mod ClearingTurns
 pub mod Steps
-pub mod Calling
+pub mod Callbacks
 pub mod Querying
 pub mod Beginning
-pub mod Ends
+pub mod DeathEnds
 pub mod ObjectNumbers
-pub mod Counting
+pub mod UnheldStays
 pub mod RowsLeft
-pub mod Steadying
+pub mod SteadyPhases
 pub mod SteadyRows
 pub mod SteadySteps
 pub mod LeavingTheRest

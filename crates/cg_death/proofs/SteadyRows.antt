@@ -36,14 +36,14 @@ use Rattle.cg_death.specs.declared.phase.Phase.TheVariants as phase_of
 use Rattle.cg_death.specs.Activities.{references_left, HasCallback, HaveCallbacks, IsUnheld, AreNewer}
 use Rattle.cg_death.specs.Steady.{NoneRefers, passes, RefersOnlyIf, IsSteadyAt}
 use Rattle.cg_death.proofs.Clearing.{none_first}
-use Rattle.cg_death.proofs.Calling.{callback-at}
-use Rattle.cg_death.proofs.Falling.{entries-held, entries-unheld}
+use Rattle.cg_death.proofs.Callbacks.{callback-at}
+use Rattle.cg_death.proofs.WorkLeft.{entries-held, entries-unheld}
 use Rattle.cg_death.proofs.Querying.{newest-waits}
 use Rattle.cg_death.proofs.RowSplits.{all_in, row_of_one, one_of_row, head_in, split_at, waiting-without, waiting-more, waiting-first, left-in}
 use Rattle.cg_death.proofs.WeakObjects.{row_there, weak_references-are}
 use Rattle.cg_death.proofs.RowsLeft.{fewer_in, none_of_fewer, all_left, others_waiting, newest_is_greatest, refers_before}
-use Rattle.cg_death.proofs.Counting.{unheld-unheld, unheld-held, unheld-rewritten, held_by_none}
-use Rattle.cg_death.proofs.Steadying.{weak_references_by_kind, passes-mapped, passes-same, no_holds, steady-over}
+use Rattle.cg_death.proofs.UnheldStays.{unheld-unheld, unheld-held, unheld-rewritten, held_by_none}
+use Rattle.cg_death.proofs.SteadyPhases.{weak_references_by_kind, passes-mapped, passes-same, no_holds, steady-over}
 
 -- No weak reference that may refer to it is left.
 none_refers : (test : Object → Bool) (store : Store) (o : ℕ) → AreRows store → slice_get (weak_references_if test (objects_of store) o) 0 ≡ None → RefersOnlyIf test store o → NoneRefers store o
@@ -219,7 +219,7 @@ module _ (script : Script) (store : Store) (o weak : ℕ) (sound : IsSound store
     rows = (
       waits_still store o weak sound.rows refers ∙ s.rows.0,
       may_have store o weak sound.rows refers (has_finalizers script) lost_store (passes-same (has_finalizers script)
-          (Rattle.cg_death.proofs.Steadying.finalizers_by_kind script) store lost_store refl o) s.rows.1,
+          (Rattle.cg_death.proofs.SteadyPhases.finalizers_by_kind script) store lost_store refl o) s.rows.1,
     );
     no_own_row = all_left (λ r. r.weak ≢ o) weak store.rows s.no_own_row;
   }

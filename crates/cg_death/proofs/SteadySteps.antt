@@ -21,12 +21,12 @@ use Rattle.cg_death.specs.declared.phase.Phase.TheVariants as phase_of
 use Rattle.cg_death.specs.Activities.{death_activities, references_left, HasHolds, HaveCallbacks, IsUnheld, IsReadyForDeathAt}
 use Rattle.cg_death.specs.Deaths.{TakesNext, forgets_referent}
 use Rattle.cg_death.specs.Steady.{RowsFit, IsSteadyAt, IsFresh}
-use Rattle.cg_death.proofs.Falling.{entries-unheld}
-use Rattle.cg_death.proofs.Counting.{unheld-unheld, unheld-moved}
+use Rattle.cg_death.proofs.WorkLeft.{entries-unheld}
+use Rattle.cg_death.proofs.UnheldStays.{unheld-unheld, unheld-moved}
 use Rattle.cg_heap.proofs.RowLemmas.{row_left}
 use Rattle.cg_death.proofs.RowSplits.{split_at, referent-is, left-in}
 use Rattle.cg_death.proofs.RowsLeft.{all_of, none_of_fewer}
-use Rattle.cg_death.proofs.Steadying.{weak_references_by_kind, finalizers_by_kind, only-unheld, only-moved, passes-same, no_holds}
+use Rattle.cg_death.proofs.SteadyPhases.{weak_references_by_kind, finalizers_by_kind, only-unheld, only-moved, passes-same, no_holds}
 
 -- Giving up holds preserves what each phase requires.
 module _ (script : Script) (store : Store) (o : ℕ) (refs : List ℕ) where

@@ -1,5 +1,5 @@
 pub mod Walks
 pub mod Blocks
 pub mod Numbers
-pub mod Tallying
+pub mod Tallies
 pub mod Texts

@@ -8,7 +8,7 @@ use Rattle.cg_script.specs.Pieces.{lines_of, onto}
 use Rattle.cg_generator.specs.declared.counts.Tally.{Tally}
 use Rattle.cg_generator.specs.Tallies.{tally_of, tally_of_lines, is_refusal, has_refusal}
 use Rattle.cg_generator.specs.Counting.{with_line, HasSeen}
-use Rattle.cg_generator.proofs.Tallying.{tally_more}
+use Rattle.cg_generator.proofs.Tallies.{tally_more}
 
 abbrev is_line_feed : ℕ → Bool
 is_line_feed b = b == 10

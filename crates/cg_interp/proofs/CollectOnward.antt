@@ -10,7 +10,7 @@ use Rattle.cg_machine.specs.World.{World, Outcome, TopLevel, Framed, Releasing, 
 use Rattle.cg_machine.specs.Run.{StepTaken, Run, events_of, last_world}
 use Rattle.cg_represents.specs.Represents.{Goes, detects, is_detection, MakesNoDetection, MakesDetectionsAlone}
 use Rattle.cg_laws.proofs.Ending.{Run-append, last_world-append}
-use Rattle.cg_laws.proofs.Fronts.{events_of-append}
+use Rattle.cg_laws.proofs.PrefixesOfRuns.{events_of-append}
 use Rattle.cg_laws.specs.Kept.{IsKept, StaysKept}
 use Rattle.cg_policy.specs.Policy.{Policy}
 use Rattle.cg_death.specs.Answers.{MakesNone}

@@ -22,7 +22,7 @@ use Rattle.cg_machine.specs.Weak.{callback_of, callback_in}
 use Rattle.cg_laws.specs.Apart.{IsApart, IsFound, IsInWeakPhase, IsInLatePhase, StandsRightly}
 use Rattle.cg_trial.proofs.Placed.{where_is}
 use Rattle.cg_death.specs.declared.release.Release.{Release}
-use Rattle.cg_death.proofs.Calling.{callback-at}
+use Rattle.cg_death.proofs.Callbacks.{callback-at}
 use Rattle.cg_death.proofs.Emptying.{entries-agree}
 use Rattle.cg_collect.specs.declared.collection.Collection.{Collection}
 use Rattle.cg_collect.specs.declared.phase.Phase.{Phase}

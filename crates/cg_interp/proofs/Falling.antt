@@ -15,7 +15,7 @@ use Rattle.cg_machine.specs.declared.event.Event.TheVariants.{Alive, Cleared, Gc
 use Rattle.cg_machine.specs.World.{World}
 use Rattle.cg_machine.specs.Collect.{lines_if, has_flag, collectable, older}
 use Rattle.cg_machine.specs.Run.{StepTaken}
-use Rattle.cg_laws.proofs.Sound.{Sound}
+use Rattle.cg_laws.proofs.InvariantOfRuns.{Sound}
 use Rattle.cg_laws.proofs.MeasureNumber.{number_of}
 use Rattle.cg_laws.proofs.Ending.{run_falls}
 use Rattle.cg_death.specs.declared.release.Release.{Release}

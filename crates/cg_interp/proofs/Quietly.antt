@@ -9,7 +9,7 @@ use Rattle.cg_machine.specs.Run.{StepTaken, StepOf, Run, events_of, last_world}
 use Rattle.cg_machine.specs.Frame.{begin_death}
 use Rattle.cg_represents.specs.Represents.{Goes, detects, MakesNoDetection, MakesDetectionsAlone}
 use Rattle.cg_laws.proofs.Ending.{Run-append, last_world-append}
-use Rattle.cg_laws.proofs.Fronts.{events_of-append}
+use Rattle.cg_laws.proofs.PrefixesOfRuns.{events_of-append}
 use Rattle.cg_laws.specs.Kept.{IsKept, StaysKept}
 use Rattle.cg_interp.specs.declared.activity.Activity.{Activity}
 use Rattle.cg_interp.specs.declared.turned.Turned.{Turned}

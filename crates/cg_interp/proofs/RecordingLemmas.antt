@@ -39,7 +39,7 @@ use Rattle.cg_interp.proofs.WorldGraphs.{all_candidates}
 use Rattle.cg_interp.proofs.NextDetections.{AtDetection, at_detection, same_next}
 use Rattle.cg_interp.proofs.Sizes.{IsSmall}
 use Rattle.cg_interp.proofs.Falling.{falling, turn_falls}
-use Rattle.cg_laws.proofs.Sound.{opening_sound}
+use Rattle.cg_laws.proofs.InvariantOfRuns.{opening_sound}
 
 -- nothing was recorded yet
 pub recorded_start : (script : Script) (budget : ℕ) (e : State) (before : Option (List ℕ)) → StandsFor script e (opening script budget) → RecordedSo script budget before e false before

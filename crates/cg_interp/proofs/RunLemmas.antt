@@ -19,9 +19,9 @@ use Rattle.cg_laws.specs.Printing.{LinesArePrintable}
 use Rattle.cg_laws.specs.Laws.{FrontsBeginWholeTexts}
 use Rattle.cg_represents.specs.Represents.{Goes}
 use Rattle.cg_graph.proofs.Members.{Includes-append_left, Includes-append_right}
-use Rattle.cg_laws.proofs.Sound.{opening_sound}
+use Rattle.cg_laws.proofs.InvariantOfRuns.{opening_sound}
 use Rattle.cg_laws.proofs.Ending.{Run-append, last_world-append, sound_after}
-use Rattle.cg_laws.proofs.Fronts.{events_of-append}
+use Rattle.cg_laws.proofs.PrefixesOfRuns.{events_of-append}
 use Rattle.cg_laws.specs.Kept.{StaysKept, WorldsStayKept}
 use Rattle.cg_interp.specs.declared.turned.Turned.{Turned}
 use Rattle.cg_interp.specs.declared.turned.Turned.TheVariants as turned

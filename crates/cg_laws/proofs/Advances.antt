@@ -28,7 +28,7 @@ use Rattle.cg_represents.specs.Orderly.{death_waits, waits_of}
 use Rattle.cg_laws.specs.Laws.{named}
 use Rattle.cg_laws.proofs.Lookups.{references_of_member}
 use Rattle.cg_laws.proofs.Measure.{is_first}
-use Rattle.cg_laws.proofs.Forgotten.{IsLater, later_refl, later_trans}
+use Rattle.cg_laws.proofs.Unreferred.{IsLater, later_refl, later_trans}
 use Rattle.cg_laws.proofs.Pointwise.{IsOrder, Came, Lasts, came, came_if, came_without, lasts_if, lasts_lives}
 use Rattle.cg_laws.proofs.LinesNameLive.{HasNoReferent, without_lasts}
 

@@ -29,7 +29,7 @@ use Rattle.cg_represents.specs.Orderly.{death_waits}
 use Rattle.cg_machine.specs.Operands.{is_dict}
 use Rattle.cg_laws.proofs.Measure.{is_first}
 use Rattle.cg_represents.proofs.Lists.{taken_member, Reach-inside}
-use Rattle.cg_laws.proofs.Forgotten.{place_later, place_alters}
+use Rattle.cg_laws.proofs.Unreferred.{place_later, place_alters}
 use Rattle.cg_laws.proofs.Advances.{Advance, Plainly, WithFrame, HasChanged, NothingChanges, ChangesEach, LosesEntries, GetsEntry, LosesObject, Followed, IsPlaceIn, IsMoved, StaysThere, IsUntracked, IsRevived, IsPlaced, Finalizes, Soon, Late, Owns, OfEmptied, OfCalled, OfTurn, SameCounts, OneLess, BegunCounts, Continues, DeathGoesOn, DeathClears, CollectionGoesOn, TopEnds, GivesFunction, GivesReference, BeginsDeath, TopGoesOn, GivesReferences, OfFinalizer, OfLegacy, OfCallback, IsDeathOf, IsLineOf, NamesThere, Shown, AreLinesOf, Shows, Frees, IsEarly, changed_origin, few_option, few_entry}
 use Rattle.cg_laws.proofs.Pointwise.{GoesOn, all_lose_by, all_saved_by}
 use Rattle.cg_laws.proofs.LinesNameLive.{HasNoReferent, came_back, same_lives, filter_lives, weak_lives, without_gone, changed_all, lost_none, none_stays, all_lose_live, all_lose_none}

@@ -16,7 +16,7 @@ use Rattle.cg_machine.specs.declared.event.FrameSort.TheVariants.{Del, Legacy, C
 use Rattle.cg_machine.specs.World.{World, Activity, Framed, Frame}
 use Rattle.cg_machine.specs.Holdings.{holds}
 use Rattle.cg_machine.specs.Operands.{frame_on, self_in, weak_in, value_of}
-use Rattle.cg_laws.proofs.Forgotten.{Forgotten}
+use Rattle.cg_laws.proofs.Unreferred.{Forgotten}
 use Rattle.cg_laws.proofs.Unheld.{IsLocalHeld, AreOver}
 use Rattle.cg_represents.proofs.Lists.{slice_get_member}
 use Rattle.cg_laws.proofs.Lookups.{references_of_member, references_take, references-append, entries_free}

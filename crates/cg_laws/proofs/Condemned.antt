@@ -19,7 +19,7 @@ use Rattle.cg_machine.specs.Holdings.{holds}
 use Rattle.cg_machine.specs.Weak.{loses_referent, AllLose}
 use Rattle.cg_machine.specs.Collect.{merged_place, survivor_place, has_none_tracked, older, is_condemned, Survives, saved, all_saved}
 use Rattle.cg_machine.specs.Operands.{is_dict}
-use Rattle.cg_laws.proofs.Forgotten.{later_refl, place_later, lives_after, change_alters}
+use Rattle.cg_laws.proofs.Unreferred.{later_refl, place_later, lives_after, change_alters}
 use Rattle.cg_laws.proofs.Lookups.{references-append}
 use Rattle.cg_represents.proofs.Lists.{present}
 use Rattle.cg_laws.proofs.HeldLives.{Orderly, From, objects_orderly, from_same}

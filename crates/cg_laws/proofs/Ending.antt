@@ -4,8 +4,8 @@ use Rattle.cg_script.specs.declared.Script.{Script}
 use Rattle.cg_machine.specs.World.{World, Activity, Outcome, Running, Ended, BudgetIsSpent, opening}
 use Rattle.cg_machine.specs.Run.{StepTaken, Step, Run, last_world}
 use Rattle.cg_laws.specs.Laws.{NoRunIsStuck}
-use Rattle.cg_laws.proofs.Plain.{next, next_steps, HasTop}
-use Rattle.cg_laws.proofs.Sound.{HasBottom, Sound, opening_sound}
+use Rattle.cg_laws.proofs.Deterministic.{next, next_steps, HasTop}
+use Rattle.cg_laws.proofs.InvariantOfRuns.{HasBottom, Sound, opening_sound}
 use Rattle.cg_laws.proofs.MeasureNumber.{number_of, step_falls}
 
 has_top : (stack : List Activity) → HasBottom stack → HasTop stack

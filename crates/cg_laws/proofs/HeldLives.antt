@@ -18,7 +18,7 @@ use Rattle.cg_machine.specs.Weak.{callback_in, is_function}
 use Rattle.cg_machine.specs.Collect.{is_condemned}
 use Rattle.cg_represents.specs.Orderly.{death_waits, collection_waits, waits_of, all_waits, IsWaiting, HasFunction}
 use Rattle.cg_represents.proofs.Lists.{occurrences-cons, no_times}
-use Rattle.cg_laws.proofs.Forgotten.{IsLater, Alters, later_refl, if_alters, entries_alter, lives_after, some_later, none_later}
+use Rattle.cg_laws.proofs.Unreferred.{IsLater, Alters, later_refl, if_alters, entries_alter, lives_after, some_later, none_later}
 
 -- a collection clears weak references
 abbrev pub IsClearingPhase : CollectPhase → Type 0

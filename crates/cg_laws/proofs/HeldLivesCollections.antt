@@ -24,7 +24,7 @@ use Rattle.cg_machine.specs.Dying.{finalizer_to_run}
 use Rattle.cg_machine.specs.Collect.{collection_at, merged, merged_place, untrack, untracked_if, StartStep, older, is_condemned, is_condemned_in, waits, ClearsOne, WeakClearingStep, calls_back, after_release, looks_at, IsMemberOf, FinalizingStep, get_older, loses_at_split, SplitStep, takes_turn, TurnsStep, saved, all_saved, has_flag, save_all, is_saved, empties, after_turn, EndStep, PhaseStep}
 use Rattle.cg_represents.proofs.Serials.{Rises}
 use Rattle.cg_represents.proofs.Lists.{occurrences-cons, slice_get_member, present, Includes-of_count}
-use Rattle.cg_laws.proofs.Forgotten.{IsLater, place_later, lives_after, lost_alters, entries_alter, change_alters}
+use Rattle.cg_laws.proofs.Unreferred.{IsLater, place_later, lives_after, lost_alters, entries_alter, change_alters}
 use Rattle.cg_laws.proofs.Lookups.{same_object, callback_at, references_of_member, references_take, at_member}
 use Rattle.cg_laws.proofs.UnheldDeaths.{some_not_none}
 use Rattle.cg_represents.specs.Orderly.{collection_waits, all_waits, IsWaiting}

@@ -27,8 +27,8 @@ use Rattle.cg_represents.specs.Orderly.{death_waits, all_waits, IsWaiting}
 use Rattle.cg_laws.proofs.Starting.{begun_frame, starts_either}
 use Rattle.cg_represents.proofs.Serials.{Rises}
 use Rattle.cg_represents.proofs.Lists.{occurrences-cons, found_at, slice_get_member, absent}
-use Rattle.cg_laws.proofs.FallsDeaths.{refers_first}
-use Rattle.cg_laws.proofs.Forgotten.{IsLater, entries_alter, change_alters, lives_after, lost_alters}
+use Rattle.cg_laws.proofs.MeasureInDeaths.{refers_first}
+use Rattle.cg_laws.proofs.Unreferred.{IsLater, entries_alter, change_alters, lives_after, lost_alters}
 use Rattle.cg_laws.proofs.Unheld.{Calm, not_dying, popped_free}
 use Rattle.cg_laws.proofs.Lookups.{same_object, callback_at, callback_first, references_of_member, references_take, at_member}
 use Rattle.cg_laws.proofs.UnheldDeaths.{some_not_none}

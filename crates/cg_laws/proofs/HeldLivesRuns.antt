@@ -23,10 +23,10 @@ use Rattle.cg_machine.specs.Run.{StepTaken, Step, Run, last_world}
 use Rattle.cg_represents.specs.Orderly.{waits_of, all_waits, IsWaiting, HasFunction, AreDeathsOfOthers, IsDeathIn}
 use Rattle.cg_laws.specs.Laws.{WorldsAreOrderly}
 use Rattle.cg_represents.proofs.Serials.{Rises}
-use Rattle.cg_laws.proofs.Sound.{Sound, opening_sound}
+use Rattle.cg_laws.proofs.InvariantOfRuns.{Sound, opening_sound}
 use Rattle.cg_laws.proofs.MeasureNumber.{step_falls}
 use Rattle.cg_laws.proofs.ShapeLaws.{changes_leave}
-use Rattle.cg_laws.proofs.Forgotten.{Forgotten, AreReferred, some_later, none_later, lives_within, IsLater}
+use Rattle.cg_laws.proofs.Unreferred.{Forgotten, AreReferred, some_later, none_later, lives_within, IsLater}
 use Rattle.cg_laws.proofs.Unheld.{IsLocalHeld, IsOver, AreOver, not_dying, Stands, Calm, held_by_member}
 use Rattle.cg_laws.proofs.Releasing.{entry_holder}
 use Rattle.cg_laws.proofs.UnheldCommands.{Mild, Comes, was_there, is_new, shape_mild}

@@ -14,7 +14,7 @@ use Rattle.cg_machine.specs.Holdings.{holds}
 use Rattle.cg_machine.specs.Collect.{saved}
 use Rattle.cg_represents.specs.Orderly.{waits_of, all_waits}
 use Rattle.cg_laws.specs.Laws.{IsOfCollection}
-use Rattle.cg_laws.proofs.Forgotten.{Forgotten, IsLater, later_refl, later_trans}
+use Rattle.cg_laws.proofs.Unreferred.{Forgotten, IsLater, later_refl, later_trans}
 use Rattle.cg_laws.proofs.HeldLives.{Orderly}
 
 -- an object whose entries a step may change: not one that is dying below and forgotten, and not one that waits below

@@ -16,10 +16,10 @@ use Rattle.cg_machine.specs.Run.{StepTaken, Step, Run, last_world}
 use Rattle.cg_represents.specs.Orderly.{waits_of, all_waits, is_cleared}
 use Rattle.cg_laws.specs.Laws.{HadItsEntries, HadItsPlace, IsOfCollection, LeavesBelow, StepsLeaveWhatIsBelow}
 use Rattle.cg_represents.proofs.Serials.{Rises}
-use Rattle.cg_laws.proofs.Sound.{Sound, opening_sound}
+use Rattle.cg_laws.proofs.InvariantOfRuns.{Sound, opening_sound}
 use Rattle.cg_laws.proofs.Ending.{sound_after}
 use Rattle.cg_laws.proofs.ShapeLaws.{changes_leave}
-use Rattle.cg_laws.proofs.Forgotten.{Forgotten, alters_refl, still_forgotten, lives_within}
+use Rattle.cg_laws.proofs.Unreferred.{Forgotten, alters_refl, still_forgotten, lives_within}
 use Rattle.cg_laws.proofs.Unheld.{Rests, AreResting, IsStack, Calm, turned_free}
 use Rattle.cg_laws.proofs.UnheldCommands.{Comes, was_there, is_new, shape_mild}
 use Rattle.cg_laws.proofs.HeldLives.{waits_held}

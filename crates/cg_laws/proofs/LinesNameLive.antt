@@ -10,7 +10,7 @@ use Rattle.cg_machine.specs.Collect.{SameMembers}
 use Rattle.cg_machine.specs.Weak.{AllLose, is_reference_to, loses_referent, weak_references, weak_references_if}
 use Rattle.cg_represents.proofs.Lists.{present, Includes-of_count, found_at}
 use Rattle.cg_laws.proofs.UnheldCollections.{all_lose_alters}
-use Rattle.cg_laws.proofs.Forgotten.{IsLater, lost_alters, none_later}
+use Rattle.cg_laws.proofs.Unreferred.{IsLater, lost_alters, none_later}
 use Rattle.cg_machine.specs.Dying.{finalizer_to_run}
 use Rattle.cg_machine.specs.Program.{finalizer_of}
 use Rattle.cg_script.specs.declared.Script.{Script}

@@ -10,7 +10,7 @@ use Rattle.cg_graph.specs.Object.{Object, object_at, entries_of, serials}
 use Rattle.cg_graph.proofs.Members.{either, Includes-append_left, Includes-append_right, Includes-append_cases, Includes-map, Includes-filter}
 use Rattle.cg_machine.specs.Weak.{callback_in, callback_of, is_reference_to, weak_references, weak_references_if}
 use Rattle.cg_represents.proofs.Serials.{Rises}
-use Rattle.cg_laws.proofs.Forgotten.{AreQuiet, lives_within}
+use Rattle.cg_laws.proofs.Unreferred.{AreQuiet, lives_within}
 use Rattle.cg_represents.proofs.Lists.{found_at, slice_get_member}
 
 pub serial_from : (low high : ℕ) (objects : List Object) (x : Object) → Rises low high objects → Includes objects x → low ≤ x.serial

@@ -12,9 +12,9 @@ use Rattle.cg_machine.specs.Due.{is_due}
 use Rattle.cg_machine.specs.Run.{Step}
 use Rattle.cg_laws.proofs.Sums.{tally, bit, tally-le}
 use Rattle.cg_laws.proofs.Measure.{is_starting, due_rank, phase_rank, rank_in, candidates, other_candidate, left_at, left_in, size_of, Summary, summary, Bounded, number, Lower, by_commands, by_due, by_rank, by_left, by_entries, by_referents, by_weight}
-use Rattle.cg_laws.proofs.Sound.{collections_in, Sound}
-use Rattle.cg_laws.proofs.FallsCollections.{none_underway}
-use Rattle.cg_laws.proofs.FallsCommands.{step_moves}
+use Rattle.cg_laws.proofs.InvariantOfRuns.{collections_in, Sound}
+use Rattle.cg_laws.proofs.MeasureInCollections.{none_underway}
+use Rattle.cg_laws.proofs.MeasureInCommands.{step_moves}
 
 -- products of what does not rise
 product : (a b x y : ℕ) → a ≤ b → x ≤ y → a * x ≤ b * y

@@ -14,7 +14,7 @@ use Rattle.cg_machine.specs.Program.{body_of, commands_of, procedures}
 use Rattle.cg_machine.specs.World.{World, Activity}
 use Rattle.cg_machine.specs.Frame.{start_frame}
 use Rattle.cg_laws.specs.Origins.{all_commands, commands_on, IsOfScript}
-use Rattle.cg_laws.proofs.Forgotten.{IsLater}
+use Rattle.cg_laws.proofs.Unreferred.{IsLater}
 use Rattle.cg_laws.proofs.Advances.{Advance, Plainly, WithFrame, HasChanged, changed_origin, continues_idle, Tops, TopEnds, GivesFunction, GivesReference, BeginsDeath, TopGoesOn, GivesReferences}
 use Rattle.cg_laws.proofs.Starting.{starts_either}
 use Rattle.cg_laws.proofs.Invariants.{on}

@@ -18,7 +18,7 @@ use Rattle.cg_machine.specs.World.{World, Activity, Framed, Releasing, Dying, De
 use Rattle.cg_machine.specs.Holdings.{holds, holdings, call_holds, in_degree, is_dying}
 use Rattle.cg_machine.specs.Frame.{Transition, start_frame, frame_end, gives_up_function, begin_death, released}
 use Rattle.cg_represents.proofs.Lists.{absent, no_times, entry_held}
-use Rattle.cg_laws.proofs.Forgotten.{IsQuiet, Unheld, Forgotten, Mortal, AreReferred, IsLater, Alters, alters_refl, change_alters, map_quiet, still_forgotten, referred_after}
+use Rattle.cg_laws.proofs.Unreferred.{IsQuiet, Unheld, Forgotten, Mortal, AreReferred, IsLater, Alters, alters_refl, change_alters, map_quiet, still_forgotten, referred_after}
 use Rattle.cg_laws.proofs.Unheld.{IsLocalHeld, AreOver, AreResting, Calm, Keeps, resting_stack, resting_after, altered_keeps, same_objects, popped_free, pushed_free, turned_free}
 
 pub entry_holder : (objects : List Object) (o : ℕ) → Includes (entry_holdings (graph_of objects)) o → (x : Object) × Includes objects x × Includes (references x.entries) o

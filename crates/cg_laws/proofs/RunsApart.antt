@@ -10,15 +10,15 @@ use Rattle.cg_machine.specs.Holdings.{is_collection}
 use Rattle.cg_machine.specs.Run.{Step, StepTaken, StepOf, Run, last_world}
 use Rattle.cg_laws.specs.Laws.{IsOfCollection}
 use Rattle.cg_laws.specs.Lawful.{IsLawful, StaysLawful}
-use Rattle.cg_laws.proofs.Sound.{Sound, opening_sound}
+use Rattle.cg_laws.proofs.InvariantOfRuns.{Sound, opening_sound}
 use Rattle.cg_laws.proofs.MeasureNumber.{step_falls}
-use Rattle.cg_laws.proofs.Forgotten.{lives_within}
+use Rattle.cg_laws.proofs.Unreferred.{lives_within}
 use Rattle.cg_laws.proofs.Unheld.{Calm, IsStack}
 use Rattle.cg_laws.proofs.HeldLivesDeaths.{HasOrder}
 use Rattle.cg_laws.proofs.UnheldRuns.{step_calm, opening_calm}
 use Rattle.cg_laws.proofs.HeldLivesRuns.{step_orderly, opening_orderly}
 use Rattle.cg_laws.proofs.LeftBelowRuns.{LeavesUnder, step_leaves, leaves_below}
-use Rattle.cg_laws.proofs.Lawful.{stay_lawful}
+use Rattle.cg_laws.proofs.LawsOfWorlds.{stay_lawful}
 use Rattle.cg_laws.specs.Apart.{IsGarbageList, IsFound, IsApart, CollectionsAreApart}
 use Rattle.cg_laws.proofs.CollectApart.{collect_apart}
 use Rattle.cg_laws.proofs.StepsPlain.{IsPlainUnder, step_plain}

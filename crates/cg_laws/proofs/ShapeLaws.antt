@@ -23,7 +23,7 @@ use Rattle.cg_machine.specs.Commands.{effect}
 use Rattle.cg_machine.specs.Operands.{is_dict, value_of}
 use Rattle.cg_represents.proofs.Serials.{Rises-map, Rises-change, Rises-new}
 use Rattle.cg_represents.proofs.CommandLaws.{Each, Leaves, LeavesStack}
-use Rattle.cg_laws.proofs.Forgotten.{IsLater, later_refl, change_alters, map_alters, place_later}
+use Rattle.cg_laws.proofs.Unreferred.{IsLater, later_refl, change_alters, map_alters, place_later}
 use Rattle.cg_laws.proofs.Advances.{few_option, few_entry}
 use Rattle.cg_represents.proofs.Shapes.{IsMadeBy, IsWordOf, IsEdit, Shape, Binds, Makes, Edits, Puts, Shows, Tells, Stays, Sets, Freezes, Unfreezes, StartsFrame, StartsCollection, Ends, Inspects, AsksWhy, Word, ValueIn, KeyIn, TellsNumbers, value_at_member, IsAtHand, by_shape}
 

@@ -28,7 +28,7 @@ use Rattle.cg_laws.proofs.Invariants.{HasCommands, emptied, on, CommandSteps, St
 use Rattle.cg_laws.proofs.GarbageKept.{HasGarbageList, KeepsList, entries_name_not, same_list, list_kept, list_trans, without_kept}
 use Rattle.cg_laws.proofs.GarbageCommands.{shape_kept}
 use Rattle.cg_script.specs.declared.Command.TheVariants.{Del}
-use Rattle.cg_laws.proofs.Sound.{HasBottom}
+use Rattle.cg_laws.proofs.InvariantOfRuns.{HasBottom}
 
 -- The collections of a stack are those below, or a new one where there was none.
 abbrev pub StartsAlone : List Activity → List Activity → Type 0

@@ -11,7 +11,7 @@ use Rattle.cg_machine.specs.declared.event.FrameSort.TheVariants.{Del, Legacy, C
 use Rattle.cg_machine.specs.World.{World, Activity, TopLevel, Framed, Releasing, Dying, Collecting, ShuttingDown, Death, DyingPhase, Finalizer, AfterFinalizer, Clearing, Calling, AfterCall, LegacyFinalizer, AfterLegacy, Detaching, Emptying, CollectPhase, AfterRelease, AfterTurn}
 use Rattle.cg_graph.proofs.Members.{either, or_left, Includes-append_left, Includes-append_right, Includes-append_cases}
 use Rattle.cg_machine.specs.Holdings.{holds, dying_holds, is_death_of}
-use Rattle.cg_laws.proofs.Forgotten.{AreQuiet, Unheld, Forgotten, Mortal, HasFinalizers, NoneRefers, AreReferred, Alters, alters_refl, mortal_after, finalizers_after, still_forgotten}
+use Rattle.cg_laws.proofs.Unreferred.{AreQuiet, Unheld, Forgotten, Mortal, HasFinalizers, NoneRefers, AreReferred, Alters, alters_refl, mortal_after, finalizers_after, still_forgotten}
 
 -- the local of a frame, `self` or `ref`, is held below it
 abbrev pub IsLocalHeld : FrameSort → ℕ → List Activity → Type 0

@@ -25,7 +25,7 @@ use Rattle.cg_machine.specs.Holdings.{holds, call_holds, collect_holds}
 use Rattle.cg_machine.specs.Weak.{loses_referent, callback_of, AllLose}
 use Rattle.cg_machine.specs.Dying.{finalizer_to_run}
 use Rattle.cg_machine.specs.Collect.{collection_at, merged_place, sorted, StartStep, older, waits, ClearsOne, WeakClearingStep, calls_back, after_release, looks_at, IsMemberOf, replaced_place, FinalizingStep, get_older, loses_at_split, SplitStep, takes_turn, TurnsStep, saved, all_saved, has_flag, save_all, is_saved, empties, after_turn, EndStep, PhaseStep}
-use Rattle.cg_laws.proofs.Forgotten.{IsQuiet, AreQuiet, Forgotten, Mortal, Alters, alters_refl, alters_trans, map_alters, if_alters, change_alters, place_later, map_quiet, test_quiet, place_quiet, entries_quiet, lost_quiet, lost_alters, entries_alter, place_alters, referred_after, still_forgotten}
+use Rattle.cg_laws.proofs.Unreferred.{IsQuiet, AreQuiet, Forgotten, Mortal, Alters, alters_refl, alters_trans, map_alters, if_alters, change_alters, place_later, map_quiet, test_quiet, place_quiet, entries_quiet, lost_quiet, lost_alters, entries_alter, place_alters, referred_after, still_forgotten}
 use Rattle.cg_laws.proofs.Pointwise.{GoesOn, all_lose_by, all_saved_by}
 use Rattle.cg_laws.proofs.Unheld.{IsLocalHeld, AreResting, GivenUp, IsHeldWhereDying, Calm, resting_stack, resting_after, altered_keeps, popped_free, top_free, pushed_free, turned_free, held_where_dying}
 use Rattle.cg_laws.proofs.Lookups.{references-append, last_free, shorter_free}

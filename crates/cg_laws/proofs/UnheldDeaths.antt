@@ -20,8 +20,8 @@ use Rattle.cg_machine.specs.Holdings.{holds, call_holds, dying_holds, in_degree}
 use Rattle.cg_machine.specs.Weak.{has_weak_references, weak_references_if, loses_referent, callback_of}
 use Rattle.cg_machine.specs.Dying.{death_at, has_finalizers, finalizer_to_run, run_finalizer, run_legacy, after_frame, clear_one, call_one, detach_one, empty_one, dying}
 use Rattle.cg_represents.proofs.Serials.{Rises}
-use Rattle.cg_laws.proofs.FallsDeaths.{refers_first}
-use Rattle.cg_laws.proofs.Forgotten.{IsQuiet, AreQuiet, Unheld, NoneRefers, Forgotten, Mortal, HasFinalizers, Alters, alters_refl, change_alters, test_quiet, untracked_quiet, place_quiet, entries_quiet, lost_quiet, lost_alters, entries_alter, place_alters, mortal_after, finalizers_after, unreferred_after, referred_after, lives_after, still_unheld, still_forgotten}
+use Rattle.cg_laws.proofs.MeasureInDeaths.{refers_first}
+use Rattle.cg_laws.proofs.Unreferred.{IsQuiet, AreQuiet, Unheld, NoneRefers, Forgotten, Mortal, HasFinalizers, Alters, alters_refl, change_alters, test_quiet, untracked_quiet, place_quiet, entries_quiet, lost_quiet, lost_alters, entries_alter, place_alters, mortal_after, finalizers_after, unreferred_after, referred_after, lives_after, still_unheld, still_forgotten}
 use Rattle.cg_laws.proofs.Unheld.{IsLocalHeld, AreResting, Rests, Stands, Calm, Keeps, resting_stack, resting_after, altered_keeps, same_objects, popped_free, top_free, pushed_free, turned_free, not_dying}
 use Rattle.cg_laws.proofs.Lookups.{at_member, found_lives, last_free, last_lives, shorter_free, callback_free, none_found, found_referent}
 use Rattle.cg_laws.proofs.Releasing.{HeldByNone, none_holds, starts_calm}

@@ -16,12 +16,12 @@ use Rattle.cg_machine.specs.Run.{StepTaken, Step, Run, last_world}
 use Rattle.cg_laws.specs.Laws.{DyingIsUnheld}
 use Rattle.cg_represents.specs.Orderly.{IsHeldInItsFramesAlone}
 use Rattle.cg_represents.proofs.Serials.{Rises}
-use Rattle.cg_laws.proofs.Sound.{Sound, opening_sound}
+use Rattle.cg_laws.proofs.InvariantOfRuns.{Sound, opening_sound}
 use Rattle.cg_laws.proofs.MeasureNumber.{step_falls}
 use Rattle.cg_represents.proofs.CommandLaws.{Leaves}
 use Rattle.cg_laws.proofs.ShapeLaws.{changes_leave}
 use Rattle.cg_represents.proofs.Shapes.{StartsFrame}
-use Rattle.cg_laws.proofs.Forgotten.{alters_refl, still_forgotten}
+use Rattle.cg_laws.proofs.Unreferred.{alters_refl, still_forgotten}
 use Rattle.cg_laws.proofs.Unheld.{IsOver, AreOver, AreResting, IsOnTop, IsStack, Stands, Calm, Keeps, stands, resting_after, same_objects, pushed_free, turned_free, held_by_member}
 use Rattle.cg_laws.proofs.Releasing.{none_holds, unheld_degree, starts_calm, released_calm, frame_end_calm}
 use Rattle.cg_laws.proofs.UnheldDeaths.{dying_calm}

@@ -26,7 +26,7 @@ use Rattle.cg_machine.specs.Weak.{loses_referent}
 use Rattle.cg_machine.specs.Collect.{has_flag, save_all}
 use Rattle.cg_laws.specs.Laws.{is_stop, named}
 use Rattle.cg_laws.proofs.Starting.{begun_frame, starts_either}
-use Rattle.cg_laws.proofs.Forgotten.{IsLater, some_later, none_later}
+use Rattle.cg_laws.proofs.Unreferred.{IsLater, some_later, none_later}
 
 -- the phases after the second reachability pass
 abbrev pub IsLate : CollectPhase → Type 0

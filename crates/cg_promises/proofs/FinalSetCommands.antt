@@ -27,7 +27,7 @@ use Rattle.cg_machine.specs.Effects.{Calls, Changes, Collects, Effect, Quits, bo
 use Rattle.cg_machine.specs.Weak.{has_weak_references, is_function, is_instance}
 use Rattle.cg_laws.specs.Laws.{is_stop, named}
 use Rattle.cg_laws.proofs.CommandRefs.{HoldNone, IsNotTo, all_free, bound_free, entry_free, entry_key, entry_val, got_free, name_free, option_free, option_held, put_free}
-use Rattle.cg_laws.proofs.Forgotten.{later_refl}
+use Rattle.cg_laws.proofs.Unreferred.{later_refl}
 use Rattle.cg_represents.proofs.Lists.{found_at}
 use Rattle.cg_laws.proofs.Lookups.{references_of_member}
 use Rattle.cg_represents.proofs.Shapes.{IsAtHand, NoneThere, Word, ValueIn, KeyIn, ReferentOf, HasObject, IsEdit, Shape, Binds, Makes, Edits, Puts, Shows, Tells, Stays, Sets, Freezes, Unfreezes, StartsFrame, StartsCollection, Ends, Inspects, AsksWhy, TellsNumbers}

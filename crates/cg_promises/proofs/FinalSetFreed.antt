@@ -16,7 +16,7 @@ use Rattle.cg_machine.specs.Holdings.{collect_holds, holds, is_death_of}
 use Rattle.cg_machine.specs.Run.{Run, StepTaken, events_of, last_world}
 use Rattle.cg_laws.specs.Laws.{FinalSetIsFreed, final_set}
 use Rattle.cg_laws.proofs.Ending.{last_world-append}
-use Rattle.cg_laws.proofs.Forgotten.{lives_within}
+use Rattle.cg_laws.proofs.Unreferred.{lives_within}
 use Rattle.cg_laws.proofs.OriginsOfRuns.{opening_origin}
 use Rattle.cg_represents.proofs.Serials.{Rises}
 use Rattle.cg_laws.specs.Apart.{IsApart, StandsRightly}

@@ -12,13 +12,13 @@ use Rattle.cg_machine.specs.Holdings.{is_collection}
 use Rattle.cg_machine.specs.Collect.{SplitStep}
 use Rattle.cg_machine.specs.Run.{Run, Step, StepOf, StepTaken, events_of, last_world}
 use Rattle.cg_laws.specs.Laws.{OnlyFreesNameMembers, Sealing, Splits, final_set}
-use Rattle.cg_laws.proofs.Sound.{collections_in}
+use Rattle.cg_laws.proofs.InvariantOfRuns.{collections_in}
 use Rattle.cg_laws.proofs.Sums.{member_le, tally}
 use Rattle.cg_laws.proofs.Ending.{last_world-append}
-use Rattle.cg_laws.proofs.Forgotten.{lives_within}
+use Rattle.cg_laws.proofs.Unreferred.{lives_within}
 use Rattle.cg_laws.proofs.LeftBelowRuns.{LeavesUnder, leaves_below, step_leaves}
-use Rattle.cg_laws.proofs.Standing.{AreKnown}
-use Rattle.cg_laws.proofs.StandingRuns.{known}
+use Rattle.cg_laws.proofs.StackFacts.{AreKnown}
+use Rattle.cg_laws.proofs.StackFactsOfRuns.{known}
 use Rattle.cg_laws.proofs.Unheld.{AreOver, IsStack}
 use Rattle.cg_laws.proofs.HeldLivesDeaths.{HasOrder}
 use Rattle.cg_laws.specs.Apart.{IsApart}

@@ -35,7 +35,7 @@ use Rattle.cg_promises.proofs.FinalSetCommands.{Opens, shape_opens}
 use Rattle.cg_laws.proofs.LinesNameLive.{same_lives}
 use Rattle.cg_promises.proofs.FinalizerOnceRuns.{Fit, step_fit}
 use Rattle.cg_script.specs.declared.Command.TheVariants.{Del}
-use Rattle.cg_laws.proofs.Sound.{HasBottom}
+use Rattle.cg_laws.proofs.InvariantOfRuns.{HasBottom}
 
 -- no collection is due while one is under way
 due_none : (w : World) → is_collecting w ≡ true → due w ≡ None

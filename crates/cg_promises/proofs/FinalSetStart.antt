@@ -23,11 +23,11 @@ use Rattle.cg_represents.specs.Orderly.{all_waits, waits_of}
 use Rattle.cg_laws.proofs.Condemned.{held_survives}
 use Rattle.cg_represents.proofs.Lists.{present}
 use Rattle.cg_laws.proofs.HeldLivesDeaths.{HasOrder}
-use Rattle.cg_laws.proofs.Forgotten.{IsLater, later_refl, later_trans, lives_within, none_later}
+use Rattle.cg_laws.proofs.Unreferred.{IsLater, later_refl, later_trans, lives_within, none_later}
 use Rattle.cg_laws.proofs.Lookups.{at_member, same_object}
 use Rattle.cg_laws.proofs.HeldLives.{waits_held}
 use Rattle.cg_represents.proofs.Serials.{Rises, Rises-map}
-use Rattle.cg_laws.proofs.Standing.{AreKnown, IsKnown, KnowsFunction}
+use Rattle.cg_laws.proofs.StackFacts.{AreKnown, IsKnown, KnowsFunction}
 use Rattle.cg_laws.proofs.Unheld.{AreOver, AreResting, IsLocalHeld, IsOver, held_by_member, rests_cases}
 use Rattle.cg_laws.proofs.SetsApart.{NoneCollects, stands_at}
 use Rattle.cg_represents.proofs.Places.{place_is}

@@ -22,7 +22,7 @@ use Rattle.cg_represents.proofs.Serials.{Rises}
 use Rattle.cg_laws.proofs.CommandRefs.{IsKnown, option_free}
 use Rattle.cg_laws.proofs.UnheldCommands.{hand_known}
 use Rattle.cg_represents.proofs.Shapes.{Shape, Binds, Makes, Edits, Puts, Shows, Tells, Stays, Sets, Freezes, Unfreezes, StartsFrame, StartsCollection, Ends, Inspects, AsksWhy, TellsNumbers}
-use Rattle.cg_laws.proofs.Forgotten.{Forgotten}
+use Rattle.cg_laws.proofs.Unreferred.{Forgotten}
 use Rattle.cg_laws.proofs.Unheld.{AreOver}
 use Rattle.cg_promises.proofs.FinalizerOnce.{Marks, Old, IsTold, Goes, same_old, map_old, change_old, place_marks, one_told, tells, quiet}
 use Rattle.cg_represents.proofs.Lists.{absent}

@@ -17,7 +17,7 @@ use Rattle.cg_machine.specs.Run.{Run, Step, StepTaken, last_world}
 use Rattle.cg_represents.proofs.Serials.{Rises}
 use Rattle.cg_laws.proofs.Unheld.{Calm}
 use Rattle.cg_laws.proofs.HeldLivesDeaths.{HasOrder}
-use Rattle.cg_laws.proofs.Sound.{Sound, opening_sound}
+use Rattle.cg_laws.proofs.InvariantOfRuns.{Sound, opening_sound}
 use Rattle.cg_laws.proofs.MeasureNumber.{step_falls}
 use Rattle.cg_laws.proofs.UnheldRuns.{step_calm, opening_calm, taken_calm}
 use Rattle.cg_laws.proofs.HeldLivesRuns.{gone_forgotten, step_orderly, opening_orderly, taken_orderly}

@@ -26,7 +26,7 @@ use Rattle.cg_machine.specs.Collect.{IsGarbage, IsSetAside, IsMemberOf, Survives
 use Rattle.cg_laws.specs.Laws.{HadItsPlace, IsOfCollection}
 use Rattle.cg_laws.proofs.Starting.{begun_frame, starts_either}
 use Rattle.cg_represents.proofs.Serials.{Rises, Rises-map}
-use Rattle.cg_laws.proofs.Forgotten.{lives_within}
+use Rattle.cg_laws.proofs.Unreferred.{lives_within}
 use Rattle.cg_laws.proofs.Lookups.{at_member, same_object}
 use Rattle.cg_laws.specs.Apart.{StandsRightly}
 use Rattle.cg_laws.proofs.SetsApart.{NoneCollects, stands_at}

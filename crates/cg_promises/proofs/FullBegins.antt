@@ -19,12 +19,12 @@ use Rattle.cg_represents.proofs.Serials.{Rises, Rises-map}
 use Rattle.cg_laws.proofs.SetsApart.{stands_at}
 use Rattle.cg_promises.specs.Reached.{IsReached}
 use Rattle.cg_represents.proofs.Places.{place_is}
-use Rattle.cg_promises.proofs.FullAside.{IsAsideBy, IsLegacy}
-use Rattle.cg_promises.proofs.FullDecided.{reached_decided}
+use Rattle.cg_promises.proofs.FullUncollectable.{IsAsideBy, IsLegacy}
+use Rattle.cg_promises.proofs.DecidableReach.{reached_decided}
 use Rattle.cg_promises.proofs.FullEarly.{Early}
 use Rattle.cg_promises.proofs.FullKept.{anew, from_anew, place_anew, sorts}
 use Rattle.cg_promises.proofs.FullSplit.{WasAside, WasGarbage, aside_garbage}
-use Rattle.cg_promises.proofs.FullStands.{Alike, Stands, StandsSo, Reached, Loose, Condemned, SetAside}
+use Rattle.cg_promises.proofs.FullPlaces.{Alike, Stands, StandsSo, Reached, Loose, Condemned, SetAside}
 use Rattle.cg_promises.proofs.FullStart.{edge_from, in_merge, member_tracked, unreached_garbage}
 use Rattle.cg_promises.proofs.FinalizersDone.{IsWanted}
 use Rattle.cg_promises.proofs.FinalSetStart.{edge}

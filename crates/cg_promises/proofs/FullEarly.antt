@@ -22,7 +22,7 @@ use Rattle.cg_represents.proofs.Serials.{Rises}
 use Rattle.cg_laws.proofs.SetsApart.{stands_at}
 use Rattle.cg_represents.proofs.Places.{place_is}
 use Rattle.cg_promises.proofs.FullRuns.{enters_first, running_still}
-use Rattle.cg_promises.proofs.FullStands.{AreAlike, StandsSo, Pending, alike_same, alike_trans, stands_same, stands_wanted, test_alike, test_all, wanted_cand, wanted_seen}
+use Rattle.cg_promises.proofs.FullPlaces.{AreAlike, StandsSo, Pending, alike_same, alike_trans, stands_same, stands_wanted, test_alike, test_all, wanted_cand, wanted_seen}
 use Rattle.cg_promises.proofs.FullStop.{phase_quiet}
 use Rattle.cg_promises.proofs.KeptRuns.{starts_none}
 use Rattle.cg_promises.proofs.FinalSetRuns.{none_stops}

@@ -17,13 +17,13 @@ use Rattle.cg_machine.specs.Collect.{all_saved, has_flag, is_saved, members_at, 
 use Rattle.cg_represents.proofs.Lists.{Includes-of_count, present}
 use Rattle.cg_represents.proofs.Serials.{Rises}
 use Rattle.cg_promises.specs.Reached.{IsReached}
-use Rattle.cg_promises.proofs.FullAside.{AllWait, IsLegacy}
+use Rattle.cg_promises.proofs.FullUncollectable.{AllWait, IsLegacy}
 use Rattle.cg_promises.proofs.FullBegins.{legacy_first, looked, looked_edge}
-use Rattle.cg_promises.proofs.FullDecided.{reached_decided}
+use Rattle.cg_promises.proofs.DecidableReach.{reached_decided}
 use Rattle.cg_promises.proofs.FullRuns.{rooted_by}
 use Rattle.cg_promises.proofs.FullSaved.{IsNamed, all_saved_named, named_on}
 use Rattle.cg_promises.proofs.FullSplit.{WasAside, aside_garbage}
-use Rattle.cg_promises.proofs.FullStands.{Rests, RestsSo, RestsReached, RestsLoose, RestsAside, IsFinal}
+use Rattle.cg_promises.proofs.FullPlaces.{Rests, RestsSo, RestsReached, RestsLoose, RestsAside, IsFinal}
 use Rattle.cg_promises.proofs.FullStop.{Grows, all_saved_grow, grows_trans, test_grows}
 use Rattle.cg_promises.proofs.FinalSetStart.{edge, edge_of}
 

@@ -27,9 +27,9 @@ use Rattle.cg_laws.proofs.Releasing.{none_holds}
 use Rattle.cg_represents.proofs.Serials.{Rises}
 use Rattle.cg_laws.specs.Apart.{handles}
 use Rattle.cg_represents.proofs.Places.{place_is}
-use Rattle.cg_promises.proofs.FullAside.{Abide, AllWait, Dies, IsAsideBy, IsCalm, IsLegacy, IsLight, abide_same, abide_trans, all_wait, dies_first, dies_under, dies_without, test_abide}
+use Rattle.cg_promises.proofs.FullUncollectable.{Abide, AllWait, Dies, IsAsideBy, IsCalm, IsLegacy, IsLight, abide_same, abide_trans, all_wait, dies_first, dies_under, dies_without, test_abide}
 use Rattle.cg_promises.proofs.FullRuns.{enters_first, running_still}
-use Rattle.cg_promises.proofs.FullStands.{RestsSo, rests_final, rests_loose, rests_same, test_all}
+use Rattle.cg_promises.proofs.FullPlaces.{RestsSo, rests_final, rests_loose, rests_same, test_all}
 use Rattle.cg_promises.proofs.Kept.{appended}
 use Rattle.cg_promises.proofs.KeptRuns.{starts_none}
 use Rattle.cg_promises.proofs.FinalSet.{IsLate}

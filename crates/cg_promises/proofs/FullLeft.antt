@@ -17,7 +17,7 @@ use Rattle.cg_machine.specs.Holdings.{holdings, in_degree}
 use Rattle.cg_machine.specs.Operands.{is_dict}
 use Rattle.cg_machine.specs.Run.{IsRun, StepTaken, world_after}
 use Rattle.cg_laws.specs.Laws.{NoGarbageIsLeft}
-use Rattle.cg_laws.proofs.Forgotten.{lives_within}
+use Rattle.cg_laws.proofs.Unreferred.{lives_within}
 use Rattle.cg_laws.proofs.OriginsOfRuns.{opening_origin}
 use Rattle.cg_laws.proofs.Releasing.{entry_holder}
 use Rattle.cg_represents.proofs.Lists.{no_times}

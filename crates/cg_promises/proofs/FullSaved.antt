@@ -17,7 +17,7 @@ use Rattle.cg_machine.specs.Frame.{Transition}
 use Rattle.cg_machine.specs.Collect.{all_saved, collection_at, has_flag, lines_if, older, save_all, saved, takes_turn, uncollectable, PhaseStep, TurnsStep}
 use Rattle.cg_machine.specs.Run.{Run, StepOf, StepTaken, events_of, last_world}
 use Rattle.cg_laws.specs.Laws.{is_stop}
-use Rattle.cg_promises.proofs.FullStands.{test_all}
+use Rattle.cg_promises.proofs.FullPlaces.{test_all}
 use Rattle.cg_promises.proofs.FullStop.{Grows, all_saved_grow, grows_trans, test_grows}
 use Rattle.cg_promises.proofs.Kept.{appended}
 use Rattle.cg_promises.proofs.FinalSetRuns.{none_first, stops}

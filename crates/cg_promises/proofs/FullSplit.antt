@@ -25,7 +25,7 @@ use Rattle.cg_promises.specs.Reached.{IsReached}
 use Rattle.cg_represents.proofs.Places.{place_is}
 use Rattle.cg_promises.proofs.FullEarly.{Early}
 use Rattle.cg_promises.proofs.FullRuns.{IsRoot, parts, root_down, root_up, rooted_by}
-use Rattle.cg_promises.proofs.FullStands.{Alike, AreAlike, RestsSo, Rests, RestsReached, RestsLoose, RestsAside, IsFinal, Stands, StandsSo, Reached, Loose, Pending, Condemned, SetAside, alike_same, alike_trans, stands_same, test_alike, test_all}
+use Rattle.cg_promises.proofs.FullPlaces.{Alike, AreAlike, RestsSo, Rests, RestsReached, RestsLoose, RestsAside, IsFinal, Stands, StandsSo, Reached, Loose, Pending, Condemned, SetAside, alike_same, alike_trans, stands_same, test_alike, test_all}
 use Rattle.cg_promises.proofs.FullStart.{HasOutside, in_merge, some_outside}
 use Rattle.cg_promises.proofs.FinalizersDone.{IsWanted}
 use Rattle.cg_promises.proofs.FinalSetStart.{edge, edge_of}

@@ -19,10 +19,10 @@ use Rattle.cg_machine.specs.Run.{CommandInFrame, FrameStep, Run, Step, StepOf, S
 use Rattle.cg_laws.specs.Laws.{EntriesLeaveOnlyBy, IsLengthened, IsOfCollection, MayLoseEntries, ReferredTo, WasFinal}
 use Rattle.cg_laws.proofs.Ending.{Run-append, last_world-append}
 use Rattle.cg_laws.proofs.Invariants.{on}
-use Rattle.cg_laws.proofs.Forgotten.{lives_within}
+use Rattle.cg_laws.proofs.Unreferred.{lives_within}
 use Rattle.cg_laws.proofs.LeftBelowRuns.{LeavesUnder, leaves_below, step_leaves}
 use Rattle.cg_laws.proofs.Lookups.{same_object}
-use Rattle.cg_laws.proofs.Sound.{collections_in}
+use Rattle.cg_laws.proofs.InvariantOfRuns.{collections_in}
 use Rattle.cg_laws.proofs.Sums.{tally}
 use Rattle.cg_laws.proofs.Unheld.{IsStack}
 use Rattle.cg_laws.specs.Apart.{IsApart}

@@ -23,7 +23,7 @@ use Rattle.cg_represents.specs.Orderly.{all_waits}
 use Rattle.cg_laws.proofs.UnheldCommands.{hand_known}
 use Rattle.cg_laws.proofs.CommandRefs.{option_free}
 use Rattle.cg_laws.proofs.HeldLivesDeaths.{HasOrder}
-use Rattle.cg_laws.proofs.Forgotten.{lives_within}
+use Rattle.cg_laws.proofs.Unreferred.{lives_within}
 use Rattle.cg_laws.proofs.Invariants.{CommandSteps, FromFrame, FromTop, HasCommands, Steps, Takes, any_step, emptied, on}
 use Rattle.cg_laws.proofs.Origins.{IsAllOfScript}
 use Rattle.cg_laws.proofs.OriginsOfRuns.{opening_origin, step_origin}

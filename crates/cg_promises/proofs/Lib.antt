@@ -37,13 +37,13 @@ pub mod FullKept
 pub mod FullStop
 pub mod FullLaws
 pub mod FullLeft
-pub mod FullDecided
-pub mod FullStands
+pub mod DecidableReach
+pub mod FullPlaces
 pub mod FullEarly
 pub mod FullSplit
-pub mod FullAside
+pub mod FullUncollectable
 pub mod FullLate
 pub mod FullBegins
 pub mod FullSaved
 pub mod FullEnds
-pub mod FullNone
+pub mod FullLeavesNone

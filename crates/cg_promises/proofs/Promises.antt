@@ -14,7 +14,7 @@ use Rattle.cg_machine.specs.World.{World, opening}
 use Rattle.cg_machine.specs.Holdings.{holdings}
 use Rattle.cg_machine.specs.Run.{Run, StepTaken, events_of, last_world}
 use Rattle.cg_laws.specs.Laws.{IsGone, NoDeadNames, OneFinalizerEach, is_finalizer_of, named}
-use Rattle.cg_laws.proofs.Forgotten.{lives_within}
+use Rattle.cg_laws.proofs.Unreferred.{lives_within}
 use Rattle.cg_represents.proofs.Lists.{no_times}
 use Rattle.cg_laws.proofs.HeldLivesRuns.{held_live}
 use Rattle.cg_promises.specs.Lines.{NoDeadLines}

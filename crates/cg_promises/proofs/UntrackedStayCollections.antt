@@ -25,7 +25,7 @@ use Rattle.cg_machine.specs.Collect.{all_saved, calls_back, after_release, colle
 use Rattle.cg_laws.proofs.Starting.{either_way}
 use Rattle.cg_represents.proofs.Serials.{Rises, Rises-map}
 use Rattle.cg_laws.proofs.Lookups.{same_object}
-use Rattle.cg_laws.proofs.Forgotten.{lives_within}
+use Rattle.cg_laws.proofs.Unreferred.{lives_within}
 use Rattle.cg_laws.proofs.HeldLivesDeaths.{HasOrder}
 use Rattle.cg_laws.specs.Apart.{handles}
 use Rattle.cg_laws.proofs.SetsApart.{is_tracked_at}

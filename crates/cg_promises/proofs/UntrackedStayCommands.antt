@@ -17,7 +17,7 @@ use Rattle.cg_machine.specs.World.{World}
 use Rattle.cg_machine.specs.Operands.{is_dict, object_of}
 use Rattle.cg_machine.specs.Effects.{Calls, Changes, Collects, Effect, Quits, frozen, may_track, replaced, tracked_by, unfrozen, with_new, Explains}
 use Rattle.cg_laws.proofs.CommandRefs.{option_held, put_free}
-use Rattle.cg_laws.proofs.Forgotten.{lives_within}
+use Rattle.cg_laws.proofs.Unreferred.{lives_within}
 use Rattle.cg_laws.proofs.Lookups.{at_member, references_of_member, same_object}
 use Rattle.cg_represents.proofs.Serials.{Rises}
 use Rattle.cg_represents.proofs.Shapes.{IsMutable, Shape, Binds, Makes, Edits, Puts, Shows, Tells, Stays, Sets, Freezes, Unfreezes, StartsFrame, StartsCollection, Ends, Inspects, AsksWhy}

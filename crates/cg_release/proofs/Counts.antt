@@ -14,7 +14,7 @@ use Rattle.cg_graph.proofs.Objects.{occurrences-append}
 use Rattle.cg_machine.specs.World.{World, Activity}
 use Rattle.cg_machine.specs.Holdings.{holds, in_degree}
 use Rattle.cg_machine.specs.Weak.{loses_referent}
-use Rattle.cg_laws.proofs.Forgotten.{Alters, IsLater, change_alters, entries_alter, lives_after, lost_alters}
+use Rattle.cg_laws.proofs.Unreferred.{Alters, IsLater, change_alters, entries_alter, lives_after, lost_alters}
 use Rattle.cg_laws.proofs.LinesNameLive.{came_back, filter_lives, without_lasts}
 use Rattle.cg_represents.proofs.Lists.{found_at, slice_get_member, entry_held}
 use Rattle.cg_laws.proofs.Lookups.{references_of_member, references_take}

@@ -25,8 +25,8 @@ use Rattle.cg_represents.specs.Orderly.{IsOrderly}
 use Rattle.cg_laws.specs.Laws.{is_enter}
 use Rattle.cg_promises.proofs.FullRuns.{enters_first}
 use Rattle.cg_release.proofs.Counts.{Lets, last_held, lets_lose, lets_same, lets_shorten}
-use Rattle.cg_release.proofs.Between.{Between, IsBare, IsBarePhase, begins, frees, goes}
-use Rattle.cg_release.proofs.Caught.{IsCaught, caught_stays, longer, starts_caught}
+use Rattle.cg_release.proofs.WithinRelease.{Between, IsBare, IsBarePhase, begins, frees, goes}
+use Rattle.cg_release.proofs.WaitingDeaths.{IsCaught, caught_stays, longer, starts_caught}
 
 -- no line, and the line for a cleared weak reference, frees nothing
 none_freed : (o : ℕ) → ¬ Includes [] (Free o)

@@ -1,6 +1,6 @@
 pub mod Counts
-pub mod Between
-pub mod Caught
+pub mod WithinRelease
+pub mod WaitingDeaths
 pub mod Deaths
-pub mod Exactly
-pub mod Placed
+pub mod FreesWhatDies
+pub mod ObjectPlaces

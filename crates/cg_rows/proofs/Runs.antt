@@ -4,7 +4,7 @@ use Rattle.std.specs.Fmt.{digits}
 use Rattle.cg_machine.specs.World.{opening}
 use Rattle.cg_machine.specs.Run.{StepTaken}
 use Rattle.cg_machine.specs.Refusals.{◌>>=◌}
-use Rattle.cg_laws.proofs.Plain.{first_steps, first_steps_run}
+use Rattle.cg_laws.proofs.Deterministic.{first_steps, first_steps_run}
 use Rattle.cg_rows.specs.Worked.{WorkedScript, Prints, EachPrints, worked_scripts, an_empty_script, made_and_freed, a_list_that_holds_itself, brought_back_by_its_finalizer, a_name_bound_twice, deaths_in_depth, refused_kinds, key_and_value_of_a_dying_dictionary, printed_values, brought_back_from_a_death_by_count, callbacks_newest_first, condemned_weak_references_call_nothing_back, a_cycle_through_a_tuple, a_cycle_that_survived, a_legacy_cycle, saved_cycles, an_automatic_collection, the_quarter_rule, tracking, a_weak_reference_made_by_a_finalizer, dereferenced_before_it_is_made, brought_back_by_a_weak_reference, a_collection_inside_a_death, re_entrance_and_refusal_in_a_callback, counted_twice, a_tree_with_weak_parents, a_tree_with_strong_parents, refusals, a_weak_reference_that_dies_after_its_callback, cells, held_twice_by_itself, a_call_inside_a_finalizer, a_weak_reference_that_dies_first, a_weak_reference_that_the_finalizer_makes, debug_lines_of_legacy_garbage, freezing, switched_off_and_on, a_referent_that_the_weak_phase_cleared, a_spent_budget, replaced_items_and_attributes, keys_of_a_dictionary, a_legacy_finalizer_by_count, brought_back_by_a_legacy_finalizer, late_weak_references, debug_lines_of_collectable_garbage, stopped_at_the_top, locals_of_frames, a_refusal_ends_a_frame, kept_by_a_late_weak_reference, lost_by_an_early_weak_reference, a_condemned_weak_reference_is_cleared_late, shut_down, a_name_is_bound_while_it_shuts_down, what_the_last_collection_binds_is_left, referrers_and_referents, no_inspection_in_a_collection}
 
 -- the steps that the executor takes, at most 200

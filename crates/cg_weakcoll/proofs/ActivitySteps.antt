@@ -19,7 +19,7 @@ use Rattle.cg_machine.specs.Frame.{Transition, Yields, procedure_of, start_frame
 use Rattle.cg_machine.specs.Weak.{callback_of, loses_referent}
 use Rattle.cg_machine.specs.Collect.{IsMemberOf, Survives, is_condemned, merged}
 use Rattle.cg_represents.specs.Orderly.{death_waits}
-use Rattle.cg_laws.proofs.Forgotten.{IsLater, later_refl, later_trans}
+use Rattle.cg_laws.proofs.Unreferred.{IsLater, later_refl, later_trans}
 use Rattle.cg_laws.specs.Apart.{IsFound}
 use Rattle.cg_laws.proofs.Pointwise.{IsOrder, Came, came, came_if}
 

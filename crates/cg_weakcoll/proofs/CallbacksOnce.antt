@@ -14,7 +14,7 @@ use Rattle.cg_machine.specs.declared.event.FrameSort.TheVariants.{Callback}
 use Rattle.cg_machine.specs.World.{World, Activity, TopLevel, Framed, Releasing, Dying, Collecting, ShuttingDown, CollectPhase, WeakClearing, WeakCalling, AfterCallback, AfterRelease}
 use Rattle.cg_represents.specs.Orderly.{IsWaiting, all_waits, collection_waits, waits_of}
 use Rattle.cg_represents.proofs.Lists.{present, no_times, occurrences-cons}
-use Rattle.cg_laws.proofs.Forgotten.{IsLater, none_later}
+use Rattle.cg_laws.proofs.Unreferred.{IsLater, none_later}
 use Rattle.cg_weakcoll.proofs.ActivitySteps.{Acts, Called, IsAside, IsCollected, IsRaised, Waited, all_to_call, to_call, to_call_in}
 use Rattle.cg_laws.specs.Apart.{IsFound}
 use Rattle.cg_weakcoll.proofs.KnownOfRuns.{Known}

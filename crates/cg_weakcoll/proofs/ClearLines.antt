@@ -14,7 +14,7 @@ use Rattle.cg_weakcoll.proofs.ExitNames.{IsElse, clear_lines, clear_word, each_c
 use Rattle.cg_weakcoll.proofs.SoundWords.{EachLine, EachWord, IsSound, each_sound, sound_at, sound_lines}
 use Rattle.cg_weakcoll.proofs.ExpandedLines.{fits_of, split_bad}
 use Rattle.cg_weakcoll.proofs.FreeNames.{AreClear, IsClear}
-use Rattle.cg_weakcoll.proofs.Passages.{AreClearLines}
+use Rattle.cg_weakcoll.proofs.LinesWithoutNames.{AreClearLines}
 
 -- words without a reserved one
 clear_words : (l : ℕ) (words : List (List ℕ)) → list_any is_kept words ≡ false → EachWord (IsClear (IsElse l)) words

@@ -26,8 +26,8 @@ use Rattle.cg_machine.specs.Operands.{value_of}
 use Rattle.cg_laws.specs.Origins.{commands_on}
 use Rattle.cg_machine.specs.Run.{IsRun, Run, Step, StepTaken, events_of, last_world, world_after}
 use Rattle.cg_laws.proofs.Ending.{Run-append, last_world-append}
-use Rattle.cg_laws.proofs.Forgotten.{lives_within}
-use Rattle.cg_laws.proofs.Fronts.{events_of-append}
+use Rattle.cg_laws.proofs.Unreferred.{lives_within}
+use Rattle.cg_laws.proofs.PrefixesOfRuns.{events_of-append}
 use Rattle.cg_laws.proofs.Invariants.{FromTop, on}
 use Rattle.cg_promises.proofs.FinalizerOnce.{Says}
 use Rattle.cg_promises.proofs.FinalizerOnceRuns.{run_back, run_front, step_goes}

@@ -38,7 +38,7 @@ use Rattle.cg_weakcoll.proofs.FinalizerLines.{Calls, Finalizer, calls, calls_of,
 use Rattle.cg_weakcoll.proofs.FreeNames.{AreFree, IsClear}
 use Rattle.cg_weakcoll.proofs.LookLines.{ReadAs, read_as}
 use Rattle.cg_weakcoll.proofs.ReadLines.{does_all}
-use Rattle.cg_weakcoll.proofs.Passages.{Any, IsFine, Passage, behind, passage}
+use Rattle.cg_weakcoll.proofs.LinesWithoutNames.{Any, IsFine, Passage, behind, passage}
 use Rattle.cg_weakcoll.proofs.ItemsOfLines.{ArePlain, at_place, begun, begun_names, class_said, classes_split, command_said, commands_split, elsewhere, no_classes, no_procedures, procedure_said, procedures_split, run_each, through}
 
 numbers-append : (front lines : List (List ℕ)) (l : ℕ) → finalize_numbers_from l (front ++ lines) ≡ finalize_numbers_from l front ++ finalize_numbers_from (l + length front) lines

@@ -23,7 +23,7 @@ use Rattle.cg_machine.specs.Effects.{Changes, bound, given_up_by, with_new}
 use Rattle.cg_machine.specs.Commands.{CommandStep, new_collection, refused, stopped_frame}
 use Rattle.cg_machine.specs.Operands.{self_in, weak_in}
 use Rattle.cg_machine.specs.Run.{Step}
-use Rattle.cg_laws.proofs.Forgotten.{IsLater, later_refl}
+use Rattle.cg_laws.proofs.Unreferred.{IsLater, later_refl}
 use Rattle.cg_laws.proofs.Invariants.{Takes, on}
 use Rattle.cg_laws.proofs.ShapeLaws.{shape_comes}
 use Rattle.cg_represents.proofs.Shapes.{ByDict, ByFunc, ByInst, ByList, ByRef, ByTuple, IsMadeBy}

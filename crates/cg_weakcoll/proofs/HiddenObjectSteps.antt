@@ -33,7 +33,7 @@ use Rattle.cg_represents.specs.Orderly.{runs_own_frame}
 use Rattle.cg_machine.specs.Operands.{is_dict, self_in, weak_in}
 use Rattle.cg_laws.proofs.CommandRefs.{HoldNone, all_free, entry_free, option_free, put_free}
 use Rattle.cg_represents.proofs.Lists.{present}
-use Rattle.cg_laws.proofs.Forgotten.{some_later}
+use Rattle.cg_laws.proofs.Unreferred.{some_later}
 use Rattle.cg_laws.proofs.Lookups.{references_of_member, same_object}
 use Rattle.cg_laws.proofs.Invariants.{FromFrame, FromTop, Takes, emptied, on}
 use Rattle.cg_represents.proofs.Serials.{Rises}

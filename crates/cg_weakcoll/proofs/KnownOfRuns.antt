@@ -15,7 +15,7 @@ use Rattle.cg_machine.specs.Commands.{CommandStep, new_collection}
 use Rattle.cg_laws.specs.Lawful.{IsLawful}
 use Rattle.cg_machine.specs.Run.{CommandInFrame, FrameStep, IsRun, Step, StepTaken, TopLevelStep, world_after}
 use Rattle.cg_laws.proofs.Invariants.{AreAnswers, AreLast, CommandSteps, FromFrame, FromTop, HasCommands, Steps, Takes, any_step, emptied, on}
-use Rattle.cg_laws.proofs.Lawful.{lawful_after}
+use Rattle.cg_laws.proofs.LawsOfWorlds.{lawful_after}
 use Rattle.cg_laws.proofs.OriginsOfRuns.{opening_origin}
 use Rattle.cg_represents.proofs.Serials.{Rises}
 use Rattle.cg_represents.proofs.Shapes.{HasObject, Shape}

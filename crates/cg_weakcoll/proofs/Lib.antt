@@ -24,7 +24,7 @@ pub mod ReferentsLost
 pub mod ReferentsLostDeaths
 pub mod ReferentsLostRuns
 pub mod CommandsUsedUp
-pub mod Taking
+pub mod TakenCommands
 pub mod MapRuns
 pub mod MapLaws
 pub mod SoundWords
@@ -39,7 +39,7 @@ pub mod WorkedFinalizers
 pub mod WorkedAlive
 pub mod FreeNames
 pub mod ItemsOfLines
-pub mod Passages
+pub mod LinesWithoutNames
 pub mod ExitNames
 pub mod ReadTables
 pub mod FinalizerLines

@@ -20,7 +20,7 @@ use Rattle.cg_machine.specs.Commands.{DoesEffect}
 use Rattle.cg_machine.specs.Run.{StepTaken, Step, Run, IsRun, events_of, last_world, world_after}
 use Rattle.cg_laws.proofs.Ending.{Run-append, last_world-append}
 use Rattle.cg_laws.proofs.CommandRefs.{name_free}
-use Rattle.cg_laws.proofs.Forgotten.{Unheld, lives_within}
+use Rattle.cg_laws.proofs.Unreferred.{Unheld, lives_within}
 use Rattle.cg_represents.proofs.Serials.{Rises}
 use Rattle.cg_laws.proofs.Unheld.{Calm, Stands}
 use Rattle.cg_laws.proofs.UnheldRuns.{death_stands}
@@ -28,7 +28,7 @@ use Rattle.cg_promises.proofs.FinalizerOnceRuns.{Fit, opening_fit, run_back, run
 use Rattle.cg_weakcoll.specs.Maps.{IsUnder, Look, Looks, LooksAnswer, LooksFindReferents, MakesWeak, WeakMapsAnswer, WeakReferencesKeepTheirReferents, before_second, before_third, referent_value, since_making, steps_before_third, steps_of}
 use Rattle.cg_weakcoll.proofs.ReferentsLost.{IsFading, is_frameless}
 use Rattle.cg_weakcoll.proofs.ReferentsLostRuns.{Keeps, keeps_refers, run_keeps}
-use Rattle.cg_weakcoll.proofs.Taking.{Done, Refs, changes_so, ref_refs, taken_done}
+use Rattle.cg_weakcoll.proofs.TakenCommands.{Done, Refs, changes_so, ref_refs, taken_done}
 use Rattle.cg_weakcoll.proofs.MapRuns.{Found, found, parts}
 
 -- a weak reference that was just made

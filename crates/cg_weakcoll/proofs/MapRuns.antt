@@ -24,7 +24,7 @@ use Rattle.cg_laws.proofs.Ending.{last_world-append}
 use Rattle.cg_promises.proofs.FinalizerOnceRuns.{run_back, run_front}
 use Rattle.cg_weakcoll.specs.Maps.{LookFinds, Look, Looks, before_second, before_third, referent_value, steps_before_third, steps_of}
 use Rattle.cg_weakcoll.proofs.CommandsUsedUp.{Burns, step_burns, weight}
-use Rattle.cg_weakcoll.proofs.Taking.{Derefs, Done, Gets, changes_so, deref_derefs, get_gets, taken_done}
+use Rattle.cg_weakcoll.proofs.TakenCommands.{Derefs, Done, Gets, changes_so, deref_derefs, get_gets, taken_done}
 
 stays_none : (names : List (Option Val)) (x : ℕ) (u v : Val) → option_and_then (λ v. v) (slice_get (slice_set names x (Some u)) x) ≡ Some v → u ≡ v
 stays_none [] x u v h = absurd (let no : None ≡ Some v = h in cc)

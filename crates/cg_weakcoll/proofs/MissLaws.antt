@@ -19,7 +19,7 @@ use Rattle.cg_laws.proofs.PrintableTexts.{commands_name_texts}
 use Rattle.cg_promises.proofs.HoldersMoveRuns.{minded_after, opening_minded}
 use Rattle.cg_promises.proofs.FinalizerOnceRuns.{opening_fit, run_back, run_front}
 use Rattle.cg_weakcoll.specs.Maps.{MissesLeaveNone}
-use Rattle.cg_weakcoll.proofs.Taking.{changes_so, get_refused, none_binds, taken, taken_done}
+use Rattle.cg_weakcoll.proofs.TakenCommands.{changes_so, get_refused, none_binds, taken, taken_done}
 use Rattle.cg_weakcoll.proofs.MapRuns.{count_append, names_stay}
 
 bound_within : (names : List (Option Val)) (x : ℕ) (v : Val) → x < length names → option_and_then (λ u. u) (slice_get (slice_set names x (Some v)) x) ≡ Some v

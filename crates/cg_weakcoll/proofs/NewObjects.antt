@@ -19,7 +19,7 @@ use Rattle.cg_machine.specs.World.{World, Activity, Framed, Frame, Releasing, pu
 use Rattle.cg_machine.specs.Holdings.{holdings, holds}
 use Rattle.cg_machine.specs.Effects.{bound, with_new}
 use Rattle.cg_machine.specs.Operands.{self_in, weak_in}
-use Rattle.cg_laws.proofs.Forgotten.{lives_within}
+use Rattle.cg_laws.proofs.Unreferred.{lives_within}
 use Rattle.cg_laws.proofs.Invariants.{Takes, on}
 use Rattle.cg_represents.proofs.Lists.{entry_held}
 use Rattle.cg_laws.specs.Apart.{IsFound}

@@ -28,7 +28,7 @@ use Rattle.cg_script.proofs.Shown.{Begins, begins_along, begins_self, begins_tex
 use Rattle.cg_weakcoll.specs.MapLines.{StandTogether}
 use Rattle.cg_weakcoll.proofs.SoundWords.{EachLine, IsSound, each_sound}
 use Rattle.cg_weakcoll.proofs.ReadLines.{AllFit, AreNested, does_all, nested, one_line, stand_together}
-use Rattle.cg_weakcoll.proofs.Passages.{behind}
+use Rattle.cg_weakcoll.proofs.LinesWithoutNames.{behind}
 use Rattle.cg_weakcoll.proofs.LookLines.{added, all_begin, read_as}
 
 -- a known text keeps its place among all texts

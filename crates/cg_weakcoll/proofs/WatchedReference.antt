@@ -24,7 +24,7 @@ use Rattle.cg_machine.specs.World.{World, TopLevel}
 use Rattle.cg_machine.specs.Holdings.{holdings, holds}
 use Rattle.cg_machine.specs.Collect.{is_condemned}
 use Rattle.cg_represents.specs.Orderly.{IsHeldInItsFramesAlone}
-use Rattle.cg_laws.proofs.Forgotten.{IsLater, none_later}
+use Rattle.cg_laws.proofs.Unreferred.{IsLater, none_later}
 use Rattle.cg_represents.proofs.Lists.{absent}
 use Rattle.cg_laws.specs.Apart.{IsFound}
 use Rattle.cg_weakcoll.specs.Exits.{Exit, IsOther, is_callback_of}

@@ -23,7 +23,7 @@ use Rattle.cg_laws.specs.Laws.{is_enter}
 use Rattle.cg_machine.specs.Operands.{object_of}
 use Rattle.cg_laws.specs.Origins.{commands_on}
 use Rattle.cg_machine.specs.Run.{Step}
-use Rattle.cg_laws.proofs.Forgotten.{some_later}
+use Rattle.cg_laws.proofs.Unreferred.{some_later}
 use Rattle.cg_laws.proofs.Invariants.{FromFrame, FromTop, HasCommands, Takes, emptied, on}
 use Rattle.cg_represents.proofs.Lists.{found_at}
 use Rattle.cg_laws.proofs.ShapeLaws.{changes_leave}

@@ -17,7 +17,7 @@ use Rattle.cg_machine.specs.Program.{body_of}
 use Rattle.cg_machine.specs.World.{World, Activity, TopLevel, Framed, ShuttingDown, BudgetIsSpent, with_change}
 use Rattle.cg_machine.specs.Frame.{Yields, procedure_of, start_frame}
 use Rattle.cg_machine.specs.Effects.{Changes, Effect, bound, frozen, may_track, replaced, tracked_by, unfrozen, with_new}
-use Rattle.cg_laws.proofs.Forgotten.{IsLater, later_refl, place_later}
+use Rattle.cg_laws.proofs.Unreferred.{IsLater, later_refl, place_later}
 use Rattle.cg_represents.proofs.Inspecting.{AllTellThere}
 use Rattle.cg_laws.proofs.Invariants.{AreAnswers, AreLast, FromFrame, FromTop, HasCommands, Takes, emptied, on}
 use Rattle.cg_laws.proofs.ShapeLaws.{changes_leave, put_later}

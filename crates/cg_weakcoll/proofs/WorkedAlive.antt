@@ -16,7 +16,7 @@ use Rattle.cg_machine.specs.World.{World, Activity, Frame, TopLevel, opening}
 use Rattle.cg_machine.specs.declared.event.FrameSort.TheVariants.{Call as CallFrame}
 use Rattle.cg_machine.specs.Run.{StepTaken, world_after}
 use Rattle.cg_machine.specs.Refusals.{◌>>=◌}
-use Rattle.cg_laws.proofs.Plain.{first_steps_run, next}
+use Rattle.cg_laws.proofs.Deterministic.{first_steps_run, next}
 use Rattle.cg_weakcoll.specs.Expansion.{expansion}
 use Rattle.cg_weakcoll.specs.Exits.{IsExit, FindsAlive, NoneRefused, exit_body, is_refusal}
 use Rattle.cg_weakcoll.specs.WorkedExits.{FindsAliveAndCalls, one_finalizer, one_script, the_exit}

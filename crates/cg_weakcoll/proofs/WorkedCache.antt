@@ -14,7 +14,7 @@ use Rattle.cg_machine.specs.declared.event.Event.TheVariants.{Made, Refused}
 use Rattle.cg_machine.specs.World.{World, opening}
 use Rattle.cg_machine.specs.Run.{StepTaken, world_after}
 use Rattle.cg_machine.specs.Refusals.{◌>>=◌}
-use Rattle.cg_laws.proofs.Plain.{first_steps_run, next}
+use Rattle.cg_laws.proofs.Deterministic.{first_steps_run, next}
 use Rattle.cg_weakcoll.specs.Expansion.{expansion}
 use Rattle.cg_weakcoll.specs.Maps.{Look, MapStore, Stores}
 use Rattle.cg_weakcoll.specs.Worked.{HasLookWith, a_cache, its_script}

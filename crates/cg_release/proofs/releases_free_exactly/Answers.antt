@@ -1,5 +1,5 @@
 use Rattle.cg_script.proofs.ReadScripts.{read_known}
-use Rattle.cg_release.proofs.Exactly.{frees_exactly}
+use Rattle.cg_release.proofs.FreesWhatDies.{frees_exactly}
 use Rattle.cg_release.proofs.releases_free_exactly.Goals as goal
 
 pub returns : goal.returns

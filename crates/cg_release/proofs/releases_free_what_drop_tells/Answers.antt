@@ -1,5 +1,5 @@
 use Rattle.cg_script.proofs.ReadScripts.{read_known}
-use Rattle.cg_release.proofs.Placed.{frees_what_drop_tells}
+use Rattle.cg_release.proofs.ObjectPlaces.{frees_what_drop_tells}
 use Rattle.cg_release.proofs.releases_free_what_drop_tells.Goals as goal
 
 pub returns : goal.returns

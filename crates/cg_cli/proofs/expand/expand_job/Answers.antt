@@ -1,7 +1,7 @@
 use Rattle.std.proofs.Common.{◌≡◌, ◌<◌, ℕ, List, length, IfSome, ap, inl, inr, subst, sym, Err}
 use Rattle.cg_cli.specs.declared.input.TheConstants.{LIMIT}
 use Rattle.cg_cli.specs.Jobs.{ExpandAnswers, outside}
-use Rattle.cg_cli.proofs.Answered.{expand_answers, expand_unread}
+use Rattle.cg_cli.proofs.AnswersOfJobs.{expand_answers, expand_unread}
 use Rattle.cg_cli.proofs.expand.expand_job.Goals as goal
 
 pub returns-in-Ok : goal.returns-in-Ok

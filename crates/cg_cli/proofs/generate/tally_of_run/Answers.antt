@@ -1,5 +1,5 @@
 use Rattle.std.proofs.Common.{refl}
-use Rattle.cg_cli.proofs.Summed.{tallied}
+use Rattle.cg_cli.proofs.Summaries.{tallied}
 use Rattle.cg_cli.proofs.generate.tally_of_run.Goals as goal
 
 pub returns-in-Done : goal.returns-in-Done

@@ -1,6 +1,6 @@
 use Rattle.std.proofs.Common.{ap, inl, inr, subst, Err}
 use Rattle.cg_cli.specs.Jobs.{RecordAnswers, outside}
-use Rattle.cg_cli.proofs.Answered.{record_answers, record_unread}
+use Rattle.cg_cli.proofs.AnswersOfJobs.{record_answers, record_unread}
 use Rattle.cg_cli.proofs.record.record_job.Goals as goal
 
 pub returns-in-Ok : goal.returns-in-Ok

@@ -1,6 +1,6 @@
 use Rattle.std.proofs.Common.{ap, inl, inr, subst, Err}
 use Rattle.cg_cli.specs.Jobs.{RunAnswers, outside}
-use Rattle.cg_cli.proofs.Answered.{run_answers, run_unread}
+use Rattle.cg_cli.proofs.AnswersOfJobs.{run_answers, run_unread}
 use Rattle.cg_cli.proofs.run.run_job.Goals as goal
 
 pub returns-in-Ok : goal.returns-in-Ok

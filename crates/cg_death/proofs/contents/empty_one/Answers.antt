@@ -8,7 +8,7 @@ use Rattle.cg_death.specs.Falls.{Falls}
 use Rattle.cg_death.specs.Steady.{IsSteadyAt}
 use Rattle.cg_death.specs.Turns.{LeavesTheRest}
 use Rattle.cg_death.proofs.Emptying.{turn-taken, turn-gone}
-use Rattle.cg_death.proofs.Falling.{falls-taken}
+use Rattle.cg_death.proofs.WorkLeft.{falls-taken}
 use Rattle.cg_death.proofs.LeavingTheRest.{rest-taken, rest-gone}
 use Rattle.cg_death.proofs.SteadyRows.{steady-taken, steady-gone}
 use Rattle.cg_death.proofs.TakingTurns.{tells}

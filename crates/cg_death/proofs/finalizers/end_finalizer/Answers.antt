@@ -6,7 +6,7 @@ use Rattle.cg_machine.specs.declared.event.Event.TheVariants.{Alive}
 use Rattle.cg_death.specs.declared.phase.Phase.TheVariants as phase_of
 use Rattle.cg_death.proofs.Finalizing.{turn-unheld_again, turn-brought_back}
 use Rattle.cg_death.proofs.LeavingTheRest.{rest-frame_ended}
-use Rattle.cg_death.proofs.Steadying.{steady-frame_ended, steady-over}
+use Rattle.cg_death.proofs.SteadyPhases.{steady-frame_ended, steady-over}
 use Rattle.cg_death.proofs.TakingTurns.{goes_on, tells}
 use Rattle.cg_death.proofs.finalizers.end_finalizer.Goals as goal
 

@@ -6,7 +6,7 @@ use Rattle.cg_machine.specs.declared.event.Event.TheVariants.{Alive}
 use Rattle.cg_death.specs.declared.phase.Phase.TheVariants as phase_of
 use Rattle.cg_death.proofs.Finalizing.{turn-unheld_after_legacy, turn-brought_back_by_legacy}
 use Rattle.cg_death.proofs.LeavingTheRest.{rest-frame_ended}
-use Rattle.cg_death.proofs.Steadying.{steady-legacy_ended, steady-over}
+use Rattle.cg_death.proofs.SteadyPhases.{steady-legacy_ended, steady-over}
 use Rattle.cg_death.proofs.TakingTurns.{goes_on, tells}
 use Rattle.cg_death.proofs.finalizers.end_legacy.Goals as goal
 

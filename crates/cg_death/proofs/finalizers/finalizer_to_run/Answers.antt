@@ -4,7 +4,7 @@ use Rattle.cg_graph.specs.Object.{object_at}
 use Rattle.cg_graph.specs.Store.{objects_of}
 use Rattle.cg_machine.specs.Program.{finalizer_of}
 use Rattle.cg_death.proofs.Classes.{to_run-at}
-use Rattle.cg_death.proofs.Passing.{none_to_run}
+use Rattle.cg_death.proofs.PhaseChanges.{none_to_run}
 use Rattle.cg_death.proofs.finalizers.finalizer_to_run.Goals as goal
 
 pub returns-in_err-proc : goal.returns-in_err-proc

@@ -6,9 +6,9 @@ use Rattle.cg_heap.specs.Calls.{HasFewHolds, with_node, marked}
 use Rattle.cg_heap.proofs.CallerLemmas.{lives_on, kinds-moved, kinds-with_node, total-moved, total-with_node}
 use Rattle.cg_death.specs.declared.phase.Phase.TheVariants as phase_of
 use Rattle.cg_death.proofs.Finalizing.{turn-no_finalizer, turn-finalizer}
-use Rattle.cg_death.proofs.Passing.{turn-plain, steady-plain}
+use Rattle.cg_death.proofs.PhaseChanges.{turn-plain, steady-plain}
 use Rattle.cg_death.proofs.LeavingTheRest.{rest-same, rest-own_frame}
-use Rattle.cg_death.proofs.Steadying.{steady-no_finalizer, steady-finalizer}
+use Rattle.cg_death.proofs.SteadyPhases.{steady-no_finalizer, steady-finalizer}
 use Rattle.cg_death.proofs.TakingTurns.{running, goes_on, runs}
 use Rattle.cg_death.proofs.finalizers.run_finalizer.Goals as goal
 

@@ -7,7 +7,7 @@ use Rattle.cg_heap.proofs.CallerLemmas.{lives_on, kinds-moved, total-moved}
 use Rattle.cg_death.specs.declared.phase.Phase.TheVariants as phase_of
 use Rattle.cg_death.proofs.Finalizing.{turn-no_legacy, turn-legacy}
 use Rattle.cg_death.proofs.LeavingTheRest.{rest-same, rest-legacy_frame}
-use Rattle.cg_death.proofs.Steadying.{steady-no_legacy, steady-legacy}
+use Rattle.cg_death.proofs.SteadyPhases.{steady-no_legacy, steady-legacy}
 use Rattle.cg_death.proofs.TakingTurns.{running, goes_on, runs}
 use Rattle.cg_death.proofs.finalizers.run_legacy.Goals as goal
 

@@ -10,7 +10,7 @@ use Rattle.cg_heap.specs.Weak.{forgotten_weak}
 use Rattle.cg_heap.proofs.CallerLemmas.{lives_on, kinds-held, kinds-rewritten}
 use Rattle.cg_death.specs.declared.phase.Phase.TheVariants as phase_of
 use Rattle.cg_death.proofs.RowSplits.{head_in}
-use Rattle.cg_death.proofs.Calling.{turn-called, procedure-after}
+use Rattle.cg_death.proofs.Callbacks.{turn-called, procedure-after}
 use Rattle.cg_death.proofs.Querying.{newest-waits, callback-lives}
 use Rattle.cg_death.proofs.LeavingTheRest.{rest-called}
 use Rattle.cg_death.proofs.SteadyRows.{steady-called}

@@ -1,6 +1,6 @@
 use Rattle.std.proofs.Common.{refl, sym, arith}
 use Rattle.cg_death.specs.declared.phase.Phase.TheVariants as phase_of
-use Rattle.cg_death.proofs.Calling.{turn-all_called}
+use Rattle.cg_death.proofs.Callbacks.{turn-all_called}
 use Rattle.cg_death.proofs.LeavingTheRest.{rest-same}
 use Rattle.cg_death.proofs.SteadyRows.{steady-all_called}
 use Rattle.cg_death.proofs.TakingTurns.{goes_on}

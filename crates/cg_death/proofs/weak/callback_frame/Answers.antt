@@ -1,7 +1,7 @@
 use Rattle.std.proofs.Common.{◌∙◌, ap, ℕ, Some}
 use Rattle.std.specs.Prelude.{unwrap_or}
 use Rattle.cg_machine.specs.declared.event.FrameSort.TheVariants.{Callback}
-use Rattle.cg_death.proofs.Calling.{procedure-told}
+use Rattle.cg_death.proofs.Callbacks.{procedure-told}
 use Rattle.cg_death.proofs.weak.callback_frame.Goals as goal
 
 pub returns : goal.returns

@@ -1,6 +1,6 @@
 use Rattle.std.proofs.Common.{◌∙◌, sym}
 use Rattle.cg_graph.specs.Store.{entries_of}
-use Rattle.cg_death.proofs.Calling.{callback-at}
+use Rattle.cg_death.proofs.Callbacks.{callback-at}
 use Rattle.cg_death.proofs.Querying.{no_entry, first_entry}
 use Rattle.cg_death.proofs.weak.callback_of.Goals as goal
 

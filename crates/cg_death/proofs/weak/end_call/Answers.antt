@@ -4,7 +4,7 @@ use Rattle.cg_death.specs.Activities.{activities}
 use Rattle.cg_death.specs.Answers.{DeathSteps}
 use Rattle.cg_death.specs.Falls.{Falls}
 use Rattle.cg_death.proofs.Steps.{turn-call_ended}
-use Rattle.cg_death.proofs.Falling.{falls-call_ended}
+use Rattle.cg_death.proofs.WorkLeft.{falls-call_ended}
 use Rattle.cg_death.specs.Steady.{IsSteadyAt}
 use Rattle.cg_death.proofs.SteadyRows.{steady-call_ended}
 use Rattle.cg_death.proofs.weak.end_call.Goals as goal

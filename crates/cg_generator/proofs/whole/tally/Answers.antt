@@ -1,4 +1,4 @@
-use Rattle.cg_generator.proofs.Tallying.{counted_more}
+use Rattle.cg_generator.proofs.Tallies.{counted_more}
 use Rattle.cg_generator.proofs.whole.tally.Goals as goal
 
 pub lines-preserved : goal.lines-preserved

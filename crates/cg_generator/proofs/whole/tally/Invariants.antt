@@ -1,5 +1,5 @@
 use Rattle.std.proofs.Common.{length}
-use Rattle.cg_generator.proofs.Tallying.{CountedSoFar}
+use Rattle.cg_generator.proofs.Tallies.{CountedSoFar}
 use Rattle.cg_generator.proofs.whole.tally.Given as goal
 
 abbrev pub invariant-lines : goal.invariant-lines

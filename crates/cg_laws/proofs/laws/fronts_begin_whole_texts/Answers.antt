@@ -1,4 +1,4 @@
-use Rattle.cg_laws.proofs.Fronts.{fronts}
+use Rattle.cg_laws.proofs.PrefixesOfRuns.{fronts}
 use Rattle.cg_laws.proofs.laws.fronts_begin_whole_texts.Goals as goal
 
 pub returns : goal.returns

@@ -1,4 +1,4 @@
-use Rattle.cg_laws.proofs.Lawful.{stay_lawful}
+use Rattle.cg_laws.proofs.LawsOfWorlds.{stay_lawful}
 use Rattle.cg_laws.proofs.laws.runs_stay_lawful.Goals as goal
 
 pub returns : goal.returns

@@ -1,4 +1,4 @@
-use Rattle.cg_laws.proofs.MakingOfRuns.{few_serials}
+use Rattle.cg_laws.proofs.SerialsOfRuns.{few_serials}
 use Rattle.cg_laws.proofs.laws.serials_are_few.Goals as goal
 
 pub returns : goal.returns

@@ -1,5 +1,5 @@
 use Rattle.cg_script.proofs.ReadScripts.{read_known}
-use Rattle.cg_promises.proofs.FullNone.{full_leaves_none}
+use Rattle.cg_promises.proofs.FullLeavesNone.{full_leaves_none}
 use Rattle.cg_promises.proofs.full_collections.full_collections_leave_none.Goals as goal
 
 pub returns : goal.returns

@@ -3,10 +3,10 @@ use Rattle.cg_death.specs.Answers.{DeathSteps}
 use Rattle.cg_death.specs.Activities.{activities}
 use Rattle.cg_death.specs.Falls.{Falls}
 use Rattle.cg_death.proofs.Steps.{RestsIfOver, step-given_up, step-turned}
-use Rattle.cg_death.proofs.Falling.{falls-step}
+use Rattle.cg_death.proofs.WorkLeft.{falls-step}
 use Rattle.cg_death.specs.Steady.{IsSteadyAt}
 use Rattle.cg_death.proofs.SteadySteps.{steady-given_up, steady-popped}
-use Rattle.cg_death.proofs.Ends.{none_left}
+use Rattle.cg_death.proofs.DeathEnds.{none_left}
 use Rattle.cg_death.proofs.death.Death.step.Goals as goal
 
 pub returns-in-Some-clause-steps : goal.returns-in-Some-clause-steps

@@ -7,10 +7,10 @@ use Rattle.cg_laws.specs.Lawful.{IsLawful, RunsStayLawful}
 use Rattle.cg_laws.proofs.Ending.{Run-append, last_world-append}
 use Rattle.cg_laws.proofs.UnheldRuns.{dying_unheld}
 use Rattle.cg_laws.proofs.HeldLivesRuns.{worlds_orderly}
-use Rattle.cg_laws.proofs.Heights.{stacks_bounded}
+use Rattle.cg_laws.proofs.StackHeights.{stacks_bounded}
 use Rattle.cg_laws.proofs.OriginsOfRuns.{worlds_have_origins}
-use Rattle.cg_laws.proofs.MakingOfRuns.{few_serials}
-use Rattle.cg_laws.proofs.StandingRuns.{locals_live, newest_first}
+use Rattle.cg_laws.proofs.SerialsOfRuns.{few_serials}
+use Rattle.cg_laws.proofs.StackFactsOfRuns.{locals_live, newest_first}
 
 pub lawful_after : (script : Script) (budget : ℕ) (steps : List StepTaken) → IsRun script budget steps → IsLawful script budget (world_after script budget steps)
 lawful_after script budget steps run = record {

@@ -1,6 +1,6 @@
 -- Steps of collections.
-use Rattle.cg_laws.proofs.FallsDeaths.{references_two}
-use Rattle.cg_laws.proofs.Saving.{saved_stays, saved_entries, all_saved_stays, all_saved_entries, filter_size}
+use Rattle.cg_laws.proofs.MeasureInDeaths.{references_two}
+use Rattle.cg_laws.proofs.GarbageList.{saved_stays, saved_entries, all_saved_stays, all_saved_entries, filter_size}
 use Rattle.cg_represents.proofs.Lists.{no_longer}
 use Rattle.std.proofs.Common.{◌≡◌, refl, sym, subst, ℕ, ◌+◌, ◌<◌, ◌≤◌, Bool, true, false, not, inl, inr, List, [], ◌∷◌, ◌++◌, map, length, Option, Some, None, arith}
 use Rattle.std.specs.Prelude.{◌==◌, ◌||◌, ◌&&◌, nat_lt, if◌then◌else◌, unwrap_or, option_map, option_and_then, is_some, filter}
@@ -29,7 +29,7 @@ use Rattle.cg_represents.proofs.Serials.{change-shortened, shortened}
 use Rattle.cg_laws.proofs.Measure.{commands_left, is_first, is_starting, due_rank, due_left, phase_rank, rank_in, left_at, left_in, entries_in, referents_in, summary, Lower, by_rank, by_left, by_entries, by_referents, weight_in, size_of}
 use Rattle.cg_laws.proofs.FewerEntries.{Faded, unchanged, change_fades, place_fades, referent_fades, shortened_fades, marked_fades, then_fades, loses_one, shorter, Stays, Same, faded_stays, faded_after, stays_after, map_stays, placed, placed_entries, map_fades, if_fades}
 use Rattle.cg_laws.proofs.Candidates.{leaves, others_fewer, only_others, saved_leaves, member_at, AllLose-fades}
-use Rattle.cg_laws.proofs.Sound.{collections_in, Sound, Moves, starts, IsPlain, CountsNothing, plain_counts}
+use Rattle.cg_laws.proofs.InvariantOfRuns.{collections_in, Sound, Moves, starts, IsPlain, CountsNothing, plain_counts}
 use Rattle.cg_laws.proofs.Clearing.{refers_early}
 
 -- no collection is underway below

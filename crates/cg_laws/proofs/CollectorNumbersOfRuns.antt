@@ -19,17 +19,17 @@ use Rattle.cg_machine.specs.Due.{due, due_generation, is_due}
 use Rattle.cg_machine.specs.Run.{last_world}
 use Rattle.cg_laws.proofs.ShapeLaws.{changes_leave}
 use Rattle.cg_laws.proofs.Invariants.{HasCommands, Takes, FromTop, FromFrame, emptied, on, CommandSteps, Steps, InEachWorld, by_runs, last_has}
-use Rattle.cg_laws.proofs.Making.{left_on}
-use Rattle.cg_laws.proofs.MakingOfRuns.{few_serials}
+use Rattle.cg_laws.proofs.SerialsOfSteps.{left_on}
+use Rattle.cg_laws.proofs.SerialsOfRuns.{few_serials}
 use Rattle.cg_laws.proofs.Measure.{is_first, is_starting}
 use Rattle.cg_represents.proofs.Serials.{Rises}
 use Rattle.cg_laws.proofs.Ending.{sound_after}
-use Rattle.cg_laws.proofs.Sound.{opening_sound}
+use Rattle.cg_laws.proofs.InvariantOfRuns.{opening_sound}
 use Rattle.cg_laws.specs.Few.{AreFew, NumbersAreFew}
-use Rattle.cg_laws.proofs.Numbers.{CountsOne, Limits, Settled, StartsSettled, asked_settles, due_settles, shape_counts, off_top, raised, full_settles}
+use Rattle.cg_laws.proofs.CollectorNumbers.{CountsOne, Limits, Settled, StartsSettled, asked_settles, due_settles, shape_counts, off_top, raised, full_settles}
 use Rattle.cg_laws.proofs.Advances.{Advance}
 use Rattle.cg_laws.proofs.Advancing.{frame_end_advances, released_advances, dying_advances, phase_advances}
-use Rattle.cg_laws.proofs.Counting.{IsSettled, advance_counts, starts_counts}
+use Rattle.cg_laws.proofs.CountsOfSteps.{IsSettled, advance_counts, starts_counts}
 
 -- What holds between steps. A collection that is about to start leaves the numbers settled too.
 pub record CountedAt (limits : Limits) (n : Numbers) (budget : ℕ) (c : Collection) (below : List Activity) : Type 0 where

@@ -15,7 +15,7 @@ use Rattle.cg_machine.specs.Weak.{is_function, weak_references}
 use Rattle.cg_represents.specs.Orderly.{waits_of, all_waits}
 use Rattle.cg_laws.specs.Laws.{LeavesBelow}
 use Rattle.cg_represents.proofs.Serials.{Rises}
-use Rattle.cg_laws.proofs.Forgotten.{lives_within}
+use Rattle.cg_laws.proofs.Unreferred.{lives_within}
 use Rattle.cg_laws.proofs.Unheld.{Rests, AreResting}
 use Rattle.cg_laws.proofs.HeldLives.{waits_held}
 use Rattle.cg_laws.proofs.HeldLivesDeaths.{HasOrder}

@@ -25,7 +25,7 @@ use Rattle.cg_promises.proofs.FinalizerOnceRuns.{opening_fit, run_fit, run_front
 use Rattle.cg_release.specs.Release.{DiesByCount, IsClosed, references_from}
 use Rattle.cg_release.specs.Places.{ReleasesFreeWhatDropTells, IsTheRelease, member_with, members_of, place_of}
 use Rattle.cg_release.proofs.Counts.{part}
-use Rattle.cg_release.proofs.Exactly.{frees_exactly, not_both}
+use Rattle.cg_release.proofs.FreesWhatDies.{frees_exactly, not_both}
 
 -- the element at the place of an object
 pub at_place : {X : Type 0} (g : ℕ → X) (objects : List Object) (o : ℕ) (more : List X) → Includes (serials objects) o

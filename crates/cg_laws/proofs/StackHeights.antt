@@ -17,7 +17,7 @@ use Rattle.cg_machine.specs.Run.{last_world}
 use Rattle.cg_laws.specs.Bounds.{is_top_level, is_frame, is_release, is_death, IsOverTopLevel, HasNoRelease, AreReleasesApart, IsBounded, StacksAreBounded}
 use Rattle.cg_laws.proofs.Sums.{bit, tally-le}
 use Rattle.cg_represents.proofs.Lists.{occurrences-cons, fewer_times, absent, no_times}
-use Rattle.cg_laws.proofs.Sound.{HasBottom, Sound, collections_in, opening_sound}
+use Rattle.cg_laws.proofs.InvariantOfRuns.{HasBottom, Sound, collections_in, opening_sound}
 use Rattle.cg_laws.proofs.Ending.{sound_after}
 use Rattle.cg_laws.proofs.HeldLives.{waits_held}
 use Rattle.cg_laws.proofs.HeldLivesRuns.{worlds_orderly}

@@ -10,7 +10,7 @@ use Rattle.cg_laws.specs.Made.{SerialsAreFew}
 use Rattle.cg_laws.proofs.ShapeLaws.{changes_leave}
 use Rattle.cg_laws.proofs.Invariants.{HasCommands, Takes, FromTop, FromFrame, emptied, on, CommandSteps, Steps, by_runs}
 use Rattle.cg_laws.proofs.Advancing.{frame_end_advances, released_advances, dying_advances, phase_advances}
-use Rattle.cg_laws.proofs.Making.{Few, IsFew, starts_makes, advance_makes}
+use Rattle.cg_laws.proofs.SerialsOfSteps.{Few, IsFew, starts_makes, advance_makes}
 
 -- A command is taken, which may make an object.
 taken : (most b serial budget : ℕ) (command : Command) (a c : Activity) (below : List Activity) → Takes command a c → Few most b serial budget (a ∷ below) → Few most b (serial + 1) budget (c ∷ below)

@@ -26,7 +26,7 @@ use Rattle.cg_death.specs.declared.phase.Phase.TheVariants as phase_of
 use Rattle.cg_death.specs.Activities.{HasHolds, HaveCallbacks, IsUnheld, AreNewer}
 use Rattle.cg_death.specs.Steady.{NoneWaits, passes, RefersOnlyIf, IsSteadyAt}
 use Rattle.cg_death.proofs.Places.{only-one}
-use Rattle.cg_death.proofs.Counting.{unheld-moved}
+use Rattle.cg_death.proofs.UnheldStays.{unheld-moved}
 
 -- Tests that examine only the kind and the class.
 abbrev pub IsByKind : (Object → Bool) → Type 0

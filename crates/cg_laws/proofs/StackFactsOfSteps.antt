@@ -17,15 +17,15 @@ use Rattle.cg_machine.specs.Weak.{has_weak_references, is_reference_to, weak_ref
 use Rattle.cg_machine.specs.Collect.{waits}
 use Rattle.cg_represents.specs.Orderly.{all_waits, waits_of, HasFunction}
 use Rattle.cg_represents.proofs.Serials.{Rises, Rises-filter}
-use Rattle.cg_laws.proofs.Forgotten.{lives_within}
-use Rattle.cg_laws.proofs.FallsDeaths.{Includes-reverse, passed}
+use Rattle.cg_laws.proofs.Unreferred.{lives_within}
+use Rattle.cg_laws.proofs.MeasureInDeaths.{Includes-reverse, passed}
 use Rattle.cg_laws.proofs.Lookups.{Includes-reversed, callback_at, callback_first, same_object}
 use Rattle.cg_laws.proofs.HeldLives.{waits_held}
 use Rattle.cg_laws.proofs.HeldLivesDeaths.{HasOrder}
 use Rattle.cg_laws.proofs.Advances.{Advance, Plainly, WithFrame, HasChanged, changed_origin, ClearsNone, Continues, DeathGoesOn, DeathClears, CollectionGoesOn, FrameOf, OfFinalizer, OfLegacy, OfCallback, Tops, TopEnds, GivesFunction, GivesReference, BeginsDeath, TopGoesOn, GivesReferences}
 use Rattle.cg_laws.proofs.Starting.{starts_either}
 use Rattle.cg_laws.proofs.Invariants.{on}
-use Rattle.cg_laws.proofs.Standing.{AreFunctions, HoldsIn, KnowsFunction, AreNewer, ClearsInOrder, IsKnown, AreKnown, IsAllKnown}
+use Rattle.cg_laws.proofs.StackFacts.{AreFunctions, HoldsIn, KnowsFunction, AreNewer, ClearsInOrder, IsKnown, AreKnown, IsAllKnown}
 
 greatest_first : (low high : ℕ) (xs : List Object) → Rises low high xs → (weak : ℕ) (weaks : List ℕ) → reverse (serials xs) ≡ weak ∷ weaks → (q : ℕ) → Includes (serials xs) q → q ≤ weak
 greatest_first low high [] r weak weaks e q m = absurd m

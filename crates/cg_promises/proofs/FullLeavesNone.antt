@@ -14,7 +14,7 @@ use Rattle.cg_machine.specs.Collect.{has_flag, is_condemned, save_all, EndStep, 
 use Rattle.cg_machine.specs.Run.{IsRun, Run, Step, StepOf, StepTaken, events_of, last_world, world_after}
 use Rattle.cg_laws.specs.Laws.{FullCollectionLeavesNone, NoGarbageIsLeft, Splits, StartsFull, final_set, is_enter, is_stop}
 use Rattle.cg_laws.proofs.Ending.{Run-append, last_world-append}
-use Rattle.cg_laws.proofs.Fronts.{events_of-append}
+use Rattle.cg_laws.proofs.PrefixesOfRuns.{events_of-append}
 use Rattle.cg_laws.proofs.Lookups.{same_object}
 use Rattle.cg_laws.proofs.OriginsOfRuns.{opening_origin}
 use Rattle.cg_laws.specs.Apart.{IsApart, IsInLatePhase, StandsRightly}
@@ -23,7 +23,7 @@ use Rattle.cg_laws.proofs.SetsApart.{stands_at}
 use Rattle.cg_promises.specs.Reached.{IsReached}
 use Rattle.cg_represents.proofs.Places.{place_is}
 use Rattle.cg_promises.proofs.FinalSetFreed.{none_lives}
-use Rattle.cg_promises.proofs.FullAside.{AllWait, IsLight}
+use Rattle.cg_promises.proofs.FullUncollectable.{AllWait, IsLight}
 use Rattle.cg_promises.proofs.FullBegins.{aside_by, begins_early}
 use Rattle.cg_promises.proofs.FullEarly.{Early, FoundSplit, finds_split}
 use Rattle.cg_promises.proofs.FullEnds.{tracked_reached}
@@ -34,7 +34,7 @@ use Rattle.cg_promises.proofs.FullLeft.{none_left}
 use Rattle.cg_promises.proofs.FullRuns.{enters_first}
 use Rattle.cg_promises.proofs.FullSaved.{IsNamed, Saves, saves_after}
 use Rattle.cg_promises.proofs.FullSplit.{WasAside, WasGarbage, aside_apart, aside_there, rest_so}
-use Rattle.cg_promises.proofs.FullStands.{RestsSo}
+use Rattle.cg_promises.proofs.FullPlaces.{RestsSo}
 use Rattle.cg_promises.proofs.FullStop.{stop_ends}
 use Rattle.cg_promises.proofs.Kept.{IsBare}
 use Rattle.cg_promises.proofs.HoldersMove.{IsMinded}

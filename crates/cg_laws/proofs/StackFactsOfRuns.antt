@@ -18,7 +18,7 @@ use Rattle.cg_represents.specs.Orderly.{HasFunction, IsOrderly}
 use Rattle.cg_laws.specs.Locals.{LocalsLive}
 use Rattle.cg_laws.specs.Newest.{DeathsClearNewestFirst}
 use Rattle.cg_represents.proofs.Serials.{Rises}
-use Rattle.cg_laws.proofs.Sound.{Sound, opening_sound}
+use Rattle.cg_laws.proofs.InvariantOfRuns.{Sound, opening_sound}
 use Rattle.cg_laws.proofs.Ending.{sound_after}
 use Rattle.cg_laws.proofs.ShapeLaws.{changes_leave}
 use Rattle.cg_laws.proofs.Invariants.{HasCommands, Takes, FromTop, FromFrame, emptied, on, CommandSteps, Steps, InEachWorld, by_runs_and_steps, last_has}
@@ -28,9 +28,9 @@ use Rattle.cg_laws.proofs.HeldLivesDeaths.{HasOrder}
 use Rattle.cg_laws.proofs.UnheldRuns.{no_death, calm_after, opening_calm}
 use Rattle.cg_laws.proofs.HeldLivesRuns.{opening_orderly, worlds_orderly, orderly_after}
 use Rattle.cg_laws.proofs.LeftBelowRuns.{LeavesUnder, step_leaves, leaves_below}
-use Rattle.cg_laws.proofs.Standing.{AreFunctions, KnowsFunction, ClearsInOrder, IsKnown, AreKnown, IsAllKnown, function_lives, below_kept, top_kept}
+use Rattle.cg_laws.proofs.StackFacts.{AreFunctions, KnowsFunction, ClearsInOrder, IsKnown, AreKnown, IsAllKnown, function_lives, below_kept, top_kept}
 use Rattle.cg_laws.proofs.Advancing.{frame_end_advances, released_advances, dying_advances, phase_advances}
-use Rattle.cg_laws.proofs.StandingSteps.{starts_known, advance_known}
+use Rattle.cg_laws.proofs.StackFactsOfSteps.{starts_known, advance_known}
 
 abbrev Kept : List Object → List Activity → Type 0
 Kept objects [] = Unit {0}

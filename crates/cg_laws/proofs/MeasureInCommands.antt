@@ -19,9 +19,9 @@ use Rattle.cg_represents.proofs.CommandLaws.{Leaves}
 use Rattle.cg_laws.proofs.ShapeLaws.{changes_leave}
 use Rattle.cg_laws.proofs.Invariants.{HasCommands, Takes, FromTop, FromFrame, emptied, on, CommandSteps, Steps, any_step}
 use Rattle.cg_laws.proofs.Measure.{alive, commands_in, all_bodies, commands_left, is_starting, due_rank, by_commands, by_due, weight_in, bound_names}
-use Rattle.cg_laws.proofs.Sound.{HasBottom, collections_in, Sound, Moves, starts, NoMore}
-use Rattle.cg_laws.proofs.FallsDeaths.{dying_moves, released_moves, frame_end_moves}
-use Rattle.cg_laws.proofs.FallsCollections.{none_underway, phase_moves}
+use Rattle.cg_laws.proofs.InvariantOfRuns.{HasBottom, collections_in, Sound, Moves, starts, NoMore}
+use Rattle.cg_laws.proofs.MeasureInDeaths.{dying_moves, released_moves, frame_end_moves}
+use Rattle.cg_laws.proofs.MeasureInCollections.{none_underway, phase_moves}
 use Rattle.cg_machine.specs.Shutdown.{greatest_bound, greatest_from, greatest_of}
 use Rattle.cg_value.specs.declared.Val.{Val}
 

@@ -4,10 +4,10 @@ use Rattle.cg_script.specs.declared.Script.{Script}
 use Rattle.cg_machine.specs.World.{opening}
 use Rattle.cg_machine.specs.Run.{StepTaken, IsRun, world_after}
 use Rattle.cg_laws.proofs.Ending.{Run-append, last_world-append}
-use Rattle.cg_laws.proofs.Lawful.{lawful_after}
+use Rattle.cg_laws.proofs.LawsOfWorlds.{lawful_after}
 use Rattle.cg_laws.specs.Kept.{IsKept, WorldsStayKept}
 use Rattle.cg_laws.proofs.RunsApart.{runs_apart}
-use Rattle.cg_laws.proofs.NumbersOfRuns.{numbers_few}
+use Rattle.cg_laws.proofs.CollectorNumbersOfRuns.{numbers_few}
 
 kept_after : (script : Script) (budget : ℕ) (steps : List StepTaken) → IsRun script budget steps → IsKept script budget (world_after script budget steps)
 kept_after script budget steps run = record { lawful = lawful_after script budget steps run; apart = runs_apart script budget steps run; few = numbers_few script budget steps run }

@@ -26,7 +26,7 @@ use Rattle.cg_laws.proofs.Sums.{tally, tally-append}
 use Rattle.cg_represents.proofs.Serials.{change-shortened, shortened}
 use Rattle.cg_laws.proofs.Measure.{commands_left, is_starting, due_rank, due_left, rank_in, left_in, entries_in, referents_in, death_weight, weight_in, summary, Lower, by_entries, by_referents, by_weight}
 use Rattle.cg_laws.proofs.FewerEntries.{Fades, Faded, unchanged, change_fades, filter_fades, place_fades, referent_fades, shortened_fades, entries_fades, marked_fades, then_fades, loses_one, shorter, left_fades}
-use Rattle.cg_laws.proofs.Sound.{HasBottom, collections_in, Sound, Moves, starts, IsPlain, CountsNothing, plain_counts, due_less}
+use Rattle.cg_laws.proofs.InvariantOfRuns.{HasBottom, collections_in, Sound, Moves, starts, IsPlain, CountsNothing, plain_counts, due_less}
 
 abbrev pub IsLow : Activity → Type 0
 IsLow (TopLevel commands) = ⊥

@@ -10,8 +10,8 @@ use Rattle.cg_machine.specs.Program.{body_of}
 use Rattle.cg_machine.specs.Frame.{start_frame}
 use Rattle.cg_laws.proofs.Advances.{Advance, Plainly, WithFrame, Renumbers, SameCounts, OneLess, BegunCounts, Continues, DeathGoesOn, DeathClears, CollectionGoesOn, Tops, TopEnds, GivesFunction, GivesReference, BeginsDeath, TopGoesOn, GivesReferences}
 use Rattle.cg_laws.proofs.Starting.{starts_either}
-use Rattle.cg_laws.proofs.Making.{IsFew, left_on, starts_makes}
-use Rattle.cg_laws.proofs.Numbers.{Limits, Settled, StartsSettled, on_top}
+use Rattle.cg_laws.proofs.SerialsOfSteps.{IsFew, left_on, starts_makes}
+use Rattle.cg_laws.proofs.CollectorNumbers.{Limits, Settled, StartsSettled, on_top}
 
 -- no collection is about to start, and the numbers are within the limits
 abbrev pub IsSettled : Limits → World → Type 0

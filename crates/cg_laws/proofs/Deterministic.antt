@@ -12,7 +12,7 @@ use Rattle.cg_machine.specs.Dying.{dying}
 use Rattle.cg_machine.specs.Effects.{Effect, Changes, Calls, Collects, Explains, Quits}
 use Rattle.cg_machine.specs.Commands.{effect, refused, DoesEffect, new_collection, without_commands}
 use Rattle.cg_machine.specs.Due.{due}
-use Rattle.cg_laws.proofs.PlainCollect.{plain_phase, plain_phase_steps}
+use Rattle.cg_laws.proofs.DeterministicCollections.{plain_phase, plain_phase_steps}
 use Rattle.cg_machine.specs.Run.{StepTaken, Step, StepOf, Run, TopLevelStep, CommandInFrame, FrameStep}
 use Rattle.cg_machine.specs.Program.{declares_shutdown}
 use Rattle.cg_machine.specs.Shutdown.{greatest_bound, shut_down, after_commands}

@@ -25,7 +25,7 @@ use Rattle.cg_death.specs.Steady.{IsSteadyAt}
 use Rattle.cg_death.proofs.Worlds.{steps_at}
 use Rattle.cg_death.proofs.Clearing.{none_first}
 use Rattle.cg_death.proofs.ClearingTurns.{turn-all_detached}
-use Rattle.cg_death.proofs.Steadying.{steady-no_finalizer, steady-no_legacy}
+use Rattle.cg_death.proofs.SteadyPhases.{steady-no_finalizer, steady-no_legacy}
 use Rattle.cg_death.proofs.SteadyRows.{steady-all_cleared, steady-all_called, steady-all_detached}
 use Rattle.cg_death.proofs.Steps.{first_then}
 use Rattle.cg_death.proofs.Turns.{here, rephased, waits_are, death}

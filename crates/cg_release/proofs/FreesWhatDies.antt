@@ -25,7 +25,7 @@ use Rattle.cg_promises.proofs.HoldersMove.{IsMinded, degree_free}
 use Rattle.cg_promises.proofs.HoldersMoveRuns.{minded_after, opening_minded}
 use Rattle.cg_release.specs.Release.{FreesExactly, IsClosed, ReleasesFreeExactly, references_from}
 use Rattle.cg_release.proofs.Counts.{degree_parts, from_holder, holdings_split}
-use Rattle.cg_release.proofs.Between.{Between, IsBare}
+use Rattle.cg_release.proofs.WithinRelease.{Between, IsBare}
 use Rattle.cg_release.proofs.Deaths.{ends_between}
 
 -- a dying object is unheld, or its death holds it

@@ -10,7 +10,7 @@ use Rattle.cg_machine.specs.Effects.{Effect, Changes, Calls, Collects, Explains,
 use Rattle.cg_machine.specs.Collect.{begun, survived}
 use Rattle.cg_machine.specs.Due.{due_generation, is_due}
 use Rattle.cg_represents.proofs.Shapes.{Shape, Makes, Sets, Freezes, StartsFrame, StartsCollection, Ends, AsksWhy}
-use Rattle.cg_laws.proofs.Making.{left_on}
+use Rattle.cg_laws.proofs.SerialsOfSteps.{left_on}
 use Rattle.cg_laws.proofs.Measure.{is_starting}
 
 -- the three counts together

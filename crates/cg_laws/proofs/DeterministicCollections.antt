@@ -16,7 +16,7 @@ use Rattle.cg_machine.specs.Dying.{finalizer_to_run}
 use Rattle.cg_machine.specs.Effects.{gens_line}
 use Rattle.cg_machine.specs.Collect.{merged, start_world, StartStep, WeakClearingStep, loses_in_weak_phase, clears_one, calls_back, after_release, FinalizingStep, looks_at, replaced_place, loses_at_split, get_older, SplitStep, TurnsStep, takes_turn, empties, after_turn, is_saved, all_saved, EndStep, PhaseStep, collection_at, lines_if, has_flag, stats, collectable, uncollectable, older}
 use Rattle.cg_laws.proofs.Garbage.{survivors, survivors_survive, Survives-survivors}
-use Rattle.cg_laws.proofs.Sorting.{plain_chosen, plain_places, plain_sorts}
+use Rattle.cg_laws.proofs.CollectionStarts.{plain_chosen, plain_places, plain_sorts}
 use Rattle.cg_laws.proofs.Clearing.{newest, newest_spec, IsGreatest, greatest_is_newest, clears, plain_lose}
 use Rattle.cg_machine.specs.Program.{profile_of}
 use Rattle.cg_represents.proofs.Lists.{occurrences-cons}
