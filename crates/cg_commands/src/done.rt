@@ -19,9 +19,6 @@ pub enum Done {
         line: Option<Event>,
         given_up: Entry,
     },
-    /// It changed what it had to, and no line is due. The references of the entry are outside holds, which are now to be given
-    /// up: the one in the value, and then the one in the key.
-    Gives(Entry),
     /// A frame of this function's procedure is to start. The function is not held from outside yet.
     Calls(u64),
     /// A collection of this generation, 0 to 2, is asked for. Nothing has changed: where a collection is running, none
