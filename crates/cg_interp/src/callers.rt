@@ -215,7 +215,11 @@ impl<B: Kind> Engine<B> {
     {
         // No heap is large, and where no collection runs none of its places has an object.
         self.heap.sound();
-        self.carry_out_change(caller, locals, command)
+        // What `change` answers is matched here: handed on, or made a `Done`, it would be copied for each command.
+        match change(&mut self.heap, locals, command) {
+            Ok(given_up) => self.give_up_after(caller, None, given_up),
+            Err(refusal) => Some(self.refuse(caller, refusal.number())),
+        }
     }
 
     /// The next command of a caller, which was on top, or a collection that is due before it. The caller has gone on from that
@@ -243,7 +247,13 @@ impl<B: Kind> Engine<B> {
                 self.collect_first(caller, next, generation);
                 Some(Turned::Quiet)
             }
-            None => self.run(caller, locals, command),
+            None => {
+                if only_changes(command) {
+                    self.step_change(caller, locals, command)
+                } else {
+                    self.run(caller, locals, command)
+                }
+            }
         }
     }
 
@@ -265,52 +275,23 @@ impl<B: Kind> Engine<B> {
         self.collect(caller.with_next(next).activity(), false, generation);
     }
 
-    /// Does a command of the caller that was on top, which has gone on to the command after it.
+    /// Does a command of another sort than `step_change` does, of the caller that was on top, which has gone on to the command
+    /// after it.
     #[inline(always)]
     fn run(&mut self, caller: &Caller, locals: &Option<Locals>, command: &Command) -> Option<Turned>
         requires own { locals.now ≡ caller_locals caller.now }
         requires spelled { IsSpelledCommand (length self.old.store.names) command.now }
         requires locals { LocalsLive self.old.store locals.now }
         requires may { MayCommand self.old }
+        requires other { only_changes command.now ≡ false }
         requires stands { (script : AnyScript) × IsSpelled script × IsFit script self.old × (w : World)
             × IsAtCommand script caller.now self.old w command.now }
         ensures does { (script : AnyScript) (w : World) → IsAtCommand script caller.now self.old w command.now
             → RunsTo script w command.now (caller_activity caller.now) self.new result }
         ensures fit { StaysFit self.old self.new }
     {
-        if only_changes(command) {
-            self.carry_out_change(caller, locals, command)
-        } else {
-            let room = self.make_room(command);
-            self.carry_out(caller, locals, command, room)
-        }
-    }
-
-    /// The same for a command that changes names or entries and tells no line.
-    #[inline(always)]
-    fn carry_out_change(
-        &mut self,
-        caller: &Caller,
-        locals: &Option<Locals>,
-        command: &Command,
-    ) -> Option<Turned>
-        requires own { locals.now ≡ caller_locals caller.now }
-        requires spelled { IsSpelledCommand (length self.old.store.names) command.now }
-        requires locals { LocalsLive self.old.store locals.now }
-        requires may { MayCommand self.old }
-        requires changes { only_changes command.now ≡ true }
-        requires stands { (script : AnyScript) × IsSpelled script × IsFit script self.old × (w : World)
-            × IsAtCommand script caller.now self.old w command.now }
-        ensures does { (script : AnyScript) (w : World) → IsAtCommand script caller.now self.old w command.now
-            → RunsTo script w command.now (caller_activity caller.now) self.new result }
-        ensures policy { IfNone result (self.new.policy ≡ self.old.policy) }
-        ensures fit { StaysFit self.old self.new }
-    {
-        // What it answers is told apart where it comes: handed on, or made a `Done`, it would be copied for each command.
-        match change(&mut self.heap, locals, command) {
-            Ok(given_up) => self.change(caller, None, given_up),
-            Err(refusal) => Some(self.refuse(caller, refusal.number())),
-        }
+        let room = self.make_room(command);
+        self.carry_out(caller, locals, command, room)
     }
 
     /// The same, where an object is made only if there is room for its death.
@@ -326,6 +307,7 @@ impl<B: Kind> Engine<B> {
         requires spelled { IsSpelledCommand (length self.old.store.names) command.now }
         requires locals { LocalsLive self.old.store locals.now }
         requires may { MayCommand self.old }
+        requires other { only_changes command.now ≡ false }
         requires stands { (script : AnyScript) × IsSpelled script × IsFit script self.old × (w : World)
             × IsAtCommand script caller.now self.old w command.now }
         requires one_more { room ≡ true → HasRoomForOneMore self.old }
@@ -337,7 +319,7 @@ impl<B: Kind> Engine<B> {
             self.alloc,
             &mut self.heap,
             &mut self.policy,
-            *locals,
+            locals,
             command,
             room,
         );

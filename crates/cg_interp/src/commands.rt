@@ -68,8 +68,7 @@ impl<B: Kind> Engine<B> {
         ensures keeps { TurnKeeps self.old self.new }
     {
         match done {
-            Done::Changed { line, given_up } => self.change(caller, line, given_up),
-            Done::Gives(given_up) => self.change(caller, None, given_up),
+            Done::Changed { line, given_up } => self.give_up_after(caller, line, given_up),
             Done::Calls(function) => Some(self.call(caller, function)),
             Done::Collects(generation) => Some(self.collect_if_idle(caller, generation)),
             Done::Quits => Some(self.quit(caller)),
@@ -103,7 +102,7 @@ impl<B: Kind> Engine<B> {
     /// A command changed what it had to, and references are given up. The death of an object that nothing holds any more
     /// begins.
     #[inline(always)]
-    pub fn change(
+    pub fn give_up_after(
         &mut self,
         caller: &Caller,
         line: Option<Event>,
