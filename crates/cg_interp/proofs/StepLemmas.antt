@@ -36,7 +36,6 @@ use Rattle.cg_interp.specs.Quietly.{ComesTo}
 use Rattle.cg_interp.specs.Collecting.{StandsWith}
 use Rattle.cg_interp.specs.Telling.{TurnsWith}
 use Rattle.cg_interp.specs.Turns.{Makes, Turns, GoesTo, IsFit}
-use Rattle.cg_interp.proofs.NextCommands.{next_there}
 use Rattle.cg_interp.proofs.Standing.{plain_frame, plain_script, replaced, spelled, one_step, plain_shutdown}
 use Rattle.cg_interp.proofs.Telling.{turns_plainly}
 use Rattle.cg_interp.proofs.Quietly.{quietly, first_then, first_moves}
@@ -130,8 +129,8 @@ pub comes_next : (script : Script) (locals : Locals) (procedure : ℕ) (next : O
 comes_next script locals procedure next c after body is turn = subst (λ l. commands_from next l ≡ c ∷ commands_from (Some after) l) is turn
 
 -- the command that has the turn, and a caller that goes on behind it
-pub comes_next_at : (script : Script) (locals : Locals) (procedure n : ℕ) (c : Command) (body : List Command) (caller : Caller) → caller ≡ frame_caller locals procedure (Some (n + 1)) → body ≡ body_of script procedure → n < length body → c ≡ get_or body n c → ComesNext script caller (Some n) c
-comes_next_at script locals procedure n c body caller frame is within at = subst (λ k. ComesNext script k (Some n) c) (sym frame) (comes_next script locals procedure (Some n) c (n + 1) body is (next_there body n c within at))
+pub comes_next_at : (script : Script) (locals : Locals) (procedure n : ℕ) (c : Command) (body : List Command) (caller : Caller) → caller ≡ frame_caller locals procedure (Some (n + 1)) → body ≡ body_of script procedure → commands_from (Some n) body ≡ c ∷ commands_from (Some (n + 1)) body → ComesNext script caller (Some n) c
+comes_next_at script locals procedure n c body caller frame is there = subst (λ k. ComesNext script k (Some n) c) (sym frame) (comes_next script locals procedure (Some n) c (n + 1) body is there)
 
 -- The script is on top.
 module _ (script : Script) (e : State) (next : Option ℕ) (w : World) (stands : StandsFor script (under (activity.Script next) e) w) where

@@ -1,5 +1,5 @@
 //! The script, or a frame, on top.
-ghost use Rattle.std.specs.Prelude.{◌≡◌, ◌<◌, ◌≤◌, ℕ, true, false, [], length, Option, Some, None, IfNone};
+ghost use Rattle.std.specs.Prelude.{◌≡◌, ◌<◌, ◌≤◌, ◌+◌, ◌∷◌, ℕ, true, false, [], length, Option, Some, None, IfNone};
 ghost use Rattle.cg_machine.specs.Program.{commands_of, body_of as body_in};
 ghost use Rattle.cg_machine.specs.World.{World, push};
 ghost use Rattle.cg_machine.specs.Commands.{new_collection};
@@ -19,7 +19,7 @@ ghost use Rattle.cg_interp.specs.Callers.{caller_activity, caller_locals, frame_
 use crate::activity::Activity;
 use crate::caller::{Caller, Runner};
 use crate::engine::Engine;
-use crate::next::{body_of, next_in, next_of};
+use crate::next::{body_of, next_change, next_in, next_of};
 use crate::turned::Turned;
 use cg_commands::{Locals, change, makes_object, only_changes, perform};
 use cg_kind::Kind;
@@ -139,17 +139,17 @@ impl<B: Kind> Engine<B> {
         ensures left { length (commands_from (Some number.new) body.now) ≤ length (commands_from (Some number.old) body.now) }
         ensures fit { StaysFit self.old self.new }
     {
-        if !is_change_next(body, *number) {
+        let Some(first) = next_change(body, *number) else {
             return None;
-        }
+        };
         match self.policy.due() {
             Some(_) => None,
-            None => self.make_changes(body, locals, procedure, number),
+            None => self.make_changes(body, locals, procedure, number, first),
         }
     }
 
-    /// The same where no collection is due. This is a call of its own: at the head of a loop over commands of any sort, each
-    /// command would pay for putting together what the other sorts answer.
+    /// The same where the first of them is known and no collection is due. This is a call of its own: at the head of a loop over
+    /// commands of any sort, each command would pay for putting together what the other sorts answer.
     #[inline(never)]
     fn make_changes(
         &mut self,
@@ -157,8 +157,12 @@ impl<B: Kind> Engine<B> {
         locals: Locals,
         procedure: u32,
         number: &mut usize,
+        first: &Command,
     ) -> Option<Turned>
         requires none { due_of self.old.policy ≡ None }
+        requires within { number.old < length body.now }
+        requires there { commands_from (Some number.old) body.now ≡ first.now ∷ commands_from (Some (number.old + 1)) body.now }
+        requires changes { only_changes first.now ≡ true }
         requires stands { (script : AnyScript) × (body.now ≡ body_in script procedure)
             × IsAtTurn script (activity_of.Frame locals procedure (Some number.old)) self.old }
         ensures steps { (script : AnyScript) → body.now ≡ body_in script procedure
@@ -173,20 +177,20 @@ impl<B: Kind> Engine<B> {
             runner: Runner::Frame { locals, procedure },
             next: Some(at),
         };
+        let mut command = first;
         'commands: loop {
-            match body.get(at) {
-                Some(command) if only_changes(command) => {
-                    at += 1;
-                    caller.go_on_from(at);
-                    match self.step_change(&caller, &within, command) {
-                        Some(answer) => {
-                            *number = at;
-                            return Some(answer);
-                        }
-                        None => {}
-                    }
+            at += 1;
+            caller.go_on_from(at);
+            match self.step_change(&caller, &within, command) {
+                Some(answer) => {
+                    *number = at;
+                    return Some(answer);
                 }
-                _ => {
+                None => {}
+            }
+            match next_change(body, at) {
+                Some(next) => command = next,
+                None => {
                     *number = at;
                     return None;
                 }
@@ -351,14 +355,5 @@ impl<B: Kind> Engine<B> {
         let objects = self.heap.live() as usize + 1;
         let height = self.first_budget as usize + 2 * (objects + 1) + 8;
         self.stack.reserve_up_to(height).is_ok()
-    }
-}
-
-/// Whether the next of some commands only changes names or entries. It only saves a call: `make_changes` looks itself.
-#[inline(always)]
-fn is_change_next(commands: &[Command], number: usize) -> bool {
-    match commands.get(number) {
-        Some(command) => only_changes(command),
-        None => false,
     }
 }

@@ -1,8 +1,10 @@
 //! Which command comes next.
-ghost use Rattle.std.specs.Prelude.{◌≡◌, ◌∷◌, [], Some, IfSome, IfNone};
+ghost use Rattle.std.specs.Prelude.{◌≡◌, ◌<◌, ◌+◌, ◌∷◌, [], length, true, Some, IfSome, IfNone};
+ghost use Rattle.cg_commands.specs.Attempts.{only_changes};
 ghost use Rattle.cg_machine.specs.Program.{commands_of, body_of};
 ghost use Rattle.cg_interp.specs.Engines.{commands_from};
 
+use cg_commands::only_changes;
 use cg_script::{Command, Items, Script};
 
 /// The next command outside procedures, and the number of the one after it, if one is left.
@@ -34,6 +36,20 @@ pub fn next_of(commands: &[Command], next: Option<usize>) -> Option<(&Command, u
             None => None,
         },
         None => None,
+    }
+}
+
+/// The next of some commands, if it only changes names or entries.
+#[inline(always)]
+pub fn next_change(commands: &[Command], number: usize) -> Option<&Command>
+    ensures within { IfSome result (λ _. number < length commands.now) }
+    ensures there { IfSome result (λ c. commands_from (Some number) commands.now
+        ≡ c.now ∷ commands_from (Some (number + 1)) commands.now) }
+    ensures changes { IfSome result (λ c. only_changes c.now ≡ true) }
+{
+    match commands.get(number) {
+        Some(command) if only_changes(command) => Some(command),
+        _ => None,
     }
 }
 
