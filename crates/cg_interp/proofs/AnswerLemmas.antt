@@ -25,7 +25,7 @@ use Rattle.cg_policy.specs.Laws.{policy_of}
 use Rattle.cg_commands.specs.declared.done.Done.{Done}
 use Rattle.cg_commands.specs.declared.done.Done.TheVariants as done_of
 use Rattle.cg_commands.specs.declared.locals.Locals.{Locals}
-use Rattle.cg_commands.specs.Stands.{HasLocals}
+use Rattle.cg_commands.specs.Stands.{HasLocals, HeapAndLocalsStandFor}
 use Rattle.cg_commands.specs.declared.done.Refusal.{Refusal}
 use Rattle.cg_commands.specs.declared.done.Refusal.TheVariants as refusal_of
 use Rattle.cg_commands.specs.Refusals.{number_of}
@@ -246,13 +246,22 @@ module _ (script : Script) (e : State) (top : Own) (w : World) (command : Comman
       let there = of_effect (IsThere w) (effect w command) _ p.answers.heap.0 (by_shape (IsThere w) w command (shape_there w command)) in
       subst (λ st. IsLive st f) (sym p.answers.heap.1) (lives_in_heap before w p.stood.represents f there)
 
--- What a call answers of the command that a caller is at is what was performed. It may have another heap and policy now.
-pub performed_by : (script : Script) (caller : Caller) (locals : Option Locals) (inside old : State) (w : World) (command : Command) (new : Store) (now : Policy) (answer : Result Done Refusal) → inside ≡ old → locals ≡ caller_locals caller → IsAtCommand script caller old w command
-    → Performs inside.store inside.policy locals (λ w. effect w command) new now answer → IsPerformed script (caller_activity caller) (record inside { store = new; policy = now }) w command inside.store inside.policy answer
-performed_by script caller locals inside old w command new now answer same own at performs =
-    let before : StandsFor script (under (caller_activity caller) inside) w = subst (λ e. StandsFor script (under (caller_activity caller) e) w) (sym same) at.stands in
-    record {
-      stood = before;
-      answers = performs w (record { represents = before.represents; locals_are = subst (λ l. HasLocals l w) (sym own) at.locals }) (policy_is script (under (caller_activity caller) inside) w before);
-      kept = subst (λ (e : State). StaysKeptAfter script e.first_budget w command) (sym same) at.kept;
-    }
+-- A caller is at a command, and what a call asks of the heap and the policy holds.
+module _ (script : Script) (caller : Caller) (locals : Option Locals) (inside old : State) (w : World) (command : Command) (same : inside ≡ old) (own : locals ≡ caller_locals caller) (at : IsAtCommand script caller old w command) where
+  before : StandsFor script (under (caller_activity caller) inside) w
+  before = subst (λ e. StandsFor script (under (caller_activity caller) e) w) (sym same) at.stands
+
+  pub stand_here : HeapAndLocalsStandFor inside.store locals w
+  stand_here = record { represents = before.represents; locals_are = subst (λ l. HasLocals l w) (sym own) at.locals }
+
+  pub policy_here : inside.policy ≡ policy_of w
+  policy_here = policy_is script (under (caller_activity caller) inside) w before
+
+  -- What the call answers is what was performed. It may have left another heap and policy.
+  pub performed_by : (new : Store) (now : Policy) (answer : Result Done Refusal) → Performs inside.store inside.policy locals (λ w. effect w command) new now answer
+      → IsPerformed script (caller_activity caller) (record inside { store = new; policy = now }) w command inside.store inside.policy answer
+  performed_by new now answer performs = record {
+    stood = before;
+    answers = performs w stand_here policy_here;
+    kept = subst (λ (e : State). StaysKeptAfter script e.first_budget w command) (sym same) at.kept;
+  }
