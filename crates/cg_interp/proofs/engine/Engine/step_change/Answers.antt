@@ -1,4 +1,4 @@
-use Rattle.std.proofs.Common.{sym, subst, inl, [], ◌<◌, length, arith, Ok, Err, None, Some}
+use Rattle.std.proofs.Common.{sym, subst, inl, [], ◌<◌, false, length, arith, Ok, Err, None, Some}
 use Rattle.cg_heap.specs.Calls.{HasFewHolds, IsSound}
 use Rattle.cg_machine.specs.Commands.{effect, refused}
 use Rattle.cg_script.specs.Spelled.{IsSpelledCommand}
