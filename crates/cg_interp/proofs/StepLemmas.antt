@@ -1,5 +1,5 @@
 -- A step of the script or of a frame: the next command, or a collection that is due before it.
-use Rattle.std.proofs.Common.{◌≡◌, refl, sym, ◌∙◌, ap, subst, ℕ, true, false, List, [], ◌∷◌, ◌++◌, Option, None, Some, inl, take, drop, Bool, length, arith, ◌+◌, ◌<◌, get_or}
+use Rattle.std.proofs.Common.{◌≡◌, refl, sym, ◌∙◌, ap, subst, ℕ, true, false, List, [], ◌∷◌, ◌++◌, Option, None, Some, inl, take, drop, Bool, length, arith, ◌+◌}
 use Rattle.std.specs.Prelude.{option_to_list}
 use Rattle.std.proofs.lemmas.List.{take-append-drop}
 use Rattle.cg_script.specs.declared.Script.{Script}
