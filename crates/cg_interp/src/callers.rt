@@ -100,7 +100,7 @@ impl<B: Kind> Engine<B> {
         let body = body_of(script, procedure);
         let mut number = number;
         'commands: loop {
-            match self.change_on(body, locals, procedure, &mut number) {
+            match self.make_changes(body, locals, procedure, &mut number) {
                 Some(answer) => return answer,
                 None => {}
             }
@@ -125,7 +125,7 @@ impl<B: Kind> Engine<B> {
     ///
     /// No such command makes a collection due, so that is asked once.
     #[inline(always)]
-    fn change_on(
+    fn make_changes(
         &mut self,
         body: &[Command],
         locals: Locals,
@@ -144,14 +144,14 @@ impl<B: Kind> Engine<B> {
         };
         match self.policy.due() {
             Some(_) => None,
-            None => self.make_changes(body, locals, procedure, number, first),
+            None => self.make_changes_from(body, locals, procedure, number, first),
         }
     }
 
     /// The same where the first of them is known and no collection is due. This is a call of its own: at the head of a loop over
     /// commands of any sort, each command would pay for putting together what the other sorts answer.
     #[inline(never)]
-    fn make_changes(
+    fn make_changes_from(
         &mut self,
         body: &[Command],
         locals: Locals,

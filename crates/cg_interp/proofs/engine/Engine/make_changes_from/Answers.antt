@@ -6,7 +6,7 @@ use Rattle.cg_interp.specs.Telling.{IsAtTurn}
 use Rattle.cg_interp.proofs.Keeping.{fit_then}
 use Rattle.cg_interp.proofs.Quietly.{at_turn_then, comes_from_then, turns_from_then}
 use Rattle.cg_interp.proofs.StepLemmas.{caller_detects_none, comes_next_at}
-use Rattle.cg_interp.proofs.engine.Engine.make_changes.Goals as goal
+use Rattle.cg_interp.proofs.engine.Engine.make_changes_from.Goals as goal
 
 pub step_change-requires-clause-own : goal.step_change-requires-clause-own
 step_change-requires-clause-own g c =

@@ -8,7 +8,7 @@ use Rattle.cg_interp.specs.Engines.{commands_from}
 use Rattle.cg_interp.specs.Turns.{StaysFit}
 use Rattle.cg_interp.specs.Quietly.{ComesFrom}
 use Rattle.cg_interp.specs.Callers.{frame_caller}
-use Rattle.cg_interp.proofs.engine.Engine.make_changes.Given as goal
+use Rattle.cg_interp.proofs.engine.Engine.make_changes_from.Given as goal
 
 -- the commands so far were done quietly, the next one has the turn, and no collection is due before it
 abbrev pub invariant-commands : goal.invariant-commands
