@@ -19,18 +19,18 @@ use Rattle.cg_represents.specs.Represents.{Represents, CollectionWaits}
 use Rattle.cg_policy.specs.Policy.{Policy, with_numbers}
 use Rattle.cg_policy.specs.Laws.{policy_of}
 use Rattle.cg_commands.specs.declared.done.Done.{Done}
-use Rattle.cg_commands.specs.declared.done.Done.TheVariants.{Changed, Gives, Calls, Collects, Quits, Tells}
+use Rattle.cg_commands.specs.declared.done.Done.TheVariants.{Changed, Calls, Collects, Quits, Tells}
 use Rattle.cg_commands.specs.declared.done.Refusal.{Refusal}
 use Rattle.cg_commands.specs.declared.done.Refusal.TheVariants.{NoName, WrongKind, NoIndex, NoKey, NoAttribute, NotWeak, NotCallable, BadGeneration, Unhashable, OutOfMemory, ObjectLimit, EntryLimit, InCollection}
 use Rattle.cg_commands.specs.declared.locals.Locals.{Locals}
-use Rattle.cg_commands.specs.Answers.{Performs, policy_after}
+use Rattle.cg_commands.specs.Answers.{AnswersOnHeap, Performs, policy_after}
 use Rattle.cg_commands.specs.Attempts.{Attempts}
 use Rattle.cg_commands.specs.Controls.{IsControl, IsAsked, IsOfObjectsAndNumbers, Leaves}
 use Rattle.cg_commands.specs.Growth.{makes_object}
 use Rattle.cg_commands.specs.Places.{Replaces, KeepsAllButPlaces}
 use Rattle.cg_commands.specs.Stands.{HeapAndLocalsStandFor}
 use Rattle.cg_commands.proofs.Bridges.{gives_nothing}
-use Rattle.cg_commands.proofs.Growing.{nothing_made}
+use Rattle.cg_commands.proofs.Growing.{nothing_made, grows_within}
 
 -- moved objects, in the world that the heap represents
 replaced_represents : (places : Place → Place) (numbers : Numbers → Numbers) (old new : Store) → Replaces places old new → (w : World) → Represents old w → Represents new (record w { objects = replaced places w; numbers = numbers w.numbers })
@@ -47,16 +47,19 @@ replaced_represents places numbers old new moves w r = record {
 module _ (old : Store) (was : Policy) (locals : Option Locals) (room : Bool) (given command : Command) (is : given ≡ command) (control : IsControl command) (none : makes_object command ≡ false) where
   -- It is a change of objects and numbers, with these lines.
   module _ (line : Option Event) (after : World → World) (does : (w : World) → HeapAndLocalsStandFor old locals w → was ≡ policy_of w → effect w command ≡ Ok (Changes false (option_to_list line) [] (after w))) (places_alone : (w : World) → IsOfObjectsAndNumbers w (effect w command)) where
+    changed : (new : Store) → ((w : World) → Represents old w → Represents new (after w)) → (w : World) → HeapAndLocalsStandFor old locals w → was ≡ policy_of w → AnswersOnHeap (Ok (Changed line (item val.None))) (effect w command) old new
+    changed new represents w s same = gives_nothing (effect w command) line (item val.None) false (after w) old new (does w s same) refl (represents w s.represents)
+
     changes : (new : Store) → KeepsAllButPlaces old new → ((w : World) → Represents old w → Represents new (after w)) → (now : Policy) → ((w : World) → was ≡ policy_of w → now ≡ policy_of (after w)) → (done : Done) → done ≡ Changed line (item val.None) → Attempts old was locals room given new now (Ok done)
     changes new keeps represents now policy done told =
         subst (λ c. Attempts old was locals room c new now (Ok done)) (sym is)
         (subst (λ d. Attempts old was locals room command new now (Ok d)) (sym told) (record {
           performs = λ w s same. record {
-            heap = gives_nothing (effect w command) line (item val.None) false (after w) old new (does w s same) refl (represents w s.represents);
+            heap = changed new represents w s same;
             policy = policy w same ∙ ap (λ r. policy_after (Ok (Changed line (item val.None))) r was) (sym (does w s same));
           };
           leaves = λ c. record { heap = keeps; world = places_alone; nothing = refl };
-          in_room = nothing_made (Ok (Changed line (item val.None))) (makes_object command) room none;
+          grows = λ w s same. grows_within command w room old new (Ok (Changed line (item val.None))) s.represents (changed new represents w s same) (nothing_made (Ok (Changed line (item val.None))) (makes_object command) room none);
         }))
 
   nothing_moves : KeepsAllButPlaces old old
@@ -87,7 +90,6 @@ module _ (old : Store) (was : Policy) (locals : Option Locals) (room : Bool) (gi
 module _ (store : Store) (was : Policy) (locals : Option Locals) (number : ℤ) where
   asks_leaves : (answer : Result Done Refusal) → IsAsked number answer → Leaves store was (Collect number) store was answer
   asks_leaves (Ok (Changed line given_up)) asked = absurd asked
-  asks_leaves (Ok (Gives given_up)) asked = absurd asked
   asks_leaves (Ok (Calls f)) asked = absurd asked
   asks_leaves (Ok (Collects g)) asked = record { number = number; is = refl; asked = asked; store = refl; policy = refl }
   asks_leaves (Ok Quits) asked = absurd asked
@@ -97,7 +99,6 @@ module _ (store : Store) (was : Policy) (locals : Option Locals) (number : ℤ) 
   asks_performs : (answer : Result Done Refusal) → IsAsked number answer → Performs store was locals (λ w. effect w (Collect number)) store was answer
   unfolding ◌>>=◌
   asks_performs (Ok (Changed line given_up)) asked w s same = absurd asked
-  asks_performs (Ok (Gives given_up)) asked w s same = absurd asked
   asks_performs (Ok (Calls f)) asked w s same = absurd asked
   asks_performs (Ok (Collects g)) asked w s same = record { heap = (ap (λ x. ok_or x bad_generation >>= (λ g. Ok (CollectsEffect g))) asked.0, asked.1, refl); policy = refl }
   asks_performs (Ok Quits) asked w s same = absurd asked
@@ -120,5 +121,5 @@ module _ (store : Store) (was : Policy) (locals : Option Locals) (number : ℤ) 
   asks room given is answer asked = subst (λ c. Attempts store was locals room c store was answer) (sym is) (record {
     performs = asks_performs answer asked;
     leaves = λ control. asks_leaves answer asked;
-    in_room = nothing_made answer false room refl;
+    grows = λ w s same. grows_within (Collect number) w room store store answer s.represents (asks_performs answer asked w s same).heap (nothing_made answer false room refl);
   })

@@ -23,7 +23,7 @@ use Rattle.cg_commands.specs.Attempts.{Attempts, counted}
 use Rattle.cg_commands.specs.Growth.{makes_object}
 use Rattle.cg_commands.specs.Inspections.{Inspects}
 use Rattle.cg_commands.specs.Stands.{HeapAndLocalsStandFor}
-use Rattle.cg_commands.proofs.Growing.{of_effect, made_makes, nothing_made, made_in_room}
+use Rattle.cg_commands.proofs.Growing.{of_effect, made_makes, nothing_made, made_in_room, grows_within}
 
 abbrev StaysCounted : World → Effect → Type 0
 StaysCounted w (Changes wants_memory lines given_up after) = policy_of after ≡ policy_of w
@@ -80,9 +80,6 @@ module _ (w : World) (command : Command) (old new : Store) where
   stays_after own none (Ok (done.Changed line e)) h =
       let stays = of_effect (StaysCounted w) (effect w command) _ h.is (effect_stays w command own none) in
       sym stays ∙ ap (λ r. policy_after (Ok (done.Changed line e)) r (policy_of w)) (sym h.is)
-  stays_after own none (Ok (done.Gives e)) h =
-      let stays = of_effect (StaysCounted w) (effect w command) _ h.is (effect_stays w command own none) in
-      sym stays ∙ ap (λ r. policy_after (Ok (done.Gives e)) r (policy_of w)) (sym h.is)
   stays_after own none (Ok (done.Calls f)) h = refl
   stays_after own none (Ok (done.Collects g)) h = refl
   stays_after own none (Ok done.Quits) h = refl
@@ -96,9 +93,6 @@ module _ (w : World) (command : Command) (old new : Store) where
   counted_after made (Ok (done.Changed line e)) h =
       let counts = of_effect (CountsOne w) (effect w command) _ h.is (effect_counts w command made) in
       sym counts ∙ ap (λ r. policy_after (Ok (done.Changed line e)) r (policy_of w)) (sym h.is)
-  counted_after made (Ok (done.Gives e)) h =
-      let counts = of_effect (CountsOne w) (effect w command) _ h.is (effect_counts w command made) in
-      sym counts ∙ ap (λ r. policy_after (Ok (done.Gives e)) r (policy_of w)) (sym h.is)
   counted_after made (Ok (done.Calls f)) h = absurd (of_effect (CountsOne w) (effect w command) _ h.0 (effect_counts w command made))
   counted_after made (Ok (done.Collects g)) h = absurd (of_effect (CountsOne w) (effect w command) _ h.0 (effect_counts w command made))
   counted_after made (Ok done.Quits) h = absurd (of_effect (CountsOne w) (effect w command) _ h.0 (effect_counts w command made))
@@ -117,7 +111,7 @@ plain old was locals room given command is own none new answer does = subst (λ 
     policy = policy ∙ stays_after w command old new own none answer (does w stands policy) ∙ ap (policy_after answer (effect w command)) (sym policy);
   };
   leaves = λ control. absurd (control own);
-  in_room = nothing_made answer (makes_object command) room none;
+  grows = λ w stands policy. grows_within command w room old new answer stands.represents (does w stands policy) (nothing_made answer (makes_object command) room none);
 })
 
 -- an inspection, which depends on whether a collection is under way
@@ -139,5 +133,5 @@ module _ (old : Store) (was : Policy) (locals : Option Locals) (room : Bool) (gi
       policy = counts ∙ ap (counted answer) policy ∙ counted_after w command old new made answer (does w stands) ∙ ap (policy_after answer (effect w command)) (sym policy);
     };
     leaves = λ control. absurd (control own);
-    in_room = made_in_room answer (makes_object command) room in_room;
+    grows = λ w stands policy. grows_within command w room old new answer stands.represents (does w stands) (made_in_room answer (makes_object command) room in_room);
   })

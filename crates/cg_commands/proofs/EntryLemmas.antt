@@ -22,7 +22,7 @@ use Rattle.cg_machine.specs.World.{with_change}
 use Rattle.cg_machine.specs.Effects.{Changes, has_room, sets_entries}
 use Rattle.cg_machine.specs.Refusals.{◌>>=◌}
 use Rattle.cg_represents.specs.Represents.{Represents}
-use Rattle.cg_commands.specs.declared.done.Done.TheVariants.{Gives}
+use Rattle.cg_commands.specs.declared.done.Done.TheVariants.{Changed}
 use Rattle.cg_commands.specs.declared.locals.Locals.{Locals}
 use Rattle.cg_commands.specs.declared.operands.Wanted.{Wanted}
 use Rattle.cg_commands.specs.declared.operands.Wanted.TheVariants as wanted
@@ -120,7 +120,7 @@ module _ (store : Store) (sound : IsSound store) (locals : Option Locals) (test 
 
   -- an item is appended
   pub appends : {X : Type 0} (u : X) (val : Val) (e : Entry) (new : Store) → new ≡ rewritten o (entries_of store o ++ item val ∷ []) store → entry_references e ≡ [] → ((Ok u ≡ Err fault.EntryLimit) ↔ (4000000 ≤ entry_number store))
-      → PerformsOnHeap store locals (λ w. has_room w 1 >>= (λ _. Ok (Changes true [] [] (with_change (with_entries (there.node.entries ++ item val ∷ [])) o w)))) new (Ok (Gives e))
+      → PerformsOnHeap store locals (λ w. has_room w 1 >>= (λ _. Ok (Changes true [] [] (with_change (with_entries (there.node.entries ++ item val ∷ [])) o w)))) new (Ok (Changed None e))
   unfolding ◌>>=◌
   appends u val e new is none limit w s =
       gives_nothing _ None e true (with_change (with_entries (there.node.entries ++ item val ∷ [])) o w) store new
@@ -129,7 +129,7 @@ module _ (store : Store) (sound : IsSound store) (locals : Option Locals) (test 
 
   -- an entry is removed
   pub takes : (i : ℕ) (e : Entry) (es : List Entry) (new : Store) → slice_get (entries_of store o) i ≡ Some e → new ≡ held (entry_references e) (rewritten o (remove (entries_of store o) i) store) → es ≡ remove there.node.entries i
-      → PerformsOnHeap store locals (λ w. sets_entries w (object_from store.rows o there.node) es (entry_references e)) new (Ok (Gives e))
+      → PerformsOnHeap store locals (λ w. sets_entries w (object_from store.rows o there.node) es (entry_references e)) new (Ok (Changed None e))
   takes i e es new at is gone w s =
       gives_up _ None e false (entry_references e) (rewritten o es store) (with_change (with_entries es) o w) store new refl refl
       (is ∙ ap (λ l. held (entry_references e) (rewritten o l store)) (ap (λ l. remove l i) entries-here ∙ sym gone))
@@ -138,7 +138,7 @@ module _ (store : Store) (sound : IsSound store) (locals : Option Locals) (test 
 
   -- the entry under a key is removed
   pub takes_key : (key : Val) (e : Entry) (new : Store) → Some e ≡ entry_at (entries_of store o) key → new ≡ held (entry_references e) (rewritten o (without_key (entries_of store o) key) store)
-      → PerformsOnHeap store locals (λ w. sets_entries w (object_from store.rows o there.node) (without_key there.node.entries key) (entry_references e)) new (Ok (Gives e))
+      → PerformsOnHeap store locals (λ w. sets_entries w (object_from store.rows o there.node) (without_key there.node.entries key) (entry_references e)) new (Ok (Changed None e))
   takes_key key e new at is =
       let (i, here) = entry_somewhere (entries_of store o) key e (sym at) in
       let es : List Entry = without_key there.node.entries key in
@@ -150,7 +150,7 @@ module _ (store : Store) (sound : IsSound store) (locals : Option Locals) (test 
 
   -- the same, where another entry with its references is given up
   pub takes_references : (key : Val) (e given : Entry) (new : Store) → Some e ≡ entry_at (entries_of store o) key → new ≡ held (entry_references e) (rewritten o (without_key (entries_of store o) key) store) → entry_references given ≡ entry_references e
-      → PerformsOnHeap store locals (λ w. sets_entries w (object_from store.rows o there.node) (without_key there.node.entries key) (entry_references e)) new (Ok (Gives given))
+      → PerformsOnHeap store locals (λ w. sets_entries w (object_from store.rows o there.node) (without_key there.node.entries key) (entry_references e)) new (Ok (Changed None given))
   takes_references key e given new at is same =
       λ w s.
       subst (λ refs. HasChanged (sets_entries w (object_from store.rows o there.node) (without_key there.node.entries key) (entry_references e)) [] refs new) (sym same)

@@ -19,12 +19,7 @@ use Rattle.cg_represents.proofs.Shapes.{IsMadeBy, ByList, ByTuple, ByDict, ByIns
 use Rattle.cg_commands.specs.declared.done.Done.{Done}
 use Rattle.cg_commands.specs.declared.done.Done.TheVariants as done
 use Rattle.cg_commands.specs.declared.done.Refusal.{Refusal}
-use Rattle.cg_policy.specs.Policy.{Policy}
-use Rattle.cg_policy.specs.Laws.{policy_of}
-use Rattle.cg_commands.specs.declared.locals.Locals.{Locals}
 use Rattle.cg_commands.specs.Answers.{AnswersOnHeap}
-use Rattle.cg_commands.specs.Attempts.{Attempts}
-use Rattle.cg_commands.specs.Stands.{HeapAndLocalsStandFor}
 use Rattle.cg_commands.specs.Growth.{GrowsBy, makes_object}
 
 -- what was done without a new object, or with room for one
@@ -104,9 +99,9 @@ one_more false room is = omega arith
 kept : (room : Bool) (old new : Store) → new ≡ old → GrowsBy room old new
 kept room old new is = subst (GrowsBy room old) (sym is) (record { objects = omega arith; names = refl })
 
--- what was done bounds the heap's growth
-pub grows : (command : Command) (w : World) (room : Bool) (old new : Store) (answer : Result Done Refusal) → Represents old w → AnswersOnHeap answer (effect w command) old new → OnOk answer (makes_object command ≡ true → room ≡ true) → GrowsBy room old new
-grows command w room old new (Ok (done.Changed line e)) r h is =
+-- what was done lets the heap grow no further
+pub grows_within : (command : Command) (w : World) (room : Bool) (old new : Store) (answer : Result Done Refusal) → Represents old w → AnswersOnHeap answer (effect w command) old new → OnOk answer (makes_object command ≡ true → room ≡ true) → GrowsBy room old new
+grows_within command w room old new (Ok (done.Changed line e)) r h is =
     let sized : Sized (makes_object command) w h.after = of_effect (HasSize (makes_object command) w) (effect w command) _ h.is (effect_sized w command) in
     let before : length (objects_of old) ≡ length w.objects = ap length r.objects in
     let after : length (objects_of new) ≡ length h.after.objects = ap length h.represents.objects in
@@ -114,21 +109,8 @@ grows command w room old new (Ok (done.Changed line e)) r h is =
       objects = omega (arith, sized.objects, before, after, one_more (makes_object command) room is);
       names = ap length h.represents.names ∙ sized.names ∙ sym (ap length r.names);
     }
-grows command w room old new (Ok (done.Gives e)) r h is =
-    let sized : Sized (makes_object command) w h.after = of_effect (HasSize (makes_object command) w) (effect w command) _ h.is (effect_sized w command) in
-    let before : length (objects_of old) ≡ length w.objects = ap length r.objects in
-    let after : length (objects_of new) ≡ length h.after.objects = ap length h.represents.objects in
-    record {
-      objects = omega (arith, sized.objects, before, after, one_more (makes_object command) room is);
-      names = ap length h.represents.names ∙ sized.names ∙ sym (ap length r.names);
-    }
-grows command w room old new (Ok (done.Calls f)) r h is = kept room old new h.1
-grows command w room old new (Ok (done.Collects g)) r h is = kept room old new h.2
-grows command w room old new (Ok done.Quits) r h is = kept room old new h.1
-grows command w room old new (Ok (done.Tells lines)) r h is = kept room old new h.1
-grows command w room old new (Err refusal) r h is = kept room old new h.1
-
--- so does what was attempted, in each of its worlds
-pub grows_by : {command : Command} {old : Store} {was : Policy} {locals : Option Locals} {room : Bool} {new : Store} {now : Policy} {answer : Result Done Refusal} → Attempts old was locals room command new now answer
-    → (w : World) → HeapAndLocalsStandFor old locals w → was ≡ policy_of w → GrowsBy room old new
-grows_by {command} {old} {was} {locals} {room} {new} {now} {answer} does w stands policy = grows command w room old new answer stands.represents (does.performs w stands policy).heap does.in_room
+grows_within command w room old new (Ok (done.Calls f)) r h is = kept room old new h.1
+grows_within command w room old new (Ok (done.Collects g)) r h is = kept room old new h.2
+grows_within command w room old new (Ok done.Quits) r h is = kept room old new h.1
+grows_within command w room old new (Ok (done.Tells lines)) r h is = kept room old new h.1
+grows_within command w room old new (Err refusal) r h is = kept room old new h.1

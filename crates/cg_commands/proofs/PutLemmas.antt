@@ -32,7 +32,7 @@ use Rattle.cg_machine.specs.Effects.{Effect, Changes, has_room, sets_entries, pu
 use Rattle.cg_machine.specs.Operands.{is_dict}
 use Rattle.cg_machine.specs.Refusals.{◌>>=◌}
 use Rattle.cg_represents.specs.Represents.{Represents}
-use Rattle.cg_commands.specs.declared.done.Done.TheVariants.{Gives}
+use Rattle.cg_commands.specs.declared.done.Done.TheVariants.{Changed}
 use Rattle.cg_commands.specs.declared.locals.Locals.{Locals}
 use Rattle.cg_commands.specs.Refusals.{refusal_by}
 use Rattle.cg_commands.specs.Objects.{RefersTo}
@@ -72,7 +72,7 @@ module _ (store : Store) (sound : IsSound store) (locals : Option Locals) (test 
   -- the item at an index of a list is replaced
   pub sets : there.node.code ≡ kind.List → (z : ℤ) (i : ℕ) (e : Entry) (value : Val) (was : Option Val) (e' : Entry) (new : Store) → z ≡ pos i → i < length (entries_of store o) → slice_get (entries_of store o) i ≡ Some e
       → new ≡ tracked_if (becomes_tracked store o (val.Int z) value) o (with_put store o (val.Int z) value) → was ≡ value_in store o (val.Int z) → entry_references e' ≡ references_of_value was
-      → PerformsOnHeap store locals (λ w. sets_entries w x (set there.node.entries i (item value)) (entry_references e)) new (Ok (Gives e'))
+      → PerformsOnHeap store locals (λ w. sets_entries w x (set there.node.entries i (item value)) (entry_references e)) new (Ok (Changed None e'))
   sets list z i e value was e' new at within here is told refs w s =
       gives_up _ None e' false (entry_references e) (rewritten o (set there.node.entries i (item value)) store) (with_change (with_entries (set there.node.entries i (item value))) o w) store new refl
       (refs ∙ ap references_of_value (told ∙ found_value) ∙ sym alone)
@@ -309,7 +309,7 @@ module _ (store : Store) (sound : IsSound store) (locals : Option Locals) (test 
         (subst (λ os. Represents (tracked_if now o (held refs filled)) (record (push (Releasing refs) w) { objects = os })) world-is (moved-if now refl))
 
   pub puts-performs : (was : Option Val) (e : Entry) (new : Store) → new ≡ tracked_if (becomes_tracked store o key value) o (with_put store o key value) → was ≡ value_in store o key → entry_references e ≡ references_of_value was
-      → ((Ok was ≡ Err fault.EntryLimit) ↔ ((value_in store o key ≡ None) × (4000000 ≤ entry_number store))) → PerformsOnHeap store locals (λ w. puts w (object_from store.rows o n) key value) new (Ok (Gives e))
+      → ((Ok was ≡ Err fault.EntryLimit) ↔ ((value_in store o key ≡ None) × (4000000 ≤ entry_number store))) → PerformsOnHeap store locals (λ w. puts w (object_from store.rows o n) key value) new (Ok (Changed None e))
   unfolding ◌>>=◌
   puts-performs was e new is told refs_are limit w s =
       record {

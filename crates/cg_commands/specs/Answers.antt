@@ -1,6 +1,6 @@
 -- What a command may answer, in every world that the heap and the policy represent. (Ours.)
 use Rattle.cg_value.specs.declared.Entry.{Entry}
-use Rattle.std.specs.Prelude.{◌≡◌, ℕ, ◌≤◌, ◌⊎◌, Bool, true, List, [], Option, option_to_list, Result, Ok, Err}
+use Rattle.std.specs.Prelude.{◌≡◌, ℕ, ◌≤◌, ◌⊎◌, Bool, true, List, [], Option, None, option_to_list, Result, Ok, Err}
 use Rattle.cg_graph.specs.Store.{Store}
 use Rattle.cg_graph.specs.Value.{entry_references}
 use Rattle.cg_machine.specs.declared.event.Event.{Event}
@@ -10,7 +10,7 @@ use Rattle.cg_represents.specs.Represents.{Represents}
 use Rattle.cg_policy.specs.Policy.{Policy}
 use Rattle.cg_policy.specs.Laws.{policy_of}
 use Rattle.cg_commands.specs.declared.done.Done.{Done}
-use Rattle.cg_commands.specs.declared.done.Done.TheVariants.{Changed, Gives, Calls, Collects, Quits, Tells}
+use Rattle.cg_commands.specs.declared.done.Done.TheVariants.{Changed, Calls, Collects, Quits, Tells}
 use Rattle.cg_commands.specs.declared.done.Refusal.{Refusal}
 use Rattle.cg_commands.specs.declared.done.Refusal.TheVariants.{OutOfMemory}
 use Rattle.cg_commands.specs.declared.locals.Locals.{Locals}
@@ -46,7 +46,6 @@ pub record HasChanged (effect : Result Effect ℕ) (lines : List Event) (given_u
 -- why an object is alive.
 abbrev pub IsDone : Done → Result Effect ℕ → Store → Store → Type 0
 IsDone (Changed line given_up) effect old new = HasChanged effect (option_to_list line) (entry_references given_up) new
-IsDone (Gives given_up) effect old new = HasChanged effect [] (entry_references given_up) new
 IsDone (Calls f) effect old new = (effect ≡ Ok (CallsEffect f)) × (new ≡ old)
 IsDone (Collects generation) effect old new = (effect ≡ Ok (CollectsEffect generation)) × (generation ≤ 2) × (new ≡ old)
 IsDone Quits effect old new = (effect ≡ Ok QuitsEffect) × (new ≡ old)
@@ -60,7 +59,6 @@ AnswersOnHeap (Err refusal) effect old new = Refuses refusal effect × (new ≡ 
 -- the policy of the world after a change; any other answer leaves the policy
 abbrev pub policy_after : Result Done Refusal → Result Effect ℕ → Policy → Policy
 policy_after (Ok (Changed line given_up)) (Ok (Changes wants_memory lines references after)) was = policy_of after
-policy_after (Ok (Gives given_up)) (Ok (Changes wants_memory lines references after)) was = policy_of after
 policy_after (Ok (Tells told)) (Ok (Changes wants_memory lines references after)) was = policy_of after
 policy_after answer effect was = was
 
@@ -80,5 +78,5 @@ PerformsOnHeap old locals effect new answer = (w : World) → HeapAndLocalsStand
 
 -- a change without a line that gives up this entry
 abbrev pub gives : Result Entry Refusal → Result Done Refusal
-gives (Ok given_up) = Ok (Gives given_up)
+gives (Ok given_up) = Ok (Changed None given_up)
 gives (Err refusal) = Err refusal

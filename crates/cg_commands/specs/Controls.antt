@@ -11,7 +11,7 @@ use Rattle.cg_machine.specs.Effects.{Effect, Changes, valid_index}
 use Rattle.cg_machine.specs.Commands.{effect}
 use Rattle.cg_policy.specs.Policy.{Policy}
 use Rattle.cg_commands.specs.declared.done.Done.{Done}
-use Rattle.cg_commands.specs.declared.done.Done.TheVariants.{Changed, Gives, Collects}
+use Rattle.cg_commands.specs.declared.done.Done.TheVariants.{Changed, Collects}
 use Rattle.cg_commands.specs.declared.done.Refusal.{Refusal}
 use Rattle.cg_commands.specs.declared.done.Refusal.TheVariants.{BadGeneration}
 use Rattle.cg_commands.specs.Places.{KeepsAllButPlaces}
@@ -49,5 +49,4 @@ pub record ChangesPlaces (old : Store) (command : Command) (given_up : Entry) (n
 -- A change is one of places and numbers only; any other answer is that of a `collect`, and has changed nothing.
 abbrev pub Leaves : Store → Policy → Command → Store → Policy → Result Done Refusal → Type 0
 Leaves old was command new now (Ok (Changed line given_up)) = ChangesPlaces old command given_up new
-Leaves old was command new now (Ok (Gives given_up)) = ChangesPlaces old command given_up new
 Leaves old was command new now answer = HasAsked old was command new now answer

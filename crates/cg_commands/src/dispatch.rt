@@ -2,16 +2,13 @@
 ghost use Rattle.std.specs.Prelude.{◌≡◌, ◌<◌, Bool, Option, false, true, length};
 ghost use Rattle.cg_heap.specs.Calls.{HasFewHolds};
 ghost use Rattle.cg_inspect.specs.Inspection.{IsIdle};
-ghost use Rattle.cg_machine.specs.World.{World};
-ghost use Rattle.cg_machine.specs.Commands.{effect};
 ghost use Rattle.cg_script.specs.Spelled.{IsSpelledCommand};
 ghost use Rattle.cg_policy.specs.Policy.{Policy as AnyPolicy, IsBounded, with_one_made};
-ghost use Rattle.cg_policy.specs.Laws.{policy_of};
-ghost use Rattle.cg_commands.specs.Answers.{Performs, gives};
+ghost use Rattle.cg_commands.specs.Answers.{gives};
 ghost use Rattle.cg_commands.specs.Attempts.{Attempts, counted, only_changes};
-ghost use Rattle.cg_commands.specs.Controls.{IsControl, Leaves};
-ghost use Rattle.cg_commands.specs.Growth.{GrowsBy, makes_object};
-ghost use Rattle.cg_commands.specs.Stands.{LocalsLive, HeapAndLocalsStandFor};
+ghost use Rattle.cg_commands.specs.Controls.{IsControl};
+ghost use Rattle.cg_commands.specs.Growth.{makes_object};
+ghost use Rattle.cg_commands.specs.Stands.{LocalsLive};
 ghost use Rattle.cg_commands.specs.declared.locals.Locals.{Locals as AnyLocals};
 
 use crate::bindings::{bind, unbind};
@@ -32,48 +29,67 @@ use cg_script::Command;
 use cg_value::Entry;
 use std::alloc::Global;
 
-/// Does a command: what the machine's definition of effects says, in every world that the heap, the policy and the locals
-/// represent. `locals` are those of the top frame, if any. The policy counts a new object. `room` says whether there is
-/// room for one more object; if not, the heap has at most as many objects afterwards.
+/// Does a command that changes names or entries and prints no line, as `perform` does the others. It answers the entry to
+/// give up, which is small to move; most commands are of this sort.
+#[inline(always)]
+pub fn change<B: Kind>(
+    heap: &mut Heap<B>,
+    locals: &Option<Locals>,
+    command: &Command,
+) -> Result<Entry, Refusal>
+    requires spelled { IsSpelledCommand (length heap.old.names) command.now }
+    requires locals { LocalsLive heap.old locals.now }
+    requires few { HasFewHolds heap.old }
+    requires changes { only_changes command.now ≡ true }
+    ensures { (policy : AnyPolicy) → Attempts heap.old policy locals.now false command.now heap.new policy (gives result) }
+{
+    match command {
+        Command::Bind { name, value } => bind(heap, locals, *name, value),
+        Command::Del { name } => unbind(heap, locals, *name),
+        Command::Append { list, value } => append(heap, locals, list, value),
+        Command::SetItem { list, index, value } => set_item(
+            heap,
+            locals,
+            list,
+            number(index),
+            value,
+        ),
+        Command::DelItem { list, index } => del_item(heap, locals, list, number(index)),
+        Command::Put { dict, key, value } => put(heap, locals, dict, key, value),
+        Command::Remove { dict, key } => remove(heap, locals, dict, key),
+        Command::SetAttr {
+            object,
+            attr,
+            value,
+        } => set_attr(heap, locals, object, *attr, value),
+        Command::DelAttr { object, attr } => del_attr(heap, locals, object, *attr),
+        Command::Item { name, list, index } => item(heap, locals, *name, list, number(index)),
+        Command::Get { name, dict, key } => get(heap, locals, *name, dict, key),
+        Command::Attr {
+            name,
+            object,
+            attr: named,
+        } => attr(heap, locals, *name, object, *named),
+        Command::Deref { name, weak } => deref(heap, locals, *name, weak),
+        _ => unreachable!(),
+    }
+}
+
+/// Does any other command: what the machine's definition of effects says, in every world that the heap, the policy and the
+/// locals stand for. `locals` are those of the frame on top, if one is. The policy counts an object that is made. `room` says
+/// whether there is room for one more object: where there is none, the heap has no more objects after it than before.
 ///
 /// A refusal changes nothing. `OutOfMemory` only if the effect may allocate and no other refusal applies. A command of the
 /// collector allocates nothing, gives up nothing, and changes only places and numbers, or nothing if it asks for a
 /// collection. The lines are allocated from `alloc`.
 ///
-/// The command comes from a script that some bytes spell, the objects among the locals live, and fewer than 2^63 objects
-/// have been made. If no collection is under way, the places that collections use are empty.
-#[inline(always)]
-pub fn perform<B: Kind>(
-    alloc: Global,
-    heap: &mut Heap<B>,
-    policy: &mut Policy,
-    locals: Option<Locals>,
-    command: &Command,
-    room: bool,
-) -> Result<Done, Refusal>
-    requires spelled { IsSpelledCommand (length heap.old.names) command.now }
-    requires locals { LocalsLive heap.old locals }
-    requires few { HasFewHolds heap.old }
-    requires last { heap.old.last < 9223372036854775808 }
-    requires bounded { IsBounded (with_one_made policy.old.numbers) }
-    requires idle { policy.old.running ≡ false → IsIdle heap.old }
-    ensures performs { Performs heap.old policy.old locals (λ w. effect w command.now) heap.new policy.new result }
-    ensures leaves { IsControl command.now → Leaves heap.old policy.old command.now heap.new policy.new result }
-    ensures grows { (w : World) → HeapAndLocalsStandFor heap.old locals w → policy.old ≡ policy_of w → GrowsBy room heap.old heap.new }
-{
-    if only_changes(command) {
-        gives(attempt_change(heap, &locals, command))
-    } else {
-        attempt_other(alloc, heap, policy, &locals, command, room)
-    }
-}
-
-/// Does a command that is more than a change. It makes an object only if there is room for it.
+/// The command is one of a script that some bytes spell, the objects among the locals live, and fewer than 2^63 objects
+/// have been made. Where no collection is running, nothing stands in the places that collections use.
 ///
 /// Each command has a call of its own that is not inlined; those that make something, or are for the collector, share one
 /// call. Otherwise this function's frame would have the locals of all commands, and clear them each time.
 #[inline(always)]
-fn attempt_other<B: Kind>(
+pub fn perform<B: Kind>(
     alloc: Global,
     heap: &mut Heap<B>,
     policy: &mut Policy,
@@ -119,81 +135,7 @@ fn attempt_other<B: Kind>(
     }
 }
 
-/// `perform` for a command that changes names or entries and prints no line. Most commands are of this sort.
-/// It answers the entry to give up, which is cheap to move.
-#[inline(always)]
-pub fn change<B: Kind>(
-    heap: &mut Heap<B>,
-    locals: &Option<Locals>,
-    command: &Command,
-) -> Result<Entry, Refusal>
-    requires spelled { IsSpelledCommand (length heap.old.names) command.now }
-    requires locals { LocalsLive heap.old locals.now }
-    requires few { HasFewHolds heap.old }
-    requires changes { only_changes command.now ≡ true }
-    ensures performs { (policy : AnyPolicy) → Performs heap.old policy locals.now (λ w. effect w command.now) heap.new policy (gives result) }
-    ensures grows { (w : World) → HeapAndLocalsStandFor heap.old locals.now w → GrowsBy false heap.old heap.new }
-{
-    attempt_change(heap, locals, command)
-}
-
-/// Does a command that is only a change.
-#[inline(always)]
-fn attempt_change<B: Kind>(
-    heap: &mut Heap<B>,
-    locals: &Option<Locals>,
-    command: &Command,
-) -> Result<Entry, Refusal>
-    requires spelled { IsSpelledCommand (length heap.old.names) command.now }
-    requires locals { LocalsLive heap.old locals.now }
-    requires few { HasFewHolds heap.old }
-    requires changes { only_changes command.now ≡ true }
-    ensures { (policy : AnyPolicy) (room : Bool) → Attempts heap.old policy locals.now room command.now heap.new policy (gives result) }
-{
-    match command {
-        Command::Bind { name, value } => bind(heap, locals, *name, value),
-        Command::Del { name } => unbind(heap, locals, *name),
-        Command::Append { list, value } => append(heap, locals, list, value),
-        Command::SetItem { list, index, value } => set_item(
-            heap,
-            locals,
-            list,
-            number(index),
-            value,
-        ),
-        Command::DelItem { list, index } => del_item(heap, locals, list, number(index)),
-        Command::Put { dict, key, value } => put(heap, locals, dict, key, value),
-        Command::Remove { dict, key } => remove(heap, locals, dict, key),
-        Command::SetAttr {
-            object,
-            attr,
-            value,
-        } => set_attr(heap, locals, object, *attr, value),
-        Command::DelAttr { object, attr } => del_attr(heap, locals, object, *attr),
-        Command::Item { name, list, index } => item(heap, locals, *name, list, number(index)),
-        Command::Get { name, dict, key } => get(heap, locals, *name, dict, key),
-        Command::Attr {
-            name,
-            object,
-            attr: named,
-        } => attr(heap, locals, *name, object, *named),
-        Command::Deref { name, weak } => deref(heap, locals, *name, weak),
-        _ => unreachable!(),
-    }
-}
-
-/// What `perform` answers after a change without a line.
-#[inline(always)]
-pub fn gives(changed: Result<Entry, Refusal>) -> Result<Done, Refusal>
-    ensures { result ≡ gives changed }
-{
-    match changed {
-        Ok(given_up) => Ok(Done::Gives(given_up)),
-        Err(refusal) => Err(refusal),
-    }
-}
-
-/// Does a command that makes an object, if there is room for it, and counts the object.
+/// Does a command that makes an object, where there is room for it, and counts the object.
 #[inline(never)]
 fn make<B: Kind>(
     heap: &mut Heap<B>,

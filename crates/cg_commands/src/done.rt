@@ -19,9 +19,6 @@ pub enum Done {
         line: Option<Event>,
         given_up: Entry,
     },
-    /// It made its change, without a line. The references of the entry are outside holds to give up next: the one in the
-    /// value, then the one in the key.
-    Gives(Entry),
     /// A frame of this function's procedure is to start. The function is not held from outside yet.
     Calls(u64),
     /// It asks for a collection of this generation, 0 to 2. Nothing has changed. If a collection is under way, none

@@ -1,7 +1,7 @@
 //! What each command of a script does to the heap and to the collector's policy.
 //!
-//! The layer above relies on one contract: in every world of the machine that the heap and the policy represent, `perform`
-//! does what the machine's definition of effects says of the command, or refuses it for the machine's reason.
+//! The layer above rests on one contract: in every world of the machine that the heap and the policy stand for, `change` and
+//! `perform` do what the machine's own definition of effects says of the command, or refuse it for the machine's own reason.
 //!
 //! - `done`, `lines`: what a command did, which lines it prints, and why one is refused.
 //! - `locals`: the locals of a frame.
@@ -25,7 +25,7 @@ mod operands;
 mod parts;
 mod queries;
 
-pub use dispatch::{change, gives, makes_object, only_changes, perform};
+pub use dispatch::{change, makes_object, only_changes, perform};
 pub use done::{Done, Refusal};
 pub use lines::Lines;
 pub use locals::Locals;

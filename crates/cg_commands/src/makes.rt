@@ -1,5 +1,5 @@
-//! Commands that make objects.
-ghost use Rattle.std.specs.Prelude.{◌≡◌, ◌<◌, ◌≤◌, ◌+◌, ◌↔◌, ◌++◌, ◌∷◌, [], List, IfOk, IfSome, OnOk, OnErr, Some, None, Err, true, length, map, slice_get};
+//! Objects that are made.
+ghost use Rattle.std.specs.Prelude.{◌≡◌, ◌<◌, ◌≤◌, ◌+◌, ◌↔◌, ◌++◌, ◌∷◌, [], List, Option, IfOk, IfSome, OnOk, OnErr, Some, None, Err, true, length, map, slice_get};
 ghost use Rattle.std.specs.List.{All};
 ghost use Rattle.cg_value.specs.declared.KindCode.TheVariants as code;
 ghost use Rattle.cg_value.specs.declared.Val.{Val as AnyVal};
@@ -19,6 +19,7 @@ ghost use Rattle.cg_machine.specs.Effects.{makes, makes_of};
 ghost use Rattle.cg_commands.specs.Answers.{PerformsOnHeap};
 ghost use Rattle.cg_commands.specs.Parts.{AreLive};
 ghost use Rattle.cg_commands.specs.Stands.{LocalsLive};
+ghost use Rattle.cg_commands.specs.declared.locals.Locals.{Locals as AnyLocals};
 
 use crate::bindings::given_up;
 use crate::done::{Done, Refusal, refusal_by};
@@ -35,7 +36,15 @@ use cg_value::{Entry, KindCode, Val};
 /// Most objects start with at most this many entries, so only that much room is cleared for them.
 const FEW: usize = 8;
 
-/// `x = list v*`: binds the name to a new list of the values.
+/// What a new object is besides its entries.
+#[derive(Clone, Copy, Drop)]
+struct NewObject {
+    code: KindCode,
+    class: Option<u32>,
+    referent: Option<u64>,
+}
+
+/// `x = list v*`: a new list of the values is bound to the name.
 pub(crate) fn make_list<B: Kind>(
     heap: &mut Heap<B>,
     locals: &Option<Locals>,
@@ -124,16 +133,12 @@ fn make_of<B: Kind, const N: usize>(
     ensures room { OnOk result (room ≡ true) }
 {
     let parts = gather::<B, N>(heap, locals, items)?;
-    make_bound(
-        heap,
-        locals,
-        name,
+    let object = NewObject {
         code,
         class,
-        parts.as_slice(),
-        None,
-        room,
-    )
+        referent: None,
+    };
+    make_bound(heap, name, object, parts.as_slice(), room)
 }
 
 /// `x = dict`: a new empty dictionary.
@@ -150,7 +155,12 @@ pub(crate) fn make_dict<B: Kind>(
     ensures performs { PerformsOnHeap heap.old locals.now (λ w. effect w (command.MakeDict name)) heap.new result }
     ensures room { OnOk result (room ≡ true) }
 {
-    make_bound(heap, locals, name, KindCode::Dict, None, &[], None, room)
+    let object = NewObject {
+        code: KindCode::Dict,
+        class: None,
+        referent: None,
+    };
+    make_bound(heap, name, object, &[], room)
 }
 
 /// `x = new C`: a new instance of a class, without attributes.
@@ -168,16 +178,12 @@ pub(crate) fn make_instance<B: Kind>(
     ensures performs { PerformsOnHeap heap.old locals.now (λ w. effect w (command.MakeInst name class)) heap.new result }
     ensures room { OnOk result (room ≡ true) }
 {
-    make_bound(
-        heap,
-        locals,
-        name,
-        KindCode::Inst,
-        Some(class),
-        &[],
-        None,
-        room,
-    )
+    let object = NewObject {
+        code: KindCode::Inst,
+        class: Some(class),
+        referent: None,
+    };
+    make_bound(heap, name, object, &[], room)
 }
 
 /// `x = func P v*`: a new function of a procedure, with at most 8 cells.
@@ -223,46 +229,43 @@ pub(crate) fn make_weak<B: Kind>(
     let callback = value(heap, locals, callback)?;
     let referent = object(heap, val, Wanted::Referable)?;
     let parts = callback_parts(heap, locals, callback)?;
-    make_bound(
-        heap,
-        locals,
-        name,
-        KindCode::Weak,
-        None,
-        parts.as_slice(),
-        Some(referent),
-        room,
-    )
+    let object = NewObject {
+        code: KindCode::Weak,
+        class: None,
+        referent: Some(referent),
+    };
+    make_bound(heap, name, object, parts.as_slice(), room)
 }
 
 /// Makes an object and binds it to a name. The name's old value is to be given up.
 fn make_bound<B: Kind>(
     heap: &mut Heap<B>,
-    locals: &Option<Locals>,
     name: u32,
-    code: KindCode,
-    class: Option<u32>,
+    object: NewObject,
     parts: &[Entry],
-    referent: Option<u64>,
     room: bool,
 ) -> Result<Done, Refusal>
     requires name { name < length heap.old.names }
-    requires parts { IsParts code parts.now }
-    requires class { HasClass code class }
-    requires referent { HasReferent code referent }
+    requires parts { IsParts object.code parts.now }
+    requires class { HasClass object.code object.class }
+    requires referent { HasReferent object.code object.referent }
     requires live { AreLive heap.old parts.now }
-    requires live_referent { IfSome referent (λ s. IsLive heap.old s) }
+    requires live_referent { IfSome object.referent (λ s. IsLive heap.old s) }
     requires few { HasFewHolds heap.old }
     requires last { heap.old.last < 9223372036854775808 }
-    ensures performs { PerformsOnHeap heap.old locals.now (λ w. makes w name code class parts.now referent) heap.new result }
+    ensures performs { (locals : Option AnyLocals) →
+        PerformsOnHeap heap.old locals (λ w. makes w name object.code object.class parts.now object.referent) heap.new result }
     ensures room { OnOk result (room ≡ true) }
 {
     heap.sound();
-    match make_where_room(heap, code, class, parts, referent, room) {
+    match make_where_room(heap, object, parts, room) {
         Ok(serial) => {
             let old = bind_new(heap, name, serial);
             Ok(Done::Changed {
-                line: Some(Event::Made { code, serial }),
+                line: Some(Event::Made {
+                    code: object.code,
+                    serial,
+                }),
                 given_up: given_up(old),
             })
         }
@@ -274,22 +277,20 @@ fn make_bound<B: Kind>(
 /// refusal.
 fn make_where_room<B: Kind>(
     heap: &mut Heap<B>,
-    code: KindCode,
-    class: Option<u32>,
+    object: NewObject,
     parts: &[Entry],
-    referent: Option<u64>,
     room: bool,
 ) -> Result<u64, HeapFault>
-    requires parts { IsParts code parts.now }
-    requires class { HasClass code class }
-    requires referent { HasReferent code referent }
+    requires parts { IsParts object.code parts.now }
+    requires class { HasClass object.code object.class }
+    requires referent { HasReferent object.code object.referent }
     requires live { AreLive heap.old parts.now }
-    requires live_referent { IfSome referent (λ s. IsLive heap.old s) }
+    requires live_referent { IfSome object.referent (λ s. IsLive heap.old s) }
     requires few { HasFewHolds heap.old }
     requires last { heap.old.last < 9223372036854775808 }
     ensures serial { IfOk result (λ s. s ≡ heap.old.last + 1) }
     ensures ok { OnOk result (heap.new ≡
-        attached (heap.old.last + 1) referent (made code class parts.now heap.old)) }
+        attached (heap.old.last + 1) object.referent (made object.code object.class parts.now heap.old)) }
     ensures room { OnOk result (room ≡ true) }
     ensures object_limit { (result ≡ Err fault.ObjectLimit) ↔ (MOST_OBJECTS ≤ object_number heap.old) }
     ensures entry_limit { (result ≡ Err fault.EntryLimit)
@@ -297,7 +298,7 @@ fn make_where_room<B: Kind>(
     ensures err { OnErr result (heap.new ≡ heap.old) }
 {
     if room {
-        heap.make(code, class, parts, referent)
+        heap.make(object.code, object.class, parts, object.referent)
     } else {
         Err(fault_without_room(heap, parts.len()))
     }

@@ -1,12 +1,13 @@
-//! The inspection commands on two lists, one in the other, as `a = list; b = list a` leaves them, with `a` as the only name. Each
-//! runs on a heap of its own: no clause says what a command leaves if the heap represents no world.
-ghost use Rattle.std.specs.Prelude.{◌≡◌, ◌<◌, map, replicate, length, IfOk, IfSome};
+//! What the commands that inspect tell of two lists, one in the other, as `a = list; b = list a` leaves them, where `a` alone is a
+//! name. Each is asked of a heap of its own: no clause says what a command leaves where the heap stands for no world.
+ghost use Rattle.std.specs.Prelude.{◌≡◌, ◌<◌, false, map, replicate, length, IfOk, IfSome};
 ghost use Rattle.std.specs.FinMap as fin;
 ghost use Rattle.cg_graph.specs.Store.{IsLive};
 ghost use Rattle.cg_heap.specs.Boxes.{six_kinds};
 ghost use Rattle.cg_heap.specs.Calls.{HasFewHolds};
 ghost use Rattle.cg_script.specs.Spelled.{IsSpelledCommand};
 ghost use Rattle.cg_policy.specs.Policy.{IsBounded, with_one_made};
+ghost use Rattle.cg_commands.specs.Attempts.{only_changes};
 ghost use Rattle.cg_commands.specs.Stands.{LocalsLive};
 
 use crate::scene::{Scene, assert_idle};
@@ -88,11 +89,12 @@ fn inspect<B: Kind>(
     requires spelled { IsSpelledCommand (length heap.old.names) command.now }
     requires few { HasFewHolds heap.old }
     requires last { heap.old.last < 9223372036854775808 }
+    requires other { only_changes command.now ≡ false }
 {
     assert_idle(rt, heap);
     let locals = locals_of(rt, heap, subject);
     let mut policy = policy_of(running);
-    perform(alloc, heap, &mut policy, locals, command, false)
+    perform(alloc, heap, &mut policy, &locals, command, false)
 }
 
 /// Does the command of a row.

@@ -22,22 +22,26 @@ use Rattle.cg_represents.proofs.Shapes.{Shape, StartsFrame, StartsCollection, En
 use Rattle.cg_laws.proofs.ShapeLaws.{effect_leaves}
 use Rattle.cg_policy.specs.Policy.{Policy}
 use Rattle.cg_policy.specs.Laws.{policy_of}
+use Rattle.cg_commands.specs.declared.done.Done.{Done}
 use Rattle.cg_commands.specs.declared.done.Done.TheVariants as done_of
+use Rattle.cg_commands.specs.declared.locals.Locals.{Locals}
+use Rattle.cg_commands.specs.Stands.{HasLocals, HeapAndLocalsStandFor}
 use Rattle.cg_commands.specs.declared.done.Refusal.{Refusal}
 use Rattle.cg_commands.specs.declared.done.Refusal.TheVariants as refusal_of
 use Rattle.cg_commands.specs.Refusals.{number_of}
-use Rattle.cg_commands.specs.Answers.{Refuses, policy_after, ChangesByMemory, HasChanged}
+use Rattle.cg_commands.specs.Answers.{Refuses, Performs, policy_after, ChangesByMemory, HasChanged}
 use Rattle.cg_interp.specs.declared.activity.Activity.{Activity as Own}
 use Rattle.cg_interp.specs.Engines.{State, StandsFor, ShowsAll, under}
 use Rattle.cg_interp.specs.declared.activity.Activity.TheVariants as activity
+use Rattle.cg_interp.specs.declared.caller.Caller.{Caller}
 use Rattle.cg_interp.specs.declared.turned.Turned.{Turned}
 use Rattle.cg_death.specs.declared.release.Release.{Release}
 use Rattle.cg_death.specs.Activities.{references_left}
-use Rattle.cg_interp.specs.Callers.{Changes, releasing, call_of, GivesUp, RunsTo, IsPerformed}
+use Rattle.cg_interp.specs.Callers.{Changes, releasing, call_of, caller_activity, caller_locals, GivesUp, RunsTo, IsAtCommand, IsPerformed, StaysKeptAfter}
 use Rattle.cg_interp.specs.Turns.{StaysSound}
 use Rattle.cg_interp.proofs.CallerLemmas.{same_engine}
 use Rattle.cg_interp.proofs.Lawfully.{stays_sound}
-use Rattle.cg_interp.proofs.UnderWay.{under_way}
+use Rattle.cg_interp.proofs.UnderWay.{under_way, policy_is}
 use Rattle.cg_commands.specs.Reasons.{Explained}
 use Rattle.cg_commands.proofs.Explaining.{explanation}
 use Rattle.cg_commands.proofs.Bridges.{released-none}
@@ -149,52 +153,41 @@ pub record Told (script : Script) (top : Own) (e : State) (w : World) (command :
 
 -- a command was done
 module _ (script : Script) (e : State) (top : Own) (w : World) (command : Command) (before : Store) (was : Policy) where
-  -- and made its change: it leaves the rest of the world
-  pub changed : (line : Option Event) (given_up : Entry) → (p : IsPerformed script top e w command before was (Ok (done_of.Changed line given_up))) → Changes script top e given_up p.answers.heap.after
-  changed line given_up p =
-      let after : World = p.answers.heap.after in
-      let left : Leaves w after = of_effect (LeavesStack w) (effect w command) _ p.answers.heap.is (effect_leaves w command) in
-      let shows : ShowsAll script (top ∷ e.activities) after.stack = subst (λ st. ShowsAll script (top ∷ e.activities) st) (sym left.stack) p.stood.shows in
-      let policy : e.policy ≡ policy_of after = p.answers.policy ∙ ap (λ r. policy_after (Ok (done_of.Changed line given_up)) r was) p.answers.heap.is in
-      record {
-        represents = p.answers.heap.represents;
-        shows = shows;
-        budget = left.budget ∙ p.stood.budget;
-        running = left.outcome ∙ p.stood.running;
-        numbers = ap (λ (q : Policy). q.numbers) policy;
-        collecting = ap (λ (q : Policy). q.running) policy ∙ under_way script (top ∷ e.activities) after.stack shows;
-      }
-
-  -- the same without a line
-  gives : (given_up : Entry) → IsPerformed script top e w command before was (Ok (done_of.Gives given_up)) → IsPerformed script top e w command before was (Ok (done_of.Changed None given_up))
-  gives given_up p = record {
-    stood = p.stood;
-    answers = record { heap = p.answers.heap; policy = p.answers.policy ∙ same (effect w command) };
-    kept = p.kept;
-  }
-    where
-      same : (r : Result Effect ℕ) → policy_after (Ok (done_of.Gives given_up)) r was ≡ policy_after (Ok (done_of.Changed None given_up)) r was
-      same (Ok (ChangesEffect wants_memory lines references after)) = refl
-      same (Ok (CallsEffect f)) = refl
-      same (Ok (CollectsEffect g)) = refl
-      same (Ok (ExplainsEffect o)) = refl
-      same (Ok QuitsEffect) = refl
-      same (Err number) = refl
-
-  -- what such a change leaves: the world where its references are to be given up
-  module _ (given_up : Entry) (p : IsPerformed script top e w command before was (Ok (done_of.Gives given_up))) where
-    abbrev pub left : World
+  -- and changed what it had to
+  module _ (line : Option Event) (given_up : Entry) (p : IsPerformed script top e w command before was (Ok (done_of.Changed line given_up))) where
+    -- the world that it leaves, in which its references are to be given up
+    abbrev left : World
     left = p.answers.heap.after
 
-    pub left_may : CommandStep script w command [] (releasing given_up left)
+    left_may : CommandStep script w command (option_to_list line) (releasing given_up left)
     left_may = change_may script w (effect w command) p.answers.heap.wants_memory _ _ p.answers.heap.after p.answers.heap.is
 
-    pub gives_left : Changes script top e given_up left
-    unfolding gives
-    gives_left = changed None given_up (gives given_up p)
+    -- the rest of that world is as it was
+    changed : Changes script top e given_up left
+    changed =
+        let same : Leaves w left = of_effect (LeavesStack w) (effect w command) _ p.answers.heap.is (effect_leaves w command) in
+        let shows : ShowsAll script (top ∷ e.activities) p.answers.heap.after.stack = subst (λ st. ShowsAll script (top ∷ e.activities) st) (sym same.stack) p.stood.shows in
+        let policy : e.policy ≡ policy_of p.answers.heap.after = p.answers.policy ∙ ap (λ r. policy_after (Ok (done_of.Changed line given_up)) r was) p.answers.heap.is in
+        record {
+          represents = p.answers.heap.represents;
+          shows = shows;
+          budget = same.budget ∙ p.stood.budget;
+          running = same.outcome ∙ p.stood.running;
+          numbers = ap (λ (q : Policy). q.numbers) policy;
+          collecting = ap (λ (q : Policy). q.running) policy ∙ under_way script (top ∷ e.activities) p.answers.heap.after.stack shows;
+        }
 
-    pub left_sound : StaysSound script (releasing given_up left)
-    left_sound = stays_sound script e.first_budget (releasing given_up left) (p.kept [] (releasing given_up left) left_may)
+    left_sound : StaysSound script (releasing given_up left)
+    left_sound = stays_sound script e.first_budget (releasing given_up left) (p.kept (option_to_list line) (releasing given_up left) left_may)
+
+    -- so its references may be given up
+    pub may_give_up : (s : Script) × (after : World) × Changes s top e given_up after × StaysSound s (releasing given_up after)
+    may_give_up = (script, left, changed, left_sound)
+
+    -- and the command comes to what that comes to
+    pub change_runs : (new : State) (result : Option Turned) → ((s : Script) (after : World) → Changes s top e given_up after → StaysSound s (releasing given_up after) → GivesUp s (releasing given_up after) top new line result)
+        → RunsTo script w command top new result
+    change_runs new result gives_up = runs_to script w command top new line (releasing given_up left) left_may result (gives_up script left changed left_sound)
 
   -- if heap and policy are as before, the engine represents the same world
   pub as_before : StandsFor script (under top (record e { store = before; policy = was })) w → e.store ≡ before → e.policy ≡ was → StandsFor script (under top e) w
@@ -247,3 +240,23 @@ module _ (script : Script) (e : State) (top : Own) (w : World) (command : Comman
   called_lives f p =
       let there = of_effect (IsThere w) (effect w command) _ p.answers.heap.0 (by_shape (IsThere w) w command (shape_there w command)) in
       subst (λ st. IsLive st f) (sym p.answers.heap.1) (lives_in_heap before w p.stood.represents f there)
+
+-- A caller is at a command, and what a call asks of the heap and the policy holds.
+module _ (script : Script) (caller : Caller) (locals : Option Locals) (inside old : State) (w : World) (command : Command) (same : inside ≡ old) (own : locals ≡ caller_locals caller) (at : IsAtCommand script caller old w command) where
+  before : StandsFor script (under (caller_activity caller) inside) w
+  before = subst (λ e. StandsFor script (under (caller_activity caller) e) w) (sym same) at.stands
+
+  pub stand_here : HeapAndLocalsStandFor inside.store locals w
+  stand_here = record { represents = before.represents; locals_are = subst (λ l. HasLocals l w) (sym own) at.locals }
+
+  pub policy_here : inside.policy ≡ policy_of w
+  policy_here = policy_is script (under (caller_activity caller) inside) w before
+
+  -- What the call answers is what was performed. It may have left another heap and policy.
+  pub performed_by : (new : Store) (now : Policy) (answer : Result Done Refusal) → Performs inside.store inside.policy locals (λ w. effect w command) new now answer
+      → IsPerformed script (caller_activity caller) (record inside { store = new; policy = now }) w command inside.store inside.policy answer
+  performed_by new now answer performs = record {
+    stood = before;
+    answers = performs w stand_here policy_here;
+    kept = subst (λ (e : State). StaysKeptAfter script e.first_budget w command) (sym same) at.kept;
+  }

@@ -1,5 +1,5 @@
--- A step of the script or of a frame: the next command, or a due collection before it.
-use Rattle.std.proofs.Common.{◌≡◌, refl, sym, ◌∙◌, ap, subst, ℕ, true, false, List, [], ◌∷◌, ◌++◌, Option, None, Some, inl, take, drop, Bool, length, arith, ◌+◌, ◌<◌, get_or}
+-- A step of the script or of a frame: the next command, or a collection that is due before it.
+use Rattle.std.proofs.Common.{◌≡◌, refl, sym, ◌∙◌, ap, subst, ℕ, true, false, List, [], ◌∷◌, ◌++◌, Option, None, Some, inl, take, drop, Bool, length, arith, ◌+◌}
 use Rattle.std.specs.Prelude.{option_to_list}
 use Rattle.std.proofs.lemmas.List.{take-append-drop}
 use Rattle.cg_script.specs.declared.Script.{Script}
@@ -36,7 +36,6 @@ use Rattle.cg_interp.specs.Quietly.{ComesTo}
 use Rattle.cg_interp.specs.Collecting.{StandsWith}
 use Rattle.cg_interp.specs.Telling.{TurnsWith}
 use Rattle.cg_interp.specs.Turns.{Makes, Turns, GoesTo, IsFit}
-use Rattle.cg_interp.proofs.NextCommands.{next_there}
 use Rattle.cg_interp.proofs.Standing.{plain_frame, plain_script, replaced, spelled, one_step, plain_shutdown}
 use Rattle.cg_interp.proofs.Telling.{turns_plainly}
 use Rattle.cg_interp.proofs.Quietly.{quietly, first_then, first_moves}
@@ -130,9 +129,9 @@ is_there commands rest (Some n) c is = still_there n commands c (subst (λ l. In
 pub comes_next : (script : Script) (locals : Locals) (procedure : ℕ) (next : Option ℕ) (c : Command) (after : ℕ) (body : List Command) → body ≡ body_of script procedure → commands_from next body ≡ c ∷ commands_from (Some after) body → ComesNext script (frame_caller locals procedure (Some after)) next c
 comes_next script locals procedure next c after body is turn = subst (λ l. commands_from next l ≡ c ∷ commands_from (Some after) l) is turn
 
--- the current command, and a caller that advances past it
-pub comes_next_at : (script : Script) (locals : Locals) (procedure n : ℕ) (c : Command) (body : List Command) (caller : Caller) → caller ≡ frame_caller locals procedure (Some (n + 1)) → body ≡ body_of script procedure → n < length body → c ≡ get_or body n c → ComesNext script caller (Some n) c
-comes_next_at script locals procedure n c body caller frame is within at = subst (λ k. ComesNext script k (Some n) c) (sym frame) (comes_next script locals procedure (Some n) c (n + 1) body is (next_there body n c within at))
+-- the command that has the turn, and a caller that goes on behind it
+pub comes_next_at : (script : Script) (locals : Locals) (procedure n : ℕ) (c : Command) (body : List Command) (caller : Caller) → caller ≡ frame_caller locals procedure (Some (n + 1)) → body ≡ body_of script procedure → commands_from (Some n) body ≡ c ∷ commands_from (Some (n + 1)) body → ComesNext script caller (Some n) c
+comes_next_at script locals procedure n c body caller frame is there = subst (λ k. ComesNext script k (Some n) c) (sym frame) (comes_next script locals procedure (Some n) c (n + 1) body is there)
 
 module _ (script : Script) (e : State) (next : Option ℕ) (w : World) (stands : StandsFor script (under (activity.Script next) e) w) where
   script_at : (commands : List Command) → commands_from next (commands_of script.items) ≡ commands → w.stack ≡ TopLevel commands ∷ stands.shows.below

@@ -20,8 +20,6 @@ use Rattle.cg_interp.specs.declared.activity.Activity.{Activity}
 use Rattle.cg_interp.specs.declared.activity.Activity.TheVariants as activity
 use Rattle.cg_interp.specs.declared.turned.Turned.{Turned}
 use Rattle.cg_interp.specs.declared.turned.Turned.TheVariants as turned
-use Rattle.cg_interp.specs.declared.turned.Dies.{Dies}
-use Rattle.cg_interp.specs.declared.turned.Dies.TheVariants as dies
 use Rattle.cg_interp.specs.Engines.{State, StandsFor}
 
 -- The machine made a transition: its lines are those answered, and the engine represents its world, or the run has
@@ -78,17 +76,7 @@ pub record DyingIsSound (w : World) : Type 0 where
 abbrev pub StaysSound : Script → World → Type 0
 StaysSound script w = (steps : List StepTaken) → Run script w steps → DyingIsSound (last_world w steps)
 
--- what a death answers
-abbrev pub DeathTurns : Script → World → State → Dies → Type 0
-DeathTurns script w e (dies.Turned answer) = Turns script w e answer
-DeathTurns script w e (dies.Died o) = GivesDeath script w o e
-
--- what holds of the object whose death is to begin, if any
-abbrev pub IfDies : Dies → (ℕ → Type 0) → Type 0
-IfDies (dies.Turned answer) holds = Unit {0}
-IfDies (dies.Died o) holds = holds o
-
--- A death is on top of these activities, or nothing of it is left.
+-- A death stands on top of these activities, or nothing of it is left.
 abbrev pub StaysOn : Death → List Activity → List Activity → Type 0
 StaysOn d below activities = (IsGoing d × (activities ≡ activity.Dying d ∷ below)) ⊎ (IsOffStack d × (activities ≡ below))
 

@@ -1,5 +1,5 @@
 //! The script, or a frame, on top.
-ghost use Rattle.std.specs.Prelude.{◌≡◌, ◌<◌, ◌≤◌, ℕ, true, false, [], length, Option, Some, None, IfNone};
+ghost use Rattle.std.specs.Prelude.{◌≡◌, ◌<◌, ◌≤◌, ◌+◌, ◌∷◌, ℕ, true, false, [], length, Option, Some, None, IfNone};
 ghost use Rattle.cg_machine.specs.Program.{commands_of, body_of as body_in};
 ghost use Rattle.cg_machine.specs.World.{World, push};
 ghost use Rattle.cg_machine.specs.Commands.{new_collection};
@@ -19,7 +19,7 @@ ghost use Rattle.cg_interp.specs.Callers.{caller_activity, caller_locals, frame_
 use crate::activity::Activity;
 use crate::caller::{Caller, Runner};
 use crate::engine::Engine;
-use crate::next::{body_of, next_in, next_of};
+use crate::next::{body_of, next_change, next_in, next_of};
 use crate::turned::Turned;
 use cg_commands::{Locals, change, makes_object, only_changes, perform};
 use cg_kind::Kind;
@@ -99,7 +99,7 @@ impl<B: Kind> Engine<B> {
         let body = body_of(script, procedure);
         let mut number = number;
         'commands: loop {
-            match self.change_on(body, locals, procedure, &mut number) {
+            match self.make_changes(body, locals, procedure, &mut number) {
                 Some(answer) => return answer,
                 None => {}
             }
@@ -124,7 +124,7 @@ impl<B: Kind> Engine<B> {
     ///
     /// No such command makes a collection due, so that is checked once.
     #[inline(always)]
-    fn change_on(
+    fn make_changes(
         &mut self,
         body: &[Command],
         locals: Locals,
@@ -138,26 +138,30 @@ impl<B: Kind> Engine<B> {
         ensures left { length (commands_from (Some number.new) body.now) ≤ length (commands_from (Some number.old) body.now) }
         ensures fit { StaysFit self.old self.new }
     {
-        if !is_change_next(body, *number) {
+        let Some(first) = next_change(body, *number) else {
             return None;
-        }
+        };
         match self.policy.due() {
             Some(_) => None,
-            None => self.make_changes(body, locals, procedure, number),
+            None => self.make_changes_from(body, locals, procedure, number, first),
         }
     }
 
-    /// The same when no collection is due. A call of its own: in a loop over all commands, each would pay for building the
-    /// results of the others.
+    /// The same where the first of them is known and no collection is due. This is a call of its own: at the head of a loop over
+    /// commands of any sort, each command would pay for putting together what the other sorts answer.
     #[inline(never)]
-    fn make_changes(
+    fn make_changes_from(
         &mut self,
         body: &[Command],
         locals: Locals,
         procedure: u32,
         number: &mut usize,
+        first: &Command,
     ) -> Option<Turned>
         requires none { due_of self.old.policy ≡ None }
+        requires within { number.old < length body.now }
+        requires there { commands_from (Some number.old) body.now ≡ first.now ∷ commands_from (Some (number.old + 1)) body.now }
+        requires changes { only_changes first.now ≡ true }
         requires stands { (script : AnyScript) × (body.now ≡ body_in script procedure)
             × IsAtTurn script (activity_of.Frame locals procedure (Some number.old)) self.old }
         ensures steps { (script : AnyScript) → body.now ≡ body_in script procedure
@@ -172,20 +176,20 @@ impl<B: Kind> Engine<B> {
             runner: Runner::Frame { locals, procedure },
             next: Some(at),
         };
+        let mut command = first;
         'commands: loop {
-            match body.get(at) {
-                Some(command) if only_changes(command) => {
-                    at += 1;
-                    caller.go_on_from(at);
-                    match self.step_change(&caller, &within, command) {
-                        Some(answer) => {
-                            *number = at;
-                            return Some(answer);
-                        }
-                        None => {}
-                    }
+            at += 1;
+            caller.go_on_from(at);
+            match self.step_change(&caller, &within, command) {
+                Some(answer) => {
+                    *number = at;
+                    return Some(answer);
                 }
-                _ => {
+                None => {}
+            }
+            match next_change(body, at) {
+                Some(next) => command = next,
+                None => {
                     *number = at;
                     return None;
                 }
@@ -214,7 +218,11 @@ impl<B: Kind> Engine<B> {
     {
         // Heaps are bounded, and while no collection is under way its places are empty.
         self.heap.sound();
-        self.carry_out_change(caller, locals, command)
+        // What `change` answers is matched here: handed on, or made a `Done`, it would be copied for each command.
+        match change(&mut self.heap, locals, command) {
+            Ok(given_up) => self.give_up_after(caller, None, given_up),
+            Err(refusal) => Some(self.refuse(caller, refusal.number())),
+        }
     }
 
     /// Does the next command of a caller, taken from the top, or starts a due collection before it. The caller has already
@@ -242,7 +250,13 @@ impl<B: Kind> Engine<B> {
                 self.collect_first(caller, next, generation);
                 Some(Turned::Quiet)
             }
-            None => self.run(caller, locals, command),
+            None => {
+                if only_changes(command) {
+                    self.step_change(caller, locals, command)
+                } else {
+                    self.run(caller, locals, command)
+                }
+            }
         }
     }
 
@@ -263,52 +277,23 @@ impl<B: Kind> Engine<B> {
         self.collect(caller.with_next(next).activity(), false, generation);
     }
 
-    /// Does a command of the caller, taken from the top, which has advanced past it.
+    /// Does a command of another sort than `step_change` does, of the caller that was on top, which has gone on to the command
+    /// after it.
     #[inline(always)]
     fn run(&mut self, caller: &Caller, locals: &Option<Locals>, command: &Command) -> Option<Turned>
         requires own { locals.now ≡ caller_locals caller.now }
         requires spelled { IsSpelledCommand (length self.old.store.names) command.now }
         requires locals { LocalsLive self.old.store locals.now }
         requires may { MayCommand self.old }
+        requires other { only_changes command.now ≡ false }
         requires stands { (script : AnyScript) × IsSpelled script × IsFit script self.old × (w : World)
             × IsAtCommand script caller.now self.old w command.now }
         ensures does { (script : AnyScript) (w : World) → IsAtCommand script caller.now self.old w command.now
             → RunsTo script w command.now (caller_activity caller.now) self.new result }
         ensures fit { StaysFit self.old self.new }
     {
-        if only_changes(command) {
-            self.carry_out_change(caller, locals, command)
-        } else {
-            let room = self.make_room(command);
-            self.carry_out(caller, locals, command, room)
-        }
-    }
-
-    /// The same for a command that changes names or entries and prints no line.
-    #[inline(always)]
-    fn carry_out_change(
-        &mut self,
-        caller: &Caller,
-        locals: &Option<Locals>,
-        command: &Command,
-    ) -> Option<Turned>
-        requires own { locals.now ≡ caller_locals caller.now }
-        requires spelled { IsSpelledCommand (length self.old.store.names) command.now }
-        requires locals { LocalsLive self.old.store locals.now }
-        requires may { MayCommand self.old }
-        requires changes { only_changes command.now ≡ true }
-        requires stands { (script : AnyScript) × IsSpelled script × IsFit script self.old × (w : World)
-            × IsAtCommand script caller.now self.old w command.now }
-        ensures does { (script : AnyScript) (w : World) → IsAtCommand script caller.now self.old w command.now
-            → RunsTo script w command.now (caller_activity caller.now) self.new result }
-        ensures policy { IfNone result (self.new.policy ≡ self.old.policy) }
-        ensures fit { StaysFit self.old self.new }
-    {
-        // Matched here, to avoid a copy for each command: passed on or wrapped in a `Done`, it would be copied.
-        match change(&mut self.heap, locals, command) {
-            Ok(given_up) => self.change(caller, None, given_up),
-            Err(refusal) => Some(self.refuse(caller, refusal.number())),
-        }
+        let room = self.make_room(command);
+        self.carry_out(caller, locals, command, room)
     }
 
     /// The same; an object is made only if there is room for its death.
@@ -324,6 +309,7 @@ impl<B: Kind> Engine<B> {
         requires spelled { IsSpelledCommand (length self.old.store.names) command.now }
         requires locals { LocalsLive self.old.store locals.now }
         requires may { MayCommand self.old }
+        requires other { only_changes command.now ≡ false }
         requires stands { (script : AnyScript) × IsSpelled script × IsFit script self.old × (w : World)
             × IsAtCommand script caller.now self.old w command.now }
         requires one_more { room ≡ true → HasRoomForOneMore self.old }
@@ -335,7 +321,7 @@ impl<B: Kind> Engine<B> {
             self.alloc,
             &mut self.heap,
             &mut self.policy,
-            *locals,
+            locals,
             command,
             room,
         );
@@ -367,14 +353,5 @@ impl<B: Kind> Engine<B> {
         let objects = self.heap.live() as usize + 1;
         let height = self.first_budget as usize + 2 * (objects + 1) + 8;
         self.stack.reserve_up_to(height).is_ok()
-    }
-}
-
-/// Whether the next command only changes names or entries. It only saves a call: `make_changes` tests it too.
-#[inline(always)]
-fn is_change_next(commands: &[Command], number: usize) -> bool {
-    match commands.get(number) {
-        Some(command) => only_changes(command),
-        None => false,
     }
 }

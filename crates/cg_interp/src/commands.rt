@@ -7,7 +7,7 @@ ghost use Rattle.cg_heap.specs.Calls.{HasFewHolds};
 ghost use Rattle.cg_script.specs.declared.Script.{Script as AnyScript};
 ghost use Rattle.cg_script.specs.declared.Command.{Command as AnyCommand};
 ghost use Rattle.cg_script.specs.Spelled.{IsSpelled};
-ghost use Rattle.cg_death.specs.Activities.{references_left, IsUnheld};
+ghost use Rattle.cg_death.specs.Activities.{IsUnheld};
 ghost use Rattle.cg_machine.specs.World.{World, push, with_stack};
 ghost use Rattle.cg_machine.specs.declared.event.FrameSort.TheVariants as sort_of;
 ghost use Rattle.cg_machine.specs.Frame.{start_frame, procedure_of, begin_death};
@@ -26,14 +26,14 @@ ghost use Rattle.cg_interp.specs.Turns.{Makes, entered, TurnKeeps, IsFit, StaysS
 use crate::activity::Activity;
 use crate::caller::Caller;
 use crate::engine::Engine;
-use crate::releases::give_up;
+use crate::releases::{give_up, release_of};
 use crate::turned::Turned;
 use cg_commands::{Done, Lines, Refusal};
 use cg_death::Release;
 use cg_heap::Heap;
 use cg_kind::Kind;
 use cg_machine::{Event, FrameSort, FrameSpec};
-use cg_value::{Entry, Val};
+use cg_value::Entry;
 
 impl<B: Kind> Engine<B> {
     /// What the engine does after a command of the caller, taken from the top. Answers `None` if there is no line and the caller
@@ -68,8 +68,7 @@ impl<B: Kind> Engine<B> {
         ensures keeps { TurnKeeps self.old self.new }
     {
         match done {
-            Done::Changed { line, given_up } => self.change(caller, line, given_up),
-            Done::Gives(given_up) => self.change(caller, None, given_up),
+            Done::Changed { line, given_up } => self.give_up_after(caller, line, given_up),
             Done::Calls(function) => Some(self.call(caller, function)),
             Done::Collects(generation) => Some(self.collect_if_idle(caller, generation)),
             Done::Quits => Some(self.quit(caller)),
@@ -102,7 +101,7 @@ impl<B: Kind> Engine<B> {
 
     /// A command made its change, and references are given up. If that leaves an object unheld, its death begins.
     #[inline(always)]
-    pub fn change(
+    pub fn give_up_after(
         &mut self,
         caller: &Caller,
         line: Option<Event>,
@@ -194,7 +193,7 @@ impl<B: Kind> Engine<B> {
         ensures keeps { TurnKeeps self.old self.new }
     {
         self.stack.push(caller.activity());
-        self.stack.push(Activity::Releasing(nothing()));
+        self.stack.push(Activity::Releasing(release_of(None)));
     }
 
     /// A command ends its frame, or the script.
@@ -307,16 +306,6 @@ fn told(line: Option<Event>) -> Turned
         Some(event) => Turned::Line(event),
         None => Turned::Quiet,
     }
-}
-
-/// An empty release.
-fn nothing() -> Release
-    ensures { references_left result ≡ [] }
-{
-    Release::new(Entry {
-        key: Val::None,
-        val: Val::None,
-    })
 }
 
 /// The procedure of a function.

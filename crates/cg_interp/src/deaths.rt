@@ -14,11 +14,11 @@ ghost use Rattle.cg_interp.specs.declared.activity.Activity.TheVariants as activ
 ghost use Rattle.cg_interp.specs.Engines.{StandsFor, under};
 ghost use Rattle.cg_interp.specs.Quietly.{IsActing, Acts, HasSomeCause};
 ghost use Rattle.cg_interp.specs.Telling.{IsAtTurn};
-ghost use Rattle.cg_interp.specs.Turns.{DyingIsSound, DeathTurns, StaysOn, TurnKeeps, HasOtherStack, IfDies};
+ghost use Rattle.cg_interp.specs.Turns.{DyingIsSound, Turns, StaysOn, TurnKeeps, HasOtherStack};
 
 use crate::activity::Activity;
 use crate::engine::Engine;
-use crate::turned::{Dies, Turned};
+use crate::turned::Turned;
 use cg_death::{Death, DeathStep};
 use cg_heap::Heap;
 use cg_kind::Kind;
@@ -40,15 +40,14 @@ impl<B: Kind> Engine<B> {
         self.stack.push(Activity::Dying(death));
     }
 
-    /// Takes the actions of a death, taken from the top, as long as the machine goes on without a line.
+    /// The actions of a death, which was on top, one after the other, as long as the machine goes on without a line. The death
+    /// begins of another object that nothing holds any more.
     #[inline(always)]
-    pub fn go_on_dying(&mut self, death: Death, script: &Script) -> Dies
+    pub fn go_on_dying(&mut self, death: Death, script: &Script) -> Turned
         requires room { 1 < self.old.room }
         requires stands { IsAtTurn script.now (activity_of.Dying death) self.old }
         ensures turns { (w : World) → StandsFor script.now (under (activity_of.Dying death) self.old) w
-            → StaysKept script.now self.old.first_budget w → DeathTurns script.now w self.new result }
-        ensures dead { IfDies result (λ o. IsUnheld self.new.store o) }
-        ensures room { IfDies result (λ _. 0 < self.new.room) }
+            → StaysKept script.now self.old.first_budget w → Turns script.now w self.new result }
         ensures keeps { TurnKeeps self.old self.new }
     {
         let mut death = death;
@@ -56,13 +55,16 @@ impl<B: Kind> Engine<B> {
         self.put_back(death);
         match answer {
             DeathStep::Continue => unreachable!(),
-            DeathStep::Gone => Dies::Turned(Turned::Quiet),
+            DeathStep::Gone => Turned::Quiet,
             DeathStep::Emit(event) => {
                 self.count_freed(event);
-                Dies::Turned(Turned::Line(event))
+                Turned::Line(event)
             }
-            DeathStep::Frame(spec) => Dies::Turned(self.start(spec)),
-            DeathStep::Died(object) => Dies::Died(object),
+            DeathStep::Frame(spec) => self.start(spec),
+            DeathStep::Died(object) => {
+                self.die(object);
+                Turned::Quiet
+            }
         }
     }
 

@@ -10,20 +10,19 @@ ghost use Rattle.cg_machine.specs.Frame.{start_frame, gives_up_function};
 ghost use Rattle.cg_interp.specs.declared.activity.Activity.TheVariants as activity_of;
 ghost use Rattle.cg_machine.specs.Holdings.{call_holds};
 ghost use Rattle.cg_graph.specs.Changes.{held};
-ghost use Rattle.cg_death.specs.Activities.{references_left};
 ghost use Rattle.cg_interp.specs.Engines.{StandsFor, under, commands_from};
 ghost use Rattle.cg_interp.specs.Releases.{released_by, with_release, with_release_on};
 ghost use Rattle.cg_interp.specs.Turns.{Makes, entered, Turns, TurnKeeps, HasOtherStack};
 
 use crate::activity::Activity;
 use crate::engine::Engine;
+use crate::releases::release_of;
 use crate::turned::Turned;
 use cg_commands::Locals;
 use cg_death::Release;
 use cg_heap::Heap;
 use cg_kind::Kind;
 use cg_machine::{Event, FrameSort, FrameSpec};
-use cg_value::{Entry, Val};
 
 impl<B: Kind> Engine<B> {
     /// Starts a frame, which costs one of the budget. With none left, the run ends.
@@ -120,25 +119,15 @@ fn given_up_by(locals: Locals) -> Option<Release>
     ensures holds { call_holds locals.sort locals.func ≡ released_by result }
 {
     match locals.sort {
-        FrameSort::Call => Some(release_of(locals.func)),
+        FrameSort::Call => Some(match locals.func {
+            Some(function) => Release::of(function),
+            None => release_of(None),
+        }),
         FrameSort::Del | FrameSort::Legacy | FrameSort::Callback => None,
     }
 }
 
-/// Gives up a hold of an object, if any.
-fn release_of(object: Option<u64>) -> Release
-    ensures { references_left result ≡ option_to_list object }
-{
-    Release::new(Entry {
-        key: Val::None,
-        val: match object {
-            Some(object) => Val::Ref(object),
-            None => Val::None,
-        },
-    })
-}
-
-/// What a frame holds: its function, if a command called it.
+/// What a frame holds: its function, where a command called it.
 fn called(sort: FrameSort, function: Option<u64>) -> Option<u64>
     ensures holds { call_holds sort function ≡ option_to_list result }
     ensures only { IfSome result (λ f. function ≡ Some f) }

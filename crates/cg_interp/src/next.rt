@@ -1,8 +1,10 @@
-//! The next command.
-ghost use Rattle.std.specs.Prelude.{◌≡◌, ◌∷◌, [], Some, IfSome, IfNone};
+//! Which command comes next.
+ghost use Rattle.std.specs.Prelude.{◌≡◌, ◌<◌, ◌+◌, ◌∷◌, [], length, true, Some, IfSome, IfNone};
+ghost use Rattle.cg_commands.specs.Attempts.{only_changes};
 ghost use Rattle.cg_machine.specs.Program.{commands_of, body_of};
 ghost use Rattle.cg_interp.specs.Engines.{commands_from};
 
+use cg_commands::only_changes;
 use cg_script::{Command, Items, Script};
 
 /// The next command outside procedures, and the number of the one after it, if any.
@@ -37,7 +39,21 @@ pub fn next_of(commands: &[Command], next: Option<usize>) -> Option<(&Command, u
     }
 }
 
-/// The commands of the procedure with this number; none if the script has no such procedure.
+/// The next of some commands, if it only changes names or entries.
+#[inline(always)]
+pub fn next_change(commands: &[Command], number: usize) -> Option<&Command>
+    ensures within { IfSome result (λ _. number < length commands.now) }
+    ensures there { IfSome result (λ c. commands_from (Some number) commands.now
+        ≡ c.now ∷ commands_from (Some (number + 1)) commands.now) }
+    ensures changes { IfSome result (λ c. only_changes c.now ≡ true) }
+{
+    match commands.get(number) {
+        Some(command) if only_changes(command) => Some(command),
+        _ => None,
+    }
+}
+
+/// The commands of a procedure, by its number. There are none where the script has no such procedure.
 #[inline(always)]
 pub fn body_of(script: &Script, number: u32) -> &[Command]
     ensures { result.now ≡ body_of script.now number }

@@ -1,9 +1,10 @@
-//! A release on top of the stack.
-ghost use Rattle.std.specs.Prelude.{◌<◌, IfSome};
+//! A release on top.
+ghost use Rattle.std.specs.Prelude.{◌≡◌, ◌<◌, IfSome};
 ghost use Rattle.cg_script.specs.declared.Script.{Script as AnyScript};
 ghost use Rattle.cg_machine.specs.World.{World};
 ghost use Rattle.cg_machine.specs.Frame.{begin_death};
-ghost use Rattle.cg_death.specs.Activities.{IsUnheld};
+ghost use Rattle.cg_graph.specs.Value.{references_of_value};
+ghost use Rattle.cg_death.specs.Activities.{references_left, IsUnheld};
 ghost use Rattle.cg_death.specs.Answers.{MakesNone};
 ghost use Rattle.cg_interp.specs.declared.activity.Activity.TheVariants as activity_of;
 ghost use Rattle.cg_interp.specs.Engines.{State, StandsFor, under, over};
@@ -16,6 +17,7 @@ use crate::turned::Turned;
 use cg_death::{DeathStep, Release};
 use cg_heap::Heap;
 use cg_kind::Kind;
+use cg_value::{Entry, Val};
 
 impl<B: Kind> Engine<B> {
     /// Goes on with a release, taken from the top: gives up its references, until one leaves its object unheld. The death of
@@ -54,8 +56,18 @@ impl<B: Kind> Engine<B> {
     }
 }
 
-/// Gives up the references of a release, until one leaves its object unheld. Answers that object, if any: its death is to
-/// begin.
+/// Gives up what a name had, where that is a reference, else nothing.
+pub fn release_of(val: Option<Val>) -> Release
+    ensures { references_left result ≡ references_of_value val }
+{
+    Release::new(Entry {
+        key: Val::None,
+        val: val.unwrap_or(Val::None),
+    })
+}
+
+/// Gives up the references of a release one after the other, up to one whose object nothing holds any more. It answers that
+/// object, if there is one: its death is to begin.
 #[inline(always)]
 pub fn give_up<B: Kind>(heap: &mut Heap<B>, release: &mut Release) -> Option<u64>
     requires stands { (script : AnyScript) × (e : State) × (w : World)

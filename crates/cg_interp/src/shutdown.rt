@@ -3,8 +3,6 @@
 ghost use Rattle.std.specs.Prelude.{◌≡◌, ◌<◌, ℕ, Option, [], None, Some, false, true, length};
 ghost use Rattle.cg_script.specs.declared.Script.{Script as AnyScript};
 ghost use Rattle.cg_heap.specs.Calls.{HasFewHolds, IsSound};
-ghost use Rattle.cg_graph.specs.Value.{references_of_value};
-ghost use Rattle.cg_death.specs.Activities.{references_left};
 ghost use Rattle.cg_machine.specs.Program.{commands_of};
 ghost use Rattle.cg_machine.specs.World.{World};
 ghost use Rattle.cg_machine.specs.Due.{due};
@@ -16,11 +14,10 @@ ghost use Rattle.cg_interp.specs.Telling.{IsAtTurn, TurnsFrom};
 
 use crate::activity::Activity;
 use crate::engine::Engine;
+use crate::releases::release_of;
 use crate::turned::Turned;
-use cg_death::Release;
 use cg_kind::Kind;
 use cg_script::Script;
-use cg_value::{Entry, Val};
 
 impl<B: Kind> Engine<B> {
     /// The script, taken from the top, has no command left: the run ends, or the shutdown replaces it.
@@ -89,14 +86,4 @@ impl<B: Kind> Engine<B> {
     {
         Turned::Left(self.heap.live())
     }
-}
-
-/// Gives up the old value of a name.
-fn release_of(val: Option<Val>) -> Release
-    ensures { references_left result ≡ references_of_value val }
-{
-    Release::new(Entry {
-        key: Val::None,
-        val: val.unwrap_or(Val::None),
-    })
 }

@@ -75,12 +75,3 @@ fn any_wants_memory(events: &[Event]) -> bool
 {
     events.iter().any(|event| wants_memory(event))
 }
-
-/// What the turn of a death answers.
-#[derive(Drop)]
-pub enum Dies {
-    /// What any turn answers.
-    Turned(Turned),
-    /// Nothing holds this object any more; its death is to begin.
-    Died(u64),
-}

@@ -7,7 +7,7 @@ ghost use Rattle.cg_interp.specs.Telling.{IsAtTurn, TurnsFrom, IsAtAnyTurn, Turn
 
 use crate::activity::Activity;
 use crate::engine::Engine;
-use crate::turned::{Dies, Turned};
+use crate::turned::Turned;
 use cg_death::{Death, Release};
 use cg_heap::Steps;
 use cg_kind::Kind;
@@ -84,12 +84,6 @@ impl<B: Kind> Engine<B> {
         ensures turns { TurnsFrom script.now (activity_of.Dying death) self.old self.new result }
         ensures fit { StaysFit self.old self.new }
     {
-        match self.go_on_dying(death, script) {
-            Dies::Turned(answer) => answer,
-            Dies::Died(object) => {
-                self.die(object);
-                Turned::Quiet
-            }
-        }
+        self.go_on_dying(death, script)
     }
 }

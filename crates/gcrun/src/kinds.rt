@@ -9,7 +9,18 @@ use cg_kind::Kind;
 use cg_kinds::{DictKind, FuncKind, InstKind, ListKind, TupleKind, WeakKind};
 use std::alloc::{AllocError, Global};
 
-/// Pushes one more box.
+/// A kind of each code.
+#[derive(Drop)]
+struct Kinds {
+    lists: Box<dyn Kind>,
+    tuples: Box<dyn Kind>,
+    dicts: Box<dyn Kind>,
+    instances: Box<dyn Kind>,
+    functions: Box<dyn Kind>,
+    weak_references: Box<dyn Kind>,
+}
+
+/// One box more.
 fn push(kinds: &mut Vec<Box<dyn Kind>>, made: Box<dyn Kind>) -> Result<(), AllocError>
     ensures codes { OnOk result (map (λ b. kind b) kinds.new.items ≡
         map (λ b. kind b) kinds.old.items ++ kind made ∷ []) }
@@ -20,32 +31,35 @@ fn push(kinds: &mut Vec<Box<dyn Kind>>, made: Box<dyn Kind>) -> Result<(), Alloc
     Ok(())
 }
 
-/// Does what the arguments ask for, with these kinds.
+/// Does what the words ask for, over these kinds, in the order of their codes.
 fn run_over<S: Source, K: Sink>(
     alloc: Global,
     words: &[String],
     source: &mut S,
     sink: &mut K,
-    lists: Box<dyn Kind>,
-    tuples: Box<dyn Kind>,
-    dicts: Box<dyn Kind>,
-    instances: Box<dyn Kind>,
-    functions: Box<dyn Kind>,
-    weak_references: Box<dyn Kind>,
+    six: Kinds,
 ) -> Result<Status, AllocError>
-    requires lists { kind lists ≡ code.List }
-    requires no_list { bodies lists ≡ fin.empty }
-    requires tuples { kind tuples ≡ code.Tuple }
-    requires no_tuple { bodies tuples ≡ fin.empty }
-    requires dicts { kind dicts ≡ code.Dict }
-    requires no_dict { bodies dicts ≡ fin.empty }
-    requires instances { kind instances ≡ code.Inst }
-    requires no_instance { bodies instances ≡ fin.empty }
-    requires functions { kind functions ≡ code.Func }
-    requires no_function { bodies functions ≡ fin.empty }
-    requires weak_references { kind weak_references ≡ code.Weak }
-    requires no_weak_reference { bodies weak_references ≡ fin.empty }
+    requires lists { kind six.lists ≡ code.List }
+    requires no_list { bodies six.lists ≡ fin.empty }
+    requires tuples { kind six.tuples ≡ code.Tuple }
+    requires no_tuple { bodies six.tuples ≡ fin.empty }
+    requires dicts { kind six.dicts ≡ code.Dict }
+    requires no_dict { bodies six.dicts ≡ fin.empty }
+    requires instances { kind six.instances ≡ code.Inst }
+    requires no_instance { bodies six.instances ≡ fin.empty }
+    requires functions { kind six.functions ≡ code.Func }
+    requires no_function { bodies six.functions ≡ fin.empty }
+    requires weak_references { kind six.weak_references ≡ code.Weak }
+    requires no_weak_reference { bodies six.weak_references ≡ fin.empty }
 {
+    let Kinds {
+        lists,
+        tuples,
+        dicts,
+        instances,
+        functions,
+        weak_references,
+    } = six;
     let mut kinds: Vec<Box<dyn Kind>> = Vec::new(alloc);
     push(&mut kinds, lists)?;
     push(&mut kinds, tuples)?;
@@ -78,16 +92,13 @@ pub fn run_over_kinds<S: Source, K: Sink>(
     let instances = boxed(alloc, InstKind::new(alloc))?;
     let functions = boxed(alloc, FuncKind::new(alloc))?;
     let weak_references = boxed(alloc, WeakKind::new(alloc))?;
-    run_over(
-        alloc,
-        words,
-        source,
-        sink,
+    let six = Kinds {
         lists,
         tuples,
         dicts,
         instances,
         functions,
         weak_references,
-    )
+    };
+    run_over(alloc, words, source, sink, six)
 }

@@ -1,4 +1,4 @@
-use Rattle.std.proofs.Common.{sym, ◌∙◌, Ok, Err}
+use Rattle.std.proofs.Common.{sym, ◌∙◌, None, Ok, Err}
 use Rattle.std.specs.Prelude.{ok_or}
 use Rattle.std.proofs.lemmas.Result.{err_from_is_err_and}
 use Rattle.cg_value.specs.declared.Val.TheVariants as val
@@ -33,9 +33,9 @@ take_key_if-requires-clause-live g c =
 
 pub returns-in-Some-Some : goal.returns-in-Some-Some
 returns-in-Some-Some g c =
-    (goes_on c.args.heap.now c.take_key_if.new.self c.args.locals.now (λ w. value w c.args.instance.now) c.in_ok-instance.instance _ (Ok (done.Gives c.references_of.result)) c.in_ok-instance.ensures.ok
-    (goes_on c.args.heap.now c.take_key_if.new.self c.args.locals.now (λ w. object w (test_of wanted.Inst) (number_of (refusal_of wanted.Inst)) c.in_ok-instance.instance) (object_from c.args.heap.now.rows c.in_ok-target.target (refers_by_code c.args.heap.now wanted.Inst tt c.in_ok-instance.instance c.in_ok-target.target c.in_ok-target.ensures.ok c.in-Some-Some.ensures.kind).node) _ (Ok (done.Gives c.references_of.result)) (reads-object c.args.heap.now c.args.locals.now (test_of wanted.Inst) c.in_ok-instance.instance c.in_ok-target.target (refers_by_code c.args.heap.now wanted.Inst tt c.in_ok-instance.instance c.in_ok-target.target c.in_ok-target.ensures.ok c.in-Some-Some.ensures.kind) (number_of (refusal_of wanted.Inst)))
-    (goes_on c.args.heap.now c.take_key_if.new.self c.args.locals.now (λ w. ok_or (entry_at (refers_by_code c.args.heap.now wanted.Inst tt c.in_ok-instance.instance c.in_ok-target.target c.in_ok-target.ensures.ok c.in-Some-Some.ensures.kind).node.entries (val.Str c.args.attr)) no_attribute) c.in-Some-Some.entry _ (Ok (done.Gives c.references_of.result)) (reads-entry_at c.args.heap.now c.args.locals.now (test_of wanted.Inst) c.in_ok-instance.instance c.in_ok-target.target (refers_by_code c.args.heap.now wanted.Inst tt c.in_ok-instance.instance c.in_ok-target.target c.in_ok-target.ensures.ok c.in-Some-Some.ensures.kind) (val.Str c.args.attr) c.in-Some-Some.entry (sym c.in-Some-Some.field-0-is ∙ c.in-Some-Some.ensures.entry) no_attribute)
+    (goes_on c.args.heap.now c.take_key_if.new.self c.args.locals.now (λ w. value w c.args.instance.now) c.in_ok-instance.instance _ (Ok (done.Changed None c.references_of.result)) c.in_ok-instance.ensures.ok
+    (goes_on c.args.heap.now c.take_key_if.new.self c.args.locals.now (λ w. object w (test_of wanted.Inst) (number_of (refusal_of wanted.Inst)) c.in_ok-instance.instance) (object_from c.args.heap.now.rows c.in_ok-target.target (refers_by_code c.args.heap.now wanted.Inst tt c.in_ok-instance.instance c.in_ok-target.target c.in_ok-target.ensures.ok c.in-Some-Some.ensures.kind).node) _ (Ok (done.Changed None c.references_of.result)) (reads-object c.args.heap.now c.args.locals.now (test_of wanted.Inst) c.in_ok-instance.instance c.in_ok-target.target (refers_by_code c.args.heap.now wanted.Inst tt c.in_ok-instance.instance c.in_ok-target.target c.in_ok-target.ensures.ok c.in-Some-Some.ensures.kind) (number_of (refusal_of wanted.Inst)))
+    (goes_on c.args.heap.now c.take_key_if.new.self c.args.locals.now (λ w. ok_or (entry_at (refers_by_code c.args.heap.now wanted.Inst tt c.in_ok-instance.instance c.in_ok-target.target c.in_ok-target.ensures.ok c.in-Some-Some.ensures.kind).node.entries (val.Str c.args.attr)) no_attribute) c.in-Some-Some.entry _ (Ok (done.Changed None c.references_of.result)) (reads-entry_at c.args.heap.now c.args.locals.now (test_of wanted.Inst) c.in_ok-instance.instance c.in_ok-target.target (refers_by_code c.args.heap.now wanted.Inst tt c.in_ok-instance.instance c.in_ok-target.target c.in_ok-target.ensures.ok c.in-Some-Some.ensures.kind) (val.Str c.args.attr) c.in-Some-Some.entry (sym c.in-Some-Some.field-0-is ∙ c.in-Some-Some.ensures.entry) no_attribute)
     (takes_references c.args.heap.now c.sound.ensures c.args.locals.now (test_of wanted.Inst) c.in_ok-instance.instance c.in_ok-target.target (refers_by_code c.args.heap.now wanted.Inst tt c.in_ok-instance.instance c.in_ok-target.target c.in_ok-target.ensures.ok c.in-Some-Some.ensures.kind) (val.Str c.args.attr) c.in-Some-Some.entry c.references_of.result c.take_key_if.new.self (sym c.in-Some-Some.field-0-is ∙ c.in-Some-Some.ensures.entry) (of_some _ c.in-Some-Some.field-0 _ c.in-Some-Some.field-0-is c.in-Some-Some.ensures.rest) c.references_of.ensures))))
 
 pub returns-in-Some-None : goal.returns-in-Some-None

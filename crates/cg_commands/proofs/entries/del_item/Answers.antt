@@ -1,4 +1,4 @@
-use Rattle.std.proofs.Common.{refl, length, Ok, Err}
+use Rattle.std.proofs.Common.{refl, length, None, Ok, Err}
 use Rattle.std.proofs.Common.{w64}
 use mir.Val.{to_z, of_z}
 use Rattle.std.proofs.Math.Facts.{to_z-of_z}
@@ -42,8 +42,8 @@ take_near-entry-requires-clause-can g c =
 
 pub returns : goal.returns
 returns g c =
-    (goes_on c.args.heap.now c.take_near-entry.new.self c.args.locals.now (λ w. value w c.args.list.now) c.in_ok-list.list _ (Ok (done.Gives c.take_near-entry.result)) c.in_ok-list.ensures.ok
-    (goes_on c.args.heap.now c.take_near-entry.new.self c.args.locals.now (λ w. object w (test_of wanted.List) (number_of (refusal_of wanted.List)) c.in_ok-list.list) (object_from c.args.heap.now.rows c.in_ok-target.target c.in_ok-target.ensures.ok.node) _ (Ok (done.Gives c.take_near-entry.result)) (reads-object c.args.heap.now c.args.locals.now (test_of wanted.List) c.in_ok-list.list c.in_ok-target.target c.in_ok-target.ensures.ok (number_of (refusal_of wanted.List)))
-    (goes_on c.args.heap.now c.take_near-entry.new.self c.args.locals.now (λ w. ok_or (valid_index c.args.index (length c.in_ok-target.ensures.ok.node.entries)) no_index) c.in_ok-i.i _ (Ok (done.Gives c.take_near-entry.result)) (reads-index c.args.heap.now c.args.locals.now (test_of wanted.List) c.in_ok-list.list c.in_ok-target.target c.in_ok-target.ensures.ok c.args.index (to_z w64 (of_z w64 c.args.index)) (to_z-of_z c.ranges.index) c.in_ok-i.i c.in_ok-i.ensures.ok)
-    (goes_on c.args.heap.now c.take_near-entry.new.self c.args.locals.now (λ w. ok_or (slice_get c.in_ok-target.ensures.ok.node.entries c.in_ok-i.i) no_index) c.take_near-entry.result _ (Ok (done.Gives c.take_near-entry.result)) (reads-entry c.args.heap.now c.args.locals.now (test_of wanted.List) c.in_ok-list.list c.in_ok-target.target c.in_ok-target.ensures.ok c.in_ok-i.i c.take_near-entry.result c.take_near-entry.ensures.entry no_index)
+    (goes_on c.args.heap.now c.take_near-entry.new.self c.args.locals.now (λ w. value w c.args.list.now) c.in_ok-list.list _ (Ok (done.Changed None c.take_near-entry.result)) c.in_ok-list.ensures.ok
+    (goes_on c.args.heap.now c.take_near-entry.new.self c.args.locals.now (λ w. object w (test_of wanted.List) (number_of (refusal_of wanted.List)) c.in_ok-list.list) (object_from c.args.heap.now.rows c.in_ok-target.target c.in_ok-target.ensures.ok.node) _ (Ok (done.Changed None c.take_near-entry.result)) (reads-object c.args.heap.now c.args.locals.now (test_of wanted.List) c.in_ok-list.list c.in_ok-target.target c.in_ok-target.ensures.ok (number_of (refusal_of wanted.List)))
+    (goes_on c.args.heap.now c.take_near-entry.new.self c.args.locals.now (λ w. ok_or (valid_index c.args.index (length c.in_ok-target.ensures.ok.node.entries)) no_index) c.in_ok-i.i _ (Ok (done.Changed None c.take_near-entry.result)) (reads-index c.args.heap.now c.args.locals.now (test_of wanted.List) c.in_ok-list.list c.in_ok-target.target c.in_ok-target.ensures.ok c.args.index (to_z w64 (of_z w64 c.args.index)) (to_z-of_z c.ranges.index) c.in_ok-i.i c.in_ok-i.ensures.ok)
+    (goes_on c.args.heap.now c.take_near-entry.new.self c.args.locals.now (λ w. ok_or (slice_get c.in_ok-target.ensures.ok.node.entries c.in_ok-i.i) no_index) c.take_near-entry.result _ (Ok (done.Changed None c.take_near-entry.result)) (reads-entry c.args.heap.now c.args.locals.now (test_of wanted.List) c.in_ok-list.list c.in_ok-target.target c.in_ok-target.ensures.ok c.in_ok-i.i c.take_near-entry.result c.take_near-entry.ensures.entry no_index)
     (takes c.args.heap.now c.sound.ensures c.args.locals.now (test_of wanted.List) c.in_ok-list.list c.in_ok-target.target c.in_ok-target.ensures.ok c.in_ok-i.i c.take_near-entry.result (remove c.in_ok-target.ensures.ok.node.entries c.in_ok-i.i) c.take_near-entry.new.self c.take_near-entry.ensures.entry c.take_near-entry.ensures.rest refl)))))

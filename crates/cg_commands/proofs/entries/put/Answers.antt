@@ -70,11 +70,11 @@ put_if-requires-clause-can g c =
 
 pub returns-in-Some-Ok : goal.returns-in-Some-Ok
 returns-in-Some-Ok g c =
-    (goes_on c.args.heap.now c.put_if.new.self c.args.locals.now (λ w. value w c.args.dict.now) c.in_ok-dict.dict _ (Ok (done.Gives c.given_up.result)) c.in_ok-dict.ensures.ok
-    (goes_on c.args.heap.now c.put_if.new.self c.args.locals.now (λ w. value w c.args.key.now) c.in_ok-key.key _ (Ok (done.Gives c.given_up.result)) c.in_ok-key.ensures.ok
-    (goes_on c.args.heap.now c.put_if.new.self c.args.locals.now (λ w. value w c.args.operand.now) c.in_ok-val.val _ (Ok (done.Gives c.given_up.result)) c.in_ok-val.ensures.ok
-    (goes_on c.args.heap.now c.put_if.new.self c.args.locals.now (λ w. object w (test_of wanted.Dict) (number_of (refusal_of wanted.Dict)) c.in_ok-dict.dict) (object_from c.args.heap.now.rows c.in_ok-target.target (refers_by_code c.args.heap.now wanted.Dict tt c.in_ok-dict.dict c.in_ok-target.target c.in_ok-target.ensures.ok c.in-Some-Ok.ensures.kind).node) _ (Ok (done.Gives c.given_up.result)) (reads-object c.args.heap.now c.args.locals.now (test_of wanted.Dict) c.in_ok-dict.dict c.in_ok-target.target (refers_by_code c.args.heap.now wanted.Dict tt c.in_ok-dict.dict c.in_ok-target.target c.in_ok-target.ensures.ok c.in-Some-Ok.ensures.kind) (number_of (refusal_of wanted.Dict)))
-    (goes_on c.args.heap.now c.put_if.new.self c.args.locals.now (λ w. unless (is_hashable w c.in_ok-key.key) unhashable) tt _ (Ok (done.Gives c.given_up.result)) (reads-key c.args.heap.now c.args.locals.now c.in_ok-key.key true c.in_ok-target.ensures.key refl)
+    (goes_on c.args.heap.now c.put_if.new.self c.args.locals.now (λ w. value w c.args.dict.now) c.in_ok-dict.dict _ (Ok (done.Changed None c.given_up.result)) c.in_ok-dict.ensures.ok
+    (goes_on c.args.heap.now c.put_if.new.self c.args.locals.now (λ w. value w c.args.key.now) c.in_ok-key.key _ (Ok (done.Changed None c.given_up.result)) c.in_ok-key.ensures.ok
+    (goes_on c.args.heap.now c.put_if.new.self c.args.locals.now (λ w. value w c.args.operand.now) c.in_ok-val.val _ (Ok (done.Changed None c.given_up.result)) c.in_ok-val.ensures.ok
+    (goes_on c.args.heap.now c.put_if.new.self c.args.locals.now (λ w. object w (test_of wanted.Dict) (number_of (refusal_of wanted.Dict)) c.in_ok-dict.dict) (object_from c.args.heap.now.rows c.in_ok-target.target (refers_by_code c.args.heap.now wanted.Dict tt c.in_ok-dict.dict c.in_ok-target.target c.in_ok-target.ensures.ok c.in-Some-Ok.ensures.kind).node) _ (Ok (done.Changed None c.given_up.result)) (reads-object c.args.heap.now c.args.locals.now (test_of wanted.Dict) c.in_ok-dict.dict c.in_ok-target.target (refers_by_code c.args.heap.now wanted.Dict tt c.in_ok-dict.dict c.in_ok-target.target c.in_ok-target.ensures.ok c.in-Some-Ok.ensures.kind) (number_of (refusal_of wanted.Dict)))
+    (goes_on c.args.heap.now c.put_if.new.self c.args.locals.now (λ w. unless (is_hashable w c.in_ok-key.key) unhashable) tt _ (Ok (done.Changed None c.given_up.result)) (reads-key c.args.heap.now c.args.locals.now c.in_ok-key.key true c.in_ok-target.ensures.key refl)
     (puts-performs c.args.heap.now c.sound.ensures c.args.locals.now (test_of wanted.Dict) c.in_ok-dict.dict c.in_ok-target.target (refers_by_code c.args.heap.now wanted.Dict tt c.in_ok-dict.dict c.in_ok-target.target c.in_ok-target.ensures.ok c.in-Some-Ok.ensures.kind) (inl (code_passes c.args.heap.now wanted.Dict tt c.in_ok-dict.dict c.in_ok-target.target (refers_by_code c.args.heap.now wanted.Dict tt c.in_ok-dict.dict c.in_ok-target.target c.in_ok-target.ensures.ok c.in-Some-Ok.ensures.kind))) c.in_ok-key.key c.in_ok-val.val c.in-Some-Ok.old c.given_up.result c.put_if.new.self (of_ok c.in-Some-Ok.field-0 _ c.in-Some-Ok.field-0-is c.in-Some-Ok.ensures.ok) (of_value _ c.in-Some-Ok.field-0 _ c.in-Some-Ok.field-0-is c.in-Some-Ok.ensures.replaced) c.given_up.ensures (subst (λ r. (r ≡ Err fault.EntryLimit) ↔ ((value_in c.args.heap.now c.in_ok-target.target c.in_ok-key.key ≡ None) × (4000000 ≤ entry_number c.args.heap.now))) c.in-Some-Ok.field-0-is c.in-Some-Ok.ensures.limit)))))))
 
 pub returns-in-Some-Err : goal.returns-in-Some-Err

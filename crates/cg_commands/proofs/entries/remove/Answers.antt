@@ -1,4 +1,4 @@
-use Rattle.std.proofs.Common.{refl, true, sym, ◌∙◌, Ok, Err}
+use Rattle.std.proofs.Common.{refl, true, sym, ◌∙◌, None, Ok, Err}
 use Rattle.std.specs.Prelude.{ok_or}
 use Rattle.std.proofs.lemmas.Result.{err_from_is_err_and}
 use Rattle.cg_graph.specs.Store.{object_from}
@@ -33,11 +33,11 @@ take_key_if-requires-clause-live g c =
 
 pub returns-in-Some-Some : goal.returns-in-Some-Some
 returns-in-Some-Some g c =
-    (goes_on c.args.heap.now c.take_key_if.new.self c.args.locals.now (λ w. value w c.args.dict.now) c.in_ok-dict.dict _ (Ok (done.Gives c.references_of.result)) c.in_ok-dict.ensures.ok
-    (goes_on c.args.heap.now c.take_key_if.new.self c.args.locals.now (λ w. value w c.args.key.now) c.in_ok-key.key _ (Ok (done.Gives c.references_of.result)) c.in_ok-key.ensures.ok
-    (goes_on c.args.heap.now c.take_key_if.new.self c.args.locals.now (λ w. object w (test_of wanted.Dict) (number_of (refusal_of wanted.Dict)) c.in_ok-dict.dict) (object_from c.args.heap.now.rows c.in_ok-target.target (refers_by_code c.args.heap.now wanted.Dict tt c.in_ok-dict.dict c.in_ok-target.target c.in_ok-target.ensures.ok c.in-Some-Some.ensures.kind).node) _ (Ok (done.Gives c.references_of.result)) (reads-object c.args.heap.now c.args.locals.now (test_of wanted.Dict) c.in_ok-dict.dict c.in_ok-target.target (refers_by_code c.args.heap.now wanted.Dict tt c.in_ok-dict.dict c.in_ok-target.target c.in_ok-target.ensures.ok c.in-Some-Some.ensures.kind) (number_of (refusal_of wanted.Dict)))
-    (goes_on c.args.heap.now c.take_key_if.new.self c.args.locals.now (λ w. unless (is_hashable w c.in_ok-key.key) unhashable) tt _ (Ok (done.Gives c.references_of.result)) (reads-key c.args.heap.now c.args.locals.now c.in_ok-key.key true c.in_ok-target.ensures.key refl)
-    (goes_on c.args.heap.now c.take_key_if.new.self c.args.locals.now (λ w. ok_or (entry_at (refers_by_code c.args.heap.now wanted.Dict tt c.in_ok-dict.dict c.in_ok-target.target c.in_ok-target.ensures.ok c.in-Some-Some.ensures.kind).node.entries c.in_ok-key.key) no_key) c.in-Some-Some.entry _ (Ok (done.Gives c.references_of.result)) (reads-entry_at c.args.heap.now c.args.locals.now (test_of wanted.Dict) c.in_ok-dict.dict c.in_ok-target.target (refers_by_code c.args.heap.now wanted.Dict tt c.in_ok-dict.dict c.in_ok-target.target c.in_ok-target.ensures.ok c.in-Some-Some.ensures.kind) c.in_ok-key.key c.in-Some-Some.entry (sym c.in-Some-Some.field-0-is ∙ c.in-Some-Some.ensures.entry) no_key)
+    (goes_on c.args.heap.now c.take_key_if.new.self c.args.locals.now (λ w. value w c.args.dict.now) c.in_ok-dict.dict _ (Ok (done.Changed None c.references_of.result)) c.in_ok-dict.ensures.ok
+    (goes_on c.args.heap.now c.take_key_if.new.self c.args.locals.now (λ w. value w c.args.key.now) c.in_ok-key.key _ (Ok (done.Changed None c.references_of.result)) c.in_ok-key.ensures.ok
+    (goes_on c.args.heap.now c.take_key_if.new.self c.args.locals.now (λ w. object w (test_of wanted.Dict) (number_of (refusal_of wanted.Dict)) c.in_ok-dict.dict) (object_from c.args.heap.now.rows c.in_ok-target.target (refers_by_code c.args.heap.now wanted.Dict tt c.in_ok-dict.dict c.in_ok-target.target c.in_ok-target.ensures.ok c.in-Some-Some.ensures.kind).node) _ (Ok (done.Changed None c.references_of.result)) (reads-object c.args.heap.now c.args.locals.now (test_of wanted.Dict) c.in_ok-dict.dict c.in_ok-target.target (refers_by_code c.args.heap.now wanted.Dict tt c.in_ok-dict.dict c.in_ok-target.target c.in_ok-target.ensures.ok c.in-Some-Some.ensures.kind) (number_of (refusal_of wanted.Dict)))
+    (goes_on c.args.heap.now c.take_key_if.new.self c.args.locals.now (λ w. unless (is_hashable w c.in_ok-key.key) unhashable) tt _ (Ok (done.Changed None c.references_of.result)) (reads-key c.args.heap.now c.args.locals.now c.in_ok-key.key true c.in_ok-target.ensures.key refl)
+    (goes_on c.args.heap.now c.take_key_if.new.self c.args.locals.now (λ w. ok_or (entry_at (refers_by_code c.args.heap.now wanted.Dict tt c.in_ok-dict.dict c.in_ok-target.target c.in_ok-target.ensures.ok c.in-Some-Some.ensures.kind).node.entries c.in_ok-key.key) no_key) c.in-Some-Some.entry _ (Ok (done.Changed None c.references_of.result)) (reads-entry_at c.args.heap.now c.args.locals.now (test_of wanted.Dict) c.in_ok-dict.dict c.in_ok-target.target (refers_by_code c.args.heap.now wanted.Dict tt c.in_ok-dict.dict c.in_ok-target.target c.in_ok-target.ensures.ok c.in-Some-Some.ensures.kind) c.in_ok-key.key c.in-Some-Some.entry (sym c.in-Some-Some.field-0-is ∙ c.in-Some-Some.ensures.entry) no_key)
     (takes_references c.args.heap.now c.sound.ensures c.args.locals.now (test_of wanted.Dict) c.in_ok-dict.dict c.in_ok-target.target (refers_by_code c.args.heap.now wanted.Dict tt c.in_ok-dict.dict c.in_ok-target.target c.in_ok-target.ensures.ok c.in-Some-Some.ensures.kind) c.in_ok-key.key c.in-Some-Some.entry c.references_of.result c.take_key_if.new.self (sym c.in-Some-Some.field-0-is ∙ c.in-Some-Some.ensures.entry) (of_some _ c.in-Some-Some.field-0 _ c.in-Some-Some.field-0-is c.in-Some-Some.ensures.rest) c.references_of.ensures))))))
 
 pub returns-in-Some-None : goal.returns-in-Some-None

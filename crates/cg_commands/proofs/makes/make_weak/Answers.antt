@@ -77,6 +77,6 @@ returns g c = record {
       (goes_on c.args.heap.now c.make_bound.new.heap c.args.locals.now (λ w. value w c.args.callback.now) c.in_ok-callback.callback _ c.make_bound.result c.in_ok-callback.ensures.ok
       (goes_on c.args.heap.now c.make_bound.new.heap c.args.locals.now (λ w. object w (test_of wanted.Referable) (number_of (refusal_of wanted.Referable)) c.in_ok-val.val) (object_from c.args.heap.now.rows c.in_ok-referent.referent c.in_ok-referent.ensures.ok.node) _ c.make_bound.result (reads-object c.args.heap.now c.args.locals.now (test_of wanted.Referable) c.in_ok-val.val c.in_ok-referent.referent c.in_ok-referent.ensures.ok (number_of (refusal_of wanted.Referable)))
       (goes_on c.args.heap.now c.make_bound.new.heap c.args.locals.now (λ w. callback_entries w c.in_ok-callback.callback) c.in_ok-parts.parts _ c.make_bound.result c.in_ok-parts.ensures.ok.reads
-      (subst (λ ps. PerformsOnHeap c.args.heap.now c.args.locals.now (λ w. makes w c.args.name kind.Weak None ps (Some c.in_ok-referent.referent)) c.make_bound.new.heap c.make_bound.result) c.as_slice.ensures c.make_bound.ensures.performs)))));
+      (subst (λ ps. PerformsOnHeap c.args.heap.now c.args.locals.now (λ w. makes w c.args.name kind.Weak None ps (Some c.in_ok-referent.referent)) c.make_bound.new.heap c.make_bound.result) c.as_slice.ensures (c.make_bound.ensures.performs c.args.locals.now))))));
   room = c.make_bound.ensures.room;
 }

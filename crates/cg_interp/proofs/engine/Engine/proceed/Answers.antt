@@ -1,55 +1,23 @@
-use Rattle.std.proofs.Common.{sym, subst, inl, None, Ok}
-use Rattle.std.specs.Prelude.{option_to_list}
+use Rattle.std.proofs.Common.{sym, subst, inl, Ok}
 use Rattle.cg_value.specs.declared.Val.TheVariants as val_of
 use Rattle.cg_graph.specs.Value.{item}
 use Rattle.cg_heap.specs.Calls.{HasFewHolds}
 use Rattle.cg_machine.specs.Commands.{effect}
 use Rattle.cg_machine.specs.Frame.{start_frame}
-use Rattle.cg_interp.specs.Callers.{caller_activity, releasing, IsPerformed, HasPerformed, transition_of_change, call_of}
-use Rattle.cg_interp.proofs.Lawfully.{stays_sound}
-use Rattle.cg_interp.proofs.AnswerLemmas.{runs_to, change_may, call_may, quit_may, changed, left, left_may, gives_left, left_sound, told, as_before, called_lives}
+use Rattle.cg_interp.specs.Callers.{caller_activity, IsPerformed, HasPerformed, transition_of_change, call_of}
+use Rattle.cg_interp.proofs.AnswerLemmas.{call_may, quit_may, may_give_up, change_runs, told, as_before, called_lives}
 use Rattle.cg_interp.proofs.engine.Engine.proceed.Goals as goal
 
-pub change-requires-clause-stands : goal.change-requires-clause-stands
-change-requires-clause-stands g c =
+pub give_up_after-requires-clause-stands : goal.give_up_after-requires-clause-stands
+give_up_after-requires-clause-stands g c =
     let (script, spelled, fit, performed) = c.requires.performed in
     let has = subst (λ d. HasPerformed script (caller_activity c.args.caller.now) c.args.self.now (Ok d)) c.in-Changed.is performed in
-    let p = has.performed in
-    let may = change_may script has.world (effect has.world has.command) p.answers.heap.wants_memory _ _ p.answers.heap.after p.answers.heap.is in (
-      script,
-      p.answers.heap.after,
-      changed script c.args.self.now (caller_activity c.args.caller.now) has.world has.command has.before has.was c.in-Changed.line c.in-Changed.given_up p,
-      stays_sound script c.args.self.now.first_budget (releasing c.in-Changed.given_up p.answers.heap.after) (p.kept (option_to_list c.in-Changed.line) (releasing c.in-Changed.given_up p.answers.heap.after) may),
-    )
+    may_give_up script c.args.self.now (caller_activity c.args.caller.now) has.world has.command has.before has.was c.in-Changed.line c.in-Changed.given_up has.performed
 
 pub returns-in-Changed-clause-does : goal.returns-in-Changed-clause-does
 returns-in-Changed-clause-does g c = λ script w command before was performed.
     let p = subst (λ d. IsPerformed script (caller_activity c.args.caller.now) c.args.self.now w command before was (Ok d)) c.in-Changed.is performed in
-    let may = change_may script w (effect w command) p.answers.heap.wants_memory _ _ p.answers.heap.after p.answers.heap.is in
-    runs_to script w command (caller_activity c.args.caller.now) c.change.new.self c.in-Changed.line (releasing c.in-Changed.given_up p.answers.heap.after) may c.change.result
-    (c.change.ensures.gives_up script p.answers.heap.after
-    (changed script c.args.self.now (caller_activity c.args.caller.now) w command before was c.in-Changed.line c.in-Changed.given_up p)
-    (stays_sound script c.args.self.now.first_budget (releasing c.in-Changed.given_up p.answers.heap.after) (p.kept (option_to_list c.in-Changed.line) (releasing c.in-Changed.given_up p.answers.heap.after) may)))
-
-pub change-requires-in-Gives-clause-stands : goal.change-requires-in-Gives-clause-stands
-change-requires-in-Gives-clause-stands g c =
-    let (script, spelled, fit, performed) = c.requires.performed in
-    let has = subst (λ d. HasPerformed script (caller_activity c.args.caller.now) c.args.self.now (Ok d)) c.in-Gives.is performed in (
-      script,
-      left script c.args.self.now (caller_activity c.args.caller.now) has.world has.command has.before has.was c.in-Gives.given_up has.performed,
-      gives_left script c.args.self.now (caller_activity c.args.caller.now) has.world has.command has.before has.was c.in-Gives.given_up has.performed,
-      left_sound script c.args.self.now (caller_activity c.args.caller.now) has.world has.command has.before has.was c.in-Gives.given_up has.performed,
-    )
-
-pub returns-in-Gives-clause-does : goal.returns-in-Gives-clause-does
-returns-in-Gives-clause-does g c = λ script w command before was performed.
-    let p = subst (λ d. IsPerformed script (caller_activity c.args.caller.now) c.args.self.now w command before was (Ok d)) c.in-Gives.is performed in
-    let after = left script c.args.self.now (caller_activity c.args.caller.now) w command before was c.in-Gives.given_up p in
-    runs_to script w command (caller_activity c.args.caller.now) c.change-in-Gives.new.self None (releasing c.in-Gives.given_up after)
-    (left_may script c.args.self.now (caller_activity c.args.caller.now) w command before was c.in-Gives.given_up p) c.change-in-Gives.result
-    (c.change-in-Gives.ensures.gives_up script after
-    (gives_left script c.args.self.now (caller_activity c.args.caller.now) w command before was c.in-Gives.given_up p)
-    (left_sound script c.args.self.now (caller_activity c.args.caller.now) w command before was c.in-Gives.given_up p))
+    change_runs script c.args.self.now (caller_activity c.args.caller.now) w command before was c.in-Changed.line c.in-Changed.given_up p c.give_up_after.new.self c.give_up_after.result c.give_up_after.ensures.gives_up
 
 pub call-requires-clause-few : goal.call-requires-clause-few
 call-requires-clause-few g c =

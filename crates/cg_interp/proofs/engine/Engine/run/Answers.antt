@@ -20,8 +20,8 @@ carry_out-requires-clause-stands g c =
       },
     )
 
-pub returns-else-only_changes-clause-does : goal.returns-else-only_changes-clause-does
-returns-else-only_changes-clause-does g c = λ script w at.
+pub returns-clause-does : goal.returns-clause-does
+returns-clause-does g c = λ script w at.
     let room = c.make_room-room.ensures.alone in
     c.carry_out.ensures.does script w (record {
       stands = same_engine script (under (caller_activity c.args.caller.now) c.args.self.now) (under (caller_activity c.args.caller.now) c.make_room-room.new.self) w at.stands room.store room.policy (ap (λ l. caller_activity c.args.caller.now ∷ l) room.activities) room.budget;
@@ -29,5 +29,5 @@ returns-else-only_changes-clause-does g c = λ script w at.
       kept = subst (λ n. StaysKeptAfter script n w c.args.command.now) (sym room.first_budget) at.kept;
     })
 
-pub returns-else-only_changes-clause-fit : goal.returns-else-only_changes-clause-fit
-returns-else-only_changes-clause-fit g c = fit_then c.args.self.now c.make_room-room.new.self c.carry_out.new.self (roomier_fit c.args.self.now c.make_room-room.new.self c.make_room-room.ensures.alone) c.carry_out.ensures.fit
+pub returns-clause-fit : goal.returns-clause-fit
+returns-clause-fit g c = fit_then c.args.self.now c.make_room-room.new.self c.carry_out.new.self (roomier_fit c.args.self.now c.make_room-room.new.self c.make_room-room.ensures.alone) c.carry_out.ensures.fit

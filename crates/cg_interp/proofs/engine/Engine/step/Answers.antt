@@ -57,8 +57,17 @@ run-requires-clause-stands g c =
     let command = at_command script c.args.caller.now c.args.next c.args.command.now c.args.self.now c.args.self.now is_next at.world at.stands at.kept none in
     (script, at.spelled, at.fit, command.0, command.1)
 
-pub returns-in-None-clause-steps : goal.returns-in-None-clause-steps
-returns-in-None-clause-steps g c = λ script is_next.
+pub step_change-requires-clause-none : goal.step_change-requires-clause-none
+step_change-requires-clause-none g c = sym (sym c.in-None.is ∙ c.due.ensures ∙ ap (λ (e : State). due_of e.policy) c.self.view_is)
+
+pub step_change-requires-clause-stands : goal.step_change-requires-clause-stands
+step_change-requires-clause-stands g c = let (script, is_next, at) = c.requires.stands in (script, c.args.next, is_next, at)
+
+pub returns-then-only_changes-clause-steps : goal.returns-then-only_changes-clause-steps
+returns-then-only_changes-clause-steps g c = λ script is_next. c.step_change.ensures.steps script c.args.next is_next
+
+pub returns-else-only_changes-clause-steps : goal.returns-else-only_changes-clause-steps
+returns-else-only_changes-clause-steps g c = λ script is_next.
     steps_from script c.args.caller.now c.args.next c.args.command.now c.args.self.now c.run.new.self is_next
     (λ w stands. due_in script (under (caller_activity (with_next c.args.next c.args.caller.now)) c.args.self.now) w None stands (sym c.in-None.is ∙ c.due.ensures ∙ ap (λ (e : State). due_of e.policy) c.self.view_is))
     c.run.result

@@ -7,7 +7,7 @@ use Rattle.cg_interp.proofs.CollectMoves.{engine_of}
 use Rattle.cg_interp.proofs.GivingUp.{release_detects_none}
 use Rattle.cg_interp.proofs.Quietly.{quietly}
 use Rattle.cg_interp.proofs.ReleaseLemmas.{still_sound}
-use Rattle.cg_interp.proofs.engine.Engine.change.Goals as goal
+use Rattle.cg_interp.proofs.engine.Engine.give_up_after.Goals as goal
 
 pub give_up-requires : goal.give_up-requires
 give_up-requires g c =
