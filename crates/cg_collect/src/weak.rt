@@ -206,7 +206,7 @@ fn first_to_look_at<B: Kind, L: Ledger>(
 {
     heap.sound();
     match heap.referent_looking(object, steps) {
-        Some(referent) if loses(heap, profile, object, steps) => {
+        Some(referent) if !is_condemned(heap, referent) && loses(heap, profile, object, steps) => {
             heap.newest_looking(referent, steps)
         }
         _ => heap.newest_looking(object, steps),

@@ -18,6 +18,7 @@ from typing import Callable, Iterable, NoReturn, Protocol
 
 from .collector import Collector
 from .compare import Evidence
+from .hidden import Hidden, untrack
 from .objects import (
     MOST_ATTRIBUTES,
     Function,
@@ -102,6 +103,7 @@ class Machine:
         self.attributes: dict[type, set[str]] = {}
         self.classes: dict[str, type] = {}
         self.collector = Collector(self.registry, self.emit)
+        self.hidden = Hidden()
         # whether objects of the script may be in the permanent generation
         self.is_frozen = False
         # how often CPython itself holds the garbage list
@@ -116,7 +118,10 @@ class Machine:
             self.classes[definition.name] = new_class(definition, self.run_finalizer)
         Function.run_callback = self.run_callback
         gc.collect()
-        gc.freeze()
+        # a dictionary is tracked once it has had something that is: so the names are hidden with the rest
+        self.bound_names[GLOBALS] = self.bound_names
+        del self.bound_names[GLOBALS]
+        self.hidden.hide()
         self.collector.watch()
         self.garbage_base = sys.getrefcount(gc.garbage) - 1
         if self.automatic:
@@ -136,7 +141,7 @@ class Machine:
         self.evidence.starts.add(len(self.lines))
         if not self.is_frozen:
             # so that the names are among what is collected, as a module's globals are
-            gc.unfreeze()
+            self.hidden.show()
         self.thrown_away = id(self.bound_names)
         # the collector meets the names before their holder, as a module's globals before the modules: that makes the
         # order of the names the order of what they hold
@@ -219,6 +224,8 @@ class Machine:
             self.ended(self.lines)
         self.budget -= 1
         self.emit(f"enter {frame.sort} #{serial}")
+        # so that what the frame needs is held from outside, as by a frame of Python's
+        untrack(frame)
         self.run_commands(procedure.body, frame)
         self.emit("leave")
 
