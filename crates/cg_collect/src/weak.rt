@@ -16,7 +16,7 @@ ghost use Rattle.cg_machine.specs.Program.{profile_of};
 ghost use Rattle.cg_machine.specs.Collect.{is_condemned_in, waits};
 ghost use Rattle.cg_collect.specs.declared.collection.Facts.{Facts as AnyFacts};
 ghost use Rattle.cg_collect.specs.declared.phase.Phase.TheVariants as phase_of;
-ghost use Rattle.cg_collect.specs.Ready.{IsReadyForCollectionAt, IsWalk, loses_at, looked_at_for};
+ghost use Rattle.cg_collect.specs.Ready.{IsReadyForCollectionAt, IsWalk, loses_alone, loses_at, looked_at_for};
 ghost use Rattle.cg_collect.specs.Turns.{TakesTurn};
 ghost use Rattle.cg_collect.specs.Looks.{looks_left, most_looks};
 
@@ -34,7 +34,8 @@ use std::sync::ledger::Ledger;
 /// Looks at the next weak reference of the walk, or at the next condemned object.
 ///
 /// For each condemned object all weak references to it are looked at, from the newest on; for a weak reference that is
-/// condemned and is to lose its referent, all to its referent. So each list is walked once or twice.
+/// condemned and is to lose a referent that is not, all to its referent. So each list is walked once or twice, and callbacks
+/// come in the order of the condemned objects, as in CPython.
 pub fn clear_one<B: Kind, L: Ledger>(
     heap: &mut Heap<B>,
     profile: u8,
@@ -193,7 +194,7 @@ fn next_member<B: Kind, L: Ledger>(
     }
 }
 
-/// The newest weak reference to the referent of a condemned one that is to lose it, or else to a condemned object.
+/// The newest weak reference to the referent of a condemned one that is to lose it by itself, or else to a condemned object.
 fn first_to_look_at<B: Kind, L: Ledger>(
     heap: &Heap<B>,
     profile: u8,
@@ -206,11 +207,28 @@ fn first_to_look_at<B: Kind, L: Ledger>(
 {
     heap.sound();
     match heap.referent_looking(object, steps) {
-        Some(referent) if !is_condemned(heap, referent) && loses(heap, profile, object, steps) => {
+        Some(referent) if loses_alone(heap, profile, object, referent, steps) => {
             heap.newest_looking(referent, steps)
         }
         _ => heap.newest_looking(object, steps),
     }
+}
+
+/// Whether a weak reference is to lose this referent of its own by itself: the referent is not condemned.
+fn loses_alone<B: Kind, L: Ledger>(
+    heap: &Heap<B>,
+    profile: u8,
+    weak: u64,
+    referent: u64,
+    steps: &mut Steps<L>,
+) -> bool
+    requires live { IsLive heap.now weak }
+    requires referent_live { IsLive heap.now referent }
+    requires refers { referent_in heap.now.rows weak ≡ Some referent }
+    ensures alone { result ≡ loses_alone profile heap.now weak }
+    ensures looks { steps.new ≤ steps.old + 2 }
+{
+    !is_condemned(heap, referent) && loses(heap, profile, weak, steps)
 }
 
 /// The first of those that wait has its callback called; when none is left, the finalizers follow.

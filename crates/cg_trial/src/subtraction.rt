@@ -262,7 +262,7 @@ fn take_back_from_last<B: Kind, L: Ledger>(
     ensures space { length found.new ≡ length found.old }
 {
     let mut blocks = heap.len_near(object, near) / AT_ONCE + 1;
-    'blocks: while *left > 0 && blocks > 0 {
+    'entries: while *left > 0 && blocks > 0 {
         blocks -= 1;
         let noted = heap.note_near(object, blocks * AT_ONCE, near, found, steps);
         take_back_each_from_last(heap, &found[..noted.references], left);
