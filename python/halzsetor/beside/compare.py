@@ -18,8 +18,8 @@ from collections import Counter
 from typing import Iterator, NamedTuple
 
 from .points import (
+    ATTRIBUTES,
     CALLBACKS,
-    COLLECTION,
     CONTENTS,
     FINALIZED,
     FLAGS,
@@ -63,6 +63,8 @@ class Evidence:
         self.wide: set[str] = set()
         # where a command sets the debug flags while a collection is under way
         self.debugged: list[int] = []
+        # whether an instance was given attributes in another order than its class
+        self.is_askew = False
         # where the shutdown begins
         self.shutdown: int | None = None
 
@@ -212,7 +214,7 @@ class Comparison:
         their = [self.ours_for(item.words) for item in theirs.body if is_debug_line(item.words)]
         if sorted(mine) == sorted(their):
             if mine != their:
-                self.points.add(COLLECTION)
+                self.explain_collection(ours)
         elif any(theirs.place < place <= theirs.last for place in self.evidence.debugged):
             self.points.add(FLAGS)
         else:
@@ -266,7 +268,7 @@ class Comparison:
     def explain_order(self, pairs: list[tuple[Block, Block]], collection: Collections | None) -> None:
         """Says which points an order belongs to. The pairs are in CPython's order."""
         if collection is not None:
-            self.points.add(COLLECTION)
+            self.explain_collection(collection.ours)
             return
         theirs = [mine for mine, _ in pairs]
         moved = moved_frames(theirs)
@@ -278,6 +280,12 @@ class Comparison:
             moved = moved_frames(theirs)
         if moved:
             self.explain_contents(moved, theirs)
+
+    def explain_collection(self, ours: Block) -> None:
+        """Wants an instance that was given attributes out of order: a collection keeps to CPython's order but for that."""
+        if not self.evidence.is_askew:
+            raise Differs(ours, None)
+        self.points.add(ATTRIBUTES)
 
     def explain_contents(self, moved: list[Block], frames: list[Block]) -> None:
         """Wants an object whose contents may have brought about the frames that moved.

@@ -100,7 +100,8 @@ class Machine:
         self.sign: weakref.ref | None = None
         self.registry = Registry()
         self.held: dict[int, int] = {}
-        self.attributes: dict[type, set[str]] = {}
+        # the attributes that instances of a class have had, in the order in which the class got them
+        self.attributes: dict[type, dict[str, None]] = {}
         self.classes: dict[str, type] = {}
         self.collector = Collector(self.registry, self.emit)
         self.hidden = Hidden()
@@ -333,7 +334,7 @@ class Machine:
     def do_new(self, frame: Frame | None, parts: tuple) -> None:
         name, class_name = parts
         found = self.classes[class_name]
-        self.attributes.setdefault(found, set())
+        self.attributes.setdefault(found, {})
         self.bind(name, self.made("instance", found()))
 
     def do_func(self, frame: Frame | None, parts: tuple) -> None:
@@ -467,7 +468,7 @@ class Machine:
         target = self.value(operand, frame)
         if not self.is_instance(target):
             return WRONG_KIND
-        self.note_attribute(type(target), name)
+        self.note_attribute(target, name)
         old = getattr(target, attribute(name), None)
         setattr(target, attribute(name), self.value(value, frame))
         if not is_atom(self.value(value, frame)):
@@ -475,12 +476,20 @@ class Machine:
         del target
         del old
 
-    def note_attribute(self, found: type, name: str) -> None:
-        """Notes an attribute of a class's instances: where there are many, CPython gives them a dictionary each."""
-        names = self.attributes[found]
-        names.add(name)
+    def note_attribute(self, target: object, name: str) -> None:
+        """Notes an attribute of a class's instances: where there are many, CPython gives them a dictionary each.
+
+        CPython keeps the attributes of all instances of a class in one order, so also whether this one is set out of it.
+        """
+        names = self.attributes[type(target)]
+        names.setdefault(name)
         if len(names) > MOST_ATTRIBUTES:
-            raise Unsupported(f"the instances of class {found.__name__} have more than {MOST_ATTRIBUTES} attributes")
+            raise Unsupported(f"the instances of class {type(target).__name__} have more than {MOST_ATTRIBUTES} attributes")
+        if not hasattr(target, attribute(name)):
+            for later in reversed(names):
+                if later == name:
+                    return
+                self.evidence.is_askew = self.evidence.is_askew or hasattr(target, attribute(later))
 
     def do_delattr(self, frame: Frame | None, parts: tuple) -> int | None:
         operand, name = parts
