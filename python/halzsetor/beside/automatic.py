@@ -101,4 +101,4 @@ class Automatic:
             self.thresholds[: len(command.parts)] = command.parts
         elif command.form == "freeze":
             self.count_up_to(self.place(self.reach(written)))
-            self.counts = [0, 0, 0]
+            self.counts[:] = (0, 0, 0)
