@@ -4,8 +4,9 @@ Two texts agree where the lines that both show are the same. Where they are not,
 points of `points.py`, and to have the form that this point can give it:
 
 - an order is another one only among frames that one command brings about with no line of a command between, and these
-  frames are the same; objects that they make may then have other serials, the same way throughout; outside collections
-  an object is gone behind them whose contents they may be about, or a function between two callbacks;
+  frames are the same; objects that they make may then have other serials, the same way throughout. In a collection an
+  instance was given attributes out of their order before; elsewhere an object is gone behind the frames whose contents
+  they may be about, or a function between two callbacks;
 - a line that differs is an answer about an object of which the run notes that the point bears on it;
 - lines on saved objects differ only in a collection in which a frame set the debug flags;
 - an answer that lists objects has the same in another order; holders that CPython lacks may be frozen or untracked;
@@ -136,9 +137,7 @@ class Comparison:
             self.match_line(ours, theirs)
         elif isinstance(ours, Block) and isinstance(theirs, Block) and self.is_same(ours.head, theirs.head):
             if ours.is_collection:
-                self.match_debug_lines(ours, theirs)
-                bodies = without_debug_lines(ours.body), without_debug_lines(theirs.body)
-                self.match(*bodies, Collections(ours, theirs))
+                self.match_collection(ours, theirs)
             else:
                 self.match(ours.body, theirs.body, None)
             if ours.tail is not None or theirs.tail is not None:
@@ -208,14 +207,23 @@ class Comparison:
                 raise Differs(item_at(ours, 0), item_at(theirs, 0))
             self.points.add(SHUTDOWN)
 
-    def match_debug_lines(self, ours: Block, theirs: Block) -> None:
-        """Matches a collection's lines on objects that are garbage or saved, which come in any order."""
+    def match_collection(self, ours: Block, theirs: Block) -> None:
+        """Matches what happens in a collection: in one order, but for two points."""
+        bodies = ours.body, theirs.body
+        is_debugged = any(theirs.place < place <= theirs.last for place in self.evidence.debugged)
+        if is_debugged or self.evidence.is_askew:
+            self.match_debug_lines(ours, theirs, is_debugged)
+            bodies = without_debug_lines(ours.body), without_debug_lines(theirs.body)
+        self.match(*bodies, Collections(ours, theirs))
+
+    def match_debug_lines(self, ours: Block, theirs: Block, is_debugged: bool) -> None:
+        """Matches a collection's lines on objects that are garbage or saved, apart from all else."""
         mine = [item.words for item in ours.body if is_debug_line(item.words)]
         their = [self.ours_for(item.words) for item in theirs.body if is_debug_line(item.words)]
         if sorted(mine) == sorted(their):
             if mine != their:
                 self.explain_collection(ours)
-        elif any(theirs.place < place <= theirs.last for place in self.evidence.debugged):
+        elif is_debugged:
             self.points.add(FLAGS)
         else:
             raise Differs(ours, theirs)
