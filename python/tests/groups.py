@@ -162,7 +162,8 @@ class Groups:
         if functions and pick.random() < 0.4:
             callback = f" {pick.choice(functions)}"
         elif pick.random() < 0.8:
-            self.lines.append(f"g = func {pick.choice(self.procedures)}{self.some_members(0, 2) if pick.random() < 0.2 else ''}")
+            made = f"g = func {pick.choice(self.procedures)}"
+            self.lines.append(made + (self.some_members(0, 2) if pick.random() < 0.2 else ""))
             callback = " g"
         else:
             callback = ""

@@ -484,7 +484,8 @@ class Machine:
         names = self.attributes[type(target)]
         names.setdefault(name)
         if len(names) > MOST_ATTRIBUTES:
-            raise Unsupported(f"the instances of class {type(target).__name__} have more than {MOST_ATTRIBUTES} attributes")
+            found = type(target).__name__
+            raise Unsupported(f"the instances of class {found} have more than {MOST_ATTRIBUTES} attributes")
         if not hasattr(target, attribute(name)):
             for later in reversed(names):
                 if later == name:
