@@ -10,12 +10,16 @@ from typing import Iterable, Iterator, NamedTuple
 
 from halzsetor.beside.main import OURS
 
+from .groups import Groups
+
 HERE = Path(__file__).resolve().parent
 PROGRAM = ("-m", "halzsetor.gcscript")
 EXAMPLES = HERE.parent.parent / "examples"
 OTHERWISE = EXAMPLES / "otherwise"
 PLAIN = EXAMPLES / "plain"
 TEXTS = HERE / "texts.jsonl"
+GROUPS = HERE / "groups.jsonl"
+CONSEQUENCES = HERE / "consequences.json"
 POINTS = HERE / "points.json"
 BOTH_BAD = "agrees: the script is bad, and nothing was run"
 # how many seconds a run may take
@@ -48,6 +52,11 @@ class Outcome(NamedTuple):
             return None
         return [line.split()[2].rstrip(":") for line in lines]
 
+    @property
+    def difference(self) -> str:
+        """What a comparison says where the texts differ otherwise."""
+        return self.message.splitlines()[-1].removeprefix("gcscript: ") if self.status == 1 else ""
+
 
 def folder_cases(folder: Path) -> list[Case]:
     """The scripts of a folder with their texts, but for those that are run by other words than `run`."""
@@ -71,6 +80,17 @@ def stored_cases() -> list[Case]:
     """The generated scripts with their texts."""
     rows = [json.loads(line) for line in TEXTS.read_text().splitlines()]
     return [Case(f"seed {row['seed']}", row["script"], row["text"]) for row in rows]
+
+
+def stored_groups() -> list[Case]:
+    """The generated scripts about groups, made again by their seeds, with their texts."""
+    rows = [json.loads(line) for line in GROUPS.read_text().splitlines()]
+    return [Case(f"group {row['seed']}", Groups(row["seed"]).script(), row["text"]) for row in rows]
+
+
+def stored_consequences() -> dict[str, list[str]]:
+    """The point that a script's difference follows from, and the difference: no form of a point has room for it."""
+    return json.loads(CONSEQUENCES.read_text())
 
 
 def stored_points() -> dict[str, list[str]]:

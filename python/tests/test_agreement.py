@@ -16,6 +16,8 @@ from .running import (
     folder_cases,
     run,
     stored_cases,
+    stored_consequences,
+    stored_groups,
     stored_points,
 )
 
@@ -23,15 +25,23 @@ NAMES = {value.partition(":")[0] for name, value in vars(points).items() if name
 FORMS = set(reader.BINDINGS) | set(reader.OPENERS) - OURS.keys() - {"shutdown"}
 
 
+def finalizers_together(text: str) -> int:
+    """The most finalizers that one collection runs."""
+    return max(part.partition("\ngc stop")[0].count("\nenter del ") for part in text.split("gc start "))
+
+
 class Stored(unittest.TestCase):
     """Cases that agree, or differ in just the points that are stored."""
 
     def check(self, cases: list[Case]) -> None:
         """Compares each."""
-        points = stored_points()
+        points, consequences = stored_points(), stored_consequences()
         for case, outcome in compare_all(cases):
             with self.subTest(case.name):
-                self.assertEqual(points.get(case.name, []), outcome.points, outcome.output + outcome.message)
+                if case.name in consequences:
+                    self.assertEqual(consequences[case.name][1], outcome.difference)
+                else:
+                    self.assertEqual(points.get(case.name, []), outcome.points, outcome.output + outcome.message)
 
 
 class Examples(Stored):
@@ -93,7 +103,25 @@ class Generated(Stored):
         self.check(stored_cases())
 
     def test_stored_points_are_of_cases(self) -> None:
-        known = {case.name for case in example_cases() + stored_cases()}
+        known = {case.name for case in example_cases() + stored_cases() + stored_groups()}
         for name, points in stored_points().items():
             self.assertIn(name, known)
             self.assertEqual((True, []), (points != [], [point for point in points if point not in NAMES]), name)
+        for name, (point, difference) in stored_consequences().items():
+            self.assertIn(name, known)
+            self.assertEqual((True, True), (point in NAMES, difference != ""), name)
+
+
+class GeneratedGroups(Stored):
+    """The scripts about groups of objects that collections find together."""
+
+    def test_there_are_many(self) -> None:
+        cases = stored_groups()
+        self.assertEqual([f"group {seed}" for seed in range(2000)], [case.name for case in cases])
+        texts = [case.text for case in cases]
+        self.assertGreater(sum("\nalive " in text for text in texts), 500)
+        self.assertGreater(sum("\nenter callback " in text for text in texts), 500)
+        self.assertGreater(sum(finalizers_together(text) > 2 for text in texts), 500)
+
+    def test_all_agree(self) -> None:
+        self.check(stored_groups())

@@ -153,4 +153,17 @@ class WrongPoints(unittest.TestCase):
         self.refuse_change("shutdown", "enter del #3\nvalue #3\nleave\n", "")
 
     def test_a_saved_object_without_flags(self) -> None:
-        self.refuse_change("turns", "gc stop 2", "gc saved #2\ngc stop 2")
+        self.refuse_change("attributes", "gc stop 2", "gc saved #3\ngc stop 2")
+
+    def test_the_order_of_a_collection(self) -> None:
+        script = self.FINALIZER + "setattr a me a; setattr b me b; del a; del b; collect"
+        frames = self.FRAME.format(3) + self.FRAME.format(2)
+        self.refuse(script, self.MADE + "gc start 2; " + frames + "gc stop 2 2 0; collected 2; end")
+
+    def test_the_order_of_lines_in_a_collection(self) -> None:
+        script = "debug collectable; a = list; append a a; b = list; append b b; del a; del b; collect"
+        told = "gc collectable #3; gc collectable #2; "
+        self.refuse(script, "made list #2; made list #3; gc start 2; " + told + "gc stop 2 2 0; collected 2; end")
+
+    def test_attributes_in_another_order_with_other_frames(self) -> None:
+        self.refuse_change("attributes", "enter del #3\nvalue #3\n", "enter del #3\nvalue #4\n")

@@ -1,6 +1,7 @@
 pub mod Standing
 pub mod Moving
 pub mod Aside
+pub mod AsideBackward
 pub mod Garbage
 pub mod Sums
 pub mod Untracked

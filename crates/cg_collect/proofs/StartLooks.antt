@@ -1,6 +1,5 @@
--- How many entries the parts of the start look at: survivors and uncollectable objects are among its candidates, and no object is
--- both.
-use Rattle.std.proofs.Common.{◌≡◌, ◌≢◌, sym, ◌∙◌, ap, ℕ, ◌+◌, ◌≤◌, ◌⊎◌, inl, inr, List, ◌++◌, length, arith}
+-- How many entries the parts of the start look at: survivors and what is set aside are among its candidates, and no object is both.
+use Rattle.std.proofs.Common.{◌≡◌, sym, ◌∙◌, ap, ℕ, ◌+◌, ◌≤◌, ◌++◌, length, arith}
 use Rattle.std.specs.Prelude.{sum_by}
 use Rattle.std.proofs.lemmas.List.Sums.{sum_by-append}
 use Rattle.cg_value.specs.declared.KindCode.{KindCode}

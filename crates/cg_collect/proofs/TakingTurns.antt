@@ -1,5 +1,5 @@
--- A turn, composed of what its phase does: it goes on, prints a line, runs a frame, gives something up, or ends.
-use Rattle.std.proofs.Common.{◌≡◌, refl, sym, ◌∙◌, ap, subst, ℕ, ◌+◌, ◌≤◌, Option, Some, None, add-zero, arith}
+-- How a turn is put together of what its phase does: it goes on, tells a line, runs a frame, gives something up, or ends.
+use Rattle.std.proofs.Common.{◌≡◌, refl, sym, ◌∙◌, ap, subst, ℕ, Option, Some, None, add-zero, arith}
 use Rattle.cg_script.specs.declared.Script.{Script}
 use Rattle.cg_machine.specs.declared.event.Event.{Event}
 use Rattle.cg_machine.specs.declared.event.FrameSpec.{FrameSpec}

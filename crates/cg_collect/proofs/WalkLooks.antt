@@ -16,7 +16,7 @@ use Rattle.cg_collect.specs.declared.phase.Phase.{Phase}
 use Rattle.cg_collect.specs.declared.phase.Phase.TheVariants as phase_of
 use Rattle.cg_collect.specs.declared.phase.Turn.{Turn}
 use Rattle.cg_collect.specs.Phases.{from_on, references_in, to_look_at}
-use Rattle.cg_collect.specs.Ready.{loses_at, looked_at_for}
+use Rattle.cg_collect.specs.Ready.{loses_alone, looked_at_for}
 use Rattle.cg_collect.specs.Looks.{beside, looks_left, met_for_condemned, met_for_member, met_for_referent, most_looks}
 use Rattle.cg_collect.proofs.RowWalks.{looks_here, looks_on_without, older_ones}
 
@@ -154,7 +154,7 @@ clearing_next profile store object next weak ahead looks =
     let parts = sum_by-cons (met_for_condemned store) object (from_on next (list_at store Cand)) in
     let same = ap length looks in
     next_four (sum_by (met_for_condemned store) (from_on next (list_at store Cand))) (length (to_look_at store weak)) (sum_by (met_for_condemned store) (from_on (Some object) (list_at store Cand)))
-    (omega (arith, whole, parts, same, few (loses_at profile store object)))
+    (omega (arith, whole, parts, same, few (loses_alone profile store object)))
   where
     next_four : (a b c : ℕ) → a + b + 1 ≤ c → 4 + 4 * (a + b) ≤ 4 * (c + 0)
     next_four a b c h = omega (arith, h)

@@ -1,6 +1,6 @@
 -- The walk of the weak phase goes on with the next condemned object, and ends.
 use Rattle.std.proofs.Common.{◌≡◌, ◌≢◌, refl, sym, ◌∙◌, ap, subst, ℕ, ◌+◌, ◌*◌, ◌<◌, ◌≤◌, Bool, true, false, List, [], ◌∷◌, ◌++◌, length, append_assoc, Option, Some, None, inl, inr, sum_by, arith}
-use Rattle.std.specs.Prelude.{◌⊎◌, if◌then◌else◌, option_map, unwrap_or, slice_get}
+use Rattle.std.specs.Prelude.{◌⊎◌, ◌&&◌, not, if◌then◌else◌, option_map, unwrap_or, slice_get}
 use Rattle.std.specs.FinMap as fin
 use Rattle.std.proofs.lemmas.List.{length-map}
 use Rattle.std.proofs.lemmas.List.Sums.{length-filter, count_by-le-length, sum_by-cons}
@@ -23,9 +23,9 @@ use Rattle.cg_machine.specs.World as machine
 use Rattle.cg_machine.specs.World.{World, Activity, Collecting, with_stack}
 use Rattle.cg_machine.specs.Weak.{NoneLeft, has_weak_references}
 use Rattle.cg_machine.specs.Program.{profile_of}
-use Rattle.cg_machine.specs.Collect.{loses_in_weak_phase}
-use Rattle.cg_represents.specs.Orderly.{IsOrderly}
-use Rattle.cg_represents.proofs.Representing.{in_one}
+use Rattle.cg_machine.specs.Collect.{is_condemned_in, loses_in_weak_phase}
+use Rattle.cg_machine.specs.Laws.{IsOrderly}
+use Rattle.cg_machine.proofs.Representing.{in_one}
 use Rattle.cg_policy.specs.Policy.{Policy}
 use Rattle.cg_trial.specs.View.{head_of}
 use Rattle.cg_trial.proofs.Lists.{occurs, once_before}
@@ -36,7 +36,7 @@ use Rattle.cg_collect.specs.declared.answer.CollectStep.TheVariants as answer_of
 use Rattle.cg_collect.specs.declared.collection.Facts.{Facts}
 use Rattle.cg_collect.specs.declared.phase.Phase.TheVariants as phase_of
 use Rattle.cg_collect.specs.Phases.{collection_of, from_on, references_in, to_look_at}
-use Rattle.cg_collect.specs.Ready.{IsAt, IsWalk, RefersPlainly, loses_at, looked_at_for}
+use Rattle.cg_collect.specs.Ready.{IsAt, IsWalk, RefersPlainly, loses_alone, loses_at, looked_at_for}
 use Rattle.cg_collect.specs.Answers.{CollectSteps}
 use Rattle.cg_collect.specs.Turns.{collection_at}
 use Rattle.cg_collect.proofs.Standing.{node_there, code_there, list_length}
@@ -134,7 +134,7 @@ module _ (profile : ℕ) (store : Store) (listed : IsListed store) (ok : AreRows
     none_missed = λ x m loses plain. either (walk.none_missed x m loses plain)
         (λ k. absurd k)
         (λ k. either k
-        (λ a. either (one_of x.serial a) (λ e. inl (looked x m (itself x m loses e))) (λ l. inr (inl l)))
+        (λ a. either (one_of x.serial a.ahead) (λ e. inl (looked x m (itself x m loses a.apart e))) (λ l. inr (inl (record { ahead = l; apart = a.apart }))))
         (λ b. either (one_of b.0 b.2) (λ e. inl (looked x m (b.1 ∙ ap Some (sym (plain_one x plain b.0 b.1 e))))) (λ l. inr (inr (b.0, b.1, l)))));
     none_newer = λ v e x m loses same.
         let first : slice_get (weak_references_in store.rows t) 0 ≡ Some v = sym weak_is ∙ e in
@@ -144,19 +144,24 @@ module _ (profile : ℕ) (store : Store) (listed : IsListed store) (ok : AreRows
     waiting = walk.waiting;
   }
     where
-      -- the condemned object itself is to be cleared
-      itself : (x : Object) → Includes (objects_of store) x → loses_in_weak_phase profile (objects_of store) x ≡ true → object ≡ x.serial → x.referent ≡ Some t
-      itself x m loses e =
+      -- the condemned object itself is to lose its referent, which is not condemned
+      itself : (x : Object) → Includes (objects_of store) x → loses_in_weak_phase profile (objects_of store) x ≡ true → ((o : ℕ) → x.referent ≡ Some o → is_condemned_in (objects_of store) o ≡ false)
+          → object ≡ x.serial → x.referent ≡ Some t
+      itself x m loses apart e =
           let (n, got, made) = node_there store x m in
           let (o, is, condemned) = loses_some profile (objects_of store) x loses in
           let refers : referent_in store.rows object ≡ Some o = ap (referent_in store.rows) e ∙ ap (λ (y : Object). y.referent) made ∙ is in
-          let wanted : loses_at profile store object ≡ true =
+          let to_lose : loses_at profile store object ≡ true =
           ap (λ k. unwrap_or (option_map (loses_in_weak_phase profile (objects_of store)) k) false) (ap (object_at (objects_of store)) e ∙ object_found store x m) ∙ loses in
+          let wanted : loses_alone profile store object ≡ true =
+          ap (λ k. not (unwrap_or (option_map (is_condemned_in (objects_of store)) k) false) && loses_at profile store object) refers
+          ∙ ap (λ b. not b && loses_at profile store object) (apart o is)
+          ∙ to_lose in
           is ∙ ap Some (sym (ap (λ b. if b then unwrap_or (referent_in store.rows object) object else object) wanted ∙ ap (λ k. unwrap_or k object) refers))
 
       -- the condemned object is a referent, and has none itself
       plain_one : (x : Object) → RefersPlainly store x → (o : ℕ) → x.referent ≡ Some o → object ≡ o → t ≡ o
-      plain_one x plain o is e = either_way (loses_at profile store object) ∙ e
+      plain_one x plain o is e = either_way (loses_alone profile store object) ∙ e
         where
           known : (k : Option ℕ) → referent_in store.rows object ≡ k → unwrap_or k object ≡ object
           known None none = refl
@@ -200,7 +205,7 @@ module _ (profile : ℕ) (store : Store) (walk : IsWalk profile store None None)
           cc
 
       missed : loses_in_weak_phase profile w.objects x ≡ true → ⊥
-      missed loses = either (walk.none_missed x there (ap (λ (os : List Object). loses_in_weak_phase profile os x) same ∙ loses) plain) (λ k. k) (λ k. either k (λ a. a) (λ b. b.2))
+      missed loses = either (walk.none_missed x there (ap (λ (os : List Object). loses_in_weak_phase profile os x) same ∙ loses) plain) (λ k. k) (λ k. either k (λ a. a.ahead) (λ b. b.2))
 
   pub turn-all_cleared : (script : Script) → profile_of script.items ≡ profile → (facts : Facts) (policy : Policy) (member : Option ℕ) → CollectSteps script (collection_at facts (phase_of.WeakClearing member None) None) store policy (collection_at facts phase_of.WeakCalling None) store policy answer_of.Continue
   turn-all_cleared script in_profile facts policy member =

@@ -19,8 +19,8 @@ use Rattle.cg_machine.specs.Collect.{is_condemned, is_condemned_in, is_lost_earl
 use Rattle.cg_trial.proofs.Placed.{is_there}
 use Rattle.cg_death.proofs.RowSplits.{split_at, referent-without}
 use Rattle.cg_collect.specs.Phases.{from_on}
-use Rattle.cg_collect.specs.Ready.{IsAt, IsEmptyAt, IsWalk, loses_at, to_look_at}
-use Rattle.cg_represents.proofs.Places.{place_is}
+use Rattle.cg_collect.specs.Ready.{ComesByItself, IsAt, IsEmptyAt, IsWalk, loses_at, to_look_at}
+use Rattle.cg_machine.proofs.Places.{place_is}
 use Rattle.cg_collect.proofs.Standing.{lives_at, node_of_live, node_there, place_there, object_there}
 use Rattle.cg_collect.proofs.RowWalks.{from_on-first, refers, older_ones, older_below, looks_here, looks_on, looks_on_without, next_older, next_highest, older_refers, older_all}
 
@@ -118,11 +118,16 @@ walk_begins profile store listed unseen none_pending = record {
     stands o (inr at) = absurd (subst (λ l. Includes l o) unseen (is_there store listed Seen o (lives_at store o Seen at (λ e. cc)) at))
 
     missed : (x : Object) → Includes (objects_of store) x → ((o : ℕ) × (x.referent ≡ Some o) × ((is_condemned_in (objects_of store) o || is_condemned x) ≡ true))
-        → Includes (from_on (slice_get (list_at store Cand) 0) (list_at store Cand)) x.serial ⊎ ((o : ℕ) × (x.referent ≡ Some o) × Includes (from_on (slice_get (list_at store Cand) 0) (list_at store Cand)) o)
+        → ComesByItself store (slice_get (list_at store Cand) 0) x ⊎ ((o : ℕ) × (x.referent ≡ Some o) × Includes (from_on (slice_get (list_at store Cand) 0) (list_at store Cand)) o)
     missed x m (o, is, either_one) =
         either (true_or (is_condemned_in (objects_of store) o) (is_condemned x) either_one)
         (λ e. inr (o, is, stands o (condemned_place (place_of store o) (sym (condemned-at store o) ∙ e))))
-        (λ e. inl (stands x.serial (condemned_place (place_of store x.serial) (ap (λ p. same_place p Cand || same_place p Seen) (place_there store x m) ∙ e))))
+        (λ e. either (cases_of (is_condemned_in (objects_of store) o))
+        (λ c. inr (o, is, stands o (condemned_place (place_of store o) (sym (condemned-at store o) ∙ c))))
+        (λ c. inl (record {
+          ahead = stands x.serial (condemned_place (place_of store x.serial) (ap (λ p. same_place p Cand || same_place p Seen) (place_there store x m) ∙ e));
+          apart = λ q refers. let both : Some o ≡ Some q = sym is ∙ refers in let same : o ≡ q = cc in subst (λ p. is_condemned_in (objects_of store) p ≡ false) same c;
+        })))
 
 -- the one that may be cleared next
 pub may_lose : (profile : ℕ) (store : Store) (weak : ℕ) (member : Option ℕ) → IsWalk profile store member (Some weak) → IsLive store weak → loses_at profile store weak ≡ true → MayLoseNext (loses_in_weak_phase profile (objects_of store)) (objects_of store) weak
@@ -203,7 +208,7 @@ module _ (profile : ℕ) (store : Store) (ok : AreRows store) (r : Row) (inside 
         (λ none. let f : false ≡ true = sym (loses_none profile (objects_of new) x none) ∙ loses in absurd (cc))
         (λ was. either (walk.none_missed x was.0 (sym (loses-same profile (objects_of store) (objects_of new) x lost.condemned) ∙ loses) (λ o e has. plain o e (lost.codes o has)))
         (λ k. inl (subst (λ l. Includes l x.serial) (sym (looks_on_without store ok r inside stays new lost.rows rise)) (still_looked x.serial was.1 k)))
-        (λ k. inr (either k (λ a. inl (subst (λ l. Includes (from_on member l) x.serial) (sym lost.candidates) a)) (λ b. inr (b.0, b.1, subst (λ l. Includes (from_on member l) b.0) (sym lost.candidates) b.2)))));
+        (λ k. inr (either k (λ a. inl (record { ahead = subst (λ l. Includes (from_on member l) x.serial) (sym lost.candidates) a.ahead; apart = λ q is. lost.condemned q ∙ a.apart q is })) (λ b. inr (b.0, b.1, subst (λ l. Includes (from_on member l) b.0) (sym lost.candidates) b.2)))));
     none_newer = λ w e x m loses same. either (lost.objects x m)
         (λ none. let f : false ≡ true = sym (loses_none profile (objects_of new) x none) ∙ loses in absurd (cc))
         (λ was.

@@ -1,5 +1,6 @@
--- What a step of a collection requires of the heap, and what frames and deaths that run between two steps must leave. (Ours.)
-use Rattle.std.specs.Prelude.{◌≡◌, ◌≢◌, ℕ, ◌+◌, ◌≤◌, ◌⊎◌, ◌==◌, not, Bool, true, false, List, [], Option, Some, None, IsSome, if◌then◌else◌, option_map, unwrap_or, slice_get, length, filter}
+-- What a step of a collection needs of the heap. Frames and deaths that run in it may change the heap between two steps; what
+-- they leave is said here. (Ours.)
+use Rattle.std.specs.Prelude.{◌≡◌, ◌≢◌, ℕ, ◌+◌, ◌≤◌, ◌⊎◌, ◌==◌, ◌&&◌, not, Bool, true, false, List, [], Option, Some, None, IsSome, if◌then◌else◌, option_map, unwrap_or, slice_get, length, filter}
 use Rattle.cg_value.specs.declared.Place.{Place}
 use Rattle.cg_value.specs.declared.Place.TheVariants.{Untracked, Gen, Cand, Seen, Back, Legacy, Pend}
 use Rattle.cg_graph.specs.Member.{Includes}
@@ -8,7 +9,7 @@ use Rattle.cg_graph.specs.Object.{Object, object_at}
 use Rattle.cg_graph.specs.Rows.{referent_in, weak_references_in}
 use Rattle.cg_graph.specs.Store.{Store, HasCode, list_at, objects_of, entries_of, place_of}
 use Rattle.cg_value.specs.declared.KindCode.TheVariants.{Weak}
-use Rattle.cg_machine.specs.Collect.{loses_in_weak_phase, older}
+use Rattle.cg_machine.specs.Collect.{is_condemned_in, loses_in_weak_phase, older}
 use Rattle.cg_machine.specs.Weak.{callback_of}
 use Rattle.cg_death.specs.declared.release.Release.{Release}
 use Rattle.cg_collect.specs.declared.phase.Phase.{Phase}
@@ -62,21 +63,33 @@ IsAt (Some o) xs = Includes xs o
 abbrev pub loses_at : ℕ → Store → ℕ → Bool
 loses_at profile store weak = unwrap_or (option_map (loses_in_weak_phase profile (objects_of store)) (object_at (objects_of store) weak)) false
 
--- the object whose weak references are visited for a candidate: its referent, if it is a weak reference to be cleared, or
--- else itself
+-- whether the referent of a weak reference, if it has one, is condemned
+abbrev pub has_condemned_referent : Store → ℕ → Bool
+has_condemned_referent store weak = unwrap_or (option_map (is_condemned_in (objects_of store)) (referent_in store.rows weak)) false
+
+-- whether a weak reference is to lose its referent by itself, and not with the others to a condemned one
+abbrev pub loses_alone : ℕ → Store → ℕ → Bool
+loses_alone profile store weak = not (has_condemned_referent store weak) && loses_at profile store weak
+
+-- the object whose weak references are looked at for a candidate: its referent, where it is to lose it by itself, or else it
 abbrev pub looked_at_for : ℕ → Store → ℕ → ℕ
-looked_at_for profile store o = if loses_at profile store o then unwrap_or (referent_in store.rows o) o else o
+looked_at_for profile store o = if loses_alone profile store o then unwrap_or (referent_in store.rows o) o else o
 
 -- a referent is no weak reference itself (`weakref` manual: class instances and functions have weak references)
 abbrev pub RefersPlainly : Store → Object → Type 0
 RefersPlainly store x = (o : ℕ) → x.referent ≡ Some o → ¬ HasCode store o Weak
 
--- The walk of the weak phase has missed nothing: a weak reference that is still to be cleared will be visited, or it, or its
--- referent, is a candidate whose turn is to come.
+-- A weak reference is a candidate whose turn is to come, and its referent is not condemned.
+pub record ComesByItself (store : Store) (member : Option ℕ) (x : Object) : Type 0 where
+  pub ahead : Includes (from_on member (list_at store Cand)) x.serial
+  pub apart : (o : ℕ) → x.referent ≡ Some o → is_condemned_in (objects_of store) o ≡ false
+
+-- The walk of the weak phase has left out nothing: a weak reference that is still to lose its referent is to be looked at, or
+-- its referent is a candidate whose turn is to come, or it is one itself and its referent is not condemned.
 abbrev pub HasMissedNone : ℕ → Store → Option ℕ → Option ℕ → Type 0
 HasMissedNone profile store member weak = (x : Object) → Includes (objects_of store) x → loses_in_weak_phase profile (objects_of store) x ≡ true → RefersPlainly store x
     → Includes (to_look_at store weak) x.serial
-    ⊎ Includes (from_on member (list_at store Cand)) x.serial
+    ⊎ ComesByItself store member x
     ⊎ ((o : ℕ) × (x.referent ≡ Some o) × Includes (from_on member (list_at store Cand)) o)
 
 -- Of the weak references to one object that are to be cleared, none is newer than the visited one.

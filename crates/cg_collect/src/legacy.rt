@@ -14,7 +14,7 @@ use cg_death::finalizers_of;
 use cg_heap::{Heap, Steps};
 use cg_kind::Kind;
 use cg_script::Script;
-use cg_value::{Place, Val};
+use cg_value::{KindCode, Place, Val};
 use std::sync::ledger::Ledger;
 
 /// Sets aside the candidates with a legacy finalizer, and the candidates reachable from them.
@@ -69,6 +69,36 @@ fn close<B: Kind, L: Ledger>(heap: &mut Heap<B>, steps: &mut Steps<L>)
 
 /// Sets aside the candidates among the references of an object.
 fn set_references_aside<B: Kind, L: Ledger>(heap: &mut Heap<B>, object: u64, steps: &mut Steps<L>)
+    requires { IsLive heap.old object }
+    ensures sets { SetsReferencesAside (references (entries_of heap.old object)) heap.old heap.new }
+    ensures looks { steps.new ≡ steps.old + length (entries_of heap.old object) }
+{
+    heap.sound();
+    match heap.kind_of(object) {
+        KindCode::List => set_aside_from_last(heap, object, steps),
+        KindCode::Tuple => set_aside_from_last(heap, object, steps),
+        _ => set_aside_from_first(heap, object, steps),
+    }
+}
+
+/// The same, from the last entry to the first.
+fn set_aside_from_last<B: Kind, L: Ledger>(heap: &mut Heap<B>, object: u64, steps: &mut Steps<L>)
+    requires { IsLive heap.old object }
+    ensures sets { SetsReferencesAside (references (entries_of heap.old object)) heap.old heap.new }
+    ensures looks { steps.new ≡ steps.old + length (entries_of heap.old object) }
+{
+    heap.sound();
+    let mut end = heap.len(object);
+    'entries: while end > 0 {
+        end -= 1;
+        let entry = heap.look(object, end, steps);
+        set_aside(heap, entry.val);
+        set_aside(heap, entry.key);
+    }
+}
+
+/// The same, from the first entry to the last.
+fn set_aside_from_first<B: Kind, L: Ledger>(heap: &mut Heap<B>, object: u64, steps: &mut Steps<L>)
     requires { IsLive heap.old object }
     ensures sets { SetsReferencesAside (references (entries_of heap.old object)) heap.old heap.new }
     ensures looks { steps.new ≡ steps.old + length (entries_of heap.old object) }

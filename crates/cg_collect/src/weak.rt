@@ -16,7 +16,7 @@ ghost use Rattle.cg_machine.specs.Program.{profile_of};
 ghost use Rattle.cg_machine.specs.Collect.{is_condemned_in, waits};
 ghost use Rattle.cg_collect.specs.declared.collection.Facts.{Facts as AnyFacts};
 ghost use Rattle.cg_collect.specs.declared.phase.Phase.TheVariants as phase_of;
-ghost use Rattle.cg_collect.specs.Ready.{IsReadyForCollectionAt, IsWalk, loses_at, looked_at_for};
+ghost use Rattle.cg_collect.specs.Ready.{IsReadyForCollectionAt, IsWalk, loses_alone, loses_at, looked_at_for};
 ghost use Rattle.cg_collect.specs.Turns.{TakesTurn};
 ghost use Rattle.cg_collect.specs.Looks.{looks_left, most_looks};
 
@@ -33,8 +33,9 @@ use std::sync::ledger::Ledger;
 
 /// Visits the next weak reference of the walk, or the next condemned object.
 ///
-/// For each condemned object it visits all weak references to it, newest first; for a condemned weak reference that is
-/// to be cleared, all those to its referent. So it walks each list once or twice.
+/// For each condemned object all weak references to it are looked at, from the newest on; for a weak reference that is
+/// condemned and is to lose a referent that is not, all to its referent. So each list is walked once or twice, and callbacks
+/// come in the order of the condemned objects, as in CPython.
 pub fn clear_one<B: Kind, L: Ledger>(
     heap: &mut Heap<B>,
     profile: u8,
@@ -193,7 +194,7 @@ fn next_member<B: Kind, L: Ledger>(
     }
 }
 
-/// The newest weak reference to a condemned object, or to its referent if it is a weak reference to be cleared.
+/// The newest weak reference to the referent of a condemned one that is to lose it by itself, or else to a condemned object.
 fn first_to_look_at<B: Kind, L: Ledger>(
     heap: &Heap<B>,
     profile: u8,
@@ -206,14 +207,31 @@ fn first_to_look_at<B: Kind, L: Ledger>(
 {
     heap.sound();
     match heap.referent_looking(object, steps) {
-        Some(referent) if loses(heap, profile, object, steps) => {
+        Some(referent) if loses_alone(heap, profile, object, referent, steps) => {
             heap.newest_looking(referent, steps)
         }
         _ => heap.newest_looking(object, steps),
     }
 }
 
-/// Calls the callback of the first waiting weak reference; if none is left, the finalizers follow.
+/// Whether a weak reference is to lose this referent of its own by itself: the referent is not condemned.
+fn loses_alone<B: Kind, L: Ledger>(
+    heap: &Heap<B>,
+    profile: u8,
+    weak: u64,
+    referent: u64,
+    steps: &mut Steps<L>,
+) -> bool
+    requires live { IsLive heap.now weak }
+    requires referent_live { IsLive heap.now referent }
+    requires refers { referent_in heap.now.rows weak ≡ Some referent }
+    ensures alone { result ≡ loses_alone profile heap.now weak }
+    ensures looks { steps.new ≤ steps.old + 2 }
+{
+    !is_condemned(heap, referent) && loses(heap, profile, weak, steps)
+}
+
+/// The first of those that wait has its callback called; when none is left, the finalizers follow.
 pub fn call_one<B: Kind, L: Ledger>(heap: &mut Heap<B>, steps: &mut Steps<L>) -> Turn
     requires ready { IsReadyForCollectionAt heap.old 0 phase_of.WeakCalling }
     ensures takes { (script : AnyScript) (facts : AnyFacts) (policy : Standing) → TakesTurn script facts phase_of.WeakCalling heap.old policy heap.new policy result }

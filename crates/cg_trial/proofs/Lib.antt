@@ -2,6 +2,7 @@ pub mod Lists
 pub mod Passes
 pub mod Entries
 pub mod Waking
+pub mod Backward
 pub mod Sifts
 pub mod Exchanges
 pub mod Splits

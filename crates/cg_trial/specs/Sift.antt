@@ -1,6 +1,6 @@
--- The effect of the walk over the candidates: those that look unreachable are set aside, and taken back if a reference
--- to them is found. (Developer guide, "Identifying reference cycles".)
-use Rattle.std.specs.Prelude.{◌≡◌, ◌≢◌, ℕ, ◌+◌, ◌≤◌, ◌⊎◌, List, ◌++◌, ◌==◌, ◌<◌, cond, length, take, slice_index, sum_by, IsTrue}
+-- What the walk over the candidates changes: those that look unreachable are set aside, and taken back where a reference to
+-- them is found. (Developer guide, "Identifying reference cycles".)
+use Rattle.std.specs.Prelude.{◌≡◌, ◌≢◌, ℕ, ◌+◌, ◌≤◌, ◌⊎◌, List, ◌++◌, ◌==◌, ◌<◌, cond, length, take, drop, slice_index, sum_by, IsTrue}
 use Rattle.cg_value.specs.declared.Place.{Place}
 use Rattle.cg_value.specs.declared.Place.TheVariants.{Cand, Back}
 use Rattle.cg_graph.specs.Member.{Includes}
@@ -47,6 +47,12 @@ pub record IsFirstZero (v : View) (objects : List ℕ) (at : ℕ) : Type 0 where
   pub within : at < length objects
   pub zero : v.number (slice_index objects at) ≡ 0
   pub before : (p : ℕ) → Includes (take at objects) p → v.number p ≢ 0
+
+-- The last of some objects that has the number 0 stands here.
+pub record IsLastZero (v : View) (objects : List ℕ) (at : ℕ) : Type 0 where
+  pub within : at < length objects
+  pub zero : v.number (slice_index objects at) ≡ 0
+  pub behind : (p : ℕ) → Includes (drop (at + 1) objects) p → v.number p ≢ 0
 
 -- A path of members from one that has a number.
 pub data Walk (v : View) (members : List ℕ) : ℕ → Type 0 where

@@ -9,7 +9,7 @@ ghost use Rattle.cg_arena.specs.Nodes.{IsPlace};
 ghost use Rattle.cg_heap.specs.Calls.{IsListed};
 ghost use Rattle.cg_trial.specs.View.{view_of, IsReadyView, IsSameButNumbers, Lowered, held_by};
 ghost use Rattle.cg_trial.specs.Paths.{entries_in};
-ghost use Rattle.cg_trial.specs.Sift.{Woken, IsFirstZero, IsNowhereElse, IsParted, IsTwofold, IsExchanged, IsSifted, IsSieved, zeros};
+ghost use Rattle.cg_trial.specs.Sift.{Woken, IsFirstZero, IsLastZero, IsNowhereElse, IsParted, IsTwofold, IsExchanged, IsSifted, IsSieved, zeros};
 ghost use Rattle.cg_trial.specs.Split.{IsSplitPlace, kept_place, entry_number_at, IsSameButPlaces};
 
 use crate::candidates::{
@@ -19,7 +19,7 @@ use crate::candidates::{
 use cg_arena::Near;
 use cg_heap::{Heap, Steps};
 use cg_kind::{AT_ONCE, Kind, ROOM};
-use cg_value::Place;
+use cg_value::{KindCode, Place};
 use std::sync::ledger::Ledger;
 
 /// Sets each candidate's number to its count.
@@ -141,8 +141,27 @@ fn first_to_wake<B: Kind>(heap: &Heap<B>, objects: &[u64]) -> Option<(usize, Pla
     None
 }
 
-/// Gives an object with number 0 in this place the number 1, if it is a candidate; if it was set aside, also moves it
-/// to the end of the list, so that the walk reaches it. `left`, the number of those with number 0, then falls by one.
+/// The last of these objects that has the number 0, as `first_to_wake` has the first.
+#[inline(always)]
+fn last_to_wake<B: Kind>(heap: &Heap<B>, objects: &[u64]) -> Option<(usize, Place)>
+    requires { (o : ℕ) → Includes objects.now o → IsTrue ((view_of heap.now).live o) }
+    ensures last { IfSome result (λ r. IsLastZero (view_of heap.now) objects.now r.0) }
+    ensures place { IfSome result (λ r. r.1 ≡ place_of heap.now (slice_index objects.now r.0)) }
+    ensures none { result ≡ None → (o : ℕ) → Includes objects.now o → (view_of heap.now).number o ≢ 0 }
+{
+    let mut end = objects.len();
+    'objects: while end > 0 {
+        let head = heap.head_of(objects[end - 1]);
+        if head.number == 0 {
+            return Some((end - 1, head.place));
+        }
+        end -= 1;
+    }
+    None
+}
+
+/// An object with the number 0 in this place gets the number 1, if it is a candidate, and where it was set aside, the last
+/// place in the list, so that the walk comes to it. One less is then left of those with the number 0.
 #[inline(never)]
 fn wake<B: Kind>(heap: &mut Heap<B>, object: u64, place: Place, left: &mut u64)
     requires live { IsTrue ((view_of heap.old).live object) }
@@ -177,9 +196,81 @@ fn take_back_each<B: Kind>(heap: &mut Heap<B>, objects: &[u64], left: &mut u64)
     }
 }
 
-/// Takes back what an object's entries refer to, while any are left to take back; takes a hint of its slot. `found` is
-/// a buffer for the references.
+/// Each of these objects is taken back, the last of them first.
+#[inline(always)]
+fn take_back_each_from_last<B: Kind>(heap: &mut Heap<B>, objects: &[u64], left: &mut u64)
+    requires live { (o : ℕ) → Includes objects.now o → IsTrue ((view_of heap.old).live o) }
+    requires left { zeros (view_of heap.old) ≤ left.old }
+    ensures woken { Woken objects.now (view_of heap.old) (view_of heap.new) }
+    ensures left { zeros (view_of heap.new) ≤ left.new }
+{
+    let mut end = objects.len();
+    'zeros: while let Some((at, place)) = last_to_wake(heap, &objects[..end]) {
+        wake(heap, objects[at], place, left);
+        end = at;
+    }
+}
+
+/// What the entries of an object that is near refer to is taken back, as far as something is left to be taken back. References
+/// are written to `found` on the way. The order is CPython's, and no contract states it: `tp_traverse` of a list or a tuple
+/// goes from the last item to the first, and that of any other kind from the first entry to the last.
+#[inline(always)]
 fn take_back_all<B: Kind, L: Ledger>(
+    heap: &mut Heap<B>,
+    object: u64,
+    code: KindCode,
+    near: Near,
+    found: &mut [u64],
+    left: &mut u64,
+    steps: &mut Steps<L>,
+)
+    requires ready { IsReadyView (view_of heap.old) }
+    requires live { IsTrue ((view_of heap.old).live object) }
+    requires space { ROOM ≤ length found.old }
+    requires left { zeros (view_of heap.old) ≤ left.old }
+    ensures woken { Woken (references ((view_of heap.old).entries object)) (view_of heap.old) (view_of heap.new) }
+    ensures left { zeros (view_of heap.new) ≤ left.new }
+    ensures later { steps.old ≤ steps.new }
+    ensures looks { steps.new ≤ steps.old + length ((view_of heap.old).entries object) }
+    ensures space { length found.new ≡ length found.old }
+{
+    match code {
+        KindCode::List => take_back_from_last(heap, object, near, found, left, steps),
+        KindCode::Tuple => take_back_from_last(heap, object, near, found, left, steps),
+        _ => take_back_from_first(heap, object, near, found, left, steps),
+    }
+}
+
+/// The same, from the last entry to the first. The entries are looked at in blocks that are counted from the first, so that
+/// none is looked at twice.
+fn take_back_from_last<B: Kind, L: Ledger>(
+    heap: &mut Heap<B>,
+    object: u64,
+    near: Near,
+    found: &mut [u64],
+    left: &mut u64,
+    steps: &mut Steps<L>,
+)
+    requires ready { IsReadyView (view_of heap.old) }
+    requires live { IsTrue ((view_of heap.old).live object) }
+    requires space { ROOM ≤ length found.old }
+    requires left { zeros (view_of heap.old) ≤ left.old }
+    ensures woken { Woken (references ((view_of heap.old).entries object)) (view_of heap.old) (view_of heap.new) }
+    ensures left { zeros (view_of heap.new) ≤ left.new }
+    ensures later { steps.old ≤ steps.new }
+    ensures looks { steps.new ≤ steps.old + length ((view_of heap.old).entries object) }
+    ensures space { length found.new ≡ length found.old }
+{
+    let mut blocks = heap.len_near(object, near) / AT_ONCE + 1;
+    'entries: while *left > 0 && blocks > 0 {
+        blocks -= 1;
+        let noted = heap.note_near(object, blocks * AT_ONCE, near, found, steps);
+        take_back_each_from_last(heap, &found[..noted.references], left);
+    }
+}
+
+/// The same, from the first entry to the last.
+fn take_back_from_first<B: Kind, L: Ledger>(
     heap: &mut Heap<B>,
     object: u64,
     near: Near,
@@ -246,11 +337,12 @@ fn set_aside<B: Kind, L: Ledger>(heap: &mut Heap<B>, left: u64, steps: &mut Step
     'objects: while left > 0 {
         let Some(object) = cursor else { return };
         let here = near;
-        if heap.head_near(object, here).number == 0 {
+        let head = heap.head_near(object, here);
+        if head.number == 0 {
             cursor = following(heap, object, &mut near);
             move_last(heap, object, here, Place::Back);
         } else {
-            take_back_all(heap, object, here, &mut found, &mut left, steps);
+            take_back_all(heap, object, head.code, here, &mut found, &mut left, steps);
             cursor = following(heap, object, &mut near);
         }
     }

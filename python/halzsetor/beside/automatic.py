@@ -4,10 +4,17 @@
 CPython's are off in a comparison, and those that the text shows are started where it shows them: the lines that both
 show tell the place. That one is due there is checked by the counts, which the text's own lines give.
 """
+from typing import Sequence
+
 from .reader import Command
 from .texts import is_debug_line, seen
 
 USUAL_THRESHOLDS = (700, 10, 10)
+
+
+def has_its_place(words: Sequence[str]) -> bool:
+    """Whether the words are those of a line that comes in both texts, or in neither: CPython may lack a `referrer`."""
+    return not is_debug_line(words) and words[0] != "referrer"
 
 
 class Automatic:
@@ -15,7 +22,7 @@ class Automatic:
 
     def __init__(self, text: list[str]) -> None:
         self.text = text
-        self.lines = [line for line in seen(text) if not is_debug_line(line.words)]
+        self.lines = [line for line in seen(text) if has_its_place(line.words)]
         self.thresholds = list(USUAL_THRESHOLDS)
         self.enabled = True
         self.counts = [0, 0, 0]
@@ -27,7 +34,7 @@ class Automatic:
 
     def reach(self, written: list[str]) -> int:
         """How many of the lines that have their place in both are written."""
-        self.reached += sum(not is_debug_line(line.split(" ")) for line in written[self.read :])
+        self.reached += sum(has_its_place(line.split(" ")) for line in written[self.read :])
         self.read = len(written)
         return self.reached
 
@@ -94,4 +101,4 @@ class Automatic:
             self.thresholds[: len(command.parts)] = command.parts
         elif command.form == "freeze":
             self.count_up_to(self.place(self.reach(written)))
-            self.counts = [0, 0, 0]
+            self.counts[:] = (0, 0, 0)

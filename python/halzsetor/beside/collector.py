@@ -36,10 +36,14 @@ class Collector:
             if self.flags & FLAGS["stats"]:
                 self.tell_sizes()
             return
+        self.tell_saved()
+        self.emit(f"gc stop {generation} {info['collected'] - self.own} {info['uncollectable']}")
+
+    def tell_saved(self) -> None:
+        """Tells what the garbage list has had since."""
         for position in range(self.saved, len(gc.garbage)):
             self.emit(f"gc saved #{self.registry.serial(gc.garbage[position])}")
         self.saved = len(gc.garbage)
-        self.emit(f"gc stop {generation} {info['collected'] - self.own} {info['uncollectable']}")
 
     def tell_sizes(self) -> None:
         """Tells the sizes of the generations."""
@@ -55,6 +59,9 @@ class Collector:
         """Takes what is written to standard error: the collector's lines on an object have its address."""
         word = text.split(" ", 2)[1] if text.startswith("gc: ") else ""
         if word in TOLD:
+            if word == "uncollectable":
+                # by then the members of the final set are saved
+                self.tell_saved()
             address = int(text[text.rindex(" ") + 1 : text.rindex(">")], 16)
             self.emit(f"gc {word} #{self.registry.serials[address]}")
         elif not text.startswith("gc: "):

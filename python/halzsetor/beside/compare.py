@@ -4,8 +4,9 @@ Two texts agree where the lines that both show are the same. Where they are not,
 points of `points.py`, and to have the form that this point can give it:
 
 - an order is another one only among frames that one command brings about with no line of a command between, and these
-  frames are the same; objects that they make may then have other serials, the same way throughout; outside collections
-  an object is gone behind them whose contents they may be about, or a function between two callbacks;
+  frames are the same; objects that they make may then have other serials, the same way throughout. In a collection an
+  instance was given attributes out of their order before; elsewhere an object is gone behind the frames whose contents
+  they may be about, or a function between two callbacks;
 - a line that differs is an answer about an object of which the run notes that the point bears on it;
 - lines on saved objects differ only in a collection in which a frame set the debug flags;
 - an answer that lists objects has the same in another order; holders that CPython lacks may be frozen or untracked;
@@ -18,8 +19,8 @@ from collections import Counter
 from typing import Iterator, NamedTuple
 
 from .points import (
+    ATTRIBUTES,
     CALLBACKS,
-    COLLECTION,
     CONTENTS,
     FINALIZED,
     FLAGS,
@@ -63,6 +64,8 @@ class Evidence:
         self.wide: set[str] = set()
         # where a command sets the debug flags while a collection is under way
         self.debugged: list[int] = []
+        # whether an instance was given attributes in another order than its class
+        self.is_askew = False
         # where the shutdown begins
         self.shutdown: int | None = None
 
@@ -134,9 +137,7 @@ class Comparison:
             self.match_line(ours, theirs)
         elif isinstance(ours, Block) and isinstance(theirs, Block) and self.is_same(ours.head, theirs.head):
             if ours.is_collection:
-                self.match_debug_lines(ours, theirs)
-                bodies = without_debug_lines(ours.body), without_debug_lines(theirs.body)
-                self.match(*bodies, Collections(ours, theirs))
+                self.match_collection(ours, theirs)
             else:
                 self.match(ours.body, theirs.body, None)
             if ours.tail is not None or theirs.tail is not None:
@@ -206,14 +207,23 @@ class Comparison:
                 raise Differs(item_at(ours, 0), item_at(theirs, 0))
             self.points.add(SHUTDOWN)
 
-    def match_debug_lines(self, ours: Block, theirs: Block) -> None:
-        """Matches a collection's lines on objects that are garbage or saved, which come in any order."""
+    def match_collection(self, ours: Block, theirs: Block) -> None:
+        """Matches what happens in a collection: in one order, but for two points."""
+        bodies = ours.body, theirs.body
+        is_debugged = any(theirs.place < place <= theirs.last for place in self.evidence.debugged)
+        if is_debugged or self.evidence.is_askew:
+            self.match_debug_lines(ours, theirs, is_debugged)
+            bodies = without_debug_lines(ours.body), without_debug_lines(theirs.body)
+        self.match(*bodies, Collections(ours, theirs))
+
+    def match_debug_lines(self, ours: Block, theirs: Block, is_debugged: bool) -> None:
+        """Matches a collection's lines on objects that are garbage or saved, apart from all else."""
         mine = [item.words for item in ours.body if is_debug_line(item.words)]
         their = [self.ours_for(item.words) for item in theirs.body if is_debug_line(item.words)]
         if sorted(mine) == sorted(their):
             if mine != their:
-                self.points.add(COLLECTION)
-        elif any(theirs.place < place <= theirs.last for place in self.evidence.debugged):
+                self.explain_collection(ours)
+        elif is_debugged:
             self.points.add(FLAGS)
         else:
             raise Differs(ours, theirs)
@@ -266,7 +276,7 @@ class Comparison:
     def explain_order(self, pairs: list[tuple[Block, Block]], collection: Collections | None) -> None:
         """Says which points an order belongs to. The pairs are in CPython's order."""
         if collection is not None:
-            self.points.add(COLLECTION)
+            self.explain_collection(collection.ours)
             return
         theirs = [mine for mine, _ in pairs]
         moved = moved_frames(theirs)
@@ -278,6 +288,12 @@ class Comparison:
             moved = moved_frames(theirs)
         if moved:
             self.explain_contents(moved, theirs)
+
+    def explain_collection(self, ours: Block) -> None:
+        """Wants an instance that was given attributes out of order: a collection keeps to CPython's order but for that."""
+        if not self.evidence.is_askew:
+            raise Differs(ours, None)
+        self.points.add(ATTRIBUTES)
 
     def explain_contents(self, moved: list[Block], frames: list[Block]) -> None:
         """Wants an object whose contents may have brought about the frames that moved.

@@ -1,7 +1,7 @@
 """The points on which `gcrun` goes its own way, by the names that a comparison gives them. docs/RULES.md has each."""
 
 CONTENTS = "contents: dictionaries, instances and functions give up their contents in another order"
-COLLECTION = "turns: a collection calls finalizers and clears objects in an order of its own"
+ATTRIBUTES = "attributes: instances of a class have their attributes in the order in which the class got them"
 FINALIZED = "finalized: in a death by count CPython marks an object only after its finalizer"
 CALLBACKS = "callbacks: CPython takes the callbacks of a dying object out at once and gives them up together"
 HELD = "held: of a dying object's weak references CPython holds others while the callbacks run"

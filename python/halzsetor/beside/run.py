@@ -18,6 +18,7 @@ from typing import Callable, Iterable, NoReturn, Protocol
 
 from .collector import Collector
 from .compare import Evidence
+from .hidden import Hidden, untrack
 from .objects import (
     MOST_ATTRIBUTES,
     Function,
@@ -99,9 +100,11 @@ class Machine:
         self.sign: weakref.ref | None = None
         self.registry = Registry()
         self.held: dict[int, int] = {}
-        self.attributes: dict[type, set[str]] = {}
+        # the attributes that instances of a class have had, in the order in which the class got them
+        self.attributes: dict[type, dict[str, None]] = {}
         self.classes: dict[str, type] = {}
         self.collector = Collector(self.registry, self.emit)
+        self.hidden = Hidden()
         # whether objects of the script may be in the permanent generation
         self.is_frozen = False
         # how often CPython itself holds the garbage list
@@ -116,7 +119,10 @@ class Machine:
             self.classes[definition.name] = new_class(definition, self.run_finalizer)
         Function.run_callback = self.run_callback
         gc.collect()
-        gc.freeze()
+        # a dictionary is tracked once it has had something that is: so the names are hidden with the rest
+        self.bound_names[GLOBALS] = self.bound_names
+        del self.bound_names[GLOBALS]
+        self.hidden.hide()
         self.collector.watch()
         self.garbage_base = sys.getrefcount(gc.garbage) - 1
         if self.automatic:
@@ -136,7 +142,7 @@ class Machine:
         self.evidence.starts.add(len(self.lines))
         if not self.is_frozen:
             # so that the names are among what is collected, as a module's globals are
-            gc.unfreeze()
+            self.hidden.show()
         self.thrown_away = id(self.bound_names)
         # the collector meets the names before their holder, as a module's globals before the modules: that makes the
         # order of the names the order of what they hold
@@ -219,6 +225,8 @@ class Machine:
             self.ended(self.lines)
         self.budget -= 1
         self.emit(f"enter {frame.sort} #{serial}")
+        # so that what the frame needs is held from outside, as by a frame of Python's
+        untrack(frame)
         self.run_commands(procedure.body, frame)
         self.emit("leave")
 
@@ -326,7 +334,7 @@ class Machine:
     def do_new(self, frame: Frame | None, parts: tuple) -> None:
         name, class_name = parts
         found = self.classes[class_name]
-        self.attributes.setdefault(found, set())
+        self.attributes.setdefault(found, {})
         self.bind(name, self.made("instance", found()))
 
     def do_func(self, frame: Frame | None, parts: tuple) -> None:
@@ -460,7 +468,7 @@ class Machine:
         target = self.value(operand, frame)
         if not self.is_instance(target):
             return WRONG_KIND
-        self.note_attribute(type(target), name)
+        self.note_attribute(target, name)
         old = getattr(target, attribute(name), None)
         setattr(target, attribute(name), self.value(value, frame))
         if not is_atom(self.value(value, frame)):
@@ -468,12 +476,21 @@ class Machine:
         del target
         del old
 
-    def note_attribute(self, found: type, name: str) -> None:
-        """Notes an attribute of a class's instances: where there are many, CPython gives them a dictionary each."""
-        names = self.attributes[found]
-        names.add(name)
+    def note_attribute(self, target: object, name: str) -> None:
+        """Notes an attribute of a class's instances: where there are many, CPython gives them a dictionary each.
+
+        CPython keeps the attributes of all instances of a class in one order, so also whether this one is set out of it.
+        """
+        names = self.attributes[type(target)]
+        names.setdefault(name)
         if len(names) > MOST_ATTRIBUTES:
-            raise Unsupported(f"the instances of class {found.__name__} have more than {MOST_ATTRIBUTES} attributes")
+            found = type(target).__name__
+            raise Unsupported(f"the instances of class {found} have more than {MOST_ATTRIBUTES} attributes")
+        if not hasattr(target, attribute(name)):
+            for later in reversed(names):
+                if later == name:
+                    return
+                self.evidence.is_askew = self.evidence.is_askew or hasattr(target, attribute(later))
 
     def do_delattr(self, frame: Frame | None, parts: tuple) -> int | None:
         operand, name = parts

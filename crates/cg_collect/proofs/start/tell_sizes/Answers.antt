@@ -1,4 +1,3 @@
-use Rattle.std.proofs.Common.{arith}
 use Rattle.cg_machine.specs.Collect.{has_flag, collectable}
 use Rattle.cg_machine.specs.Program.{profile_of}
 use Rattle.cg_policy.specs.Flagset.{bits_of}

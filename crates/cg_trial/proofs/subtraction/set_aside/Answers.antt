@@ -11,8 +11,8 @@ use Rattle.cg_trial.proofs.subtraction.set_aside.Goals as goal
 pub objects-init : goal.objects-init
 objects-init g c = record { sifting = sifting_first _ _ _ c.requires.none c.first_near-cursor.ensures; left = c.requires.left }
 
-pub head_near-requires : goal.head_near-requires
-head_near-requires g c = let so = sifting_at (view_of c.args.heap.now) (view_of c.objects.heap) _ _ _ _ c.objects.invariant.sifting c.in-Some.is in
+pub head_near-head-requires : goal.head_near-head-requires
+head_near-head-requires g c = let so = sifting_at (view_of c.args.heap.now) (view_of c.objects.heap) _ _ _ _ c.objects.invariant.sifting c.in-Some.is in
     sifting_live _ _ _ _ _ c.requires.ready so
 
 pub following-cursor-requires : goal.following-cursor-requires
@@ -23,18 +23,18 @@ pub move_last-requires-clause-live : goal.move_last-requires-clause-live
 move_last-requires-clause-live g c = let so = sifting_at (view_of c.args.heap.now) (view_of c.objects.heap) _ _ _ _ c.objects.invariant.sifting c.in-Some.is in
     sifting_live _ _ _ _ _ c.requires.ready so
 
-pub objects-smaller-then-head_near-eq0 : goal.objects-smaller-then-head_near-eq0
-objects-smaller-then-head_near-eq0 g c = let so = sifting_at (view_of c.args.heap.now) (view_of c.objects.heap) _ _ _ _ c.objects.invariant.sifting c.in-Some.is in
+pub objects-smaller-then-head-eq0 : goal.objects-smaller-then-head-eq0
+objects-smaller-then-head-eq0 g c = let so = sifting_at (view_of c.args.heap.now) (view_of c.objects.heap) _ _ _ _ c.objects.invariant.sifting c.in-Some.is in
     let live = sifting_live _ _ _ _ _ c.requires.ready so in
     let in_old = member_old _ _ _ _ _ so c.in-Some.object (inl (stands _ _ so.front so.back so.at)) in
-    aside_lighter _ _ (view_of c.move_last.new.heap) _ _ _ _ c.requires.ready so (sym (number_told c.objects.heap _ _ live c.head_near.ensures.number) ∙ c.if-head_near-eq0.true) c.following-cursor.ensures c.move_last.ensures
+    aside_lighter _ _ (view_of c.move_last.new.heap) _ _ _ _ c.requires.ready so (sym (number_told c.objects.heap _ _ live c.head_near-head.ensures.number) ∙ c.if-head-eq0.true) c.following-cursor.ensures c.move_last.ensures
     (λ q h. c.requires.alone q _ h in_old) _ c.in-Some.is
 
-pub objects-preserved-then-head_near-eq0 : goal.objects-preserved-then-head_near-eq0
-objects-preserved-then-head_near-eq0 g c = let so = sifting_at (view_of c.args.heap.now) (view_of c.objects.heap) _ _ _ _ c.objects.invariant.sifting c.in-Some.is in
+pub objects-preserved-then-head-eq0 : goal.objects-preserved-then-head-eq0
+objects-preserved-then-head-eq0 g c = let so = sifting_at (view_of c.args.heap.now) (view_of c.objects.heap) _ _ _ _ c.objects.invariant.sifting c.in-Some.is in
     let live = sifting_live _ _ _ _ _ c.requires.ready so in
     let in_old = member_old _ _ _ _ _ so c.in-Some.object (inl (stands _ _ so.front so.back so.at)) in
-    let zero = sym (number_told c.objects.heap _ _ live c.head_near.ensures.number) ∙ c.if-head_near-eq0.true in
+    let zero = sym (number_told c.objects.heap _ _ live c.head_near-head.ensures.number) ∙ c.if-head-eq0.true in
     record {
       sifting = sifting_aside _ _ (view_of c.move_last.new.heap) _ _ _ _ c.requires.ready so zero c.following-cursor.ensures c.move_last.ensures (λ q h. c.requires.alone q _ h in_old);
       left = omega (arith, c.objects.invariant.left, aside_zeros _ _ (view_of c.move_last.new.heap) _ _ _ _ c.requires.ready so zero c.following-cursor.ensures c.move_last.ensures);
@@ -47,20 +47,20 @@ pub take_back_all-requires-clause-live : goal.take_back_all-requires-clause-live
 take_back_all-requires-clause-live g c = let so = sifting_at (view_of c.args.heap.now) (view_of c.objects.heap) _ _ _ _ c.objects.invariant.sifting c.in-Some.is in
     sifting_live _ _ _ _ _ c.requires.ready so
 
-pub following-cursor-requires-else-head_near-eq0 : goal.following-cursor-requires-else-head_near-eq0
-following-cursor-requires-else-head_near-eq0 g c = let so = sifting_at (view_of c.args.heap.now) (view_of c.objects.heap) _ _ _ _ c.objects.invariant.sifting c.in-Some.is in
+pub following-cursor-requires-else-head-eq0 : goal.following-cursor-requires-else-head-eq0
+following-cursor-requires-else-head-eq0 g c = let so = sifting_at (view_of c.args.heap.now) (view_of c.objects.heap) _ _ _ _ c.objects.invariant.sifting c.in-Some.is in
     sifting_alive (view_of c.args.heap.now) (view_of c.objects.heap) (view_of c.take_back_all.new.heap) c.in-Some.object _ _ (references (entries_of c.objects.heap c.in-Some.object)) c.requires.ready so c.take_back_all.ensures.woken
 
 pub objects-smaller : goal.objects-smaller
 objects-smaller g c = let so = sifting_at (view_of c.args.heap.now) (view_of c.objects.heap) _ _ _ _ c.objects.invariant.sifting c.in-Some.is in
     let live = sifting_live _ _ _ _ _ c.requires.ready so in
-    pass_lighter _ _ _ _ _ _ _ _ c.requires.ready so (λ z. c.if-head_near-eq0.false (number_told c.objects.heap _ _ live c.head_near.ensures.number ∙ z)) c.take_back_all.ensures.woken c.following-cursor-else-head_near-eq0.ensures c.take_back_all.ensures.later c.take_back_all.ensures.looks _ c.in-Some.is
+    pass_lighter _ _ _ _ _ _ _ _ c.requires.ready so (λ z. c.if-head-eq0.false (number_told c.objects.heap _ _ live c.head_near-head.ensures.number ∙ z)) c.take_back_all.ensures.woken c.following-cursor-else-head-eq0.ensures c.take_back_all.ensures.later c.take_back_all.ensures.looks _ c.in-Some.is
 
 pub objects-preserved : goal.objects-preserved
 objects-preserved g c = let so = sifting_at (view_of c.args.heap.now) (view_of c.objects.heap) _ _ _ _ c.objects.invariant.sifting c.in-Some.is in
     let live = sifting_live _ _ _ _ _ c.requires.ready so in
     record {
-      sifting = sifting_pass _ _ _ _ _ _ _ _ c.requires.ready so (λ z. c.if-head_near-eq0.false (number_told c.objects.heap _ _ live c.head_near.ensures.number ∙ z)) c.take_back_all.ensures.woken c.following-cursor-else-head_near-eq0.ensures c.take_back_all.ensures.later c.take_back_all.ensures.looks;
+      sifting = sifting_pass _ _ _ _ _ _ _ _ c.requires.ready so (λ z. c.if-head-eq0.false (number_told c.objects.heap _ _ live c.head_near-head.ensures.number ∙ z)) c.take_back_all.ensures.woken c.following-cursor-else-head-eq0.ensures c.take_back_all.ensures.later c.take_back_all.ensures.looks;
       left = c.take_back_all.ensures.left;
     }
 

@@ -2,7 +2,7 @@ use Rattle.cg_trial.specs.View.{view_of}
 use Rattle.std.proofs.Common.{◌≡◌, ◌≤◌, ◌+◌, ◌-◌, length}
 use Rattle.cg_trial.specs.Sift.{zeros}
 use Rattle.cg_trial.proofs.Waking.{Waking}
-use Rattle.cg_trial.proofs.subtraction.take_back_all.Given as goal
+use Rattle.cg_trial.proofs.subtraction.take_back_from_first.Given as goal
 
 abbrev pub invariant-entries : goal.invariant-entries
 invariant-entries g l = record {

@@ -4,7 +4,7 @@ use Rattle.std.proofs.Common.{◌≡◌, sym, ◌∙◌, ap, arith}
 use Rattle.cg_collect.proofs.Standing.{live_on, entries_on}
 use Rattle.cg_collect.proofs.Moving.{value_lives, key_lives}
 use Rattle.cg_collect.proofs.Aside.{setting_first, setting_more}
-use Rattle.cg_collect.proofs.legacy.set_references_aside.Goals as goal
+use Rattle.cg_collect.proofs.legacy.set_aside_from_first.Goals as goal
 
 pub set_aside-requires : goal.set_aside-requires
 set_aside-requires g c =

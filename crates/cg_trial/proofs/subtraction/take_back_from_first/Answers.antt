@@ -4,7 +4,7 @@ use Rattle.cg_trial.specs.View.{view_of}
 use Rattle.cg_trial.specs.Sift.{Woken}
 use Rattle.cg_trial.proofs.Entries.{live_same, length_same, next_live, few_last}
 use Rattle.cg_trial.proofs.Waking.{waking_first, waking_more, waking_all, waking_over}
-use Rattle.cg_trial.proofs.subtraction.take_back_all.Goals as goal
+use Rattle.cg_trial.proofs.subtraction.take_back_from_first.Goals as goal
 
 pub entries-init : goal.entries-init
 entries-init g c = record { waking = waking_first _ _; looks = omega arith; left = c.requires.left; space = refl }
