@@ -24,8 +24,8 @@ use Rattle.cg_machine.specs.World.{World, Activity, Collecting, with_stack}
 use Rattle.cg_machine.specs.Weak.{NoneLeft, has_weak_references}
 use Rattle.cg_machine.specs.Program.{profile_of}
 use Rattle.cg_machine.specs.Collect.{is_condemned_in, loses_in_weak_phase}
-use Rattle.cg_machine.specs.Laws.{IsOrderly}
-use Rattle.cg_machine.proofs.Representing.{in_one}
+use Rattle.cg_represents.specs.Orderly.{IsOrderly}
+use Rattle.cg_represents.proofs.Representing.{in_one}
 use Rattle.cg_policy.specs.Policy.{Policy}
 use Rattle.cg_trial.specs.View.{head_of}
 use Rattle.cg_trial.proofs.Lists.{occurs, once_before}

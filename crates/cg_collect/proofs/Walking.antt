@@ -20,7 +20,7 @@ use Rattle.cg_trial.proofs.Placed.{is_there}
 use Rattle.cg_death.proofs.RowSplits.{split_at, referent-without}
 use Rattle.cg_collect.specs.Phases.{from_on}
 use Rattle.cg_collect.specs.Ready.{ComesByItself, IsAt, IsEmptyAt, IsWalk, loses_at, to_look_at}
-use Rattle.cg_machine.proofs.Places.{place_is}
+use Rattle.cg_represents.proofs.Places.{place_is}
 use Rattle.cg_collect.proofs.Standing.{lives_at, node_of_live, node_there, place_there, object_there}
 use Rattle.cg_collect.proofs.RowWalks.{from_on-first, refers, older_ones, older_below, looks_here, looks_on, looks_on_without, next_older, next_highest, older_refers, older_all}
 
