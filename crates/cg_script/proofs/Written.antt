@@ -1,9 +1,7 @@
 -- What is written of a line, of a procedure and of all items.
-use Rattle.std.proofs.Common.{◌≡◌, ℕ, suc, ◌+◌, ◌<◌, ◌≤◌, List, [], ◌∷◌, ◌++◌, length, get_or, drop, refl, sym, ap, ◌∙◌, arith, append_assoc, append-nil, map}
+use Rattle.std.proofs.Common.{◌≡◌, ℕ, suc, ◌+◌, List, [], ◌∷◌, ◌++◌, length, refl, sym, ap, ◌∙◌, arith, append_assoc, append-nil, map}
 use Rattle.std.specs.Prelude.{flat_map, slice_get, option_map, unwrap_or, Option, Some, None}
 use Rattle.std.proofs.lemmas.Grind.{flat_map-append}
-use Rattle.std.proofs.lemmas.List.{drop_more}
-use Rattle.std.proofs.Math.ListN.{drop_of_length-le}
 use Rattle.std.proofs.lemmas.Option.{slice_get-map, unwrap_or-slice_get}
 use Rattle.cg_script.specs.declared.item.Item.{Item}
 use Rattle.cg_script.specs.declared.command.Operand.{Operand}
@@ -35,26 +33,6 @@ module _ (n : Naming) (form : Form) where
   words_from-values : (values : List Operand) (place : ℕ) → words_from n form place (map parts.Value values) ≡ map (value_word n.texts) values
   words_from-values [] place = refl
   words_from-values (v ∷ vs) place = ap (λ (l : List (List ℕ)). value_word n.texts v ∷ l) (words_from-values vs (place + 1))
-
-  -- the words from a place on, each behind a space
-  pub places_first : (place : ℕ) (ps : List Part) (out : List ℕ) → out ++ flat_map behind_space (words_from n form (place + 0) ps) ≡ out ++ flat_map behind_space (words_from n form place ps)
-  places_first place ps out = let e : place + 0 ≡ place = omega arith in ap (λ k. out ++ flat_map behind_space (words_from n form k ps)) e
-
-  pub places_more : (place at : ℕ) (ps : List Part) (d : Part) (out out1 out2 whole : List ℕ) → at < length ps → out1 ≡ out ++ 32 ∷ [] → out2 ≡ out1 ++ part_word n (key_word form (place + at)) (sort_at form (place + at)) (get_or ps at d)
-      → out ++ flat_map behind_space (words_from n form (place + at) (drop at ps)) ≡ whole → out2 ++ flat_map behind_space (words_from n form (place + (at + 1)) (drop (at + 1) ps)) ≡ whole
-  places_more place at ps d out out1 out2 whole h e1 e2 inv =
-      let w = part_word n (key_word form (place + at)) (sort_at form (place + at)) (get_or ps at d) in
-      let rest = flat_map behind_space (words_from n form (place + (at + 1)) (drop (at + 1) ps)) in
-      let e : place + (at + 1) ≡ (place + at) + 1 = omega arith in
-      ap (λ l. l ++ rest) (e2 ∙ ap (λ l. l ++ w) e1)
-      ∙ append_assoc (out ++ 32 ∷ []) w rest
-      ∙ append_assoc out (32 ∷ []) (w ++ rest)
-      ∙ ap (λ k. out ++ ((32 ∷ w) ++ flat_map behind_space (words_from n form k (drop (at + 1) ps)))) e
-      ∙ sym (ap (λ l. out ++ flat_map behind_space (words_from n form (place + at) l)) (drop_more ps at d h))
-      ∙ inv
-
-  pub places_end : (place at : ℕ) (ps : List Part) (out whole : List ℕ) → length ps ≤ at → out ++ flat_map behind_space (words_from n form (place + at) (drop at ps)) ≡ whole → out ≡ whole
-  places_end place at ps out whole h inv = sym (ap (λ l. out ++ flat_map behind_space (words_from n form (place + at) l)) (drop_of_length-le ps h) ∙ append-nil out) ∙ inv
 
   -- a line: the word of its first part, those of other parts, its values, and the line feed
   pub line_written : (first : Part) (keys ps : List Part) (values : List Operand) (o0 o1 o2 o3 o4 o5 : List ℕ) → o1 ≡ o0 ++ part_word n (key_word form 0) (sort_at form 0) first → o2 ≡ o1 ++ flat_map behind_space (words_from n form 1 keys)
