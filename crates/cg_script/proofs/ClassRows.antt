@@ -13,7 +13,7 @@ use Rattle.cg_script.specs.Words.{is_identifier, is_identifier_after, after_pref
 use Rattle.cg_script.specs.Forms.{openers}
 use Rattle.cg_script.specs.Meanings.{fits}
 use Rattle.cg_script.specs.Parts.{Known, defined_number, finalizer, legacy, legacy_of, finalizer_of, is_unknown}
-use Rattle.cg_script.specs.Commands.{del_if, legacy_if, filled, opening, said_filled}
+use Rattle.cg_script.specs.Commands.{del_if, legacy_if, opening, said_filled}
 use Rattle.cg_script.proofs.Ascii.{both}
 use Rattle.cg_script.proofs.Joined.{and_both}
 use Rattle.cg_script.proofs.Shown.{neither, prefixed}

@@ -1,8 +1,7 @@
 -- The words of a form stand in their places in each line of it.
-use Rattle.std.proofs.Common.{◌≡◌, ℕ, zero, suc, ◌+◌, ◌≤◌, List, [], ◌∷◌, drop, length, Bool, true, false, cond, not, ◌&&◌, ◌==◌, Option, None, Some, refl, sym, ap, subst, ◌∙◌, arith, codes, inl, inr, ◌⊎◌}
+use Rattle.std.proofs.Common.{◌≡◌, ℕ, zero, suc, ◌+◌, ◌≤◌, List, [], ◌∷◌, drop, length, Bool, true, false, cond, not, ◌&&◌, ◌==◌, Option, None, Some, refl, sym, ap, subst, ◌∙◌, arith, codes, inl, inr}
 use Rattle.std.specs.Prelude.{slice_index_or, unwrap_or}
 use Rattle.std.specs.List.{list_all}
-use Rattle.std.specs.Str.{bytes_eq}
 use Rattle.std.proofs.lemmas.Slice.Eq.{bytes_eq-Decides}
 use Rattle.cg_script.specs.declared.form.Form.{Form}
 use Rattle.cg_script.specs.declared.form.Form.TheVariants as forms
@@ -10,8 +9,7 @@ use Rattle.cg_script.specs.declared.form.Sort.{Sort}
 use Rattle.cg_script.specs.declared.form.Sort.TheVariants.{Value}
 use Rattle.cg_script.specs.Pieces.{word_at, word_is}
 use Rattle.cg_script.specs.Tables.{named}
-use Rattle.cg_script.specs.Forms.{row, sort_at, word_of, opening_forms, binding_forms, openers, bindings}
-use Rattle.cg_script.specs.Meanings.{binding_form}
+use Rattle.cg_script.specs.Forms.{row, sort_at, opening_forms, binding_forms, openers, bindings}
 use Rattle.cg_script.specs.Canonical.{key_word}
 use Rattle.cg_script.proofs.Ascii.{both}
 use Rattle.cg_script.proofs.Found.{by_words-is, found_all}

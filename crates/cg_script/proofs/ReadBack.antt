@@ -1,9 +1,7 @@
 -- The canonical bytes of a script that some bytes spell are read as this script.
-use Rattle.std.proofs.Common.{◌≡◌, ℕ, ◌+◌, ◌≤◌, List, [], ◌∷◌, ◌++◌, length, map, Bool, true, false, cond, ◌&&◌, ◌==◌, Option, None, Some, refl, sym, ap, subst, ◌∙◌, arith, codes, inl, inr, ◌⊎◌, append_assoc}
-use Rattle.std.specs.Prelude.{flat_map, unwrap_or}
-use Rattle.std.specs.Str.{bytes_eq}
+use Rattle.std.proofs.Common.{◌≡◌, ℕ, ◌+◌, ◌≤◌, List, [], ◌∷◌, ◌++◌, length, map, Bool, true, false, cond, ◌==◌, Option, None, refl, sym, ap, subst, ◌∙◌, arith, codes, append_assoc}
+use Rattle.std.specs.Prelude.{flat_map}
 use Rattle.std.proofs.lemmas.Bool.Decides.{nat_tests}
-use Rattle.std.proofs.lemmas.Slice.Eq.{bytes_eq-Decides}
 use Rattle.cg_value.specs.Texts.{text_number, has_text, with_text}
 use Rattle.cg_script.specs.declared.item.Item.{Item}
 use Rattle.cg_script.specs.declared.item.Item.TheVariants as items
@@ -12,12 +10,11 @@ use Rattle.cg_script.specs.declared.form.Form.TheVariants as forms
 use Rattle.cg_script.specs.declared.part.Part.{Part}
 use Rattle.cg_script.specs.declared.part.Said.{Said}
 use Rattle.cg_script.specs.declared.part.Said.TheVariants.{Declares, Begins as BeginsProc, Ends, Does}
-use Rattle.cg_script.specs.Pieces.{lines_of, word_at, word_is}
-use Rattle.cg_script.specs.Tables.{named}
-use Rattle.cg_script.specs.Forms.{row, openers, bindings}
-use Rattle.cg_script.specs.Meanings.{Meaning, says, binding_form, meaning}
+use Rattle.cg_script.specs.Pieces.{lines_of}
+use Rattle.cg_script.specs.Forms.{row}
+use Rattle.cg_script.specs.Meanings.{Meaning, says, meaning}
 use Rattle.cg_script.specs.Parts.{Known, parts_of, texts_from}
-use Rattle.cg_script.specs.Commands.{Filled, said, said_filled}
+use Rattle.cg_script.specs.Commands.{Filled, said}
 use Rattle.cg_script.specs.Reading.{nothing_known, is_misplaced, is_repeated, fault_in, says_or_bad, checked, meant, procs_after, classes_after, inside_after, known_after, Lines, good, spoilt, also_said, with_later, lines_from, body_of, items_of, spells, script_of, reading}
 use Rattle.cg_script.specs.Canonical.{Naming, text_of, command_words, filled_words, said_words, item_lines, procs_in, classes_in, naming_of, joined, line_of_words, canonical}
 use Rattle.cg_script.proofs.Lines.{passed_before_last, says_before_last}
@@ -27,7 +24,7 @@ use Rattle.cg_script.proofs.Joined.{EachSound, EachLineSound, lines_of-written}
 use Rattle.cg_script.proofs.Shown.{Begins, Names, begins_self, begins_along, begins_texts, text_found, normal_from, shown_normal}
 use Rattle.cg_script.proofs.GoodLines.{Same, Faultless, good_line, good_again, good_says, same_again, same_along, same_known, faultless, no_fault}
 use Rattle.cg_script.proofs.Keys.{keys_stand}
-use Rattle.cg_script.proofs.Rows.{Given, Row, plain_row, three_first, fixed_row, list_row, tuple_row, func_row, threshold_row}
+use Rattle.cg_script.proofs.Rows.{Given, Row, three_first, fixed_row, list_row, tuple_row, func_row, threshold_row}
 use Rattle.cg_script.proofs.OddRows.{collect_row, ref_row, flags_row}
 use Rattle.cg_script.proofs.ClassRows.{class_row}
 

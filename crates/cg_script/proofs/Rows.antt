@@ -1,5 +1,5 @@
 -- What each form says is printed by the parts that were read.
-use Rattle.std.proofs.Common.{◌≡◌, ℕ, zero, suc, ◌+◌, ◌≤◌, List, [], ◌∷◌, length, map, Bool, true, false, Option, None, Some, refl, sym, ap, subst, ◌∙◌, arith}
+use Rattle.std.proofs.Common.{◌≡◌, ℕ, zero, suc, ◌+◌, ◌≤◌, List, [], ◌∷◌, length, map, false, Option, None, Some, refl, sym, ap, subst, ◌∙◌, arith}
 use Rattle.std.proofs.lemmas.List.{get_or_past}
 use Rattle.cg_script.specs.declared.form.Form.{Form}
 use Rattle.cg_script.specs.declared.form.Form.TheVariants as forms
@@ -10,7 +10,7 @@ use Rattle.cg_script.specs.declared.part.Part.TheVariants as parts
 use Rattle.cg_value.specs.Texts.{text_number, with_text}
 use Rattle.cg_script.specs.Pieces.{word_at}
 use Rattle.cg_script.specs.Tables.{named}
-use Rattle.cg_script.specs.Forms.{row, sort_at, word_of, opening_forms, binding_forms, openers, bindings}
+use Rattle.cg_script.specs.Forms.{row, sort_at, word_of, binding_forms, bindings}
 use Rattle.cg_script.specs.Parts.{Known, part_of, parts_from, parts_of, text_in, with_text_if, numbered, defined_number, is_unknown, has_unknown}
 use Rattle.cg_script.specs.Commands.{value_or, count_or, said, filled, binding, said_filled}
 use Rattle.cg_script.proofs.Shown.{neither}

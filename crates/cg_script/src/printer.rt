@@ -1,13 +1,13 @@
 //! Printing a script: its canonical bytes, which are read as the same script again.
-ghost use Rattle.std.specs.Prelude.{◌≡◌, ◌+◌, ◌<◌, ◌≤◌, ◌^◌, ◌++◌, ◌∷◌, [], length, map, flat_map, codes, decimal, if◌then◌else◌, ◌==◌, IfOk, OnOk};
+ghost use Rattle.std.specs.Prelude.{◌≡◌, ◌+◌, ◌<◌, ◌≤◌, ◌^◌, ◌++◌, ◌∷◌, [], length, map, flat_map, decimal, ◌==◌, IfOk, OnOk};
 ghost use Rattle.std.specs.Fmt.{signed_decimal};
 ghost use Rattle.arrayvec.specs.ArrayVec.{array_vec_len};
 ghost use Rattle.cg_script.specs.declared.part.Part.TheVariants.{Value as ValueOf};
 ghost use Rattle.cg_script.specs.declared.part.Said.TheVariants.{Declares, Begins, Ends};
 ghost use Rattle.cg_script.specs.declared.item.Item.TheVariants.{Class as ClassItem};
 ghost use Rattle.cg_script.specs.Words.{flags};
-ghost use Rattle.cg_script.specs.Commands.{filled, opening as opening_of, binding as binding_of, flag_filling, command_filled};
-ghost use Rattle.cg_script.specs.Canonical.{text_of, name_of, value_word, word_with, count_word, part_word, key_word, words_from, filled_words, said_words, command_words, item_lines, procs_in, classes_in, names_by, behind_space, line_of_words, canonical};
+ghost use Rattle.cg_script.specs.Commands.{filled, opening as opening_of, binding as binding_of, flag_filling};
+ghost use Rattle.cg_script.specs.Canonical.{text_of, name_of, value_word, count_word, part_word, key_word, words_from, filled_words, said_words, command_words, item_lines, procs_in, classes_in, names_by, behind_space, line_of_words, canonical};
 ghost use Rattle.cg_script.specs.Forms.{sort_at};
 
 use crate::command::{Command, Operand};
