@@ -5,7 +5,7 @@ ghost use Rattle.cg_script.specs.Tables.{named as named_in};
 ghost use Rattle.cg_script.specs.Alike.{forms_like};
 
 /// A form of lines.
-#[derive(Clone, Copy, Debug, PartialEq, Eq)]
+#[derive(Clone, Copy)]
 pub enum Form {
     MakeList,
     MakeTuple,
@@ -53,7 +53,7 @@ pub enum Form {
 }
 
 /// What the place of a word asks for.
-#[derive(Clone, Copy, Debug, PartialEq, Eq)]
+#[derive(Clone, Copy)]
 pub enum Sort {
     /// The words of the form itself.
     Key,
