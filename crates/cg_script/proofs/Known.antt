@@ -7,7 +7,7 @@ use Rattle.cg_script.specs.declared.command.Operand.{Operand}
 use Rattle.cg_script.specs.declared.command.Operand.TheVariants as operands
 use Rattle.cg_script.specs.declared.form.Form.{Form}
 use Rattle.cg_script.specs.declared.form.Sort.{Sort}
-use Rattle.cg_script.specs.declared.form.Sort.TheVariants.{Key, Variable, Name, Class, Proc, Finalizer, Value, Number, Profile, Budget, Count, Flag}
+use Rattle.cg_script.specs.declared.form.Sort.TheVariants.{Variable, Name, Class, Proc, Finalizer, Value}
 use Rattle.cg_script.specs.declared.part.Part.{Part}
 use Rattle.cg_script.specs.declared.part.Part.TheVariants as parts
 use Rattle.cg_script.specs.declared.part.Said.{Said}

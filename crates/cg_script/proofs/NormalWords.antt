@@ -12,7 +12,7 @@ use Rattle.std.proofs.lemmas.Fmt.{digits_decimal, digits_value-decimal, decimal_
 use Rattle.cg_script.specs.declared.command.Operand.{Operand}
 use Rattle.cg_script.specs.declared.command.Operand.TheVariants as operands
 use Rattle.cg_script.specs.declared.form.Sort.{Sort}
-use Rattle.cg_script.specs.declared.form.Sort.TheVariants.{Key, Variable, Name, Class, Proc, Finalizer, Value, Number, Profile, Budget, Count, Flag}
+use Rattle.cg_script.specs.declared.form.Sort.TheVariants.{Value, Number, Profile, Budget, Count}
 use Rattle.cg_script.specs.declared.part.Part.TheVariants as parts
 use Rattle.cg_script.specs.Tables.{named}
 use Rattle.cg_script.specs.Words.{is_graphic, is_digit, begins_name, is_quoted, are_digits, decimal_after, decimal_value, has_minus, is_number, number_of, is_count, is_profile, is_value, is_variable, string_text, atoms}
