@@ -13,8 +13,8 @@ use Rattle.cg_script.specs.declared.part.Said.TheVariants.{Declares, Begins as B
 use Rattle.cg_script.specs.Pieces.{lines_of}
 use Rattle.cg_script.specs.Forms.{row}
 use Rattle.cg_script.specs.Meanings.{Meaning, says, meaning}
-use Rattle.cg_script.specs.Parts.{Known, parts_of, texts_from}
-use Rattle.cg_script.specs.Commands.{Filled, said}
+use Rattle.cg_script.specs.Parts.{Known, parts_of, texts_from, has_unknown}
+use Rattle.cg_script.specs.Commands.{Filled, said, said_filled, IsSaidAgain}
 use Rattle.cg_script.specs.Reading.{nothing_known, is_misplaced, is_repeated, fault_in, says_or_bad, checked, meant, procs_after, classes_after, inside_after, known_after, Lines, good, spoilt, also_said, with_later, lines_from, body_of, items_of, spells, script_of, reading}
 use Rattle.cg_script.specs.Canonical.{Naming, text_of, command_words, filled_words, said_words, item_lines, procs_in, classes_in, naming_of, joined, line_of_words, canonical}
 use Rattle.cg_script.proofs.Lines.{passed_before_last, says_before_last}
@@ -53,6 +53,11 @@ module _ (known : Known) where
   line_row forms.Flags ws given = flags_row known ws given
   line_row forms.Class ws given = class_line_row ws given
   line_row form ws given = fixed_row known form ws refl given
+
+  pub said_again : (number : ℕ) (line : List ℕ) (form : Form) (ws : List (List ℕ)) → says form ws ≡ meaning number line → has_unknown (parts_of known form ws) ≡ false → IsSaidAgain (said form (parts_of known form ws))
+  said_again number line form ws m defined =
+      let r = line_row form ws (record { good = good_line number line form ws m; defined = defined }) in
+      ap (λ (l : Filled). said l.form l.filling) (ap said_filled (sym r.same.said_same) ∙ r.tidy) ∙ r.same.said_same
 
 module _ (n : Naming) (known : Known) (names : Names n known.procs known.classes) where
   -- what is said is printed by other words for the same, as they are printed

@@ -1,6 +1,6 @@
 -- What a line says in a script: how the parts of each form become a command or a declaration, and which parts a command or a
 -- declaration is printed by. (Ours.)
-use Rattle.std.specs.Prelude.{ℕ, List, [], ◌∷◌, ◌++◌, map, drop, Option, None, Some, slice_get, bit_or, bit_and, ◌==◌, if◌then◌else◌, ℤ, pos}
+use Rattle.std.specs.Prelude.{◌≡◌, ℕ, List, [], ◌∷◌, ◌++◌, map, drop, Option, None, Some, slice_get, bit_or, bit_and, ◌==◌, if◌then◌else◌, ℤ, pos}
 use Rattle.std.specs.Option.{option_or}
 use Rattle.cg_script.specs.declared.command.Operand.{Operand}
 use Rattle.cg_script.specs.declared.command.Operand.TheVariants as operands
@@ -203,3 +203,7 @@ said_filled (Declares (items.Run command)) = command_filled command
 said_filled (Begins name) = opening forms.Def (parts.Text name ∷ [])
 said_filled Ends = opening forms.End []
 said_filled (Does command) = command_filled command
+
+-- The line that it is printed by says it again.
+abbrev pub IsSaidAgain : Said → Type 0
+IsSaidAgain s = said (said_filled s).form (said_filled s).filling ≡ s
