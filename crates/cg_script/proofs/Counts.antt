@@ -6,7 +6,7 @@ use Rattle.cg_value.specs.Texts.{has_text}
 use Rattle.cg_script.specs.declared.command.Operand.{Operand}
 use Rattle.cg_script.specs.declared.form.Form.{Form}
 use Rattle.cg_script.specs.declared.form.Sort.{Sort}
-use Rattle.cg_script.specs.declared.form.Sort.TheVariants.{Key, Variable, Name, Class, Proc, Finalizer, Value, Number, Profile, Budget, Count, Flag}
+use Rattle.cg_script.specs.declared.form.Sort.TheVariants.{Variable, Name, Value}
 use Rattle.cg_script.specs.declared.part.Said.{Said}
 use Rattle.cg_script.specs.Pieces.{pieces, onto, has_bytes, words_of}
 use Rattle.cg_script.specs.Tables.{named}
@@ -79,18 +79,10 @@ value_short n word None short = by (is_quoted word) (begins_name (slice_index wo
 
 text_short : (n : ℕ) (sort : Sort) (word : List ℕ) → length word ≤ n → IsShortIf n (text_in sort word)
 unfolding IsShortIf
-text_short n Key word short = tt
 text_short n Variable word short = short
 text_short n Name word short = short
-text_short n Class word short = tt
-text_short n Proc word short = tt
-text_short n Finalizer word short = tt
 text_short n Value word short = value_short n word (named atoms word) short
-text_short n Number word short = tt
-text_short n Profile word short = tt
-text_short n Budget word short = tt
-text_short n Count word short = tt
-text_short n Flag word short = tt
+text_short n sort word short = tt
 
 texts_short : (n : ℕ) (form : Form) (words texts : List (List ℕ)) (place : ℕ) → All (IsShort n) texts → All (IsShort n) words → All (IsShort n) (texts_from texts form place words)
 texts_short n form [] texts place all short = all

@@ -5,16 +5,25 @@ use Rattle.std.specs.List.{list_all}
 use Rattle.std.specs.Option.{is_none}
 use Rattle.std.specs.Str.{bytes_eq}
 use Rattle.std.proofs.lemmas.Bool.Decides.{nat_tests}
+use Rattle.std.proofs.lemmas.Slice.Eq.{bytes_eq-Decides}
 use Rattle.cg_script.specs.declared.form.Form.{Form}
 use Rattle.cg_script.specs.Tables.{named}
 use Rattle.cg_script.specs.Words.{reserves}
 use Rattle.cg_script.specs.Forms.{word_of, by_words, binds, binding_forms, opening_forms, worded_forms, words_of_forms, openers, bindings}
-use Rattle.cg_script.proofs.Rows.{by_words-is}
 use Rattle.cg_script.specs.Alike.{forms_like}
 use Rattle.cg_script.proofs.Alike.{named_forms_like}
 
--- a property of each of some forms holds of the one found
-found_all : (p : Form → Bool) (these : List Form) (w : List ℕ) (form : Form) → list_all p these ≡ true → named (by_words these) w ≡ Some form → p form ≡ true
+-- a form among some is found by its word
+pub by_words-is : (these : List Form) (w : List ℕ) (form : Form) → named (by_words these) w ≡ Some form → w ≡ word_of form
+by_words-is [] w form e = absurd (cc)
+by_words-is (f ∷ these) w form e = by (bytes_eq w (word_of f)) refl e (by_words-is these w form)
+  where
+    by : (b : Bool) → bytes_eq w (word_of f) ≡ b → cond b (Some f) (named (by_words these) w) ≡ Some form → (named (by_words these) w ≡ Some form → w ≡ word_of form) → w ≡ word_of form
+    by true eb e later = let same : f ≡ form = cc in (bytes_eq-Decides w (word_of f)).0 eb ∙ ap word_of same
+    by false eb e later = later e
+
+-- what is true of each of some forms is true of the one that is found
+pub found_all : (p : Form → Bool) (these : List Form) (w : List ℕ) (form : Form) → list_all p these ≡ true → named (by_words these) w ≡ Some form → p form ≡ true
 found_all p [] w form all e = absurd (cc)
 found_all p (f ∷ these) w form all e = by (p f) (bytes_eq w (word_of f)) refl all e (found_all p these w form)
   where

@@ -8,7 +8,7 @@ use Rattle.std.proofs.lemmas.Slice.Eq.{bytes_eq-Decides}
 use Rattle.cg_script.specs.declared.form.Form.{Form}
 use Rattle.cg_script.specs.declared.form.Form.TheVariants as forms
 use Rattle.cg_script.specs.declared.form.Sort.{Sort}
-use Rattle.cg_script.specs.declared.form.Sort.TheVariants.{Key, Variable, Name, Class, Proc, Finalizer, Value, Number, Profile, Budget, Count, Flag}
+use Rattle.cg_script.specs.declared.form.Sort.TheVariants.{Value, Number, Profile, Budget, Count}
 use Rattle.cg_script.specs.declared.part.Part.{Part}
 use Rattle.cg_script.specs.Pieces.{words_of, word_at, word_is}
 use Rattle.cg_script.specs.Tables.{named}
@@ -195,18 +195,12 @@ both_false s w v rejects fw fv = never_sign s v rejects fv ∙ sym (never_sign s
 
 sign_again : (s : Sort) (w : List ℕ) → fits s w ≡ true → fits s (normal s w) ≡ true → bytes_eq (normal s w) (codes "=") ≡ bytes_eq w (codes "=")
 unfolding atoms flags
-sign_again Key w fw fv = refl
-sign_again Variable w fw fv = refl
-sign_again Name w fw fv = refl
-sign_again Class w fw fv = refl
-sign_again Proc w fw fv = refl
-sign_again Finalizer w fw fv = refl
-sign_again Flag w fw fv = refl
 sign_again Value w fw fv = both_false Value w (normal Value w) refl fw fv
 sign_again Number w fw fv = both_false Number w (normal Number w) refl fw fv
 sign_again Profile w fw fv = both_false Profile w (normal Profile w) refl fw fv
 sign_again Budget w fw fv = both_false Budget w (normal Budget w) refl fw fv
 sign_again Count w fw fv = both_false Count w (normal Count w) refl fw fv
+sign_again s w fw fv = refl
 
 second_again : (form : Form) (ws : List (List ℕ)) → all_fit form 0 ws ≡ true → EachSound ws → word_is (normal_from form 0 ws) 1 (codes "=") ≡ word_is ws 1 (codes "=")
 second_again form [] fit sound = refl

@@ -7,7 +7,7 @@ use Rattle.cg_script.specs.declared.command.Operand.{Operand}
 use Rattle.cg_script.specs.declared.command.Operand.TheVariants as operands
 use Rattle.cg_script.specs.declared.form.Form.{Form}
 use Rattle.cg_script.specs.declared.form.Sort.{Sort}
-use Rattle.cg_script.specs.declared.form.Sort.TheVariants.{Key, Variable, Name, Class, Proc, Finalizer, Value, Number, Profile, Budget, Count, Flag}
+use Rattle.cg_script.specs.declared.form.Sort.TheVariants.{Variable, Name, Class, Proc, Finalizer, Value}
 use Rattle.cg_script.specs.declared.part.Part.{Part}
 use Rattle.cg_script.specs.declared.part.Part.TheVariants as parts
 use Rattle.cg_script.specs.declared.part.Said.{Said}
@@ -32,12 +32,7 @@ EachBelow n ps = EachPart operand_texts (λ k. k < n) ps
 part_more : (n m : ℕ) (p : Part) → n ≤ m → PartBelow n p → PartBelow m p
 part_more n m (parts.Text k) h b = omega arith
 part_more n m (parts.Value operand) h b = below_more n m (operand_texts operand) h b
-part_more n m parts.Bare h b = tt
-part_more n m (parts.Number k) h b = tt
-part_more n m (parts.Count k) h b = tt
-part_more n m (parts.Finalizer k) h b = tt
-part_more n m (parts.Legacy k) h b = tt
-part_more n m parts.Unknown h b = tt
+part_more n m p h b = tt
 
 NoTexts : List (List ℕ × Operand) → Type 0
 NoTexts [] = Unit {0}
@@ -88,18 +83,13 @@ finalizer_of_below n procs None word = legacy_of_below n procs (after_prefix (co
 finalizer_of_below n procs (Some name) word = finalizer_below n (defined_number procs name)
 
 part_below : (procs classes texts : List (List ℕ)) (sort : Sort) (word : List ℕ) → PartBelow (length (with_text_if texts (text_in sort word))) (part_of procs classes texts sort word)
-part_below procs classes texts Key word = tt
 part_below procs classes texts Variable word = place_below texts word
 part_below procs classes texts Name word = place_below texts word
 part_below procs classes texts Class word = numbered_below _ (defined_number classes word)
 part_below procs classes texts Proc word = numbered_below _ (defined_number procs word)
 part_below procs classes texts Finalizer word = finalizer_of_below _ procs (after_prefix (codes "del=") word) word
 part_below procs classes texts Value word = value_below texts word (named atoms word) refl
-part_below procs classes texts Number word = tt
-part_below procs classes texts Profile word = tt
-part_below procs classes texts Budget word = tt
-part_below procs classes texts Count word = tt
-part_below procs classes texts Flag word = tt
+part_below procs classes texts sort word = tt
 
 pub texts_grow : (form : Form) (words texts : List (List ℕ)) (place : ℕ) → length texts ≤ length (texts_from texts form place words)
 texts_grow form [] texts place = omega arith
@@ -122,16 +112,7 @@ each_more n m (p ∷ ps) h e = (part_more n m p h e.0, each_more n m ps h e.1)
 text_part : (procs classes texts : List (List ℕ)) (sort : Sort) (word : List ℕ) → is_text sort ≡ true → text_or (Some (part_of procs classes texts sort word)) < length (with_text_if texts (text_in sort word))
 text_part procs classes texts Variable word e = place_below texts word
 text_part procs classes texts Name word e = place_below texts word
-text_part procs classes texts Key word e = absurd (cc)
-text_part procs classes texts Class word e = absurd (cc)
-text_part procs classes texts Proc word e = absurd (cc)
-text_part procs classes texts Finalizer word e = absurd (cc)
-text_part procs classes texts Value word e = absurd (cc)
-text_part procs classes texts Number word e = absurd (cc)
-text_part procs classes texts Profile word e = absurd (cc)
-text_part procs classes texts Budget word e = absurd (cc)
-text_part procs classes texts Count word e = absurd (cc)
-text_part procs classes texts Flag word e = absurd (cc)
+text_part procs classes texts sort word e = absurd (cc)
 
 pub text_below : (procs classes : List (List ℕ)) (form : Form) (words texts : List (List ℕ)) (place i : ℕ) → i < length words → is_text (sort_at form (place + i)) ≡ true
     → text_at (parts_from procs classes texts form place words) i < length (texts_from texts form place words)
@@ -158,14 +139,8 @@ said_texts (Does command) = command_texts command
 -- so do the words of the line
 same_texts : (s : Said) → said_by operand_texts s ≡ said_texts s
 same_texts (Declares (items.Class c)) = refl
-same_texts (Declares (items.Def p)) = refl
-same_texts (Declares (items.Run command)) = refl
-same_texts (Declares (items.Profile n)) = refl
-same_texts (Declares items.Shutdown) = refl
-same_texts (Declares (items.Budget n)) = refl
-same_texts (Begins name) = refl
-same_texts Ends = refl
-same_texts (Does command) = refl
+same_texts (Declares item) = refl
+same_texts s = refl
 
 -- what a line of a form says names texts below a number
 pub said_below : (n : ℕ) (ps : List Part) → EachBelow n ps → (form : Form) → ((i : ℕ) → i < (row form).fewest → is_text (sort_at form i) ≡ true → text_at ps i < n) → Below n (said_texts (said form ps))

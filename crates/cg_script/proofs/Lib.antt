@@ -25,6 +25,7 @@ pub mod NormalWords
 pub mod Shown
 pub mod GoodLines
 pub mod Rows
+pub mod Keys
 pub mod OddRows
 pub mod ClassRows
 pub mod ReadBack

@@ -12,7 +12,7 @@ use Rattle.std.proofs.lemmas.Fmt.{digits_decimal, digits_value-decimal, decimal_
 use Rattle.cg_script.specs.declared.command.Operand.{Operand}
 use Rattle.cg_script.specs.declared.command.Operand.TheVariants as operands
 use Rattle.cg_script.specs.declared.form.Sort.{Sort}
-use Rattle.cg_script.specs.declared.form.Sort.TheVariants.{Key, Variable, Name, Class, Proc, Finalizer, Value, Number, Profile, Budget, Count, Flag}
+use Rattle.cg_script.specs.declared.form.Sort.TheVariants.{Value, Number, Profile, Budget, Count}
 use Rattle.cg_script.specs.declared.part.Part.TheVariants as parts
 use Rattle.cg_script.specs.Tables.{named}
 use Rattle.cg_script.specs.Words.{is_graphic, is_digit, begins_name, is_quoted, are_digits, decimal_after, decimal_value, has_minus, is_number, number_of, is_count, is_profile, is_value, is_variable, string_text, atoms}
@@ -320,13 +320,7 @@ word_again Budget w fit some graphic =
 word_again Count w fit some graphic =
     let n = count_again 2147483647 w (omega arith) fit in
     record { fit = n.count; part = λ procs classes texts. ap parts.Count n.value; text = refl; some = n.some; graphic = n.graphic; light = n.light }
-word_again Key w fit some graphic = same_word Key w fit some graphic
-word_again Variable w fit some graphic = same_word Variable w fit some graphic
-word_again Name w fit some graphic = same_word Name w fit some graphic
-word_again Class w fit some graphic = same_word Class w fit some graphic
-word_again Proc w fit some graphic = same_word Proc w fit some graphic
-word_again Finalizer w fit some graphic = same_word Finalizer w fit some graphic
-word_again Flag w fit some graphic = same_word Flag w fit some graphic
+word_again s w fit some graphic = same_word s w fit some graphic
 
 -- a word that is printed differently does not begin with a letter, before or after
 abbrev pub Alike : List ℕ → List ℕ → Type 0
@@ -361,10 +355,4 @@ alike Number w fit = let n = number_again w fit in inr (number_letterless w fit,
 alike Profile w fit = count_alike 2 w (omega arith) (both (is_count 2 w) (nat_le 1 (decimal_value w)) fit).0
 alike Budget w fit = count_alike 100000 w (omega arith) fit
 alike Count w fit = count_alike 2147483647 w (omega arith) fit
-alike Key w fit = inl refl
-alike Variable w fit = inl refl
-alike Name w fit = inl refl
-alike Class w fit = inl refl
-alike Proc w fit = inl refl
-alike Finalizer w fit = inl refl
-alike Flag w fit = inl refl
+alike s w fit = inl refl

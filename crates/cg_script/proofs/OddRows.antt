@@ -7,6 +7,8 @@ use Rattle.cg_script.specs.declared.command.Operand.TheVariants as operands
 use Rattle.cg_script.specs.declared.command.Command.TheVariants as commands
 use Rattle.cg_script.specs.declared.form.Form.TheVariants as forms
 use Rattle.cg_script.specs.declared.form.Sort.TheVariants.{Variable, Value}
+use Rattle.cg_script.specs.declared.part.Part.{Part}
+use Rattle.cg_script.specs.declared.part.Part.TheVariants as parts
 use Rattle.cg_script.specs.declared.part.Said.TheVariants.{Does}
 use Rattle.cg_value.specs.Texts.{text_number, with_text}
 use Rattle.cg_script.specs.Tables.{named}
@@ -14,15 +16,13 @@ use Rattle.cg_script.specs.Words.{atoms, flags, is_quoted, string_text, begins_n
 use Rattle.cg_script.specs.Forms.{openers, bindings}
 use Rattle.cg_script.specs.Meanings.{fits, all_fit}
 use Rattle.cg_script.specs.Parts.{Known, parts_of, texts_from, with_text_if, value_text, operand_or, has_unknown}
-use Rattle.cg_script.specs.Commands.{flags_in}
-use Rattle.cg_script.specs.Canonical.{Naming, text_of, value_word, callback_words}
+use Rattle.cg_script.specs.Commands.{flags_in, filled, binding, callback_filling, said_filled}
 use Rattle.cg_script.specs.Pieces.{word_is}
 use Rattle.cg_script.proofs.Ascii.{both}
 use Rattle.cg_script.proofs.Joined.{Graphic, EachSound, weight, and_both}
-use Rattle.cg_script.proofs.Shown.{Begins, Names, shown_normal, normal_from}
 use Rattle.cg_script.proofs.GoodLines.{Good}
 use Rattle.cg_script.proofs.NormalWords.{le_test}
-use Rattle.cg_script.proofs.Rows.{Given, Row, plain_row, said_words}
+use Rattle.cg_script.proofs.Rows.{Given, Row, plain_row}
 
 -- whether words are graphic
 abbrev graphic_test : List ℕ → Bool
@@ -65,27 +65,21 @@ collect_good = record {
   unpassed = refl;
 }
 
-pub collect_row : (n : Naming) (known : Known) → Names n known.procs known.classes → (rest : List (List ℕ)) → Given n known forms.Collect (codes "collect" ∷ rest)
-    → Row n known forms.Collect (codes "collect" ∷ rest)
-collect_row n known names [] given = record {
+pub collect_row : (known : Known) (ws : List (List ℕ)) → Given known forms.Collect ws → Row known forms.Collect ws
+collect_row known [] given = absurd (omega (arith, given.good.enough))
+collect_row known (w ∷ []) given = record {
   standing = collect_two;
   good = collect_good;
   same = record { said_same = refl; texts_same = refl; procs_same = refl; classes_same = refl; repeated_same = refl; none_unknown = refl };
-  printed = refl;
+  tidy = refl;
 }
-collect_row n known names (g ∷ []) given = plain_row n known names forms.Collect (codes "collect" ∷ g ∷ []) given refl
-collect_row n known names (g ∷ h ∷ rest) given = absurd (omega (arith, given.good.most))
+collect_row known (w ∷ g ∷ []) given = plain_row known forms.Collect (w ∷ g ∷ []) given refl
+collect_row known (w ∷ g ∷ h ∷ rest) given = absurd (omega (arith, given.good.most))
 
--- a callback none is left out
-callback_cases : (texts : List (List ℕ)) (operand : Operand) → (operand ≡ operands.None) ⊎ (callback_words texts operand ≡ value_word texts operand ∷ [])
-callback_cases texts operands.None = inl refl
-callback_cases texts (operands.Int k) = inr refl
-callback_cases texts (operands.Str k) = inr refl
-callback_cases texts (operands.Name k) = inr refl
-callback_cases texts operands.SelfLocal = inr refl
-callback_cases texts operands.WeakLocal = inr refl
-callback_cases texts (operands.Cell k) = inr refl
-callback_cases texts operands.Garbage = inr refl
+-- a callback that is none is left out
+callback_cases : (operand : Operand) → (operand ≡ operands.None) ⊎ (callback_filling operand ≡ parts.Value operand ∷ [])
+callback_cases operands.None = inl refl
+callback_cases operand = inr refl
 
 none_no_text : (found : Option Operand) (texts : List (List ℕ)) (f : List ℕ) → operand_or found texts f ≡ operands.None → value_text found f ≡ None
 none_no_text (Some operand) texts f e = refl
@@ -115,40 +109,35 @@ ref_four a y f good =
       unpassed = good.unpassed;
     }
 
-ref_five : (n : Naming) (known : Known) → Names n known.procs known.classes → (a y f : List ℕ) → Given n known forms.MakeRef (a ∷ codes "=" ∷ codes "ref" ∷ y ∷ f ∷ [])
-    → (let t1 = with_text known.texts a in let t2 = with_text_if t1 (value_text (named atoms y) y) in (operand_or (named atoms f) t2 f ≡ operands.None) ⊎ (callback_words n.texts (operand_or (named atoms f) t2 f) ≡ value_word n.texts (operand_or (named atoms f) t2 f) ∷ []))
-    → Row n known forms.MakeRef (a ∷ codes "=" ∷ codes "ref" ∷ y ∷ f ∷ [])
-ref_five n known names a y f given (inr other) =
-    let t1 = with_text known.texts a in
-    plain_row n known names forms.MakeRef (a ∷ codes "=" ∷ codes "ref" ∷ y ∷ f ∷ []) given
-    (ap (λ (l : List (List ℕ)). text_of n.texts (text_number known.texts a) ∷ codes "=" ∷ codes "ref" ∷ value_word n.texts (operand_or (named atoms y) t1 y) ∷ l) other)
-ref_five n known names a y f given (inl none) =
-    let t1 = with_text known.texts a in
-    let t2 = with_text_if t1 (value_text (named atoms y) y) in
-    let four = a ∷ codes "=" ∷ codes "ref" ∷ y ∷ [] in
-    let same_texts : with_text_if t2 (value_text (named atoms f) f) ≡ t2 = ap (λ (o : Option (List ℕ)). with_text_if t2 o) (none_no_text (named atoms f) t2 f none) in
-    record {
-      standing = four;
-      good = ref_four a y f given.good;
-      same = record {
-        said_same = ap (λ (o : Operand). Does (commands.MakeRef (text_number known.texts a) (operand_or (named atoms y) t1 y) o)) (sym none);
-        texts_same = sym same_texts;
-        procs_same = refl;
-        classes_same = refl;
-        repeated_same = refl;
-        none_unknown = refl;
-      };
-      printed = ap (λ (o : Operand). text_of n.texts (text_number known.texts a) ∷ codes "=" ∷ codes "ref" ∷ value_word n.texts (operand_or (named atoms y) t1 y) ∷ callback_words n.texts o) none
-          ∙ shown_normal n known.procs known.classes forms.MakeRef four known.texts 0 names (subst (λ ts. Begins ts n.texts) same_texts given.begins) refl;
-    }
+module _ (known : Known) where
+  ref_five : (a y f : List ℕ) → Given known forms.MakeRef (a ∷ codes "=" ∷ codes "ref" ∷ y ∷ f ∷ [])
+      → (let t = with_text_if (with_text known.texts a) (value_text (named atoms y) y) in (operand_or (named atoms f) t f ≡ operands.None) ⊎ (callback_filling (operand_or (named atoms f) t f) ≡ parts.Value (operand_or (named atoms f) t f) ∷ []))
+      → Row known forms.MakeRef (a ∷ codes "=" ∷ codes "ref" ∷ y ∷ f ∷ [])
+  ref_five a y f given (inr other) =
+      plain_row known forms.MakeRef (a ∷ codes "=" ∷ codes "ref" ∷ y ∷ f ∷ []) given
+      (ap (λ (l : List Part). binding forms.MakeRef (text_number known.texts a) (parts.Value (operand_or (named atoms y) (with_text known.texts a) y) ∷ l)) other)
+  ref_five a y f given (inl none) =
+      let t1 = with_text known.texts a in
+      let t2 = with_text_if t1 (value_text (named atoms y) y) in
+      record {
+        standing = a ∷ codes "=" ∷ codes "ref" ∷ y ∷ [];
+        good = ref_four a y f given.good;
+        same = record {
+          said_same = ap (λ (o : Operand). Does (commands.MakeRef (text_number known.texts a) (operand_or (named atoms y) t1 y) o)) (sym none);
+          texts_same = sym (ap (λ (o : Option (List ℕ)). with_text_if t2 o) (none_no_text (named atoms f) t2 f none));
+          procs_same = refl;
+          classes_same = refl;
+          repeated_same = refl;
+          none_unknown = refl;
+        };
+        tidy = refl;
+      }
 
-pub ref_row : (n : Naming) (known : Known) → Names n known.procs known.classes → (a : List ℕ) (rest : List (List ℕ)) → Given n known forms.MakeRef (a ∷ codes "=" ∷ codes "ref" ∷ rest)
-    → Row n known forms.MakeRef (a ∷ codes "=" ∷ codes "ref" ∷ rest)
-ref_row n known names a [] given = absurd (omega (arith, given.good.enough))
-ref_row n known names a (y ∷ []) given = plain_row n known names forms.MakeRef (a ∷ codes "=" ∷ codes "ref" ∷ y ∷ []) given refl
-ref_row n known names a (y ∷ f ∷ []) given =
-    ref_five n known names a y f given (callback_cases n.texts (operand_or (named atoms f) (with_text_if (with_text known.texts a) (value_text (named atoms y) y)) f))
-ref_row n known names a (y ∷ f ∷ g ∷ rest) given = absurd (omega (arith, given.good.most))
+  pub ref_row : (a : List ℕ) (rest : List (List ℕ)) → Given known forms.MakeRef (a ∷ codes "=" ∷ codes "ref" ∷ rest) → Row known forms.MakeRef (a ∷ codes "=" ∷ codes "ref" ∷ rest)
+  ref_row a [] given = absurd (omega (arith, given.good.enough))
+  ref_row a (y ∷ []) given = plain_row known forms.MakeRef (a ∷ codes "=" ∷ codes "ref" ∷ y ∷ []) given refl
+  ref_row a (y ∷ f ∷ []) given = ref_five a y f given (callback_cases (operand_or (named atoms f) (with_text_if (with_text known.texts a) (value_text (named atoms y) y)) f))
+  ref_row a (y ∷ f ∷ g ∷ rest) given = absurd (omega (arith, given.good.most))
 
 -- the flags by their bits
 all16 : (P : Bool → Bool → Bool → Bool → Type 0) → P true true true true → P true true true false → P true true false true → P true true false false → P true false true true → P true false true false → P true false false true → P true false false false → P false true true true → P false true true false → P false true false true → P false true false false → P false false true true → P false false true false → P false false false true → P false false false false → (a b c d : Bool) → P a b c d
@@ -246,14 +235,14 @@ join k m bits joins = subst (λ (l : ℕ). Bits (bit_or l m)) (sym bits.is) (joi
 five : (i j k l m : ℕ) → Joins i → Joins j → Joins k → Joins l → Joins m → Bits (bit_or (bit_or (bit_or (bit_or i j) k) l) m)
 five i j k l m a b c d e = join (bit_or (bit_or (bit_or i j) k) l) m (join (bit_or (bit_or i j) k) l (join (bit_or i j) k (join i j a.bits b) c) d) e
 
-flags_bits : (known : Known) (rest : List (List ℕ)) → length rest ≤ 5 → Bits (flags_in (parts_of known forms.Flags (codes "debug" ∷ rest)))
-flags_bits known [] h = five 0 0 0 0 0 no_flag no_flag no_flag no_flag no_flag
-flags_bits known (v ∷ []) h = five _ 0 0 0 0 (flag_joins v) no_flag no_flag no_flag no_flag
-flags_bits known (v ∷ w ∷ []) h = five _ _ 0 0 0 (flag_joins v) (flag_joins w) no_flag no_flag no_flag
-flags_bits known (v ∷ w ∷ x ∷ []) h = five _ _ _ 0 0 (flag_joins v) (flag_joins w) (flag_joins x) no_flag no_flag
-flags_bits known (v ∷ w ∷ x ∷ y ∷ []) h = five _ _ _ _ 0 (flag_joins v) (flag_joins w) (flag_joins x) (flag_joins y) no_flag
-flags_bits known (v ∷ w ∷ x ∷ y ∷ z ∷ []) h = five _ _ _ _ _ (flag_joins v) (flag_joins w) (flag_joins x) (flag_joins y) (flag_joins z)
-flags_bits known (v ∷ w ∷ x ∷ y ∷ z ∷ t ∷ rest) h = absurd (omega arith)
+flags_bits : (known : Known) (w : List ℕ) (rest : List (List ℕ)) → length rest ≤ 5 → Bits (flags_in (parts_of known forms.Flags (w ∷ rest)))
+flags_bits known first [] h = five 0 0 0 0 0 no_flag no_flag no_flag no_flag no_flag
+flags_bits known first (v ∷ []) h = five _ 0 0 0 0 (flag_joins v) no_flag no_flag no_flag no_flag
+flags_bits known first (v ∷ w ∷ []) h = five _ _ 0 0 0 (flag_joins v) (flag_joins w) no_flag no_flag no_flag
+flags_bits known first (v ∷ w ∷ x ∷ []) h = five _ _ _ 0 0 (flag_joins v) (flag_joins w) (flag_joins x) no_flag no_flag
+flags_bits known first (v ∷ w ∷ x ∷ y ∷ []) h = five _ _ _ _ 0 (flag_joins v) (flag_joins w) (flag_joins x) (flag_joins y) no_flag
+flags_bits known first (v ∷ w ∷ x ∷ y ∷ z ∷ []) h = five _ _ _ _ _ (flag_joins v) (flag_joins w) (flag_joins x) (flag_joins y) (flag_joins z)
+flags_bits known first (v ∷ w ∷ x ∷ y ∷ z ∷ t ∷ rest) h = absurd (omega arith)
 
 abbrev given : Bool → List ℕ → List (List ℕ)
 given true w = w ∷ []
@@ -285,27 +274,27 @@ flags_read known a b c d = all16 (λ a b c d. flags_in (parts_of known forms.Fla
 flags_texts : (known : Known) (a b c d : Bool) → texts_from known.texts forms.Flags 0 (flag_line a b c d) ≡ known.texts
 flags_texts known a b c d = all16 (λ a b c d. texts_from known.texts forms.Flags 0 (flag_line a b c d) ≡ known.texts) refl refl refl refl refl refl refl refl refl refl refl refl refl refl refl refl a b c d
 
-no_flag_texts : (known : Known) (rest : List (List ℕ)) → length rest ≤ 5 → texts_from known.texts forms.Flags 0 (codes "debug" ∷ rest) ≡ known.texts
-no_flag_texts known [] h = refl
-no_flag_texts known (v ∷ []) h = refl
-no_flag_texts known (v ∷ w ∷ []) h = refl
-no_flag_texts known (v ∷ w ∷ x ∷ []) h = refl
-no_flag_texts known (v ∷ w ∷ x ∷ y ∷ []) h = refl
-no_flag_texts known (v ∷ w ∷ x ∷ y ∷ z ∷ []) h = refl
-no_flag_texts known (v ∷ w ∷ x ∷ y ∷ z ∷ t ∷ rest) h = absurd (omega arith)
+no_flag_texts : (known : Known) (w : List ℕ) (rest : List (List ℕ)) → length rest ≤ 5 → texts_from known.texts forms.Flags 0 (w ∷ rest) ≡ known.texts
+no_flag_texts known first [] h = refl
+no_flag_texts known first (v ∷ []) h = refl
+no_flag_texts known first (v ∷ w ∷ []) h = refl
+no_flag_texts known first (v ∷ w ∷ x ∷ []) h = refl
+no_flag_texts known first (v ∷ w ∷ x ∷ y ∷ []) h = refl
+no_flag_texts known first (v ∷ w ∷ x ∷ y ∷ z ∷ []) h = refl
+no_flag_texts known first (v ∷ w ∷ x ∷ y ∷ z ∷ t ∷ rest) h = absurd (omega arith)
 
 flags_known : (known : Known) (a b c d : Bool) → has_unknown (parts_of known forms.Flags (flag_line a b c d)) ≡ false
 flags_known known a b c d = all16 (λ a b c d. has_unknown (parts_of known forms.Flags (flag_line a b c d)) ≡ false) refl refl refl refl refl refl refl refl refl refl refl refl refl refl refl refl a b c d
 
-flags_printed : (n : Naming) (a b c d : Bool) → said_words n (Does (commands.Flags (value a b c d))) ≡ normal_from forms.Flags 0 (flag_line a b c d)
-flags_printed n a b c d = all16 (λ a b c d. said_words n (Does (commands.Flags (value a b c d))) ≡ normal_from forms.Flags 0 (flag_line a b c d)) refl refl refl refl refl refl refl refl refl refl refl refl refl refl refl refl a b c d
+flags_tidy : (known : Known) (a b c d : Bool) → said_filled (Does (commands.Flags (value a b c d))) ≡ filled forms.Flags (parts_of known forms.Flags (flag_line a b c d))
+unfolding flags
+flags_tidy known a b c d = all16 (λ a b c d. said_filled (Does (commands.Flags (value a b c d))) ≡ filled forms.Flags (parts_of known forms.Flags (flag_line a b c d))) refl refl refl refl refl refl refl refl refl refl refl refl refl refl refl refl a b c d
 
-pub flags_row : (n : Naming) (known : Known) → Names n known.procs known.classes → (rest : List (List ℕ)) → Given n known forms.Flags (codes "debug" ∷ rest)
-    → Row n known forms.Flags (codes "debug" ∷ rest)
-flags_row n known names rest given =
+pub flags_row : (known : Known) (ws : List (List ℕ)) → Given known forms.Flags ws → Row known forms.Flags ws
+flags_row known [] given = absurd (omega (arith, given.good.enough))
+flags_row known (w ∷ rest) given =
     let most = given.good.most in
-    let enough = given.good.enough in
-    let bits = flags_bits known rest (omega arith) in
+    let bits = flags_bits known w rest (omega arith) in
     let a = bits.stats in
     let b = bits.collectable in
     let c = bits.uncollectable in
@@ -315,11 +304,11 @@ flags_row n known names rest given =
       good = flags_good a b c d;
       same = record {
         said_same = ap (λ (k : ℕ). Does (commands.Flags k)) (flags_read known a b c d ∙ sym bits.is);
-        texts_same = flags_texts known a b c d ∙ sym (no_flag_texts known rest (omega arith));
+        texts_same = flags_texts known a b c d ∙ sym (no_flag_texts known w rest (omega arith));
         procs_same = refl;
         classes_same = refl;
         repeated_same = refl;
         none_unknown = flags_known known a b c d;
       };
-      printed = ap (λ (k : ℕ). said_words n (Does (commands.Flags k))) bits.is ∙ flags_printed n a b c d;
+      tidy = ap (λ (k : ℕ). said_filled (Does (commands.Flags k))) (flags_read known a b c d) ∙ flags_tidy known a b c d;
     }

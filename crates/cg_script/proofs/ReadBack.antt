@@ -1,9 +1,7 @@
--- The canonical bytes of a script that some bytes spell are read back as this script.
-use Rattle.std.proofs.Common.{◌≡◌, ℕ, ◌+◌, ◌≤◌, List, [], ◌∷◌, ◌++◌, length, map, Bool, true, false, cond, ◌&&◌, ◌==◌, Option, None, Some, refl, sym, ap, subst, ◌∙◌, arith, codes, inl, inr, ◌⊎◌, append_assoc}
-use Rattle.std.specs.Prelude.{flat_map, unwrap_or}
-use Rattle.std.specs.Str.{bytes_eq}
+-- The canonical bytes of a script that some bytes spell are read as this script.
+use Rattle.std.proofs.Common.{◌≡◌, ℕ, ◌+◌, ◌≤◌, List, [], ◌∷◌, ◌++◌, length, map, Bool, true, false, cond, ◌==◌, Option, None, refl, sym, ap, subst, ◌∙◌, arith, codes, append_assoc}
+use Rattle.std.specs.Prelude.{flat_map}
 use Rattle.std.proofs.lemmas.Bool.Decides.{nat_tests}
-use Rattle.std.proofs.lemmas.Slice.Eq.{bytes_eq-Decides}
 use Rattle.cg_value.specs.Texts.{text_number, has_text, with_text}
 use Rattle.cg_script.specs.declared.item.Item.{Item}
 use Rattle.cg_script.specs.declared.item.Item.TheVariants as items
@@ -12,63 +10,63 @@ use Rattle.cg_script.specs.declared.form.Form.TheVariants as forms
 use Rattle.cg_script.specs.declared.part.Part.{Part}
 use Rattle.cg_script.specs.declared.part.Said.{Said}
 use Rattle.cg_script.specs.declared.part.Said.TheVariants.{Declares, Begins as BeginsProc, Ends, Does}
-use Rattle.cg_script.specs.Pieces.{lines_of, word_at, word_is}
-use Rattle.cg_script.specs.Tables.{named}
-use Rattle.cg_script.specs.Forms.{row, openers, bindings}
-use Rattle.cg_script.specs.Meanings.{Meaning, says, binding_form, meaning}
-use Rattle.cg_script.specs.Parts.{Known, parts_of, texts_from}
-use Rattle.cg_script.specs.Commands.{said}
+use Rattle.cg_script.specs.Pieces.{lines_of}
+use Rattle.cg_script.specs.Forms.{row}
+use Rattle.cg_script.specs.Meanings.{Meaning, says, meaning}
+use Rattle.cg_script.specs.Parts.{Known, parts_of, texts_from, has_unknown}
+use Rattle.cg_script.specs.Commands.{Filled, said, said_filled, IsSaidAgain}
 use Rattle.cg_script.specs.Reading.{nothing_known, is_misplaced, is_repeated, fault_in, says_or_bad, checked, meant, procs_after, classes_after, inside_after, known_after, Lines, good, spoilt, also_said, with_later, lines_from, body_of, items_of, spells, script_of, reading}
-use Rattle.cg_script.specs.Canonical.{Naming, text_of, command_words, end_words, item_lines, procs_in, classes_in, naming_of, joined, line_of_words, canonical}
+use Rattle.cg_script.specs.Canonical.{Naming, text_of, command_words, filled_words, said_words, item_lines, procs_in, classes_in, naming_of, joined, line_of_words, canonical}
 use Rattle.cg_script.proofs.Lines.{passed_before_last, says_before_last}
 use Rattle.cg_script.proofs.Walk.{each_line}
 use Rattle.cg_script.proofs.Grouped.{ends_inside, first_outside}
 use Rattle.cg_script.proofs.Joined.{EachSound, EachLineSound, lines_of-written}
-use Rattle.cg_script.proofs.Shown.{Begins, Names, begins_self, begins_along, begins_texts, text_found, normal_from}
+use Rattle.cg_script.proofs.Shown.{Begins, Names, begins_self, begins_along, begins_texts, text_found, normal_from, shown_normal}
 use Rattle.cg_script.proofs.GoodLines.{Same, Faultless, good_line, good_again, good_says, same_again, same_along, same_known, faultless, no_fault}
-use Rattle.cg_script.proofs.Rows.{Given, Row, said_words, opener_is, binding_is, opened, bound, bind_row}
+use Rattle.cg_script.proofs.Keys.{keys_stand}
+use Rattle.cg_script.proofs.Rows.{Given, Row, three_first, fixed_row, list_row, tuple_row, func_row, threshold_row}
 use Rattle.cg_script.proofs.OddRows.{collect_row, ref_row, flags_row}
 use Rattle.cg_script.proofs.ClassRows.{class_row}
 
--- what is printed of a parsed line
+-- what is printed of a line that is read
+module _ (known : Known) where
+  reference_row : (ws : List (List ℕ)) → Given known forms.MakeRef ws → Row known forms.MakeRef ws
+  reference_row ws given =
+      three_first (λ (l : List (List ℕ)). Given known forms.MakeRef l → Row known forms.MakeRef l) ws (let enough = given.good.enough in omega arith)
+      (λ a b c rest given.
+      let keys = keys_stand forms.MakeRef (a ∷ b ∷ c ∷ rest) given.good.picks in
+      subst (λ (l : List (List ℕ)). Given known forms.MakeRef l → Row known forms.MakeRef l)
+      (ap (λ (u : List ℕ). a ∷ u ∷ codes "ref" ∷ rest) (keys.1.0 refl) ∙ ap (λ (u : List ℕ). a ∷ b ∷ u ∷ rest) (keys.1.1.0 refl)) (ref_row known a rest) given) given
+
+  class_line_row : (ws : List (List ℕ)) → Given known forms.Class ws → Row known forms.Class ws
+  class_line_row [] given = absurd (omega (arith, given.good.enough))
+  class_line_row (w ∷ rest) given =
+      subst (λ (u : List ℕ). Given known forms.Class (u ∷ rest) → Row known forms.Class (u ∷ rest)) ((keys_stand forms.Class (w ∷ rest) given.good.picks).0 refl) (class_row known rest) given
+
+  line_row : (form : Form) (ws : List (List ℕ)) → Given known form ws → Row known form ws
+  line_row forms.MakeList ws given = list_row known ws given
+  line_row forms.MakeTuple ws given = tuple_row known ws given
+  line_row forms.MakeFunc ws given = func_row known ws given
+  line_row forms.MakeRef ws given = reference_row ws given
+  line_row forms.Collect ws given = collect_row known ws given
+  line_row forms.Threshold ws given = threshold_row known ws given
+  line_row forms.Flags ws given = flags_row known ws given
+  line_row forms.Class ws given = class_line_row ws given
+  line_row form ws given = fixed_row known form ws refl given
+
+  pub said_again : (number : ℕ) (line : List ℕ) (form : Form) (ws : List (List ℕ)) → says form ws ≡ meaning number line → has_unknown (parts_of known form ws) ≡ false → IsSaidAgain (said form (parts_of known form ws))
+  said_again number line form ws m defined =
+      let r = line_row form ws (record { good = good_line number line form ws m; defined = defined }) in
+      ap (λ (l : Filled). said l.form l.filling) (ap said_filled (sym r.same.said_same) ∙ r.tidy) ∙ r.same.said_same
+
 module _ (n : Naming) (known : Known) (names : Names n known.procs known.classes) where
-  opener_row : (form : Form) (ws : List (List ℕ)) → named openers (word_at ws 0) ≡ Some form → Given n known form ws → Row n known form ws
-  opener_row form [] e given = let never : true ≡ false = given.good.unpassed in absurd (cc)
-  opener_row form (w ∷ rest) e given =
-      let is = opener_is w form e in
-      subst (λ (u : List ℕ). Given n known form (u ∷ rest) → Row n known form (u ∷ rest)) (sym is.word)
-      (opened n known names form rest (collect_row n known names) (flags_row n known names) (class_row n known names) is.again) given
-
-  named_row : (form : Form) (a c : List ℕ) (rest : List (List ℕ)) (found : Option Form) → named bindings c ≡ found → unwrap_or found forms.Bind ≡ form → Given n known form (a ∷ codes "=" ∷ c ∷ rest)
-      → Row n known form (a ∷ codes "=" ∷ c ∷ rest)
-  named_row form a c rest None e is given =
-      subst (λ (k : Form). Given n known k (a ∷ codes "=" ∷ c ∷ rest) → Row n known k (a ∷ codes "=" ∷ c ∷ rest)) is (bind_row n known names a c rest) given
-  named_row form a c rest (Some other) e is given =
-      let found = binding_is c other e in
-      subst (λ (k : Form). Given n known k (a ∷ codes "=" ∷ c ∷ rest) → Row n known k (a ∷ codes "=" ∷ c ∷ rest)) is
-      (subst (λ (u : List ℕ). Given n known other (a ∷ codes "=" ∷ u ∷ rest) → Row n known other (a ∷ codes "=" ∷ u ∷ rest)) (sym found.word)
-      (bound n known names other a rest (ref_row n known names) found.again)) given
-
-  third_row : (form : Form) (a c : List ℕ) (rest : List (List ℕ)) (lone : Bool) → cond lone forms.Bind (unwrap_or (named bindings c) forms.Bind) ≡ form → Given n known form (a ∷ codes "=" ∷ c ∷ rest)
-      → Row n known form (a ∷ codes "=" ∷ c ∷ rest)
-  third_row form a c rest true is given =
-      subst (λ (k : Form). Given n known k (a ∷ codes "=" ∷ c ∷ rest) → Row n known k (a ∷ codes "=" ∷ c ∷ rest)) is (bind_row n known names a c rest) given
-  third_row form a c rest false is given = named_row form a c rest (named bindings c) refl is given
-
-  binding_row : (form : Form) (ws : List (List ℕ)) → word_is ws 1 (codes "=") ≡ true → (length ws == 2) ≡ false → binding_form ws ≡ form → Given n known form ws → Row n known form ws
-  binding_row form [] sign more is given = absurd (cc)
-  binding_row form (a ∷ []) sign more is given = absurd (cc)
-  binding_row form (a ∷ b ∷ []) sign more is given = absurd (cc)
-  binding_row form (a ∷ b ∷ c ∷ rest) sign more is given =
-      subst (λ (u : List ℕ). Given n known form (a ∷ u ∷ c ∷ rest) → Row n known form (a ∷ u ∷ c ∷ rest)) (sym ((bytes_eq-Decides b (codes "=")).0 sign))
-      (λ given. third_row form a c rest (bytes_eq c (codes "ref") && (length (a ∷ b ∷ c ∷ rest) == 3)) is given) given
-
-  line_row : (form : Form) (ws : List (List ℕ)) → Given n known form ws → Row n known form ws
-  line_row form ws given = by given.good.picks
-    where
-      by : ((word_is ws 1 (codes "=") ≡ false) × (named openers (word_at ws 0) ≡ Some form)) ⊎ ((word_is ws 1 (codes "=") ≡ true) × ((length ws == 2) ≡ false) × (binding_form ws ≡ form)) → Row n known form ws
-      by (inl p) = opener_row form ws p.1 given
-      by (inr p) = binding_row form ws p.0 p.1 p.2 given
+  -- what is said is printed by other words for the same, as they are printed
+  row_printed : (form : Form) (ws : List (List ℕ)) → Begins (texts_from known.texts form 0 ws) n.texts → (r : Row known form ws) → said_words n (said form (parts_of known form ws)) ≡ normal_from form 0 r.standing
+  unfolding filled_words
+  row_printed form ws begins r =
+      ap (λ (s : Said). said_words n s) (sym r.same.said_same)
+      ∙ ap (λ (l : Filled). filled_words n l) r.tidy
+      ∙ shown_normal n known.procs known.classes form r.standing known.texts 0 names (subst (λ ts. Begins ts n.texts) (sym r.same.texts_same) begins) r.same.none_unknown r.good.fit (keys_stand form r.standing r.good.picks)
 
   -- the printed line says the same, and leads to the same knowledge
   record Again (form : Form) (ws : List (List ℕ)) : Type 0 where
@@ -79,15 +77,15 @@ module _ (n : Naming) (known : Known) (names : Names n known.procs known.classes
     clean : fault_in known form words ≡ None
     same : Same known form ws words
 
-  again : (form : Form) (ws : List (List ℕ)) → Given n known form ws → Faultless known form ws → Again form ws
-  again form ws given clean =
-      let r = line_row form ws given in
+  again : (form : Form) (ws : List (List ℕ)) → Begins (texts_from known.texts form 0 ws) n.texts → Given known form ws → Faultless known form ws → Again form ws
+  again form ws begins given clean =
+      let r = line_row known form ws given in
       let words = normal_from form 0 r.standing in
       let words_good = good_again form r.standing r.good in
       let same = same_along known form ws r.standing words r.same (same_again known form r.standing r.good r.same.none_unknown) in
       record {
         words = words;
-        printed = r.printed;
+        printed = row_printed form ws begins r;
         sound = words_good.sound;
         means = λ k before. good_says k form words words_good before;
         clean = no_fault known form ws words clean same;
@@ -98,27 +96,24 @@ module _ (n : Naming) (known : Known) (names : Names n known.procs known.classes
   unfolding meant
   line_meant form words k line m clean = ap (checked known) m ∙ ap (λ (o : Option ℕ). says_or_bad o form words) clean
 
-  pub line_back : (form : Form) (ws : List (List ℕ)) → Given n known form ws → Faultless known form ws → (k : ℕ) → (k == 400001) ≡ false → (rest : List (List ℕ))
+  pub line_back : (form : Form) (ws : List (List ℕ)) → Begins (texts_from known.texts form 0 ws) n.texts → Given known form ws → Faultless known form ws → (k : ℕ) → (k == 400001) ≡ false → (rest : List (List ℕ))
       → lines_from known k (joined (said_words n (said form (parts_of known form ws))) ∷ rest) ≡ also_said (said form (parts_of known form ws)) (lines_from (known_after known form ws) (k + 1) rest)
-  line_back form ws given clean k before rest =
-      let a = again form ws given clean in
+  line_back form ws begins given clean k before rest =
+      let a = again form ws begins given clean in
       ap (λ (l : List (List ℕ)). lines_from known k (joined l ∷ rest)) a.printed
       ∙ ap (λ (m : Meaning). with_later known k m (λ behind. lines_from behind (k + 1) rest)) (line_meant form a.words k (joined a.words) (a.means k before) a.clean)
       ∙ ap (λ (s : Said). also_said s (lines_from (known_after known form a.words) (k + 1) rest)) a.same.said_same
       ∙ ap (λ (b : Known). also_said (said form (parts_of known form ws)) (lines_from b (k + 1) rest)) (same_known known form ws a.words a.same)
 
-  pub line_sound : (form : Form) (ws : List (List ℕ)) → Given n known form ws → Faultless known form ws → EachSound (said_words n (said form (parts_of known form ws)))
-  line_sound form ws given clean = let a = again form ws given clean in subst (λ l. EachSound l) (sym a.printed) a.sound
+  pub line_sound : (form : Form) (ws : List (List ℕ)) → Begins (texts_from known.texts form 0 ws) n.texts → Given known form ws → Faultless known form ws → EachSound (said_words n (said form (parts_of known form ws)))
+  line_sound form ws begins given clean = let a = again form ws begins given clean in subst (λ l. EachSound l) (sym a.printed) a.sound
 
 -- lines in which procedures open and close in turn, with declarations outside them
 abbrev Nested : Bool → List Said → Type 0
 Nested inside [] = inside ≡ false
-Nested inside (Declares (items.Profile profile) ∷ later) = (inside ≡ false) × Nested inside later
-Nested inside (Declares items.Shutdown ∷ later) = (inside ≡ false) × Nested inside later
-Nested inside (Declares (items.Budget count) ∷ later) = (inside ≡ false) × Nested inside later
-Nested inside (Declares (items.Class c) ∷ later) = (inside ≡ false) × Nested inside later
 Nested inside (Declares (items.Def p) ∷ later) = ⊥
 Nested inside (Declares (items.Run c) ∷ later) = ⊥
+Nested inside (Declares item ∷ later) = (inside ≡ false) × Nested inside later
 Nested inside (BeginsProc name ∷ later) = (inside ≡ false) × Nested true later
 Nested inside (Ends ∷ later) = (inside ≡ true) × Nested false later
 Nested inside (Does command ∷ later) = Nested inside later
@@ -135,79 +130,50 @@ nested_step known form ps later e nested = nested
 -- the procedures and classes that lines define
 abbrev begun : List Said → List ℕ
 begun [] = []
-begun (Declares (items.Profile profile) ∷ later) = begun later
-begun (Declares items.Shutdown ∷ later) = begun later
-begun (Declares (items.Budget count) ∷ later) = begun later
-begun (Declares (items.Class c) ∷ later) = begun later
 begun (Declares (items.Def p) ∷ later) = p.name ∷ begun later
-begun (Declares (items.Run c) ∷ later) = begun later
 begun (BeginsProc name ∷ later) = name ∷ begun later
-begun (Ends ∷ later) = begun later
-begun (Does command ∷ later) = begun later
+begun (s ∷ later) = begun later
 
 abbrev declared : List Said → List ℕ
 declared [] = []
-declared (Declares (items.Profile profile) ∷ later) = declared later
-declared (Declares items.Shutdown ∷ later) = declared later
-declared (Declares (items.Budget count) ∷ later) = declared later
 declared (Declares (items.Class c) ∷ later) = c.name ∷ declared later
-declared (Declares (items.Def p) ∷ later) = declared later
-declared (Declares (items.Run c) ∷ later) = declared later
-declared (BeginsProc name ∷ later) = declared later
-declared (Ends ∷ later) = declared later
-declared (Does command ∷ later) = declared later
+declared (s ∷ later) = declared later
 
 procs_in-items_of : (inside : Bool) (saids : List Said) → procs_in (items_of inside saids) ≡ begun saids
 procs_in-items_of inside [] = refl
-procs_in-items_of inside (Declares (items.Profile profile) ∷ later) = procs_in-items_of inside later
-procs_in-items_of inside (Declares items.Shutdown ∷ later) = procs_in-items_of inside later
-procs_in-items_of inside (Declares (items.Budget count) ∷ later) = procs_in-items_of inside later
-procs_in-items_of inside (Declares (items.Class c) ∷ later) = procs_in-items_of inside later
 procs_in-items_of inside (Declares (items.Def p) ∷ later) = ap (λ (l : List ℕ). p.name ∷ l) (procs_in-items_of inside later)
-procs_in-items_of inside (Declares (items.Run c) ∷ later) = procs_in-items_of inside later
 procs_in-items_of inside (BeginsProc name ∷ later) = ap (λ (l : List ℕ). name ∷ l) (procs_in-items_of true later)
 procs_in-items_of inside (Ends ∷ later) = procs_in-items_of false later
 procs_in-items_of true (Does command ∷ later) = procs_in-items_of true later
 procs_in-items_of false (Does command ∷ later) = procs_in-items_of false later
+procs_in-items_of inside (Declares item ∷ later) = procs_in-items_of inside later
 
 classes_in-items_of : (inside : Bool) (saids : List Said) → classes_in (items_of inside saids) ≡ declared saids
 classes_in-items_of inside [] = refl
-classes_in-items_of inside (Declares (items.Profile profile) ∷ later) = classes_in-items_of inside later
-classes_in-items_of inside (Declares items.Shutdown ∷ later) = classes_in-items_of inside later
-classes_in-items_of inside (Declares (items.Budget count) ∷ later) = classes_in-items_of inside later
 classes_in-items_of inside (Declares (items.Class c) ∷ later) = ap (λ (l : List ℕ). c.name ∷ l) (classes_in-items_of inside later)
-classes_in-items_of inside (Declares (items.Def p) ∷ later) = classes_in-items_of inside later
-classes_in-items_of inside (Declares (items.Run c) ∷ later) = classes_in-items_of inside later
 classes_in-items_of inside (BeginsProc name ∷ later) = classes_in-items_of true later
 classes_in-items_of inside (Ends ∷ later) = classes_in-items_of false later
 classes_in-items_of true (Does command ∷ later) = classes_in-items_of true later
 classes_in-items_of false (Does command ∷ later) = classes_in-items_of false later
+classes_in-items_of inside (Declares item ∷ later) = classes_in-items_of inside later
 
 -- the lines of the items are those of what is said; inside a procedure, those of its commands and its end come first
 abbrev LinesSaid : Naming → Bool → List Said → Type 0
 LinesSaid n false saids = flat_map (item_lines n) (items_of false saids) ≡ map (said_words n) saids
-LinesSaid n true saids = (map (command_words n) (body_of saids) ++ end_words ∷ []) ++ flat_map (item_lines n) (items_of true saids) ≡ map (said_words n) saids
+LinesSaid n true saids = (map (command_words n) (body_of saids) ++ said_words n Ends ∷ []) ++ flat_map (item_lines n) (items_of true saids) ≡ map (said_words n) saids
 
 lines_said : (n : Naming) (inside : Bool) (saids : List Said) → Nested inside saids → LinesSaid n inside saids
 lines_said n false [] nested = refl
 lines_said n true [] nested = absurd (cc)
-lines_said n false (Declares (items.Profile profile) ∷ later) nested = ap (λ (l : List (List (List ℕ))). said_words n (Declares (items.Profile profile)) ∷ l) (lines_said n false later nested.1)
-lines_said n false (Declares items.Shutdown ∷ later) nested = ap (λ (l : List (List (List ℕ))). said_words n (Declares items.Shutdown) ∷ l) (lines_said n false later nested.1)
-lines_said n false (Declares (items.Budget count) ∷ later) nested = ap (λ (l : List (List (List ℕ))). said_words n (Declares (items.Budget count)) ∷ l) (lines_said n false later nested.1)
-lines_said n false (Declares (items.Class c) ∷ later) nested = ap (λ (l : List (List (List ℕ))). said_words n (Declares (items.Class c)) ∷ l) (lines_said n false later nested.1)
-lines_said n false (Declares (items.Def p) ∷ later) nested = absurd nested
-lines_said n false (Declares (items.Run c) ∷ later) nested = absurd nested
+lines_said n inside (Declares (items.Def p) ∷ later) nested = absurd nested
+lines_said n inside (Declares (items.Run c) ∷ later) nested = absurd nested
+lines_said n false (Declares item ∷ later) nested = ap (λ (l : List (List (List ℕ))). said_words n (Declares item) ∷ l) (lines_said n false later nested.1)
 lines_said n false (BeginsProc name ∷ later) nested = ap (λ (l : List (List (List ℕ))). said_words n (BeginsProc name) ∷ l) (lines_said n true later nested.1)
 lines_said n false (Ends ∷ later) nested = let never : false ≡ true = nested.0 in absurd (cc)
 lines_said n false (Does command ∷ later) nested = ap (λ (l : List (List (List ℕ))). command_words n command ∷ l) (lines_said n false later nested)
-lines_said n true (Declares (items.Profile profile) ∷ later) nested = let never : true ≡ false = nested.0 in absurd (cc)
-lines_said n true (Declares items.Shutdown ∷ later) nested = let never : true ≡ false = nested.0 in absurd (cc)
-lines_said n true (Declares (items.Budget count) ∷ later) nested = let never : true ≡ false = nested.0 in absurd (cc)
-lines_said n true (Declares (items.Class c) ∷ later) nested = let never : true ≡ false = nested.0 in absurd (cc)
-lines_said n true (Declares (items.Def p) ∷ later) nested = absurd nested
-lines_said n true (Declares (items.Run c) ∷ later) nested = absurd nested
+lines_said n true (Declares item ∷ later) nested = let never : true ≡ false = nested.0 in absurd (cc)
 lines_said n true (BeginsProc name ∷ later) nested = let never : true ≡ false = nested.0 in absurd (cc)
-lines_said n true (Ends ∷ later) nested = ap (λ (l : List (List (List ℕ))). end_words ∷ l) (lines_said n false later nested.1)
+lines_said n true (Ends ∷ later) nested = ap (λ (l : List (List (List ℕ))). said_words n Ends ∷ l) (lines_said n false later nested.1)
 lines_said n true (Does command ∷ later) nested = ap (λ (l : List (List (List ℕ))). command_words n command ∷ l) (lines_said n true later nested)
 
 -- what a line defines is the next one of all
@@ -264,10 +230,10 @@ back_said number known line form words texts saids m f fact =
             classes_begin = record { more = map (text_of texts) (declared (said form (parts_of known form words) ∷ saids)); is = ec };
           } in
           let before = says_before_last number line form words m limit in
-          let given : Given n known form words = record { good = words_good; begins = fact.begins; defined = clean.defined } in
+          let given : Given known form words = record { good = words_good; defined = clean.defined } in
           let later = fact.back procs classes (ep ∙ procs_step known texts form words saids words_good.enough clean.fresh fact.begins) (ec ∙ classes_step known texts form words saids words_good.enough clean.fresh fact.begins) (k + 1) (omega arith) before in (
-            line_back n known names form words given clean k (not_last k number h before) (map joined (map (said_words n) saids)) ∙ ap (also_said (said form (parts_of known form words))) later.0,
-            (line_sound n known names form words given clean, later.1),
+            line_back n known names form words fact.begins given clean k (not_last k number h before) (map joined (map (said_words n) saids)) ∙ ap (also_said (said form (parts_of known form words))) later.0,
+            (line_sound n known names form words fact.begins given clean, later.1),
           );
     }
 

@@ -8,7 +8,7 @@ use Rattle.cg_script.specs.declared.item.Item.TheVariants as items
 use Rattle.cg_script.specs.declared.form.Form.{Form}
 use Rattle.cg_script.specs.declared.form.Form.TheVariants as forms
 use Rattle.cg_script.specs.declared.form.Sort.{Sort}
-use Rattle.cg_script.specs.declared.form.Sort.TheVariants.{Key, Variable, Name, Class, Proc, Finalizer, Value, Number, Profile, Budget, Count, Flag}
+use Rattle.cg_script.specs.declared.form.Sort.TheVariants.{Variable, Name}
 use Rattle.cg_script.specs.declared.part.Part.{Part}
 use Rattle.cg_script.specs.declared.part.Part.TheVariants as parts
 use Rattle.cg_script.specs.declared.part.Said.{Said}
@@ -30,25 +30,14 @@ hold_both Holds (x ∷ xs) ys a b = (a.0, hold_both Holds xs ys a.1 b)
 abbrev pub is_text : Sort → Bool
 is_text Variable = true
 is_text Name = true
-is_text Key = false
-is_text Class = false
-is_text Proc = false
-is_text Finalizer = false
-is_text Value = false
-is_text Number = false
-is_text Profile = false
-is_text Budget = false
-is_text Count = false
-is_text Flag = false
+is_text sort = false
 
 -- the words of a declaration, or of a line, as operands: its name counts as a variable
 abbrev pub item_by : (Operand → List ℕ) → Item → List ℕ
 item_by of (items.Class c) = of (operands.Name c.name)
 item_by of (items.Def p) = of (operands.Name p.name) ++ flat_map (words_by of) p.body
 item_by of (items.Run command) = words_by of command
-item_by of (items.Profile n) = []
-item_by of items.Shutdown = []
-item_by of (items.Budget n) = []
+item_by of item = []
 
 abbrev pub said_by : (Operand → List ℕ) → Said → List ℕ
 said_by of (Declares item) = item_by of item
@@ -66,12 +55,7 @@ module _ (of : Operand → List ℕ) (Holds : ℕ → Type 0) where
   abbrev pub PartHolds : Part → Type 0
   PartHolds (parts.Text k) = Holds k
   PartHolds (parts.Value operand) = AllHold Holds (of operand)
-  PartHolds parts.Bare = Unit {0}
-  PartHolds (parts.Number k) = Unit {0}
-  PartHolds (parts.Count k) = Unit {0}
-  PartHolds (parts.Finalizer k) = Unit {0}
-  PartHolds (parts.Legacy k) = Unit {0}
-  PartHolds parts.Unknown = Unit {0}
+  PartHolds part = Unit {0}
 
   abbrev pub EachPart : List Part → Type 0
   EachPart [] = Unit {0}
@@ -85,13 +69,7 @@ module _ (of : Operand → List ℕ) (Holds : ℕ → Type 0) where
   module _ (w : WordsHold of Holds) where
     value_of : (p : Part) → PartHolds p → AllHold Holds (of (value_or (Some p)))
     value_of (parts.Value operand) b = b
-    value_of (parts.Text k) b = w.nothing
-    value_of parts.Bare b = w.nothing
-    value_of (parts.Number k) b = w.nothing
-    value_of (parts.Count k) b = w.nothing
-    value_of (parts.Finalizer k) b = w.nothing
-    value_of (parts.Legacy k) b = w.nothing
-    value_of parts.Unknown b = w.nothing
+    value_of p b = w.nothing
 
     value_there : (ps : List Part) (i : ℕ) → EachPart ps → AllHold Holds (of (value_at ps i))
     value_there [] i e = w.nothing
@@ -141,8 +119,6 @@ module _ (of : Operand → List ℕ) (Holds : ℕ → Type 0) where
       said_holds forms.Get t = binds (of (value_at ps 3) ++ of (value_at ps 4)) (t 0 (omega arith) refl) (vv 3 4)
       said_holds forms.Attr t = binds (of (value_at ps 3) ++ of (operands.Str (text_at ps 4))) (t 0 (omega arith) refl) (attribute 3 4 (t 4 (omega arith) refl))
       said_holds forms.Deref t = binds (of (value_at ps 3)) (t 0 (omega arith) refl) (v 3)
-      said_holds forms.Call t = v 1
-      said_holds forms.Quit t = v 1
       said_holds forms.Collect t = tt
       said_holds forms.Enable t = tt
       said_holds forms.Disable t = tt
@@ -150,12 +126,6 @@ module _ (of : Operand → List ℕ) (Holds : ℕ → Type 0) where
       said_holds forms.Flags t = tt
       said_holds forms.Freeze t = tt
       said_holds forms.Unfreeze t = tt
-      said_holds forms.Print t = v 1
-      said_holds forms.Refs t = v 1
-      said_holds forms.Tracked t = v 1
-      said_holds forms.Finalized t = v 1
-      said_holds forms.Referents t = v 1
-      said_holds forms.Referrers t = v 1
       said_holds forms.Why t = w.name _ (t 1 (omega arith) refl)
       said_holds forms.Count t = tt
       said_holds forms.Gens t = tt
@@ -165,3 +135,4 @@ module _ (of : Operand → List ℕ) (Holds : ℕ → Type 0) where
       said_holds forms.Class t = w.name _ (t 1 (omega arith) refl)
       said_holds forms.Def t = w.name _ (t 1 (omega arith) refl)
       said_holds forms.End t = tt
+      said_holds form t = v 1

@@ -1,8 +1,10 @@
--- What a line says in a script: how the parts of each form become a command or a declaration. (Ours.)
-use Rattle.std.specs.Prelude.{ℕ, List, map, drop, Option, None, Some, slice_get, bit_or, ℤ, pos}
+-- What a line says in a script: how the parts of each form become a command or a declaration, and which parts a command or a
+-- declaration is printed by. (Ours.)
+use Rattle.std.specs.Prelude.{◌≡◌, ℕ, List, [], ◌∷◌, ◌++◌, map, drop, Option, None, Some, slice_get, bit_or, bit_and, ◌==◌, if◌then◌else◌, ℤ, pos}
 use Rattle.std.specs.Option.{option_or}
 use Rattle.cg_script.specs.declared.command.Operand.{Operand}
 use Rattle.cg_script.specs.declared.command.Operand.TheVariants as operands
+use Rattle.cg_script.specs.declared.command.Command.{Command}
 use Rattle.cg_script.specs.declared.command.Command.TheVariants as commands
 use Rattle.cg_script.specs.declared.item.Item.TheVariants as items
 use Rattle.cg_script.specs.declared.form.Form.{Form}
@@ -119,3 +121,89 @@ said forms.Class p = Declares (items.Class (record {
 }))
 said forms.Def p = Begins (text_at p 1)
 said forms.End p = Ends
+
+-- a form with the parts of its words
+pub record Filled : Type 0 where
+  pub form : Form
+  pub filling : List Part
+
+abbrev pub filled : Form → List Part → Filled
+filled form filling = record { form = form; filling = filling }
+
+-- a line that begins with the word of its form
+abbrev pub opening : Form → List Part → Filled
+opening form rest = filled form (parts.Bare ∷ rest)
+
+-- a line `x = ..` with the word of its form
+abbrev pub binding : Form → ℕ → List Part → Filled
+binding form name rest = filled form (parts.Text name ∷ parts.Bare ∷ parts.Bare ∷ rest)
+
+-- a callback that is none is left out
+abbrev pub callback_filling : Operand → List Part
+callback_filling operands.None = []
+callback_filling callback = parts.Value callback ∷ []
+
+-- a count, or the number of a procedure, that may be absent
+abbrev pub filling_if : (ℕ → Part) → Option ℕ → List Part
+filling_if part None = []
+filling_if part (Some n) = part n ∷ []
+
+-- a debug flag, where its bit is set
+abbrev pub flag_filling : ℕ → ℕ → List Part
+flag_filling bits bit = if bit_and bits bit == 0 then [] else parts.Count bit ∷ []
+
+-- the line of a command: one row for each form
+abbrev pub command_filled : Command → Filled
+command_filled (commands.MakeList name items) = binding forms.MakeList name (map parts.Value items)
+command_filled (commands.MakeTuple name items) = binding forms.MakeTuple name (map parts.Value items)
+command_filled (commands.MakeDict name) = binding forms.MakeDict name []
+command_filled (commands.MakeInst name class) = binding forms.MakeInst name (parts.Count class ∷ [])
+command_filled (commands.MakeFunc name proc cells) = binding forms.MakeFunc name (parts.Count proc ∷ map parts.Value cells)
+command_filled (commands.MakeRef name target callback) = binding forms.MakeRef name (parts.Value target ∷ callback_filling callback)
+command_filled (commands.Bind name value) = filled forms.Bind (parts.Text name ∷ parts.Bare ∷ parts.Value value ∷ [])
+command_filled (commands.Del name) = opening forms.Del (parts.Text name ∷ [])
+command_filled (commands.Append list value) = opening forms.Append (parts.Value list ∷ parts.Value value ∷ [])
+command_filled (commands.SetItem list index value) = opening forms.SetItem (parts.Value list ∷ parts.Number index ∷ parts.Value value ∷ [])
+command_filled (commands.DelItem list index) = opening forms.DelItem (parts.Value list ∷ parts.Number index ∷ [])
+command_filled (commands.Put dict key value) = opening forms.Put (parts.Value dict ∷ parts.Value key ∷ parts.Value value ∷ [])
+command_filled (commands.Remove dict key) = opening forms.Remove (parts.Value dict ∷ parts.Value key ∷ [])
+command_filled (commands.SetAttr object attr value) = opening forms.SetAttr (parts.Value object ∷ parts.Text attr ∷ parts.Value value ∷ [])
+command_filled (commands.DelAttr object attr) = opening forms.DelAttr (parts.Value object ∷ parts.Text attr ∷ [])
+command_filled (commands.Item name list index) = binding forms.Item name (parts.Value list ∷ parts.Number index ∷ [])
+command_filled (commands.Get name dict key) = binding forms.Get name (parts.Value dict ∷ parts.Value key ∷ [])
+command_filled (commands.Attr name object attr) = binding forms.Attr name (parts.Value object ∷ parts.Text attr ∷ [])
+command_filled (commands.Deref name weak) = binding forms.Deref name (parts.Value weak ∷ [])
+command_filled (commands.Call func) = opening forms.Call (parts.Value func ∷ [])
+command_filled (commands.Quit value) = opening forms.Quit (parts.Value value ∷ [])
+command_filled (commands.Collect generation) = opening forms.Collect (parts.Number generation ∷ [])
+command_filled commands.Enable = opening forms.Enable []
+command_filled commands.Disable = opening forms.Disable []
+command_filled (commands.Threshold first second third) = opening forms.Threshold (parts.Count first ∷ (filling_if parts.Count second ++ filling_if parts.Count third))
+command_filled (commands.Flags bits) = opening forms.Flags (flag_filling bits 1 ++ flag_filling bits 2 ++ flag_filling bits 4 ++ flag_filling bits 32)
+command_filled commands.Freeze = opening forms.Freeze []
+command_filled commands.Unfreeze = opening forms.Unfreeze []
+command_filled (commands.Print value) = opening forms.Print (parts.Value value ∷ [])
+command_filled (commands.Refs value) = opening forms.Refs (parts.Value value ∷ [])
+command_filled (commands.Tracked value) = opening forms.Tracked (parts.Value value ∷ [])
+command_filled (commands.Finalized value) = opening forms.Finalized (parts.Value value ∷ [])
+command_filled (commands.Referents value) = opening forms.Referents (parts.Value value ∷ [])
+command_filled (commands.Referrers value) = opening forms.Referrers (parts.Value value ∷ [])
+command_filled (commands.Why name) = opening forms.Why (parts.Text name ∷ [])
+command_filled commands.Count = opening forms.Count []
+command_filled commands.Gens = opening forms.Gens []
+
+-- the line of what is said; of a procedure, its first one
+abbrev pub said_filled : Said → Filled
+said_filled (Declares (items.Profile profile)) = opening forms.Profile (parts.Count profile ∷ [])
+said_filled (Declares items.Shutdown) = opening forms.Shutdown []
+said_filled (Declares (items.Budget count)) = opening forms.Budget (parts.Count count ∷ [])
+said_filled (Declares (items.Class c)) = opening forms.Class (parts.Text c.name ∷ (filling_if parts.Finalizer c.del ++ filling_if parts.Legacy c.legacy))
+said_filled (Declares (items.Def p)) = opening forms.Def (parts.Text p.name ∷ [])
+said_filled (Declares (items.Run command)) = command_filled command
+said_filled (Begins name) = opening forms.Def (parts.Text name ∷ [])
+said_filled Ends = opening forms.End []
+said_filled (Does command) = command_filled command
+
+-- The line that it is printed by says it again.
+abbrev pub IsSaidAgain : Said → Type 0
+IsSaidAgain s = said (said_filled s).form (said_filled s).filling ≡ s

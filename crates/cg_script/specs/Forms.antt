@@ -3,6 +3,7 @@
 use Rattle.std.specs.Prelude.{ℕ, List, [], ◌∷◌, ◌++◌, Bool, true, false, map, codes, slice_index_or}
 use Rattle.cg_script.specs.declared.form.Form.{Form}
 use Rattle.cg_script.specs.declared.form.Form.TheVariants as forms
+use Rattle.cg_script.specs.declared.form.FormRow.{FormRow as CodeRow}
 use Rattle.cg_script.specs.declared.form.Sort.{Sort}
 use Rattle.cg_script.specs.declared.form.Sort.TheVariants.{Key, Variable, Name, Class, Proc, Finalizer, Value, Number, Profile, Budget, Count, Flag}
 
@@ -22,6 +23,10 @@ asks word reserved places fewest most = record { word = word; reserved = reserve
 -- a row with a reserved word
 abbrev pub takes : List ℕ → List Sort → ℕ → ℕ → FormRow
 takes word places fewest most = asks word true places fewest most
+
+-- what the code has as a row
+abbrev pub row_seen : CodeRow → FormRow
+row_seen r = asks r.word.now r.reserved r.places.now r.fewest r.most
 
 -- one row for each form; a line `x = v` has no word
 abbrev pub row : Form → FormRow

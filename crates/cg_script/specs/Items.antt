@@ -12,32 +12,20 @@ use Rattle.cg_script.specs.declared.index.Declared.{Declared}
 -- the commands outside procedures
 abbrev pub commands_of : List Item → List Command
 commands_of [] = []
-commands_of (Profile n ∷ items) = commands_of items
-commands_of (Shutdown ∷ items) = commands_of items
-commands_of (Budget n ∷ items) = commands_of items
-commands_of (Class c ∷ items) = commands_of items
-commands_of (Def p ∷ items) = commands_of items
 commands_of (Run c ∷ items) = c ∷ commands_of items
+commands_of (item ∷ items) = commands_of items
 
 -- the procedures, in order: procedures and classes are numbered by their position among their kind
 abbrev pub procedures : List Item → List Proc
 procedures [] = []
-procedures (Profile n ∷ items) = procedures items
-procedures (Shutdown ∷ items) = procedures items
-procedures (Budget n ∷ items) = procedures items
-procedures (Class c ∷ items) = procedures items
 procedures (Def p ∷ items) = p ∷ procedures items
-procedures (Run c ∷ items) = procedures items
+procedures (item ∷ items) = procedures items
 
 -- the classes, in order
 abbrev pub classes : List Item → List ClassDef
 classes [] = []
-classes (Profile n ∷ items) = classes items
-classes (Shutdown ∷ items) = classes items
-classes (Budget n ∷ items) = classes items
 classes (Class c ∷ items) = c ∷ classes items
-classes (Def p ∷ items) = classes items
-classes (Run c ∷ items) = classes items
+classes (item ∷ items) = classes items
 
 -- the first declared profile, if any
 abbrev pub declared_profile : List Item → Option ℕ

@@ -32,18 +32,10 @@ value_text None word = if is_quoted word then Some (string_text word) else if be
 
 -- the text of a word at its place
 abbrev pub text_in : Sort → List ℕ → Option (List ℕ)
-text_in Key word = None
 text_in Variable word = Some word
 text_in Name word = Some word
-text_in Class word = None
-text_in Proc word = None
-text_in Finalizer word = None
 text_in Value word = value_text (named atoms word) word
-text_in Number word = None
-text_in Profile word = None
-text_in Budget word = None
-text_in Count word = None
-text_in Flag word = None
+text_in sort word = None
 
 -- the texts with that of a word, appended if it is new
 abbrev pub with_text_if : List (List ℕ) → Option (List ℕ) → List (List ℕ)

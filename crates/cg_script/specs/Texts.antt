@@ -2,23 +2,18 @@
 use Rattle.std.specs.Prelude.{ℕ, ◌<◌, List, [], ◌∷◌, ◌++◌, flat_map, length}
 use Rattle.std.specs.List.{All}
 use Rattle.cg_script.specs.declared.command.Operand.{Operand}
-use Rattle.cg_script.specs.declared.command.Operand.TheVariants.{None, Int, Str, Name, SelfLocal, WeakLocal, Cell, Garbage}
+use Rattle.cg_script.specs.declared.command.Operand.TheVariants.{Str, Name}
 use Rattle.cg_script.specs.declared.command.Command.{Command}
-use Rattle.cg_script.specs.declared.command.Command.TheVariants.{MakeList, MakeTuple, MakeDict, MakeInst, MakeFunc, MakeRef, Bind, Del, Append, SetItem, DelItem, Put, Remove, SetAttr, DelAttr, Item as ItemOf, Get, Attr, Deref, Call, Quit, Collect, Enable, Disable, Threshold, Flags, Freeze, Unfreeze, Print, Refs, Tracked, Finalized, Referents, Referrers, Why, Count, Gens}
+use Rattle.cg_script.specs.declared.command.Command.TheVariants.{MakeList, MakeTuple, MakeDict, MakeInst, MakeFunc, MakeRef, Bind, Del, Append, SetItem, DelItem, Put, Remove, SetAttr, DelAttr, Item as ItemOf, Get, Attr, Deref, Call, Quit, Print, Refs, Tracked, Finalized, Referents, Referrers, Why}
 use Rattle.cg_script.specs.declared.item.Item.{Item}
-use Rattle.cg_script.specs.declared.item.Item.TheVariants.{Profile, Shutdown, Budget, Class, Def, Run}
+use Rattle.cg_script.specs.declared.item.Item.TheVariants.{Class, Def, Run}
 use Rattle.cg_script.specs.declared.item.Script.{Script}
 
 -- the numbers of the texts of an operand: of a string, or of a variable's name
 abbrev pub operand_texts : Operand → List ℕ
-operand_texts None = []
-operand_texts (Int n) = []
 operand_texts (Str s) = s ∷ []
 operand_texts (Name x) = x ∷ []
-operand_texts SelfLocal = []
-operand_texts WeakLocal = []
-operand_texts (Cell i) = []
-operand_texts Garbage = []
+operand_texts operand = []
 
 -- of several operands, in order
 abbrev pub operands_texts : List Operand → List ℕ
@@ -53,13 +48,6 @@ words_by of (Attr name object attr) = of (Name name) ++ (of object ++ of (Str at
 words_by of (Deref name weak) = of (Name name) ++ of weak
 words_by of (Call func) = of func
 words_by of (Quit value) = of value
-words_by of (Collect generation) = []
-words_by of Enable = []
-words_by of Disable = []
-words_by of (Threshold first second third) = []
-words_by of (Flags bits) = []
-words_by of Freeze = []
-words_by of Unfreeze = []
 words_by of (Print value) = of value
 words_by of (Refs value) = of value
 words_by of (Tracked value) = of value
@@ -67,8 +55,7 @@ words_by of (Finalized value) = of value
 words_by of (Referents value) = of value
 words_by of (Referrers value) = of value
 words_by of (Why name) = of (Name name)
-words_by of Count = []
-words_by of Gens = []
+words_by of command = []
 
 -- the texts of a command
 abbrev pub command_texts : Command → List ℕ
@@ -80,12 +67,10 @@ command_names command = words_by operand_names command
 
 -- the texts of a declaration or a command
 abbrev pub item_texts : Item → List ℕ
-item_texts (Profile n) = []
-item_texts Shutdown = []
-item_texts (Budget n) = []
 item_texts (Class c) = c.name ∷ []
 item_texts (Def p) = p.name ∷ flat_map command_texts p.body
 item_texts (Run c) = command_texts c
+item_texts item = []
 
 -- Each text that a line names is the script's. This holds for every script that some bytes spell.
 abbrev pub TextsAreKnown : Script → Type 0

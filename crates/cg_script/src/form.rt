@@ -1,11 +1,11 @@
 //! The table of forms: one row for each command and each declaration.
 ghost use Rattle.std.specs.Prelude.{◌≡◌, true, slice_index_or};
-ghost use Rattle.cg_script.specs.Forms.{row as row_of, word_of as word_in, by_words, binds, bindings, openers, worded_forms, words_of_forms};
+ghost use Rattle.cg_script.specs.Forms.{row as row_of, row_seen, asks as asks_for, takes as takes_for, word_of as word_in, by_words, binds, bindings, openers, worded_forms, words_of_forms};
 ghost use Rattle.cg_script.specs.Tables.{named as named_in};
 ghost use Rattle.cg_script.specs.Alike.{forms_like};
 
 /// A form of lines.
-#[derive(Clone, Copy, Debug, PartialEq, Eq)]
+#[derive(Clone, Copy)]
 pub enum Form {
     MakeList,
     MakeTuple,
@@ -52,8 +52,8 @@ pub enum Form {
     End,
 }
 
-/// What a word must be at its place.
-#[derive(Clone, Copy, Debug, PartialEq, Eq)]
+/// What the place of a word asks for.
+#[derive(Clone, Copy)]
 pub enum Sort {
     /// The words of the form itself.
     Key,
@@ -100,11 +100,7 @@ fn asks(
     fewest: usize,
     most: usize,
 ) -> FormRow
-    ensures word { result.word.now ≡ word.now }
-    ensures reserved { result.reserved ≡ reserved }
-    ensures places { result.places.now ≡ places.now }
-    ensures fewest { result.fewest ≡ fewest }
-    ensures most { result.most ≡ most }
+    ensures { row_seen result ≡ asks_for word.now reserved places.now fewest most }
 {
     FormRow {
         word,
@@ -117,22 +113,13 @@ fn asks(
 
 /// The row of a form whose word is reserved.
 fn takes(word: &'static [u8], places: &'static [Sort], fewest: usize, most: usize) -> FormRow
-    ensures word { result.word.now ≡ word.now }
-    ensures reserved { result.reserved ≡ true }
-    ensures places { result.places.now ≡ places.now }
-    ensures fewest { result.fewest ≡ fewest }
-    ensures most { result.most ≡ most }
+    ensures { row_seen result ≡ takes_for word.now places.now fewest most }
 {
     asks(word, true, places, fewest, most)
 }
 
-/// What a form requires.
-pub(crate) fn row_for(form: Form) -> FormRow
-    ensures word { result.word.now ≡ (row_of form).word }
-    ensures reserved { result.reserved ≡ (row_of form).reserved }
-    ensures places { result.places.now ≡ (row_of form).places }
-    ensures fewest { result.fewest ≡ (row_of form).fewest }
-    ensures most { result.most ≡ (row_of form).most }
+fn listed_row(form: Form) -> FormRow
+    ensures { row_seen result ≡ row_of form }
 {
     use Sort::{
         Budget, Class, Count, Finalizer, Flag, Key, Name, Number, Proc, Profile, Value, Variable,
@@ -184,7 +171,18 @@ pub(crate) fn row_for(form: Form) -> FormRow
     }
 }
 
-/// The sort of a place, counting from 0, given the sorts of the first places.
+/// What a form asks for.
+pub(crate) fn row_for(form: Form) -> FormRow
+    ensures word { result.word.now ≡ (row_of form).word }
+    ensures reserved { result.reserved ≡ (row_of form).reserved }
+    ensures places { result.places.now ≡ (row_of form).places }
+    ensures fewest { result.fewest ≡ (row_of form).fewest }
+    ensures most { result.most ≡ (row_of form).most }
+{
+    listed_row(form)
+}
+
+/// The sort of a place, counted from 0, by the sorts of the first places.
 #[inline(always)]
 pub(crate) fn sort_in(places: &[Sort], place: usize) -> Sort
     ensures { result ≡ slice_index_or places.now place Sort.Value }

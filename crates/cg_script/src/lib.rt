@@ -28,7 +28,7 @@ mod word;
 pub use command::{Command, Operand};
 pub use fault::ScriptFault;
 pub use item::{ClassDef, Item, Proc, Script};
-pub use laws::canonical_bytes_are_read_back;
+pub use laws::{canonical_bytes_are_read_back, printed_parts_say_the_same};
 pub use limits::{MOST_BUDGET, MOST_LINE_BYTES, MOST_LINES, MOST_PROFILE, MOST_TEXTS, MOST_WORDS};
 pub use members::{Commands, Items, Operands};
 pub use printer::print;

@@ -24,7 +24,7 @@ use cg_value::Names;
 use std::alloc::AllocError;
 
 /// What a word of a line stands for.
-#[derive(Clone, Copy, Debug, PartialEq, Eq, Default)]
+#[derive(Clone, Copy, Default)]
 pub enum Part {
     /// Nothing besides the form.
     #[default]

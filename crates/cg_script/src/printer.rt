@@ -1,36 +1,27 @@
-//! Prints a script: its canonical bytes, which are read back as the same script.
-ghost use Rattle.std.specs.Prelude.{◌≡◌, ◌++◌, ◌∷◌, [], map, flat_map, codes, decimal, IfOk, OnOk};
+//! Printing a script: its canonical bytes, which are read as the same script again.
+ghost use Rattle.std.specs.Prelude.{◌≡◌, ◌+◌, ◌<◌, ◌≤◌, ◌^◌, ◌++◌, ◌∷◌, [], length, map, flat_map, decimal, ◌==◌, IfOk, OnOk};
 ghost use Rattle.std.specs.Fmt.{signed_decimal};
-ghost use Rattle.cg_script.specs.Canonical.{text_of, name_of, value_word, callback_words, count_words, finalizer_words, flag_words, command_words, class_words, def_words, end_words, item_lines, procs_in, classes_in, behind_space, line_of_words, canonical, Naming as AnyNaming};
-ghost use Rattle.cg_script.specs.Forms.{word_of as word_in};
-ghost use Rattle.cg_script.specs.Pieced.{piece_bytes, piece_words, names_by};
+ghost use Rattle.arrayvec.specs.ArrayVec.{array_vec_len};
+ghost use Rattle.cg_script.specs.declared.part.Part.TheVariants.{Value as ValueOf};
+ghost use Rattle.cg_script.specs.declared.part.Said.TheVariants.{Declares, Begins, Ends};
+ghost use Rattle.cg_script.specs.declared.item.Item.TheVariants.{Class as ClassItem};
+ghost use Rattle.cg_script.specs.Words.{flags};
+ghost use Rattle.cg_script.specs.Commands.{filled, opening as opening_of, binding as binding_of, flag_filling};
+ghost use Rattle.cg_script.specs.Canonical.{text_of, name_of, value_word, count_word, part_word, key_word, words_from, filled_words, said_words, command_words, item_lines, procs_in, classes_in, names_by, behind_space, line_of_words, canonical};
+ghost use Rattle.cg_script.specs.Forms.{sort_at};
 
 use crate::command::{Command, Operand};
-use crate::form::{Form, word_of};
+use crate::form::{Form, Sort, row_for, sort_in};
 use crate::item::{ClassDef, Item, Script};
 use crate::members::Items;
+use crate::part::Part;
+use crate::word::flag_word;
+use arrayvec::ArrayVec;
 use cg_value::Names;
 use itoa::Buffer;
 use std::alloc::{AllocError, Global};
 
-/// A word of a line, or none.
-#[derive(Clone, Copy)]
-pub(crate) enum Piece<'a> {
-    Absent,
-    Word(&'a [u8]),
-    Text(u32),
-    Value(Operand),
-    Number(i64),
-    Count(u32),
-    Proc(u32),
-    Class(u32),
-    /// A procedure after `del=`.
-    Finalizer(u32),
-    /// A procedure after `legacy=`.
-    Legacy(u32),
-}
-
-/// What the numbers in a script stand for: its texts, and its lines with the procedures and classes.
+/// What the numbers in a script stand for: its texts, and its lines, which have the procedures and classes.
 #[derive(Drop)]
 pub(crate) struct Named<'a> {
     pub names: &'a Names,
@@ -110,46 +101,81 @@ fn write_value(out: &mut Vec<u8>, names: &Names, value: Operand) -> Result<(), A
     }
 }
 
-/// Writes a word.
-fn write_piece(out: &mut Vec<u8>, naming: &Named<'_>, piece: Piece<'_>) -> Result<(), AllocError>
-    ensures { OnOk result (out.new.items ≡ out.old.items ++ piece_bytes (names_by naming.now) piece.entry) }
-{
-    let names = naming.names;
-    match piece {
-        Piece::Absent => Ok(()),
-        Piece::Word(word) => out.extend_from_slice(word),
-        Piece::Text(number) => out.extend_from_slice(text(names, number)),
-        Piece::Value(value) => write_value(out, names, value),
-        Piece::Number(number) => write_number(out, number),
-        Piece::Count(count) => write_count(out, count),
-        Piece::Proc(number) => out.extend_from_slice(proc_name(naming, number)),
-        Piece::Class(number) => out.extend_from_slice(class_name(naming, number)),
-        Piece::Finalizer(number) => write_both(out, b"del=", proc_name(naming, number)),
-        Piece::Legacy(number) => write_both(out, b"legacy=", proc_name(naming, number)),
-    }
-}
-
-/// Writes a space and a word, if there is a word.
-fn write_behind(out: &mut Vec<u8>, naming: &Named<'_>, piece: Piece<'_>) -> Result<(), AllocError>
-    ensures { OnOk result (out.new.items ≡ out.old.items ++ flat_map behind_space (piece_words (names_by naming.now) piece.entry)) }
-{
-    if let Piece::Absent = piece {
-        return Ok(());
-    }
-    out.push(b' ')?;
-    write_piece(out, naming, piece)
-}
-
-/// Writes words, a space before each.
-fn write_pieces(
+/// Writes the word of a count, or of the number of a procedure or class, at such a place.
+fn write_counted(
     out: &mut Vec<u8>,
     naming: &Named<'_>,
-    pieces: &[Piece<'_>],
+    sort: Sort,
+    count: u32,
 ) -> Result<(), AllocError>
-    ensures { OnOk result (out.new.items ≡ out.old.items ++ flat_map (λ piece. flat_map behind_space (piece_words (names_by naming.now) piece)) pieces.now) }
+    ensures { OnOk result (out.new.items ≡ out.old.items ++ count_word (names_by naming.now) sort count) }
 {
-    'pieces: for piece in pieces {
-        write_behind(out, naming, *piece)?;
+    match sort {
+        Sort::Class => out.extend_from_slice(class_name(naming, count)),
+        Sort::Proc => out.extend_from_slice(proc_name(naming, count)),
+        Sort::Flag => out.extend_from_slice(flag_word(count)),
+        _ => write_count(out, count),
+    }
+}
+
+/// Writes the word of a part at such a place, where the form has this word.
+fn write_part(
+    out: &mut Vec<u8>,
+    naming: &Named<'_>,
+    key: &[u8],
+    sort: Sort,
+    part: Part,
+) -> Result<(), AllocError>
+    ensures { OnOk result (out.new.items ≡ out.old.items ++ part_word (names_by naming.now) key.now sort part) }
+{
+    let names = naming.names;
+    match part {
+        Part::Bare => out.extend_from_slice(key),
+        Part::Text(number) => out.extend_from_slice(text(names, number)),
+        Part::Value(value) => write_value(out, names, value),
+        Part::Number(number) => write_number(out, number),
+        Part::Count(count) => write_counted(out, naming, sort, count),
+        Part::Finalizer(number) => write_both(out, b"del=", proc_name(naming, number)),
+        Part::Legacy(number) => write_both(out, b"legacy=", proc_name(naming, number)),
+        Part::Unknown => Ok(()),
+    }
+}
+
+/// The word of the form at a place, where it has one there.
+fn key_at(form: Form, place: usize) -> &'static [u8]
+    ensures { result.now ≡ key_word form place }
+{
+    if place == 1 { b"=" } else { row_for(form).word }
+}
+
+/// Writes the word of a part at a place of a form.
+fn write_place(
+    out: &mut Vec<u8>,
+    naming: &Named<'_>,
+    form: Form,
+    place: usize,
+    part: Part,
+) -> Result<(), AllocError>
+    ensures { OnOk result (out.new.items ≡ out.old.items ++ part_word (names_by naming.now) (key_word form place) (sort_at form place) part) }
+{
+    let sort = sort_in(row_for(form).places, place);
+    write_part(out, naming, key_at(form, place), sort, part)
+}
+
+/// Writes the words of the parts from a place on, a space before each.
+fn write_places(
+    out: &mut Vec<u8>,
+    naming: &Named<'_>,
+    form: Form,
+    place: usize,
+    parts: &[Part],
+) -> Result<(), AllocError>
+    requires { place + length parts.now < 2 ^ 64 }
+    ensures { OnOk result (out.new.items ≡ out.old.items ++ flat_map behind_space (words_from (names_by naming.now) form place parts.now)) }
+{
+    'parts: for at in 0..parts.len() {
+        out.push(b' ')?;
+        write_place(out, naming, form, place + at, parts[at])?;
     }
     Ok(())
 }
@@ -165,326 +191,221 @@ fn write_values(out: &mut Vec<u8>, names: &Names, values: &[Operand]) -> Result<
     Ok(())
 }
 
-/// Writes a line: its words, then its values.
+/// Writes a line of a form: the word of its first part, those of other parts, and values behind them.
 fn write_line(
     out: &mut Vec<u8>,
     naming: &Named<'_>,
-    first: Piece<'_>,
-    pieces: &[Piece<'_>],
+    form: Form,
+    first: Part,
+    keys: &[Part],
+    parts: &[Part],
     values: &[Operand],
 ) -> Result<(), AllocError>
+    requires { length keys.now + length parts.now ≤ 8 }
     ensures { OnOk result (out.new.items ≡ out.old.items
-        ++ line_of_words (piece_bytes (names_by naming.now) first.entry ∷ (flat_map (piece_words (names_by naming.now)) pieces.now ++ map (value_word naming.now.names.now) values.now))) }
+        ++ line_of_words (filled_words (names_by naming.now) (filled form (first ∷ (keys.now ++ (parts.now ++ map ValueOf values.now)))))) }
 {
-    write_piece(out, naming, first)?;
-    write_pieces(out, naming, pieces)?;
+    write_place(out, naming, form, 0, first)?;
+    write_places(out, naming, form, 1, keys)?;
+    write_places(out, naming, form, 1 + keys.len(), parts)?;
     write_values(out, naming.names, values)?;
     out.push(b'\n')?;
     Ok(())
 }
 
-/// A debug flag, if its bit is set.
-fn flag<'a>(bits: u32, bit: u32, word: &'a [u8]) -> Piece<'a>
-    ensures { (naming : AnyNaming) → piece_words naming result ≡ flag_words bits bit word.now }
+/// Writes a line that begins with the word of its form.
+fn opening(
+    out: &mut Vec<u8>,
+    naming: &Named<'_>,
+    form: Form,
+    parts: &[Part],
+) -> Result<(), AllocError>
+    requires { length parts.now ≤ 8 }
+    ensures { OnOk result (out.new.items ≡ out.old.items ++ line_of_words (filled_words (names_by naming.now) (opening_of form parts.now))) }
 {
-    if bits & bit == 0 {
-        Piece::Absent
-    } else {
-        Piece::Word(word)
-    }
+    write_line(out, naming, form, Part::Bare, &[], parts, &[])
 }
 
-fn count_if(count: Option<u32>) -> Piece<'static>
-    ensures { (naming : AnyNaming) → piece_words naming result ≡ count_words count }
+/// Writes a line `x = ..` with the word of its form.
+fn binding(
+    out: &mut Vec<u8>,
+    naming: &Named<'_>,
+    form: Form,
+    name: u32,
+    parts: &[Part],
+) -> Result<(), AllocError>
+    requires { length parts.now ≤ 6 }
+    ensures { OnOk result (out.new.items ≡ out.old.items ++ line_of_words (filled_words (names_by naming.now) (binding_of form name parts.now))) }
 {
-    match count {
-        Some(count) => Piece::Count(count),
-        None => Piece::Absent,
-    }
+    listing(out, naming, form, name, parts, &[])
 }
 
-fn del_if(proc: Option<u32>) -> Piece<'static>
-    ensures { (naming : AnyNaming) → piece_words naming result ≡ finalizer_words (codes "del=") naming proc }
+/// Writes a line `x = ..` with the word of its form, and values last.
+fn listing(
+    out: &mut Vec<u8>,
+    naming: &Named<'_>,
+    form: Form,
+    name: u32,
+    parts: &[Part],
+    values: &[Operand],
+) -> Result<(), AllocError>
+    requires { length parts.now ≤ 6 }
+    ensures { OnOk result (out.new.items ≡ out.old.items
+        ++ line_of_words (filled_words (names_by naming.now) (binding_of form name (parts.now ++ map ValueOf values.now)))) }
 {
-    match proc {
-        Some(proc) => Piece::Finalizer(proc),
-        None => Piece::Absent,
-    }
-}
-
-fn legacy_if(proc: Option<u32>) -> Piece<'static>
-    ensures { (naming : AnyNaming) → piece_words naming result ≡ finalizer_words (codes "legacy=") naming proc }
-{
-    match proc {
-        Some(proc) => Piece::Legacy(proc),
-        None => Piece::Absent,
-    }
-}
-
-fn callback_if(callback: Operand) -> Piece<'static>
-    ensures { (naming : AnyNaming) → piece_words naming result ≡ callback_words naming.texts callback }
-{
-    match callback {
-        Operand::None => Piece::Absent,
-        _ => Piece::Value(callback),
-    }
+    let first = Part::Text(name);
+    write_line(
+        out,
+        naming,
+        form,
+        first,
+        &[Part::Bare, Part::Bare],
+        parts,
+        values,
+    )
 }
 
 /// Writes the line of a command.
 fn write_command(out: &mut Vec<u8>, naming: &Named<'_>, command: &Command) -> Result<(), AllocError>
     ensures { OnOk result (out.new.items ≡ out.old.items ++ line_of_words (command_words (names_by naming.now) command.now)) }
 {
-    use Piece::{Class, Count, Number, Proc, Text, Value, Word};
+    use Part::{Bare, Count, Number, Text, Value};
     match command {
-        Command::MakeList { name, items } => write_line(
-            out,
-            naming,
-            Text(*name),
-            &[Word(b"="), Word(word_of(Form::MakeList))],
-            items.as_slice(),
-        ),
-        Command::MakeTuple { name, items } => write_line(
-            out,
-            naming,
-            Text(*name),
-            &[Word(b"="), Word(word_of(Form::MakeTuple))],
-            items.as_slice(),
-        ),
-        Command::MakeDict { name } => {
-            write_line(
-                out,
-                naming,
-                Text(*name),
-                &[Word(b"="), Word(word_of(Form::MakeDict))],
-                &[],
-            )
+        Command::MakeList { name, items } => {
+            listing(out, naming, Form::MakeList, *name, &[], items.as_slice())
         }
-        Command::MakeInst { name, class } => write_line(
+        Command::MakeTuple { name, items } => {
+            listing(out, naming, Form::MakeTuple, *name, &[], items.as_slice())
+        }
+        Command::MakeDict { name } => binding(out, naming, Form::MakeDict, *name, &[]),
+        Command::MakeInst { name, class } => {
+            binding(out, naming, Form::MakeInst, *name, &[Count(*class)])
+        }
+        Command::MakeFunc { name, proc, cells } => listing(
             out,
             naming,
-            Text(*name),
-            &[Word(b"="), Word(word_of(Form::MakeInst)), Class(*class)],
-            &[],
-        ),
-        Command::MakeFunc { name, proc, cells } => write_line(
-            out,
-            naming,
-            Text(*name),
-            &[Word(b"="), Word(word_of(Form::MakeFunc)), Proc(*proc)],
+            Form::MakeFunc,
+            *name,
+            &[Count(*proc)],
             cells.as_slice(),
         ),
         Command::MakeRef {
             name,
             target,
             callback,
-        } => write_line(
+        } => { write_reference(out, naming, *name, *target, *callback) }
+        Command::Bind { name, value } => write_line(
             out,
             naming,
+            Form::Bind,
             Text(*name),
-            &[
-                Word(b"="),
-                Word(word_of(Form::MakeRef)),
-                Value(*target),
-                callback_if(*callback),
-            ],
+            &[Bare],
+            &[Value(*value)],
             &[],
         ),
-        Command::Bind { name, value } => {
-            write_line(out, naming, Text(*name), &[Word(b"="), Value(*value)], &[])
+        Command::Del { name } => opening(out, naming, Form::Del, &[Text(*name)]),
+        Command::Append { list, value } => {
+            opening(out, naming, Form::Append, &[Value(*list), Value(*value)])
         }
-        Command::Del { name } => write_line(
+        Command::SetItem { list, index, value } => opening(
             out,
             naming,
-            Word(word_of(Form::Del)),
-            &[Text(*name)],
-            &[],
-        ),
-        Command::Append { list, value } => write_line(
-            out,
-            naming,
-            Word(word_of(Form::Append)),
-            &[Value(*list), Value(*value)],
-            &[],
-        ),
-        Command::SetItem { list, index, value } => write_line(
-            out,
-            naming,
-            Word(word_of(Form::SetItem)),
+            Form::SetItem,
             &[Value(*list), Number(*index), Value(*value)],
-            &[],
         ),
-        Command::DelItem { list, index } => write_line(
+        Command::DelItem { list, index } => {
+            opening(out, naming, Form::DelItem, &[Value(*list), Number(*index)])
+        }
+        Command::Put { dict, key, value } => opening(
             out,
             naming,
-            Word(word_of(Form::DelItem)),
-            &[Value(*list), Number(*index)],
-            &[],
-        ),
-        Command::Put { dict, key, value } => write_line(
-            out,
-            naming,
-            Word(word_of(Form::Put)),
+            Form::Put,
             &[Value(*dict), Value(*key), Value(*value)],
-            &[],
         ),
-        Command::Remove { dict, key } => write_line(
-            out,
-            naming,
-            Word(word_of(Form::Remove)),
-            &[Value(*dict), Value(*key)],
-            &[],
-        ),
+        Command::Remove { dict, key } => {
+            opening(out, naming, Form::Remove, &[Value(*dict), Value(*key)])
+        }
         Command::SetAttr {
             object,
             attr,
             value,
-        } => write_line(
+        } => opening(
             out,
             naming,
-            Word(word_of(Form::SetAttr)),
+            Form::SetAttr,
             &[Value(*object), Text(*attr), Value(*value)],
-            &[],
         ),
-        Command::DelAttr { object, attr } => write_line(
+        Command::DelAttr { object, attr } => {
+            opening(out, naming, Form::DelAttr, &[Value(*object), Text(*attr)])
+        }
+        Command::Item { name, list, index } => binding(
             out,
             naming,
-            Word(word_of(Form::DelAttr)),
+            Form::Item,
+            *name,
+            &[Value(*list), Number(*index)],
+        ),
+        Command::Get { name, dict, key } => {
+            binding(out, naming, Form::Get, *name, &[Value(*dict), Value(*key)])
+        }
+        Command::Attr { name, object, attr } => binding(
+            out,
+            naming,
+            Form::Attr,
+            *name,
             &[Value(*object), Text(*attr)],
-            &[],
         ),
-        Command::Item { name, list, index } => write_line(
-            out,
-            naming,
-            Text(*name),
-            &[
-                Word(b"="),
-                Word(word_of(Form::Item)),
-                Value(*list),
-                Number(*index),
-            ],
-            &[],
-        ),
-        Command::Get { name, dict, key } => write_line(
-            out,
-            naming,
-            Text(*name),
-            &[
-                Word(b"="),
-                Word(word_of(Form::Get)),
-                Value(*dict),
-                Value(*key),
-            ],
-            &[],
-        ),
-        Command::Attr { name, object, attr } => write_line(
-            out,
-            naming,
-            Text(*name),
-            &[
-                Word(b"="),
-                Word(word_of(Form::Attr)),
-                Value(*object),
-                Text(*attr),
-            ],
-            &[],
-        ),
-        Command::Deref { name, weak } => write_line(
-            out,
-            naming,
-            Text(*name),
-            &[Word(b"="), Word(word_of(Form::Deref)), Value(*weak)],
-            &[],
-        ),
-        Command::Call { func } => write_line(
-            out,
-            naming,
-            Word(word_of(Form::Call)),
-            &[Value(*func)],
-            &[],
-        ),
-        Command::Quit { value } => write_line(
-            out,
-            naming,
-            Word(word_of(Form::Quit)),
-            &[Value(*value)],
-            &[],
-        ),
-        Command::Collect { generation } => write_line(
-            out,
-            naming,
-            Word(word_of(Form::Collect)),
-            &[Number(*generation)],
-            &[],
-        ),
-        Command::Enable => write_line(out, naming, Word(word_of(Form::Enable)), &[], &[]),
-        Command::Disable => write_line(out, naming, Word(word_of(Form::Disable)), &[], &[]),
+        Command::Deref { name, weak } => {
+            binding(out, naming, Form::Deref, *name, &[Value(*weak)])
+        }
+        Command::Call { func } => opening(out, naming, Form::Call, &[Value(*func)]),
+        Command::Quit { value } => opening(out, naming, Form::Quit, &[Value(*value)]),
+        Command::Collect { generation } => {
+            opening(out, naming, Form::Collect, &[Number(*generation)])
+        }
+        Command::Enable => opening(out, naming, Form::Enable, &[]),
+        Command::Disable => opening(out, naming, Form::Disable, &[]),
         Command::Threshold {
             first,
             second,
             third,
-        } => write_threshold(out, naming, *first, *second, *third),
-        Command::Flags { bits } => write_flags(out, naming, *bits),
-        Command::Freeze => write_line(out, naming, Word(word_of(Form::Freeze)), &[], &[]),
-        Command::Unfreeze => write_line(out, naming, Word(word_of(Form::Unfreeze)), &[], &[]),
-        Command::Print { value } => write_line(
+        } => { write_threshold(out, naming, *first, *second, *third) }
+        Command::Flags { bits } => opening(out, naming, Form::Flags, flag_parts(*bits).as_slice()),
+        Command::Freeze => opening(out, naming, Form::Freeze, &[]),
+        Command::Unfreeze => opening(out, naming, Form::Unfreeze, &[]),
+        Command::Print { value } => opening(out, naming, Form::Print, &[Value(*value)]),
+        Command::Refs { value } => opening(out, naming, Form::Refs, &[Value(*value)]),
+        Command::Tracked { value } => opening(out, naming, Form::Tracked, &[Value(*value)]),
+        Command::Finalized { value } => opening(out, naming, Form::Finalized, &[Value(*value)]),
+        Command::Referents { value } => opening(out, naming, Form::Referents, &[Value(*value)]),
+        Command::Referrers { value } => opening(out, naming, Form::Referrers, &[Value(*value)]),
+        Command::Why { name } => opening(out, naming, Form::Why, &[Text(*name)]),
+        Command::Count => opening(out, naming, Form::Count, &[]),
+        Command::Gens => opening(out, naming, Form::Gens, &[]),
+    }
+}
+
+/// Writes a line `x = ref y`, or one with a callback that is not none.
+fn write_reference(
+    out: &mut Vec<u8>,
+    naming: &Named<'_>,
+    name: u32,
+    target: Operand,
+    callback: Operand,
+) -> Result<(), AllocError>
+    ensures { OnOk result (out.new.items ≡ out.old.items
+        ++ line_of_words (command_words (names_by naming.now) (Command.MakeRef name target callback))) }
+{
+    use Part::Value;
+    match callback {
+        Operand::None => binding(out, naming, Form::MakeRef, name, &[Value(target)]),
+        _ => binding(
             out,
             naming,
-            Word(word_of(Form::Print)),
-            &[Value(*value)],
-            &[],
+            Form::MakeRef,
+            name,
+            &[Value(target), Value(callback)],
         ),
-        Command::Refs { value } => write_line(
-            out,
-            naming,
-            Word(word_of(Form::Refs)),
-            &[Value(*value)],
-            &[],
-        ),
-        Command::Tracked { value } => {
-            write_line(
-                out,
-                naming,
-                Word(word_of(Form::Tracked)),
-                &[Value(*value)],
-                &[],
-            )
-        }
-        Command::Finalized { value } => {
-            write_line(
-                out,
-                naming,
-                Word(word_of(Form::Finalized)),
-                &[Value(*value)],
-                &[],
-            )
-        }
-        Command::Referents { value } => {
-            write_line(
-                out,
-                naming,
-                Word(word_of(Form::Referents)),
-                &[Value(*value)],
-                &[],
-            )
-        }
-        Command::Referrers { value } => {
-            write_line(
-                out,
-                naming,
-                Word(word_of(Form::Referrers)),
-                &[Value(*value)],
-                &[],
-            )
-        }
-        Command::Why { name } => write_line(
-            out,
-            naming,
-            Word(word_of(Form::Why)),
-            &[Text(*name)],
-            &[],
-        ),
-        Command::Count => write_line(out, naming, Word(word_of(Form::Count)), &[], &[]),
-        Command::Gens => write_line(out, naming, Word(word_of(Form::Gens)), &[], &[]),
     }
 }
 
@@ -498,37 +419,60 @@ fn write_threshold(
     ensures { OnOk result (out.new.items ≡ out.old.items
         ++ line_of_words (command_words (names_by naming.now) (Command.Threshold first second third))) }
 {
-    let counts = [Piece::Count(first), count_if(second), count_if(third)];
-    write_line(
-        out,
-        naming,
-        Piece::Word(word_of(Form::Threshold)),
-        &counts,
-        &[],
-    )
+    use Part::Count;
+    let form = Form::Threshold;
+    match (second, third) {
+        (None, None) => opening(out, naming, form, &[Count(first)]),
+        (Some(second), None) => opening(out, naming, form, &[Count(first), Count(second)]),
+        (None, Some(third)) => opening(out, naming, form, &[Count(first), Count(third)]),
+        (Some(second), Some(third)) => {
+            opening(
+                out,
+                naming,
+                form,
+                &[Count(first), Count(second), Count(third)],
+            )
+        }
+    }
 }
 
-fn write_flags(out: &mut Vec<u8>, naming: &Named<'_>, bits: u32) -> Result<(), AllocError>
-    ensures { OnOk result (out.new.items ≡ out.old.items ++ line_of_words (command_words (names_by naming.now) (Command.Flags bits))) }
+/// Adds a debug flag, where its bit is set.
+fn push_flag(parts: &mut ArrayVec<Part, 4>, bits: u32, bit: u32)
+    requires { array_vec_len parts.old < 4 }
+    ensures parts { parts.new.items ≡ parts.old.items ++ flag_filling bits bit }
+    ensures few { array_vec_len parts.new ≤ array_vec_len parts.old + 1 }
 {
-    let flags = [
-        flag(bits, 1, b"stats"),
-        flag(bits, 2, b"collectable"),
-        flag(bits, 4, b"uncollectable"),
-        flag(bits, 32, b"saveall"),
-    ];
-    write_line(out, naming, Piece::Word(word_of(Form::Flags)), &flags, &[])
+    if bits & bit != 0 {
+        parts.push(Part::Count(bit));
+    }
+}
+
+/// The debug flags whose bits are set.
+fn flag_parts(bits: u32) -> ArrayVec<Part, 4>
+    ensures { result.items ≡ flag_filling bits 1 ++ flag_filling bits 2 ++ flag_filling bits 4 ++ flag_filling bits 32 }
+{
+    let mut parts = ArrayVec::new();
+    push_flag(&mut parts, bits, 1);
+    push_flag(&mut parts, bits, 2);
+    push_flag(&mut parts, bits, 4);
+    push_flag(&mut parts, bits, 32);
+    parts
 }
 
 fn write_class(out: &mut Vec<u8>, naming: &Named<'_>, class: &ClassDef) -> Result<(), AllocError>
-    ensures { OnOk result (out.new.items ≡ out.old.items ++ line_of_words (class_words (names_by naming.now) class.now)) }
+    ensures { OnOk result (out.new.items ≡ out.old.items ++ line_of_words (said_words (names_by naming.now) (Declares (ClassItem class.now)))) }
 {
-    let words = [
-        Piece::Text(class.name),
-        del_if(class.del),
-        legacy_if(class.legacy),
-    ];
-    write_line(out, naming, Piece::Word(word_of(Form::Class)), &words, &[])
+    use Part::{Finalizer, Legacy, Text};
+    let form = Form::Class;
+    let name = Text(class.name);
+    match (class.del, class.legacy) {
+        (None, None) => opening(out, naming, form, &[name]),
+        (Some(del), None) => opening(out, naming, form, &[name, Finalizer(del)]),
+        (None, Some(legacy)) => opening(out, naming, form, &[name, Legacy(legacy)]),
+        (Some(del), Some(legacy)) => {
+            opening(out, naming, form, &[name, Finalizer(del), Legacy(legacy)])
+        }
+    }
 }
 
 /// Writes the lines of a procedure's commands.
@@ -541,64 +485,33 @@ fn write_body(out: &mut Vec<u8>, naming: &Named<'_>, body: &[Command]) -> Result
     Ok(())
 }
 
-fn write_def(out: &mut Vec<u8>, naming: &Named<'_>, name: u32) -> Result<(), AllocError>
-    ensures { OnOk result (out.new.items ≡ out.old.items ++ line_of_words (def_words (names_by naming.now) name)) }
-{
-    write_line(
-        out,
-        naming,
-        Piece::Word(word_of(Form::Def)),
-        &[Piece::Text(name)],
-        &[],
-    )
-}
-
-fn write_end(out: &mut Vec<u8>, naming: &Named<'_>) -> Result<(), AllocError>
-    ensures { OnOk result (out.new.items ≡ out.old.items ++ line_of_words end_words) }
-{
-    write_line(out, naming, Piece::Word(word_of(Form::End)), &[], &[])
-}
-
+/// Writes the lines of a procedure.
 fn write_proc(
     out: &mut Vec<u8>,
     naming: &Named<'_>,
     name: u32,
     body: &[Command],
 ) -> Result<(), AllocError>
-    ensures { OnOk result (out.new.items ≡ out.old.items ++ flat_map line_of_words (def_words (names_by naming.now) name ∷ (map (command_words (names_by naming.now)) body.now ++ end_words ∷ []))) }
+    ensures { OnOk result (out.new.items ≡ out.old.items
+        ++ flat_map line_of_words (said_words (names_by naming.now) (Begins name) ∷ (map (command_words (names_by naming.now)) body.now ++ said_words (names_by naming.now) Ends ∷ []))) }
 {
-    write_def(out, naming, name)?;
+    opening(out, naming, Form::Def, &[Part::Text(name)])?;
     write_body(out, naming, body)?;
-    write_end(out, naming)?;
+    opening(out, naming, Form::End, &[])?;
     Ok(())
-}
-
-/// Writes a line of a form's word and a count.
-fn write_counted(
-    out: &mut Vec<u8>,
-    naming: &Named<'_>,
-    form: Form,
-    count: u32,
-) -> Result<(), AllocError>
-    ensures { OnOk result (out.new.items ≡ out.old.items ++ line_of_words (word_in form ∷ decimal count ∷ [])) }
-{
-    write_line(
-        out,
-        naming,
-        Piece::Word(word_of(form)),
-        &[Piece::Count(count)],
-        &[],
-    )
 }
 
 /// Writes the lines of an item.
 fn write_item(out: &mut Vec<u8>, naming: &Named<'_>, item: &Item) -> Result<(), AllocError>
     ensures { OnOk result (out.new.items ≡ out.old.items ++ flat_map line_of_words (item_lines (names_by naming.now) item.now)) }
 {
+    use Part::Count;
     match item {
-        Item::Profile(profile) => write_counted(out, naming, Form::Profile, u32::from(*profile)),
-        Item::Shutdown => write_line(out, naming, Piece::Word(word_of(Form::Shutdown)), &[], &[]),
-        Item::Budget(count) => write_counted(out, naming, Form::Budget, *count),
+        Item::Profile(profile) => {
+            opening(out, naming, Form::Profile, &[Count(u32::from(*profile))])
+        }
+        Item::Shutdown => opening(out, naming, Form::Shutdown, &[]),
+        Item::Budget(count) => opening(out, naming, Form::Budget, &[Count(*count)]),
         Item::Class(class) => write_class(out, naming, class),
         Item::Def(proc) => write_proc(out, naming, proc.name, proc.body.as_slice()),
         Item::Run(command) => write_command(out, naming, command),

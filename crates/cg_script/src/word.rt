@@ -3,6 +3,7 @@ ghost use Rattle.std.specs.Prelude.{◌≡◌, ◌≤◌, ◌&&◌, ◌||◌, na
 ghost use Rattle.std.specs.List.{list_all};
 ghost use Rattle.cg_script.specs.Tables.{named as named_in};
 ghost use Rattle.cg_script.specs.Alike.{rows_like};
+ghost use Rattle.cg_script.specs.Canonical.{word_with};
 ghost use Rattle.cg_script.specs.Forms.{openers, bindings};
 ghost use Rattle.cg_script.specs.Words.{is_graphic, is_digit, is_name_byte, begins_name, is_identifier, reserves, is_reserved, is_variable, is_quoted, has_minus, are_digits, decimal_value, is_number, number_of, is_count, is_profile, is_value, atoms, after_prefix, names_finalizer, names_legacy, flags};
 
@@ -369,4 +370,19 @@ pub(crate) fn flag(word: &[u8]) -> Option<u32>
     ensures { result ≡ named_in flags word.now }
 {
     named(&FLAGS, word)
+}
+
+/// The word of a flag, or no bytes where no flag has these bits.
+#[tactic(auto, unfolding(crate::specs::Words::flags))]
+pub(crate) fn flag_word(bits: u32) -> &'static [u8]
+    ensures { result.now ≡ word_with flags bits }
+{
+    match bits {
+        1 => b"stats",
+        2 => b"collectable",
+        4 => b"uncollectable",
+        32 => b"saveall",
+        38 => b"leak",
+        _ => b"",
+    }
 }

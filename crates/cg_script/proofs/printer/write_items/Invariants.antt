@@ -1,7 +1,6 @@
 use Rattle.std.proofs.Common.{◌≡◌, ◌++◌, take}
 use Rattle.std.specs.Prelude.{flat_map}
-use Rattle.cg_script.specs.Canonical.{item_lines, line_of_words}
-use Rattle.cg_script.specs.Pieced.{names_by}
+use Rattle.cg_script.specs.Canonical.{item_lines, line_of_words, names_by}
 use Rattle.cg_script.proofs.printer.write_items.Given as goal
 
 -- the items so far are written
