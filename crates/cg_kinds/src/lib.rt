@@ -7,7 +7,7 @@
 //! - `contents`: what one object holds, as the slab sees it.
 //! - `items`: what lists, tuples, functions and weak references share; `list`, `tuple`, `func` and `weak`: these four.
 //! - `kept`: entries that stand in a slice, in one form or another, and the references that they have.
-//! - `listed`: the values of a list, a few of them `packed` in one vector, or any number as `values`, in a column of sorts and one of numbers.
+//! - `listed`: the values of a list, at most `one` in place, a few of them `packed` in one vector, or any number as `values`, in a column of sorts and one of numbers.
 //! - `pairs`: dictionaries and instances; `held`: their pairs, a `few` in a list or any number in a table.
 //! - `table`: pairs in a map, in the order in which their keys came, each key and value as `nine` bytes; `order`: that order, once the map has another; `slots`: its slots and gaps; `sums`: how many pairs are in each block of slots; `gap`: what one slot holds, in four bytes.
 #![tactic(auto)]
@@ -24,6 +24,7 @@ mod kept;
 mod list;
 mod listed;
 mod nine;
+mod one;
 mod order;
 mod packed;
 mod pair;
