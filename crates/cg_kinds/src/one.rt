@@ -1,5 +1,5 @@
 //! At most one value, as the shortest lists keep it.
-ghost use Rattle.std.specs.Prelude.{◌≡◌, ◌+◌, ◌-◌, ◌<◌, ◌≤◌, ◌∷◌, [], length, map, take, IfOk, option_to_list, vec_capacity, vec_len};
+ghost use Rattle.std.specs.Prelude.{◌≡◌, ◌+◌, ◌<◌, ◌≤◌, length, map, take, IfOk, IsSome, Some, None, option_to_list, vec_capacity};
 ghost use Rattle.cg_graph.specs.Value.{item, references};
 ghost use Rattle.cg_kind.specs.Calls.{AreItems, next_entries};
 
@@ -19,12 +19,12 @@ pub struct One {
 }
 
 impl Model for One {
-    ghost use Rattle.std.specs.Prelude.{List, option_to_list};
+    ghost use Rattle.std.specs.Prelude.{Option};
     ghost use Rattle.cg_value.specs.declared.Val.{Val};
 
-    ghost Value = { List Val };
+    ghost Value = { Option Val };
 
-    ghost view = { λ o. option_to_list o.value };
+    ghost view = { λ o. o.value };
 }
 
 impl One {
@@ -32,7 +32,7 @@ impl One {
     pub fn of_items(alloc: Global, parts: &[Entry]) -> One
         requires items { AreItems parts.now }
         requires few { length parts.now ≤ 1 }
-        ensures { map item result ≡ parts.now }
+        ensures { map item (option_to_list result) ≡ parts.now }
     {
         let value = match parts.first() {
             Some(part) => Some(Packed::new(part.val)),
@@ -44,7 +44,7 @@ impl One {
     /// The number of values.
     #[inline(always)]
     pub fn len(&self) -> usize
-        ensures { result ≡ length self.now }
+        ensures { result ≡ length (option_to_list self.now) }
     {
         if self.value.is_some() { 1 } else { 0 }
     }
@@ -52,8 +52,8 @@ impl One {
     /// The value.
     #[inline(always)]
     pub fn val(&self) -> Val
-        requires { 0 < length self.now }
-        ensures { self.now ≡ result ∷ [] }
+        requires { IsSome self.now }
+        ensures { self.now ≡ Some result }
     {
         match &self.value {
             Some(value) => value.val(),
@@ -64,10 +64,10 @@ impl One {
     /// Goes over the item of the value from a position on, as `cg_kind::Kind::note_from` says it.
     #[inline(always)]
     pub fn note_from(&self, from: usize, found: &mut [u64]) -> Noted
-        requires within { from ≤ length self.now }
+        requires within { from ≤ length (option_to_list self.now) }
         requires room { ROOM ≤ length found.old }
-        ensures next { result.next ≡ from + length (next_entries (map item self.now) from) }
-        ensures references { take result.references found.new ≡ references (next_entries (map item self.now) from) }
+        ensures next { result.next ≡ from + length (next_entries (map item (option_to_list self.now)) from) }
+        ensures references { take result.references found.new ≡ references (next_entries (map item (option_to_list self.now)) from) }
         ensures few { result.references ≤ ROOM }
         ensures room { length found.new ≡ length found.old }
     {
@@ -86,7 +86,7 @@ impl One {
     /// Puts a value over the one that is there, if there is one.
     #[inline(always)]
     pub fn set(&mut self, val: Val)
-        ensures { self.new ≡ val ∷ [] }
+        ensures { self.new ≡ Some val }
     {
         self.value = Some(Packed::new(val));
     }
@@ -94,8 +94,8 @@ impl One {
     /// Takes the value, if there is one.
     #[inline(always)]
     pub fn take(&mut self) -> Option<Val>
-        ensures value { self.old ≡ option_to_list result }
-        ensures gone { self.new ≡ [] }
+        ensures value { result ≡ self.old }
+        ensures gone { self.new ≡ None }
     {
         match self.value.take() {
             Some(value) => Some(value.val()),
@@ -106,7 +106,7 @@ impl One {
     /// A vector of the value, if there is one, with room for so many values in all. The value stays here too.
     pub fn in_vector(&self, room: usize) -> Result<Vec<Packed>, AllocError>
         requires { 0 < room }
-        ensures items { IfOk result (λ few. few.items ≡ self.now) }
+        ensures items { IfOk result (λ few. few.items ≡ option_to_list self.now) }
         ensures room { IfOk result (λ few. room ≤ vec_capacity few) }
     {
         let mut few = Vec::new(self.alloc);
