@@ -141,6 +141,7 @@ impl Listed {
     }
 
     /// Takes the last value, if there is one.
+    #[inline(always)]
     pub fn pop(&mut self) -> Option<Val>
         ensures items { items_listed self.old ≡ items_listed self.new ++ option_to_list result }
         ensures room { OnSome result (room_listed self.new ≡ room_listed self.old + 1) }

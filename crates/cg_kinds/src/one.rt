@@ -57,7 +57,7 @@ impl One {
     {
         match &self.value {
             Some(value) => value.val(),
-            None => Val::None,
+            None => unreachable!(),
         }
     }
 
