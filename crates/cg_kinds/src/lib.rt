@@ -5,15 +5,12 @@
 //! determines the whole map from places to entries after it.
 //!
 //! - `body_slab`: the slab, once for all six kinds.
-//! - `contents`: the contents of one object, as the slab sees it.
-//! - `items`: shared by lists, tuples, functions and weak references; `list`, `tuple`, `func` and `weak`: these four.
-//! - `kept`: entries stored in a slice, in one form or another, and their references.
-//! - `listed`: the values of a list, few `packed` in one vector, or any number as `values`, in a column of sorts and
-//!   one of numbers.
-//! - `pairs`: dictionaries and instances; `held`: their pairs, `few` in a list or any number in a table.
-//! - `table`: pairs in a map, in insertion order, each key and value as `nine` bytes; `order`: that order, once the
-//!   map's own differs; `slots`: its slots and gaps; `sums`: the number of pairs in each block of slots; `gap`: the
-//!   contents of one slot, in four bytes.
+//! - `contents`: what one object holds, as the slab sees it.
+//! - `items`: what lists, tuples, functions and weak references share; `list`, `tuple`, `func` and `weak`: these four.
+//! - `kept`: entries that stand in a slice, in one form or another, and the references that they have.
+//! - `listed`: the values of a list, at most `one` in place, a few of them `packed` in one vector, or any number as `values`, in a column of sorts and one of numbers.
+//! - `pairs`: dictionaries and instances; `held`: their pairs, a `few` in a list or any number in a table.
+//! - `table`: pairs in a map, in the order in which their keys came, each key and value as `nine` bytes; `order`: that order, once the map has another; `slots`: its slots and gaps; `sums`: how many pairs are in each block of slots; `gap`: what one slot holds, in four bytes.
 #![tactic(auto)]
 
 mod body_slab;
@@ -28,6 +25,7 @@ mod kept;
 mod list;
 mod listed;
 mod nine;
+mod one;
 mod order;
 mod packed;
 mod pair;

@@ -1,10 +1,11 @@
-//! The values of a list: few in one vector, or any number in columns.
+//! The values of a list: at most one in place, a few in one vector, or any number in columns.
 ghost use Rattle.std.specs.Prelude.{◌≡◌, ◌+◌, ◌-◌, ◌<◌, ◌≤◌, ◌++◌, ◌∷◌, [], length, map, Some, IfOk, OnOk, OnErr, OnSome, IfNone, IsNone, option_to_list, remove, slice_get, slice_set, take, vec_len, vec_capacity};
 ghost use Rattle.cg_graph.specs.Value.{item, references};
 ghost use Rattle.cg_kind.specs.Calls.{AreItems, next_entries};
 ghost use Rattle.cg_kinds.specs.Listed.{items_listed, room_listed};
 
 use crate::kept::note_slice;
+use crate::one::One;
 use crate::packed::{Packed, packed_values_of};
 use crate::values::Values;
 use cg_kind::{Noted, ROOM};
@@ -16,10 +17,11 @@ const FEW: usize = 64;
 
 /// Values in order.
 ///
-/// When they become too many for one vector, all move into columns and stay there, however many leave. So a few values
-/// take one block of memory, and of many values those after a removed one move as two runs of bytes.
+/// Where they become too many for one vector all go into columns, and stay in them however many leave. So one value takes
+/// no block of memory and a few take one, and of many those behind one that is taken move as two runs of bytes.
 #[derive(Drop)]
 pub enum Listed {
+    One(One),
     Few(Vec<Packed>),
     Many(Box<Values>),
 }
@@ -57,6 +59,9 @@ impl Listed {
             let boxed = Box::new(alloc, columns)?;
             return Ok(Listed::Many(boxed));
         }
+        if parts.len() <= 1 {
+            return Ok(Listed::One(One::of_items(alloc, parts)));
+        }
         let few = packed_values_of(alloc, parts)?;
         Ok(Listed::Few(few))
     }
@@ -67,6 +72,7 @@ impl Listed {
         ensures { result ≡ length (items_listed self.now) }
     {
         match self {
+            Listed::One(one) => one.len(),
             Listed::Few(few) => few.len(),
             Listed::Many(columns) => columns.len(),
         }
@@ -79,6 +85,7 @@ impl Listed {
         ensures { slice_get (items_listed self.now) i ≡ Some result }
     {
         match self {
+            Listed::One(one) => one.val(),
             Listed::Few(few) => few[i].val(),
             Listed::Many(columns) => columns.val(i),
         }
@@ -95,6 +102,7 @@ impl Listed {
         ensures room { length found.new ≡ length found.old }
     {
         match self {
+            Listed::One(one) => one.note_from(from, found),
             Listed::Few(few) => note_slice(few.as_slice(), from, found),
             Listed::Many(columns) => columns.note_from(from, found),
         }
@@ -108,6 +116,7 @@ impl Listed {
         ensures room { room_listed self.new ≡ room_listed self.old }
     {
         match self {
+            Listed::One(one) => one.set(val),
             Listed::Few(few) => few[i] = Packed::new(val),
             Listed::Many(columns) => columns.set(i, val),
         }
@@ -121,12 +130,18 @@ impl Listed {
         ensures room { room_listed self.new ≡ room_listed self.old + 1 }
     {
         match self {
+            Listed::One(one) => {
+                let val = one.val();
+                one.take();
+                val
+            }
             Listed::Few(few) => few.remove(i).val(),
             Listed::Many(columns) => columns.remove(i),
         }
     }
 
-    /// Removes the last value, if there is one.
+    /// Takes the last value, if there is one.
+    #[inline(always)]
     pub fn pop(&mut self) -> Option<Val>
         ensures items { items_listed self.old ≡ items_listed self.new ++ option_to_list result }
         ensures room { OnSome result (room_listed self.new ≡ room_listed self.old + 1) }
@@ -135,6 +150,7 @@ impl Listed {
         ensures none_room { IfNone result (room_listed self.new ≡ room_listed self.old) }
     {
         match self {
+            Listed::One(one) => one.take(),
             Listed::Few(few) => match few.pop() {
                 Some(last) => Some(last.val()),
                 None => None,
@@ -149,6 +165,7 @@ impl Listed {
         ensures { result ≡ room_listed self.now }
     {
         match self {
+            Listed::One(one) => 1 - one.len(),
             Listed::Few(few) => few.capacity() - few.len(),
             Listed::Many(columns) => columns.room(),
         }
@@ -168,7 +185,7 @@ impl Listed {
         Ok(())
     }
 
-    /// The columns are complete before the vector is dropped, so an error keeps the vector.
+    /// What the values move into is complete before what they stood in goes, so a refusal leaves that.
     #[inline(never)]
     fn grow(&mut self, n: usize) -> Result<(), AllocError>
         ensures items { items_listed self.new ≡ items_listed self.old }
@@ -177,6 +194,13 @@ impl Listed {
         ensures err { OnErr result (room_listed self.new ≡ room_listed self.old) }
     {
         match self {
+            Listed::One(one) => {
+                if n < FEW {
+                    *self = Listed::Few(one.in_vector(n + 1)?);
+                } else {
+                    *self = Listed::Many(columns_of(&one.in_vector(1)?, n)?);
+                }
+            }
             Listed::Few(few) => {
                 if n <= FEW && few.len() <= FEW - n {
                     few.reserve(n)?;
@@ -197,6 +221,7 @@ impl Listed {
         ensures room { room_listed self.new ≡ room_listed self.old - 1 }
     {
         match self {
+            Listed::One(one) => one.set(val),
             Listed::Few(few) => few.push_reserved(Packed::new(val)),
             Listed::Many(columns) => columns.push_reserved(val),
         }
