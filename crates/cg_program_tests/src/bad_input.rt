@@ -1,70 +1,28 @@
-//! Words, sizes and bad scripts, through the top call.
-use crate::calls::{answer_to, lines_of_spaces};
-use cg_cli::Status;
-use cg_io::PlainSource;
-use std::alloc::{AllocError, Global};
-use std::process::Abort;
-use std::test::Fail;
+//! Words that ask for nothing, and bad scripts with their own line feeds.
 
-/// These words ask for nothing, and that is told.
-fn check_bad_words(rt: &impl Abort, alloc: Global, words: &[&str]) -> Result<(), AllocError> {
-    let mut source = PlainSource::new(Vec::new(alloc));
-    let found = answer_to(alloc, words, &mut source)?;
-    assert_eq!(rt; found.status, Status::BadWords, "at {words:?}");
-    assert_eq!(rt;
-        found.text.as_slice(),
-        b"bad words\n".as_slice(),
-        "at {words:?}"
-    );
-    Ok(())
-}
+/// Words that ask for nothing.
+pub static WORDS: [(&str, &[&str]); 15] = [
+    ("no word", &[]),
+    ("a word too many", &["run", "now"]),
+    ("no block", &["generate", "0"]),
+    ("an empty word first", &["", "run"]),
+    ("a budget without a number", &["run", "--budget"]),
+    ("a word behind the budget", &["run", "--budget", "5", "6"]),
+    ("the budget first", &["--budget", "5", "run"]),
+    ("another option", &["run", "--budgets", "5"]),
+    ("an empty budget", &["run", "--budget", ""]),
+    ("a negative budget", &["run", "--budget", "-1"]),
+    ("a budget with a plus", &["run", "--budget", "+5"]),
+    ("a budget with a space", &["run", "--budget", "5 "]),
+    ("a budget of seven digits", &["run", "--budget", "0000005"]),
+    ("a budget past the greatest", &["run", "--budget", "100001"]),
+    ("a budget in a word", &["run", "--budget", "many"]),
+];
 
-#[test]
-fn other_words_are_bad(rt: HostRuntime) -> Result<(), Fail> {
-    let alloc = rt.alloc();
-    check_bad_words(&rt, alloc, &[])?;
-    check_bad_words(&rt, alloc, &["run", "now"])?;
-    check_bad_words(&rt, alloc, &["generate", "0"])?;
-    check_bad_words(&rt, alloc, &["", "run"])?;
-    check_bad_words(&rt, alloc, &["run", "--budget"])?;
-    check_bad_words(&rt, alloc, &["run", "--budget", "5", "6"])?;
-    check_bad_words(&rt, alloc, &["--budget", "5", "run"])?;
-    check_bad_words(&rt, alloc, &["run", "--budgets", "5"])?;
-    Ok(())
-}
-
-#[test]
-fn other_budgets_are_bad(rt: HostRuntime) -> Result<(), Fail> {
-    let alloc = rt.alloc();
-    for number in ["", "-1", "+5", "5 ", "0000005", "100001", "many"] {
-        check_bad_words(&rt, alloc, &["run", "--budget", number])?;
-    }
-    Ok(())
-}
-
-#[test]
-fn bad_scripts(rt: HostRuntime) -> Result<(), Fail> {
-    let alloc = rt.alloc();
-    for (script, text) in [
-        ("a = list\nlist = list", "bad script 2 4\n"),
-        ("a = list\n\n# a comment\nfly a\n", "bad script 4 2\n"),
-        ("del a\ndel\n", "bad script 2 3\n"),
-        ("a = list\ta\n", "bad script 1 1\n"),
-    ] {
-        let mut source = PlainSource::new(Vec::from_slice(alloc, script.as_bytes())?);
-        let found = answer_to(alloc, &["run"], &mut source)?;
-        assert_eq!(rt; found.status, Status::BadScript, "at {script:?}");
-        assert_eq!(rt; found.text.as_slice(), text.as_bytes(), "at {script:?}");
-    }
-    Ok(())
-}
-
-#[test]
-fn one_byte_too_many(rt: HostRuntime) -> Result<(), Fail> {
-    let alloc = rt.alloc();
-    let mut source = PlainSource::new(lines_of_spaces(alloc, 16_384, 1)?);
-    let found = answer_to(alloc, &["run"], &mut source)?;
-    assert_eq!(rt; found.status, Status::TooLarge);
-    assert_eq!(rt; found.text.as_slice(), b"too large\n".as_slice());
-    Ok(())
-}
+/// Bad scripts, byte by byte, and what is told of them.
+pub static WHOLE: [(&str, &str); 4] = [
+    ("a = list\nlist = list", "bad script 2 4\n"),
+    ("a = list\n\n# a comment\nfly a\n", "bad script 4 2\n"),
+    ("del a\ndel\n", "bad script 2 3\n"),
+    ("a = list\ta\n", "bad script 1 1\n"),
+];

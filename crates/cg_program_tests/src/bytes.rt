@@ -1,5 +1,5 @@
 //! Each byte in each place of a short script, and each front of a longer one.
-use crate::calls::{answer_to, check_bytes, shown};
+use crate::calls::{RUN, answer_to, check_bytes, lines, shown};
 use cg_cli::Status;
 use cg_io::PlainSource;
 use std::alloc::{AllocError, Global};
@@ -83,7 +83,8 @@ fn check_place(rt: &impl Abort, alloc: Global, place: usize, there: u8) -> Resul
         } else {
             Status::Done
         };
-        check_bytes(rt, alloc, script_with(alloc, place, byte)?, status, text)?;
+        let script = script_with(alloc, place, byte)?;
+        check_bytes(rt, alloc, RUN, script, status, &lines(alloc, text)?, text)?;
     }
     Ok(())
 }
@@ -136,7 +137,7 @@ fn check_front(
     code: u8,
 ) -> Result<(), AllocError> {
     let mut source = PlainSource::new(Vec::from_slice(alloc, front)?);
-    let found = answer_to(alloc, &["run"], &mut source)?;
+    let found = answer_to(alloc, RUN, &mut source)?;
     if code == b'.' {
         assert_eq!(rt; found.status, Status::Done, "in line {line}");
         assert!(rt; found.text.ends_with(b"end\n"), "in line {line}");

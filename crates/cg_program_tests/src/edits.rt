@@ -1,7 +1,6 @@
 //! Two texts with each line left out, doubled and swapped with the next, and the verdict that each then gets.
 use cg_cert::{Verdict, check_records};
 use std::alloc::{AllocError, Global};
-use std::process::Abort;
 use std::test::Fail;
 
 /// What is done to one of the lines.
@@ -42,22 +41,6 @@ pub fn edited(
     Ok(text)
 }
 
-/// Wants this graph and this code of the lines with each line edited, in order.
-fn check_edits(
-    rt: &impl Abort,
-    alloc: Global,
-    lines: &[&[u8]],
-    edit: Edit,
-    wanted: &[(u64, u8)],
-) -> Result<(), AllocError> {
-    for (at, (graph, code)) in wanted.iter().copied().enumerate() {
-        let text = edited(alloc, lines, edit, at)?;
-        let verdict = check_records(alloc, &text)?;
-        assert_eq!(rt; verdict, Verdict::No { graph, code }, "at line {at}");
-    }
-    Ok(())
-}
-
 /// A list that holds itself was thrown away: both graphs are that list, and it is lost.
 pub static LIST: [&[u8]; 11] = [
     b"record 2\n",
@@ -86,70 +69,102 @@ static INSTANCE: [&[u8]; 9] = [
     b"end\n",
 ];
 
-#[test]
-fn lines_of_a_list_are_edited(rt: HostRuntime) -> Result<(), Fail> {
-    let alloc = rt.alloc();
-    let left_out = [
-        (0, 1),
-        (0, 1),
-        (0, 1),
-        (1, 4),
-        (1, 4),
-        (0, 1),
-        (0, 1),
-        (2, 4),
-        (2, 4),
-        (0, 1),
-        (0, 1),
-    ];
-    check_edits(&rt, alloc, &LIST, Edit::LeftOut, &left_out)?;
-    let doubled = [
-        (0, 1),
-        (0, 1),
-        (1, 2),
-        (1, 3),
-        (1, 2),
-        (0, 1),
-        (2, 2),
-        (2, 3),
-        (2, 2),
-        (0, 1),
-        (0, 1),
-    ];
-    check_edits(&rt, alloc, &LIST, Edit::Doubled, &doubled)?;
-    // The last line has no next.
-    check_edits(&rt, alloc, &LIST, Edit::Swapped, &[(0, 1); 10])?;
-    Ok(())
-}
+/// The verdicts, by graph and code, on texts with each line edited, in order. The last line has no next.
+static VERDICTS: [(&str, &[&[u8]], Edit, &[(u64, u8)]); 6] = [
+    (
+        "a line of the list left out",
+        &LIST,
+        Edit::LeftOut,
+        &[
+            (0, 1),
+            (0, 1),
+            (0, 1),
+            (1, 4),
+            (1, 4),
+            (0, 1),
+            (0, 1),
+            (2, 4),
+            (2, 4),
+            (0, 1),
+            (0, 1),
+        ],
+    ),
+    (
+        "a line of the list doubled",
+        &LIST,
+        Edit::Doubled,
+        &[
+            (0, 1),
+            (0, 1),
+            (1, 2),
+            (1, 3),
+            (1, 2),
+            (0, 1),
+            (2, 2),
+            (2, 3),
+            (2, 2),
+            (0, 1),
+            (0, 1),
+        ],
+    ),
+    (
+        "two lines of the list swapped",
+        &LIST,
+        Edit::Swapped,
+        &[(0, 1); 10],
+    ),
+    (
+        "a line of the instance left out",
+        &INSTANCE,
+        Edit::LeftOut,
+        &[
+            (0, 1),
+            (0, 1),
+            (0, 1),
+            (1, 4),
+            (1, 4),
+            (1, 5),
+            (0, 1),
+            (0, 1),
+            (0, 1),
+        ],
+    ),
+    (
+        "a line of the instance doubled",
+        &INSTANCE,
+        Edit::Doubled,
+        &[
+            (0, 1),
+            (0, 1),
+            (1, 2),
+            (1, 3),
+            (1, 2),
+            (1, 2),
+            (0, 1),
+            (0, 1),
+            (0, 1),
+        ],
+    ),
+    (
+        "two lines of the instance swapped",
+        &INSTANCE,
+        Edit::Swapped,
+        &[(0, 1); 8],
+    ),
+];
 
 #[test]
-fn lines_of_an_instance_are_edited(rt: HostRuntime) -> Result<(), Fail> {
+fn each_line_is_edited(rt: HostRuntime) -> Result<(), Fail> {
     let alloc = rt.alloc();
-    let left_out = [
-        (0, 1),
-        (0, 1),
-        (0, 1),
-        (1, 4),
-        (1, 4),
-        (1, 5),
-        (0, 1),
-        (0, 1),
-        (0, 1),
-    ];
-    check_edits(&rt, alloc, &INSTANCE, Edit::LeftOut, &left_out)?;
-    let doubled = [
-        (0, 1),
-        (0, 1),
-        (1, 2),
-        (1, 3),
-        (1, 2),
-        (1, 2),
-        (0, 1),
-        (0, 1),
-        (0, 1),
-    ];
-    check_edits(&rt, alloc, &INSTANCE, Edit::Doubled, &doubled)?;
-    // The last line has no next.
-    check_edits(&rt, alloc, &INSTANCE, Edit::Swapped, &[(0, 1); 8])?;
+    for (name, lines, edit, wanted) in VERDICTS {
+        for (at, (graph, code)) in wanted.iter().enumerate() {
+            let verdict = check_records(alloc, &edited(alloc, lines, edit, at)?)?;
+            let no = Verdict::No {
+                graph: *graph,
+                code: *code,
+            };
+            assert_eq!(&rt; verdict, no, "{name}, at {at}");
+        }
+    }
     Ok(())
 }
