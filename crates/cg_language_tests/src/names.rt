@@ -2,44 +2,49 @@
 use cg_value::Names;
 use std::test::Fail;
 
+/// Texts in the order in which they are interned, the numbers that they get, all texts by their numbers, and one that is none.
+static ORDERS: [(&[(&str, u32)], &[&str], &str); 2] = [
+    (
+        &[("a", 0), ("b", 1), ("", 2), ("b", 1), ("a", 0), ("c", 3)],
+        &["a", "b", "", "c"],
+        "d",
+    ),
+    // Texts of one length that begin and end alike share the guess of their number.
+    (
+        &[
+            ("axb", 0),
+            ("ayb", 1),
+            ("axb", 0),
+            ("azb", 2),
+            ("azb", 2),
+            ("ayb", 1),
+            ("axb", 0),
+        ],
+        &["axb", "ayb", "azb"],
+        "acb",
+    ),
+];
+
 #[test]
 fn a_text_has_its_first_number(rt: HostRuntime) -> Result<(), Fail> {
-    let mut names = Names::new(rt.alloc());
-    for (text, number) in [("a", 0), ("b", 1), ("", 2), ("b", 1), ("a", 0), ("c", 3)] {
-        assert!(rt; names.len() < 100);
-        assert_eq!(rt; names.intern(text)?, number, "at {text:?}");
+    for (texts, all, none) in ORDERS {
+        let mut names = Names::new(rt.alloc());
+        for (text, number) in texts {
+            assert!(&rt; names.len() < 100);
+            assert_eq!(&rt; names.intern(text)?, *number, "at {text:?}");
+            assert_eq!(&rt; names.find(text), Some(*number), "at {text:?}");
+        }
+        let mut number = 0;
+        for text in all {
+            assert!(&rt; number < names.len(), "at {text:?}");
+            assert_eq!(&rt; names.text(number), *text);
+            assert_eq!(&rt; names.find(text), Some(number), "at {text:?}");
+            assert!(&rt; names.has(text), "at {text:?}");
+            number += 1;
+        }
+        assert_eq!(&rt; names.len(), number);
+        assert_eq!(&rt; names.find(none), None);
+        assert!(&rt; !names.has(none));
     }
-    assert_eq!(rt; names.len(), 4);
-    for (number, text) in [(0, "a"), (1, "b"), (2, ""), (3, "c")] {
-        assert!(rt; number < names.len());
-        assert_eq!(rt; names.text(number), text, "at {number}");
-        assert_eq!(rt; names.find(text), Some(number), "at {number}");
-        assert!(rt; names.has(text));
-    }
-    assert_eq!(rt; names.find("d"), None);
-    assert!(rt; !names.has("d"));
-    Ok(())
-}
-
-/// Texts of one length that begin and end alike share the guess of their number.
-#[test]
-fn texts_that_share_a_guess_keep_their_numbers(rt: HostRuntime) -> Result<(), Fail> {
-    let mut names = Names::new(rt.alloc());
-    for (text, number) in [
-        ("axb", 0),
-        ("ayb", 1),
-        ("axb", 0),
-        ("azb", 2),
-        ("azb", 2),
-        ("ayb", 1),
-        ("axb", 0),
-    ] {
-        assert!(rt; names.len() < 100);
-        assert_eq!(rt; names.intern(text)?, number, "at {text:?}");
-        assert_eq!(rt; names.find(text), Some(number), "at {text:?}");
-    }
-    assert_eq!(rt; names.len(), 3);
-    assert_eq!(rt; names.find("azb"), Some(2));
-    assert_eq!(rt; names.find("acb"), None);
     Ok(())
 }

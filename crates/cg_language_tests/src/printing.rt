@@ -85,45 +85,39 @@ static QUERIES: [(&str, &str); 11] = [
     ("# nothing", ""),
 ];
 
-static FRONT: &str = "def p\nend\ndef q\ndel x\nend\nclass C\n";
+const FRONT: &str = "def p\nend\ndef q\ndel x\nend\nclass C\n";
+
+/// Lines that are ignored and spaces are not printed.
+static PASSED: [(&str, &str); 5] = [
+    ("", ""),
+    ("\n# a\n\n", ""),
+    (
+        "def p\n\n  del  a\n # b\nprint c0\nend\nf = func p f\nclass end del=p",
+        "def p\ndel a\nprint c0\nend\nf = func p f\nclass end del=p",
+    ),
+    ("# 2\nprofile 02", "profile 2"),
+    (
+        "profile  1\nshutdown\nshutdown = profile\nbudget 01",
+        "profile 1\nshutdown\nshutdown = profile\nbudget 1",
+    ),
+];
+
+/// Lines, and what stands before each of them.
+static TABLES: [(&str, &[(&str, &str)]); 3] = [(FRONT, &LINES), (FRONT, &QUERIES), ("", &PASSED)];
 
 #[test]
 fn lines_as_they_are_printed(rt: HostRuntime) -> Result<(), Fail> {
-    for table in [LINES.as_slice(), QUERIES.as_slice()] {
+    let alloc = rt.alloc();
+    for (front, table) in TABLES {
         for (line, want) in table {
-            let text = format!(in rt.alloc(); "{FRONT}{line}")?;
+            let text = format!(in alloc; "{front}{line}")?;
             let end = if want.is_empty() { "" } else { "\n" };
-            let wanted = format!(in rt.alloc(); "{FRONT}{want}{end}")?;
-            let once = printed(rt.alloc(), text.as_bytes())?;
-            assert_eq!(rt; once.as_str(), wanted.as_str(), "at {line:?}");
-            let again = printed(rt.alloc(), once.as_bytes())?;
-            assert_eq!(rt; again.as_str(), once.as_str(), "again at {line:?}");
+            let wanted = format!(in alloc; "{front}{want}{end}")?;
+            let once = printed(alloc, text.as_bytes())?;
+            assert_eq!(&rt; once.as_str(), wanted.as_str(), "at {line:?}");
+            let again = printed(alloc, once.as_bytes())?;
+            assert_eq!(&rt; again.as_str(), once.as_str(), "again at {line:?}");
         }
-    }
-    Ok(())
-}
-
-#[test]
-fn passed_lines_and_spaces_are_not_printed(rt: HostRuntime) -> Result<(), Fail> {
-    for (script, want) in [
-        ("", ""),
-        ("\n# a\n\n", ""),
-        (" a = list \n\n\tb", "bad 3 1"),
-        (
-            "def p\n\n  del  a\n # b\nprint c0\nend\nf = func p f\nclass end del=p",
-            "def p\ndel a\nprint c0\nend\nf = func p f\nclass end del=p\n",
-        ),
-        ("# 2\nprofile 02", "profile 2\n"),
-        (
-            "profile  1\nshutdown\nshutdown = profile\nbudget 01",
-            "profile 1\nshutdown\nshutdown = profile\nbudget 1\n",
-        ),
-    ] {
-        assert_eq!(rt;
-            printed(rt.alloc(), script.as_bytes())?.as_str(),
-            want,
-            "at {script:?}"
-        );
     }
     Ok(())
 }
