@@ -1,6 +1,6 @@
 //! Whole heaps over six kinds. The expected answers come from counting references by hand, as `sys.getrefcount` of
 //! Python does.
-ghost use Rattle.std.specs.Prelude.{◌≡◌, ◌<◌, map, replicate};
+ghost use Rattle.std.specs.Prelude.{◌≡◌, map, replicate};
 ghost use Rattle.std.specs.FinMap as fin;
 ghost use Rattle.cg_heap.specs.Boxes.{six_kinds};
 
@@ -161,32 +161,37 @@ fn answer_to<B: Kind>(
     Ok(look(rt, &scene.heap, step))
 }
 
+/// A step and what it answers.
+type Row = (Step, Answer);
+
+/// Steps from a new heap on, with their name.
+type Case = (&'static str, &'static [Row]);
+
 /// Takes a heap through the steps.
 fn follow<B: Kind>(
     rt: &impl Abort,
     scene: &mut Scene<B>,
-    rows: &[(Step, Answer)],
+    name: &str,
+    rows: &[Row],
 ) -> Result<(), Fail> {
     'rows: for (step, answer) in rows {
-        assert_eq!(rt; answer_to(rt, scene, *step)?, *answer, "at {step:?}");
+        assert_eq!(rt;
+            answer_to(rt, scene, *step)?,
+            *answer,
+            "{name}, at {step:?}"
+        );
     }
     Ok(())
 }
 
 /// Takes a new heap through the steps.
-fn drive<B: Kind>(
-    rt: &impl Abort,
-    alloc: Global,
-    kinds: Vec<B>,
-    names: u32,
-    rows: &[(Step, Answer)],
-) -> Result<(), Fail>
+fn drive<B: Kind>(rt: &impl Abort, alloc: Global, kinds: Vec<B>, case: Case) -> Result<(), Fail>
     requires kinds { map B.kind kinds.items ≡ six_kinds }
     requires empty { map B.bodies kinds.items ≡ replicate 6 fin.empty }
-    requires names { names < 1073741824 }
 {
-    let mut scene = Scene::new(alloc, kinds, names)?;
-    follow(rt, &mut scene, rows)
+    let (name, rows) = case;
+    let mut scene = Scene::new(alloc, kinds, 4)?;
+    follow(rt, &mut scene, name, rows)
 }
 
 const LIST: Val = Val::Ref(2);
@@ -197,136 +202,137 @@ const NUMBER: Val = Val::Int(5);
 
 const YOUNG: Place = Place::Gen(0);
 
-#[test]
-fn an_entry_that_is_taken_holds_value_and_key_from_outside(rt: HostRuntime) -> Result<(), Fail> {
-    let alloc = rt.alloc();
-    let taken = Entry {
-        key: INST,
-        val: LIST,
-    };
-    let rows = [
-        (Step::List, Answer::Made(Ok(2))),
-        (Step::Inst, Answer::Made(Ok(3))),
-        (Step::Dict, Answer::Made(Ok(4))),
-        // A dictionary is untracked, as the garbage list is, until it holds what may be tracked.
-        (Step::Size(Place::Untracked), Answer::Number(2)),
-        (Step::Put(4, INST, LIST), Answer::Replaced(Ok(None))),
-        (Step::Size(YOUNG), Answer::Number(3)),
-        // The entry holds both.
-        (Step::GiveUp(2), Answer::Died(false)),
-        (Step::GiveUp(3), Answer::Died(false)),
-        (Step::Entries, Answer::Number(1)),
-        (Step::Take(4, 0), Answer::Taken(taken)),
-        (Step::Live, Answer::Number(3)),
-        // And now nothing but its taker does.
-        (Step::GiveUp(2), Answer::Died(true)),
-        (Step::GiveUp(3), Answer::Died(true)),
-        (Step::GiveUp(4), Answer::Died(true)),
-        (Step::Live, Answer::Number(0)),
-        (Step::Entries, Answer::Number(0)),
-        (Step::Size(YOUNG), Answer::Number(0)),
-    ];
-    drive(&rt, alloc, six(alloc)?, 0, &rows)
-}
+const BOTH: Entry = Entry {
+    key: INST,
+    val: LIST,
+};
+
+const SEVEN: Entry = Entry {
+    key: INST,
+    val: Val::Int(7),
+};
+
+const NO_MEMORY: Answer = Answer::Made(Err(HeapFault::OutOfMemory));
+
+/// An entry that is taken holds value and key from outside.
+const TAKEN: [Row; 17] = [
+    (Step::List, Answer::Made(Ok(2))),
+    (Step::Inst, Answer::Made(Ok(3))),
+    (Step::Dict, Answer::Made(Ok(4))),
+    // A dictionary is untracked, as the garbage list is, until it holds what may be tracked.
+    (Step::Size(Place::Untracked), Answer::Number(2)),
+    (Step::Put(4, INST, LIST), Answer::Replaced(Ok(None))),
+    (Step::Size(YOUNG), Answer::Number(3)),
+    // The entry holds both.
+    (Step::GiveUp(2), Answer::Died(false)),
+    (Step::GiveUp(3), Answer::Died(false)),
+    (Step::Entries, Answer::Number(1)),
+    (Step::Take(4, 0), Answer::Taken(BOTH)),
+    (Step::Live, Answer::Number(3)),
+    // And now nothing but its taker does.
+    (Step::GiveUp(2), Answer::Died(true)),
+    (Step::GiveUp(3), Answer::Died(true)),
+    (Step::GiveUp(4), Answer::Died(true)),
+    (Step::Live, Answer::Number(0)),
+    (Step::Entries, Answer::Number(0)),
+    (Step::Size(YOUNG), Answer::Number(0)),
+];
+
+/// An entry is taken by its key.
+const BY_KEY: [Row; 15] = [
+    (Step::Dict, Answer::Made(Ok(2))),
+    (Step::Inst, Answer::Made(Ok(3))),
+    (Step::Put(2, NUMBER, LIST), Answer::Replaced(Ok(None))),
+    // Atoms make no dictionary tracked, and itself does.
+    (Step::Size(YOUNG), Answer::Number(2)),
+    (Step::Put(2, INST, Val::Int(6)), Answer::Replaced(Ok(None))),
+    (
+        Step::Put(2, INST, Val::Int(7)),
+        Answer::Replaced(Ok(Some(Val::Int(6)))),
+    ),
+    (Step::Value(2, INST), Answer::Value(Some(Val::Int(7)))),
+    (Step::Value(2, LIST), Answer::Value(None)),
+    (Step::TakeKey(2, LIST), Answer::TakenIf(None)),
+    (Step::TakeKey(2, INST), Answer::TakenIf(Some(SEVEN))),
+    (Step::Value(2, INST), Answer::Value(None)),
+    (Step::Value(2, NUMBER), Answer::Value(Some(LIST))),
+    (Step::Entries, Answer::Number(1)),
+    // Its maker and the taker held the instance, which the entry held before.
+    (Step::GiveUp(3), Answer::Died(false)),
+    (Step::GiveUp(3), Answer::Died(true)),
+];
+
+/// A list that is refused changes nothing: the garbage list is the one that is made.
+const REFUSED: [Row; 7] = [
+    (Step::List, NO_MEMORY),
+    (Step::Live, Answer::Number(0)),
+    (Step::Size(YOUNG), Answer::Number(0)),
+    // The refusal used no serial, and the other kinds go on.
+    (Step::Inst, Answer::Made(Ok(2))),
+    (Step::List, NO_MEMORY),
+    (Step::Size(YOUNG), Answer::Number(1)),
+    (Step::Live, Answer::Number(1)),
+];
+
+/// Weak references are cleared and forgotten.
+const WEAK: [Row; 20] = [
+    (Step::List, Answer::Made(Ok(2))),
+    (Step::Weak(2), Answer::Made(Ok(3))),
+    (Step::Weak(2), Answer::Made(Ok(4))),
+    (Step::Weak(2), Answer::Made(Ok(5))),
+    (Step::Newest(2), Answer::Object(Some(5))),
+    (Step::Older(5), Answer::Object(Some(4))),
+    (Step::Older(4), Answer::Object(Some(3))),
+    (Step::Older(3), Answer::Object(None)),
+    (Step::Clear(4, false), Answer::Nothing),
+    (Step::Referent(4), Answer::Object(None)),
+    (Step::Older(5), Answer::Object(Some(3))),
+    (Step::Clear(3, true), Answer::Nothing),
+    (Step::Referent(3), Answer::Object(None)),
+    (Step::Referent(5), Answer::Object(Some(2))),
+    (Step::Clear(5, true), Answer::Nothing),
+    (Step::Newest(2), Answer::Object(None)),
+    // What waits is met from the newest on; what was cleared without waiting is not.
+    (Step::Forget(2), Answer::Object(Some(5))),
+    (Step::Forget(2), Answer::Object(Some(3))),
+    (Step::Forget(2), Answer::Object(None)),
+    // A weak reference does not hold its referent.
+    (Step::GiveUp(2), Answer::Died(true)),
+];
+
+/// The greatest bound name is answered.
+const NAMES: [Row; 11] = [
+    (Step::Greatest, Answer::Name(None)),
+    (Step::Bind(1, Val::Int(7)), Answer::Nothing),
+    (Step::Bind(3, Val::None), Answer::Nothing),
+    (Step::Greatest, Answer::Name(Some(3))),
+    (Step::Unbind(3), Answer::Nothing),
+    (Step::Greatest, Answer::Name(Some(1))),
+    // One above it is bound before it is given up, as finalizers may do.
+    (Step::Bind(2, Val::Int(8)), Answer::Nothing),
+    (Step::Unbind(1), Answer::Nothing),
+    (Step::Greatest, Answer::Name(Some(2))),
+    (Step::Unbind(2), Answer::Nothing),
+    (Step::Greatest, Answer::Name(None)),
+];
 
 #[test]
-fn an_entry_is_taken_by_its_key(rt: HostRuntime) -> Result<(), Fail> {
+fn heaps_answer_step_by_step(rt: HostRuntime) -> Result<(), Fail> {
     let alloc = rt.alloc();
-    let taken = Entry {
-        key: INST,
-        val: Val::Int(7),
-    };
-    let rows = [
-        (Step::Dict, Answer::Made(Ok(2))),
-        (Step::Inst, Answer::Made(Ok(3))),
-        (Step::Put(2, NUMBER, LIST), Answer::Replaced(Ok(None))),
-        // Atoms make no dictionary tracked, and itself does.
-        (Step::Size(YOUNG), Answer::Number(2)),
-        (Step::Put(2, INST, Val::Int(6)), Answer::Replaced(Ok(None))),
-        (
-            Step::Put(2, INST, Val::Int(7)),
-            Answer::Replaced(Ok(Some(Val::Int(6)))),
-        ),
-        (Step::Value(2, INST), Answer::Value(Some(Val::Int(7)))),
-        (Step::Value(2, LIST), Answer::Value(None)),
-        (Step::TakeKey(2, LIST), Answer::TakenIf(None)),
-        (Step::TakeKey(2, INST), Answer::TakenIf(Some(taken))),
-        (Step::Value(2, INST), Answer::Value(None)),
-        (Step::Value(2, NUMBER), Answer::Value(Some(LIST))),
-        (Step::Entries, Answer::Number(1)),
-        // Its maker and the taker held the instance, which the entry held before.
-        (Step::GiveUp(3), Answer::Died(false)),
-        (Step::GiveUp(3), Answer::Died(true)),
-    ];
-    drive(&rt, alloc, six(alloc)?, 0, &rows)?;
+    for case in [
+        ("an entry that is taken", TAKEN.as_slice()),
+        ("an entry that is taken by its key", BY_KEY.as_slice()),
+        ("weak references", WEAK.as_slice()),
+        ("names", NAMES.as_slice()),
+    ] {
+        drive(&rt, alloc, six(alloc)?, case)?;
+    }
     // A kind that does not write the calls by key has the bodies of the trait.
-    drive(&rt, alloc, six_of_one(alloc)?, 0, &rows)
-}
-
-#[test]
-fn a_list_that_is_refused_changes_nothing(rt: HostRuntime) -> Result<(), Fail> {
-    let alloc = rt.alloc();
-    let refused = Answer::Made(Err(HeapFault::OutOfMemory));
-    let rows = [
-        (Step::List, refused),
-        (Step::Live, Answer::Number(0)),
-        (Step::Size(YOUNG), Answer::Number(0)),
-        // The refusal used no serial, and the other kinds go on.
-        (Step::Inst, Answer::Made(Ok(2))),
-        (Step::List, refused),
-        (Step::Size(YOUNG), Answer::Number(1)),
-        (Step::Live, Answer::Number(1)),
-    ];
-    // The garbage list is the one that is made.
-    drive(&rt, alloc, six_of_one(alloc)?, 0, &rows)
-}
-
-#[test]
-fn weak_references_are_cleared_and_forgotten(rt: HostRuntime) -> Result<(), Fail> {
-    let alloc = rt.alloc();
-    let rows = [
-        (Step::List, Answer::Made(Ok(2))),
-        (Step::Weak(2), Answer::Made(Ok(3))),
-        (Step::Weak(2), Answer::Made(Ok(4))),
-        (Step::Weak(2), Answer::Made(Ok(5))),
-        (Step::Newest(2), Answer::Object(Some(5))),
-        (Step::Older(5), Answer::Object(Some(4))),
-        (Step::Older(4), Answer::Object(Some(3))),
-        (Step::Older(3), Answer::Object(None)),
-        (Step::Clear(4, false), Answer::Nothing),
-        (Step::Referent(4), Answer::Object(None)),
-        (Step::Older(5), Answer::Object(Some(3))),
-        (Step::Clear(3, true), Answer::Nothing),
-        (Step::Referent(3), Answer::Object(None)),
-        (Step::Referent(5), Answer::Object(Some(2))),
-        (Step::Clear(5, true), Answer::Nothing),
-        (Step::Newest(2), Answer::Object(None)),
-        // What waits is met from the newest on; what was cleared without waiting is not.
-        (Step::Forget(2), Answer::Object(Some(5))),
-        (Step::Forget(2), Answer::Object(Some(3))),
-        (Step::Forget(2), Answer::Object(None)),
-        // A weak reference does not hold its referent.
-        (Step::GiveUp(2), Answer::Died(true)),
-    ];
-    drive(&rt, alloc, six(alloc)?, 0, &rows)
-}
-
-#[test]
-fn the_greatest_bound_name_is_answered(rt: HostRuntime) -> Result<(), Fail> {
-    let alloc = rt.alloc();
-    let rows = [
-        (Step::Greatest, Answer::Name(None)),
-        (Step::Bind(1, Val::Int(7)), Answer::Nothing),
-        (Step::Bind(3, Val::None), Answer::Nothing),
-        (Step::Greatest, Answer::Name(Some(3))),
-        (Step::Unbind(3), Answer::Nothing),
-        (Step::Greatest, Answer::Name(Some(1))),
-        // One above it is bound before it is given up, as finalizers may do.
-        (Step::Bind(2, Val::Int(8)), Answer::Nothing),
-        (Step::Unbind(1), Answer::Nothing),
-        (Step::Greatest, Answer::Name(Some(2))),
-        (Step::Unbind(2), Answer::Nothing),
-        (Step::Greatest, Answer::Name(None)),
-    ];
-    drive(&rt, alloc, six(alloc)?, 4, &rows)
+    for case in [
+        ("an entry that is taken by its key", BY_KEY.as_slice()),
+        ("a list that is refused", REFUSED.as_slice()),
+    ] {
+        drive(&rt, alloc, six_of_one(alloc)?, case)?;
+    }
+    Ok(())
 }

@@ -193,25 +193,10 @@ fn check<B: Kind>(rt: &impl Abort, alloc: Global, kinds: Vec<B>, trial: Trial) -
 }
 
 #[test]
-fn a_million_objects_are_the_most(rt: HostRuntime) -> Result<(), Fail> {
+fn heaps_reach_their_limits(rt: HostRuntime) -> Result<(), Fail> {
     let alloc = rt.alloc();
-    check(&rt, alloc, six(alloc)?, Trial::Objects)
-}
-
-#[test]
-fn four_million_entries_are_the_most(rt: HostRuntime) -> Result<(), Fail> {
-    let alloc = rt.alloc();
-    check(&rt, alloc, six(alloc)?, Trial::Entries)
-}
-
-#[test]
-fn a_long_chain_is_given_up(rt: HostRuntime) -> Result<(), Fail> {
-    let alloc = rt.alloc();
-    check(&rt, alloc, six(alloc)?, Trial::Chain)
-}
-
-#[test]
-fn with_memory_each_call_succeeds(rt: HostRuntime) -> Result<(), Fail> {
-    let alloc = rt.alloc();
-    check(&rt, alloc, six(alloc)?, Trial::Calls)
+    for trial in [Trial::Objects, Trial::Entries, Trial::Chain, Trial::Calls] {
+        check(&rt, alloc, six(alloc)?, trial)?;
+    }
+    Ok(())
 }

@@ -13,7 +13,7 @@ use std::test::Fail;
 
 /// The whole numbers from one to before another, which are the items of a list: appended one by one, and taken off in the same
 /// order.
-#[derive(Clone, Copy, Debug, PartialEq, Drop)]
+#[derive(Clone, Copy, Drop)]
 struct Numbers {
     first: i64,
     next: i64,
@@ -109,11 +109,6 @@ fn queue_up<K: Kind>(rt: &impl Abort, kind: &mut K) -> Result<(), Fail>
     Ok(())
 }
 
-#[test]
-fn numbers_leave_at_the_front_as_they_came(rt: HostRuntime) -> Result<(), Fail> {
-    queue_up(&rt, &mut ListKind::new(rt.alloc()))
-}
-
 /// A list of the numbers from 10 to 99, of which the first ten have left at the front.
 fn ninety<K: Kind>(rt: &impl Abort, kind: &mut K) -> Result<usize, AllocError>
     requires { IsParts (K.kind kind.old) [] }
@@ -144,6 +139,9 @@ fn change_ninety<K: Kind>(rt: &impl Abort, kind: &mut K) -> Result<(), Fail>
 }
 
 #[test]
-fn a_place_counts_from_the_first_value(rt: HostRuntime) -> Result<(), Fail> {
+fn numbers_leave_at_the_front_and_places_count_from_the_first_left(
+    rt: HostRuntime,
+) -> Result<(), Fail> {
+    queue_up(&rt, &mut ListKind::new(rt.alloc()))?;
     change_ninety(&rt, &mut ListKind::new(rt.alloc()))
 }

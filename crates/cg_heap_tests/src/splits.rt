@@ -1,5 +1,5 @@
 //! Small graphs in a heap over six kinds, split. What is to be left is found by hand, and what is kept by the plain search.
-ghost use Rattle.std.specs.Prelude.{◌≡◌, ◌<◌, ◌≤◌, ◌+◌, map, replicate, IfOk};
+ghost use Rattle.std.specs.Prelude.{◌≡◌, ◌<◌, map, replicate, IfOk};
 ghost use Rattle.std.specs.List.{All};
 ghost use Rattle.std.specs.FinMap as fin;
 ghost use Rattle.cg_graph.specs.Store.{IsLive, list_at};
@@ -242,54 +242,6 @@ fn check_row<B: Kind, L: Ledger>(
     split_as_row(rt, alloc, &mut heap, &mut steps, row)
 }
 
-/// Splits generation 0, where one object with three entries stands, and nothing among the candidates. It stops where that
-/// is not so.
-fn split_one_of_three<B: Kind, L: Ledger>(rt: &impl Abort, heap: &mut Heap<B>, steps: &mut Steps<L>)
-    ensures least { steps.old + 3 ≤ steps.new }
-    ensures most { steps.new ≤ steps.old + 6 }
-{
-    heap.sound();
-    assert!(rt; heap.size(Place::Gen(0)) == 1);
-    assert!(rt; heap.size(Place::Cand) == 0);
-    assert!(rt; heap.size(Place::Back) == 0);
-    let Some(object) = heap.first(Place::Gen(0)) else {
-        panic!(rt; "no object stands in generation 0");
-    };
-    assert!(rt; heap.len(object) == 3);
-    split(heap, Place::Gen(0), steps);
-}
-
-/// Splits a list that holds itself three times, which is left.
-fn look_at_three_in<B: Kind, L: Ledger>(
-    rt: &impl Abort,
-    alloc: Global,
-    heap: &mut Heap<B>,
-    steps: &mut Steps<L>,
-) -> Result<(), Fail> {
-    split_one_of_three(rt, heap, steps);
-    let left = serials_in(alloc, heap, Place::Cand)?;
-    assert_eq!(rt; left.as_slice(), [2u64].as_slice());
-    Ok(())
-}
-
-/// The same in a heap of its own: each of its entries is looked at, and none more than twice.
-fn look_at_three<B: Kind, L: Ledger>(
-    rt: &impl Abort,
-    alloc: Global,
-    kinds: Vec<B>,
-    blank: Blank,
-) -> Result<(), Fail>
-    requires kinds { map B.kind kinds.items ≡ six_kinds }
-    requires empty { map B.bodies kinds.items ≡ replicate 6 fin.empty }
-    requires name { blank.name ≡ L.name }
-    requires parts { blank.parts ≡ L.parts }
-    requires some { 0 < blank.parts }
-{
-    let mut heap = heap_of(rt, alloc, kinds, Graph::HoldsItselfThrice, &[])?;
-    let mut steps = Steps::<L>::new(blank);
-    look_at_three_in(rt, alloc, &mut heap, &mut steps)
-}
-
 fn table_row(graph: Graph, held: &'static [u64], left: &'static [u64]) -> Row {
     Row {
         graph,
@@ -327,10 +279,4 @@ fn what_no_path_reaches_is_left(rt: HostRuntime) -> Result<(), Fail> {
         check_row::<AnyKind, Brand>(&rt, alloc, six(alloc)?, Blank::new(1), row)?;
     }
     Ok(())
-}
-
-#[test]
-fn three_entries_are_looked_at_three_to_six_times(rt: HostRuntime) -> Result<(), Fail> {
-    let alloc = rt.alloc();
-    look_at_three::<AnyKind, Brand>(&rt, alloc, six(alloc)?, Blank::new(1))
 }

@@ -1,4 +1,7 @@
 //! The line of each event, by the words that docs/SCRIPT.md and the worked scripts have for it.
+ghost use Rattle.std.specs.Prelude.{ℕ, List, IsTrue};
+ghost use Rattle.cg_machine.specs.Lines.{IsPrintable};
+
 use cg_machine::{Event, FrameSort, line_of};
 use cg_value::{KindCode, Names, Val};
 use std::test::Fail;
@@ -61,11 +64,25 @@ static LINES: [(Event, &str); 21] = [
     (Event::Refused(13), "refused 13\n"),
 ];
 
+/// Whether an event can be printed where no text has a number.
+fn is_printable(event: &Event) -> bool
+    ensures { IsTrue result → (names : List (List ℕ)) → IsPrintable names event.now }
+{
+    match *event {
+        Event::Value(val) => match val {
+            Val::Str(_) => false,
+            _ => true,
+        },
+        _ => true,
+    }
+}
+
 #[test]
 fn events_have_their_lines(rt: HostRuntime) -> Result<(), Fail> {
     let names = Names::new(rt.alloc());
-    for (event, line) in LINES.iter() {
-        assert_eq!(rt; line_of(event, &names).as_str(), *line, "{line}");
+    for (event, line) in &LINES {
+        assert!(&rt; is_printable(event), "{line}");
+        assert_eq!(&rt; line_of(event, &names).as_str(), *line, "{line}");
     }
     Ok(())
 }

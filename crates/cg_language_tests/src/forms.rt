@@ -13,7 +13,7 @@ fn told(alloc: Global, bytes: &[u8]) -> Result<String, AllocError> {
 }
 
 /// Worked scripts.
-static WORKED: [(&str, &str); 10] = [
+const WORKED: [(&str, &str); 10] = [
     ("", "good"),
     ("a = list\nappend a a\ndel a\ncollect 2", "good"),
     (
@@ -37,7 +37,7 @@ static WORKED: [(&str, &str); 10] = [
 ];
 
 /// Words at the edges of their forms.
-static WORDS: [(&str, &str); 40] = [
+const WORDS: [(&str, &str); 40] = [
     // Numbers.
     ("x = -0", "good"),
     ("x = 007", "good"),
@@ -87,7 +87,7 @@ static WORDS: [(&str, &str); 40] = [
 ];
 
 /// Each code, and lines with two faults.
-static BAD_LINES: [(&str, &str); 72] = [
+const BAD_LINES: [(&str, &str); 72] = [
     // 1 before 5, 5 before 2.
     ("nonsense\t", "bad 1 1"),
     // 2 before all else.
@@ -173,7 +173,7 @@ static BAD_LINES: [(&str, &str); 72] = [
 ];
 
 /// A profile and a shutdown: their words, and where they stand.
-static DECLARATIONS: [(&str, &str); 40] = [
+const DECLARATIONS: [(&str, &str); 40] = [
     ("profile 1", "good"),
     ("profile 2", "good"),
     ("profile 0000000002", "good"),
@@ -224,7 +224,7 @@ static DECLARATIONS: [(&str, &str); 40] = [
 ];
 
 /// The commands that ask where objects are held.
-static INSPECTIONS: [(&str, &str); 22] = [
+const INSPECTIONS: [(&str, &str); 22] = [
     ("referents x", "good"),
     ("referents 'x", "good"),
     ("referrers garbage", "good"),
@@ -256,7 +256,7 @@ static INSPECTIONS: [(&str, &str); 22] = [
 ];
 
 /// Bad lines of a few forms.
-static FEW: [(&str, &str); 30] = [
+const FEW: [(&str, &str); 30] = [
     // Bytes that are not printable come first.
     ("a\t= list", "bad 1 1"),
     ("a = list\r\nlist = list", "bad 1 1"),
@@ -297,7 +297,7 @@ static FEW: [(&str, &str); 30] = [
 ];
 
 /// Lines of the collector's commands and of `tracked` that are bad, behind a good one.
-static CONTROLS: [(&str, &str); 36] = [
+const CONTROLS: [(&str, &str); 36] = [
     // The number of words.
     ("collect 1 2", "bad 2 3"),
     ("enable 1", "bad 2 3"),
@@ -344,7 +344,7 @@ static CONTROLS: [(&str, &str); 36] = [
 ];
 
 /// Lines of each form, behind a procedure and a class.
-static EACH: [(&str, &str); 48] = [
+const EACH: [(&str, &str); 48] = [
     ("x = list 1 x", "good"),
     ("x = tuple x 'a", "good"),
     ("x = dict", "good"),
@@ -396,7 +396,7 @@ static EACH: [(&str, &str); 48] = [
 ];
 
 /// Lines with what stands before and behind each of them.
-static TABLES: [(&str, &[(&str, &str)], &str); 8] = [
+const TABLES: [(&str, &[(&str, &str)], &str); 8] = [
     ("", &WORKED, ""),
     ("", &WORDS, ""),
     ("", &BAD_LINES, ""),
@@ -408,7 +408,7 @@ static TABLES: [(&str, &[(&str, &str)], &str); 8] = [
 ];
 
 /// Lines that begin so and go on with so many words.
-static MANY: [(&str, &str, usize, &str); 14] = [
+const MANY: [(&str, &str, usize, &str); 14] = [
     ("x = list", " 1", 61, "good"),
     ("x = list", " 1", 62, "bad 1 5"),
     ("x = tuple", " 1", 0, "bad 1 3"),

@@ -13,7 +13,7 @@ fn printed(alloc: Global, bytes: &[u8]) -> Result<String, AllocError> {
 }
 
 /// Lines behind two procedures and a class, and what is printed of them.
-static LINES: [(&str, &str); 52] = [
+const LINES: [(&str, &str); 52] = [
     ("  x =  list   -0 007", "x = list 0 7"),
     ("x = list", "x = list"),
     ("x = tuple y 'a none", "x = tuple y 'a none"),
@@ -71,7 +71,7 @@ static LINES: [(&str, &str); 52] = [
     ("class D del=p", "class D del=p"),
 ];
 
-static QUERIES: [(&str, &str); 11] = [
+const QUERIES: [(&str, &str); 11] = [
     ("print 007", "print 7"),
     ("refs x", "refs x"),
     ("tracked 'x", "tracked 'x"),
@@ -88,7 +88,7 @@ static QUERIES: [(&str, &str); 11] = [
 const FRONT: &str = "def p\nend\ndef q\ndel x\nend\nclass C\n";
 
 /// Lines that are ignored and spaces are not printed.
-static PASSED: [(&str, &str); 5] = [
+const PASSED: [(&str, &str); 5] = [
     ("", ""),
     ("\n# a\n\n", ""),
     (
@@ -103,7 +103,7 @@ static PASSED: [(&str, &str); 5] = [
 ];
 
 /// Lines, and what stands before each of them.
-static TABLES: [(&str, &[(&str, &str)]); 3] = [(FRONT, &LINES), (FRONT, &QUERIES), ("", &PASSED)];
+const TABLES: [(&str, &[(&str, &str)]); 3] = [(FRONT, &LINES), (FRONT, &QUERIES), ("", &PASSED)];
 
 #[test]
 fn lines_as_they_are_printed(rt: HostRuntime) -> Result<(), Fail> {

@@ -1,7 +1,7 @@
 //! Words that ask for nothing, and bad scripts with their own line feeds.
 
 /// Words that ask for nothing.
-pub static WORDS: [(&str, &[&str]); 15] = [
+pub const WORDS: [(&str, &[&str]); 15] = [
     ("no word", &[]),
     ("a word too many", &["run", "now"]),
     ("no block", &["generate", "0"]),
@@ -20,7 +20,7 @@ pub static WORDS: [(&str, &[&str]); 15] = [
 ];
 
 /// Bad scripts, byte by byte, and what is told of them.
-pub static WHOLE: [(&str, &str); 4] = [
+pub const WHOLE: [(&str, &str); 4] = [
     ("a = list\nlist = list", "bad script 2 4\n"),
     ("a = list\n\n# a comment\nfly a\n", "bad script 4 2\n"),
     ("del a\ndel\n", "bad script 2 3\n"),

@@ -20,7 +20,7 @@ type Call = (
     &'static [u8],
 );
 
-static CALLS: [Call; 7] = [
+const CALLS: [Call; 7] = [
     ("a list", &[], LIST, &[], &[], CheckStatus::Yes, b"yes 1\n"),
     (
         "no records",

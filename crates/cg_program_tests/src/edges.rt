@@ -2,7 +2,7 @@
 use crate::calls::Worked;
 
 /// Numbers, counts and names at their edges.
-pub static DONE: [Worked; 8] = [
+pub const DONE: [Worked; 8] = [
     (
         "the greatest number, the least and -0",
         "print 9223372036854775807; print -9223372036854775808; print -0",
@@ -46,7 +46,7 @@ pub static DONE: [Worked; 8] = [
 ];
 
 /// One word of each is past its edge: `bad script 1 4`.
-pub static PAST: [&str; 22] = [
+pub const PAST: [&str; 22] = [
     "print 9223372036854775808",
     "print -9223372036854775809",
     "print 9999999999999999999",

@@ -42,7 +42,7 @@ pub fn edited(
 }
 
 /// A list that holds itself was thrown away: both graphs are that list, and it is lost.
-pub static LIST: [&[u8]; 11] = [
+pub const LIST: [&[u8]; 11] = [
     b"record 2\n",
     b"graph 1\n",
     b"m 2 1 0\n",
@@ -57,7 +57,7 @@ pub static LIST: [&[u8]; 11] = [
 ];
 
 /// An instance with a legacy finalizer that holds itself was thrown away.
-static INSTANCE: [&[u8]; 9] = [
+const INSTANCE: [&[u8]; 9] = [
     b"record 2\n",
     b"graph 1\n",
     b"m 2 1 1\n",
@@ -70,7 +70,7 @@ static INSTANCE: [&[u8]; 9] = [
 ];
 
 /// The verdicts, by graph and code, on texts with each line edited, in order. The last line has no next.
-static VERDICTS: [(&str, &[&[u8]], Edit, &[(u64, u8)]); 6] = [
+const VERDICTS: [(&str, &[&[u8]], Edit, &[(u64, u8)]); 6] = [
     (
         "a line of the list left out",
         &LIST,

@@ -26,7 +26,7 @@ type Call = (
 
 /// Two callbacks, a shutdown, an inspection, a spent budget, a bad script, bad words, a summary, records, an expansion, and one of a
 /// bad script.
-static CALLS: [Call; 10] = [
+const CALLS: [Call; 10] = [
     (
         RUN,
         "def p; end; class C; f = func p; a = new C; u = ref a f; v = ref a f; del a",
@@ -232,7 +232,7 @@ fn each_read_fails_in_turn(rt: HostRuntime) -> Result<(), Fail> {
 
 /// Calls where the lists refuse a call of `make`: their words, how many were made before, how they end, and their text. The script
 /// makes the garbage list, `a` and `b` by one call each; that of three blocks makes eight.
-static REFUSED: [(&[&str], usize, Status, &str); 12] = [
+const REFUSED: [(&[&str], usize, Status, &str); 12] = [
     (RECORD, 0, Status::OutOfMemory, ""),
     (RECORD, 1, Status::OutOfMemory, ""),
     (RECORD, 2, Status::OutOfMemory, RECORD_OF_RING),

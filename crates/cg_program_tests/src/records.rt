@@ -37,7 +37,7 @@ fn assert_graph(rt: &impl Abort, graph: &Graph, told: Told) {
 }
 
 /// A record of one collection: its text, its generation, its first graph, and its second, if it has one.
-static RECORDS: [(&[u8], u8, Told, Option<Told>); 2] = [
+const RECORDS: [(&[u8], u8, Told, Option<Told>); 2] = [
     (
         b"record 2\ngraph 1\nm 2 1 0\nr 2\nlost 2\ngraph 2\nm 2 1 0\nr 2\nlost 2\nstop\nend\n",
         2,
@@ -109,7 +109,7 @@ fn lines_left_out_doubled_and_swapped(rt: HostRuntime) -> Result<(), Fail> {
 }
 
 /// Bytes that are no records.
-static NONE: [&[u8]; 24] = [
+const NONE: [&[u8]; 24] = [
     b"",
     b"\n",
     b"end",
@@ -137,7 +137,7 @@ static NONE: [&[u8]; 24] = [
 ];
 
 /// The smallest texts.
-static SMALL: [&[u8]; 3] = [
+const SMALL: [&[u8]; 3] = [
     b"end\n",
     b"record 1\ngraph 1\ncut\nend\n",
     b"record 0\ngraph 1\nm 0 0 0\nlegacy 0\ngraph 2\nstop\nrecord 0\ngraph 1\ncut\nend\n",

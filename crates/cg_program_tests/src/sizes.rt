@@ -31,7 +31,7 @@ pub fn check_long_calls(rt: &impl Abort, alloc: Global, calls: &[Long]) -> Resul
 }
 
 /// 16,777,216 bytes are the most.
-static BYTES: [Long; 15] = [
+const BYTES: [Long; 15] = [
     (
         "the byte 0",
         RUN,
@@ -143,7 +143,7 @@ static BYTES: [Long; 15] = [
 pub const TOO_LARGE: [Part; 2] = [Turns(16_384, &[Filled(b" ", 1023)]), Again(b" ", 1)];
 
 /// 1,024 bytes and 64 words are the most of a line, and 400,000 lines the most of a script.
-static LINES: [Long; 10] = [
+const LINES: [Long; 10] = [
     (
         "a line of 1,024 bytes",
         RUN,

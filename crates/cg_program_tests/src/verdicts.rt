@@ -3,7 +3,7 @@ use cg_cert::{Verdict, check_records};
 use std::test::Fail;
 
 /// Texts, and the verdicts on them.
-static TEXTS: [(&str, &[u8], Verdict); 26] = [
+const TEXTS: [(&str, &[u8], Verdict); 26] = [
     (
         "a list that holds itself is lost",
         b"record 2\ngraph 1\nm 2 1 0\nr 2\nlost 2\ngraph 2\nm 2 1 0\nr 2\nlost 2\nstop\nend\n",

@@ -16,7 +16,7 @@ use std::process::Abort;
 use std::test::Fail;
 
 /// Scripts that run to their end, or until the budget is spent.
-static WORKED: [(&[Worked], Status); 8] = [
+const WORKED: [(&[Worked], Status); 8] = [
     (&rows::DONE, Status::Done),
     (&rows::SPENT, Status::Budget),
     (&collections::DONE, Status::Done),
@@ -28,7 +28,7 @@ static WORKED: [(&[Worked], Status); 8] = [
 ];
 
 /// Calls with other words.
-static CASES: [&[Case]; 5] = [
+const CASES: [&[Case]; 5] = [
     &rows::BUDGETS,
     &collections::BUDGETS,
     &recordings::CASES,
