@@ -20,53 +20,61 @@ use std::process::Abort;
 use std::sync::ledger::{Blank, Ledger};
 use std::test::Fail;
 
-/// The graphs of the table.
-#[derive(Clone, Copy, Debug, PartialEq, Eq, Drop)]
+/// A graph.
+#[derive(Clone, Copy, Drop)]
 enum Graph {
-    /// #2 holds itself twice.
-    HoldsItselfTwice,
-    /// #2 holds itself three times.
-    HoldsItselfThrice,
-    /// #2 and #3 hold each other, so do #4 and #5, and #3 holds #4.
-    RingsWithBridge,
-    /// #2 holds #3, which holds #4, which holds #2; #5 stands alone.
-    RingOfThree,
-    /// #2 and #3 hold each other, #4 holds #2, and #5 holds #4.
-    ChainIntoRing,
+    /// So many lists from #2 on, and their items.
+    Lists(u32, &'static [(u64, u64)]),
     /// The dictionary #2 has the object #4 under the object #3, and the function #5 has the dictionary as a cell.
     KeyAndCell,
 }
 
-/// A graph, the objects that stay held from outside, whether all objects are candidates before, and what is unreachable.
-#[derive(Clone, Copy, Drop)]
-struct Row {
-    graph: Graph,
-    held: &'static [u64],
-    among_candidates: bool,
-    left: &'static [u64],
-}
+/// #2 holds itself twice.
+const TWICE: Graph = Graph::Lists(1, &[(2, 2), (2, 2)]);
+
+/// #2 holds itself three times.
+const THRICE: Graph = Graph::Lists(1, &[(2, 2), (2, 2), (2, 2)]);
+
+/// #2 and #3 hold each other, so do #4 and #5, and #3 holds #4.
+const BRIDGE: Graph = Graph::Lists(4, &[(2, 3), (3, 2), (4, 5), (5, 4), (3, 4)]);
+
+/// #2 holds #3, which holds #4, which holds #2; #5 stands alone.
+const RING: Graph = Graph::Lists(4, &[(2, 3), (3, 4), (4, 2)]);
+
+/// #2 and #3 hold each other, #4 holds #2, and #5 holds #4.
+const CHAIN: Graph = Graph::Lists(4, &[(2, 3), (3, 2), (4, 2), (5, 4)]);
+
+/// A name, a graph, the objects that stay held from outside, what is unreachable, and whether all objects are candidates before.
+type Row = (
+    &'static str,
+    Graph,
+    &'static [u64],
+    &'static [u64],
+    bool,
+);
+
+const ROWS: [Row; 14] = [
+    ("#2 holds itself twice", TWICE, &[], &[2], false),
+    ("#2 holds itself twice, and is held", TWICE, &[2], &[], false),
+    ("#2 holds itself three times", THRICE, &[], &[2], false),
+    ("two rings with a bridge", BRIDGE, &[], &[2, 3, 4, 5], false),
+    ("two rings with a bridge, the first held", BRIDGE, &[3], &[], false),
+    ("two rings with a bridge, the second held", BRIDGE, &[4], &[2, 3], false),
+    ("a ring of three that is held, and one alone", RING, &[3], &[5], false),
+    ("a chain into a ring, held at its front", CHAIN, &[5], &[], false),
+    ("a chain into a ring, held behind its front", CHAIN, &[4], &[5], false),
+    ("a chain into a ring", CHAIN, &[], &[2, 3, 4, 5], false),
+    ("a key and a cell, the function held", Graph::KeyAndCell, &[5], &[], false),
+    ("a key and a cell, the dictionary held", Graph::KeyAndCell, &[2], &[5], false),
+    ("a key and a cell", Graph::KeyAndCell, &[], &[2, 3, 4, 5], false),
+    ("two rings with a bridge among the candidates, the second held", BRIDGE, &[4], &[2, 3], true),
+];
 
 fn build<B: Kind>(scene: &mut Scene<B>, rt: &impl Abort, graph: Graph) -> Result<(), HeapFault> {
     match graph {
-        Graph::HoldsItselfTwice => build_self(scene, rt, 2),
-        Graph::HoldsItselfThrice => build_self(scene, rt, 3),
-        Graph::RingsWithBridge => scene.build_lists(
-            rt,
-            4,
-            &[(2, 3), (3, 2), (4, 5), (5, 4), (3, 4)],
-        ),
-        Graph::RingOfThree => scene.build_lists(rt, 4, &[(2, 3), (3, 4), (4, 2)]),
-        Graph::ChainIntoRing => scene.build_lists(rt, 4, &[(2, 3), (3, 2), (4, 2), (5, 4)]),
+        Graph::Lists(count, links) => scene.build_lists(rt, count, links),
         Graph::KeyAndCell => build_key_and_cell(scene, rt),
     }
-}
-
-fn build_self<B: Kind>(scene: &mut Scene<B>, rt: &impl Abort, times: u32) -> Result<(), HeapFault> {
-    let list = scene.list(rt)?;
-    for _ in 0..times {
-        scene.append(rt, list, Val::Ref(list))?;
-    }
-    Ok(())
 }
 
 fn build_key_and_cell<B: Kind>(scene: &mut Scene<B>, rt: &impl Abort) -> Result<(), HeapFault> {
@@ -211,15 +219,16 @@ fn split_as_row<B: Kind, L: Ledger>(
     steps: &mut Steps<L>,
     row: Row,
 ) -> Result<(), Fail> {
-    let from = if row.among_candidates {
+    let (name, _, _, expected, among_candidates) = row;
+    let from = if among_candidates {
         heap.merge(Place::Gen(0), Place::Cand);
         Place::Cand
     } else {
         Place::Gen(0)
     };
     let (left, kept, reached) = split_place(rt, alloc, heap, from, steps)?;
-    assert_eq!(rt; kept.as_slice(), reached.as_slice(), "{:?}", row.graph);
-    assert_eq!(rt; left.as_slice(), row.left, "{:?}", row.graph);
+    assert_eq!(rt; kept.as_slice(), reached.as_slice(), "at {name:?}");
+    assert_eq!(rt; left.as_slice(), expected, "at {name:?}");
     Ok(())
 }
 
@@ -237,45 +246,15 @@ fn check_row<B: Kind, L: Ledger>(
     requires parts { blank.parts ≡ L.parts }
     requires some { 0 < blank.parts }
 {
-    let mut heap = heap_of(rt, alloc, kinds, row.graph, row.held)?;
+    let mut heap = heap_of(rt, alloc, kinds, row.1, row.2)?;
     let mut steps = Steps::<L>::new(blank);
     split_as_row(rt, alloc, &mut heap, &mut steps, row)
-}
-
-fn table_row(graph: Graph, held: &'static [u64], left: &'static [u64]) -> Row {
-    Row {
-        graph,
-        held,
-        among_candidates: false,
-        left,
-    }
 }
 
 #[test]
 fn what_no_path_reaches_is_left(rt: HostRuntime) -> Result<(), Fail> {
     let alloc = rt.alloc();
-    let rows = [
-        table_row(Graph::HoldsItselfTwice, &[], &[2]),
-        table_row(Graph::HoldsItselfTwice, &[2], &[]),
-        table_row(Graph::HoldsItselfThrice, &[], &[2]),
-        table_row(Graph::RingsWithBridge, &[], &[2, 3, 4, 5]),
-        table_row(Graph::RingsWithBridge, &[3], &[]),
-        table_row(Graph::RingsWithBridge, &[4], &[2, 3]),
-        table_row(Graph::RingOfThree, &[3], &[5]),
-        table_row(Graph::ChainIntoRing, &[5], &[]),
-        table_row(Graph::ChainIntoRing, &[4], &[5]),
-        table_row(Graph::ChainIntoRing, &[], &[2, 3, 4, 5]),
-        table_row(Graph::KeyAndCell, &[5], &[]),
-        table_row(Graph::KeyAndCell, &[2], &[5]),
-        table_row(Graph::KeyAndCell, &[], &[2, 3, 4, 5]),
-        Row {
-            graph: Graph::RingsWithBridge,
-            held: &[4],
-            among_candidates: true,
-            left: &[2, 3],
-        },
-    ];
-    for row in rows {
+    for row in ROWS {
         check_row::<AnyKind, Brand>(&rt, alloc, six(alloc)?, Blank::new(1), row)?;
     }
     Ok(())

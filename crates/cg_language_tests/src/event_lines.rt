@@ -4,6 +4,7 @@ ghost use Rattle.cg_machine.specs.Lines.{IsPrintable};
 
 use cg_machine::{Event, FrameSort, line_of};
 use cg_value::{KindCode, Names, Val};
+use std::process::Abort;
 use std::test::Fail;
 
 /// Events and their lines.
@@ -77,12 +78,17 @@ fn is_printable(event: &Event) -> bool
     }
 }
 
+/// The line of an event is to be this one.
+fn check(rt: &impl Abort, names: &Names, event: &Event, line: &str) {
+    assert!(rt; is_printable(event), "{line}");
+    assert_eq!(rt; line_of(event, names).as_str(), line);
+}
+
 #[test]
 fn events_have_their_lines(rt: HostRuntime) -> Result<(), Fail> {
     let names = Names::new(rt.alloc());
     for (event, line) in &LINES {
-        assert!(&rt; is_printable(event), "{line}");
-        assert_eq!(&rt; line_of(event, &names).as_str(), *line, "{line}");
+        check(&rt, &names, event, line);
     }
     Ok(())
 }

@@ -2,9 +2,10 @@
 //! by hand.
 //!
 //! The lines of a script stand with `; ` between them.
-use crate::texts::{fault_text, lines, repeated};
+use crate::texts::{fault_text, lines};
 use cg_weakcoll::expand;
 use std::alloc::{AllocError, Global};
+use std::process::Abort;
 use std::test::Fail;
 
 /// The expansion of some bytes, or their first bad line with its code.
@@ -142,69 +143,73 @@ static LINES: [(&str, &str); 75] = [
     ),
 ];
 
-/// Texts as they stand: a last line without a line feed is a line.
-static WHOLE: [(&str, &str); 4] = [
-    ("\na = list", "\na = list\n"),
-    ("m = wmap", "m = dict\n"),
-    ("wdrop m 1\n\n ", "drop m 1\n\n \n"),
-    ("wdrop m", "bad 1 3\n"),
-];
-
-/// Lines of a text that goes on with so many spaces.
-static LONG: [(&str, usize, &str); 5] = [
-    ("wdrop m 1", 991, "drop m 1\n"),
-    ("wdrop m 1", 992, "bad 1 5\n"),
-    ("wdrop m", 994, "bad 1 5\n"),
-    ("wdrop m \t", 994, "bad 1 1\n"),
-    ("wv_1", 2000, "bad 1 4\n"),
-];
+/// The script is to be expanded so.
+fn check(
+    rt: &impl Abort,
+    alloc: Global,
+    script: &[u8],
+    want: &[u8],
+    name: &str,
+) -> Result<(), AllocError> {
+    let found = told(alloc, script)?;
+    assert_eq!(rt; text_of(&found), text_of(want), "at {name:?}");
+    Ok(())
+}
 
 #[test]
 fn scripts_are_expanded_or_have_a_bad_line(rt: HostRuntime) -> Result<(), Fail> {
     let alloc = rt.alloc();
-    for (script, want) in LINES {
-        let found = told(alloc, &lines(alloc, script)?)?;
-        let wanted = lines(alloc, want)?;
-        assert_eq!(&rt; text_of(&found), text_of(&wanted), "at {script:?}");
-    }
-    for (script, want) in WHOLE {
-        let found = told(alloc, script.as_bytes())?;
-        assert_eq!(&rt; text_of(&found), Some(want), "at {script:?}");
-    }
-    for (front, spaces, want) in LONG {
-        let found = told(alloc, repeated(alloc, front, " ", spaces)?.as_bytes())?;
-        assert_eq!(&rt; text_of(&found), Some(want), "at {front:?} and {spaces}");
+    for (script, want) in &LINES {
+        check(
+            &rt,
+            alloc,
+            &lines(alloc, script)?,
+            &lines(alloc, want)?,
+            script,
+        )?;
     }
     Ok(())
 }
 
-/// Lines behind 399,999 line feeds, what they become, and whether the line feeds stay before it.
-static LATE: [(&str, &str, bool); 4] = [
-    ("m = wmap\n", "m = dict\n", true),
-    ("\na = list\n", "\na = list\n", true),
-    ("\nm = wmap 1", "bad 400001 5\n", false),
-    ("\n\nwv_1", "bad 400002 4\n", false),
+/// A text: so many line feeds, some words, and so many spaces.
+type Text = (usize, &'static str, usize);
+
+fn bytes_of(alloc: Global, text: Text) -> Result<Vec<u8>, AllocError> {
+    let (line_feeds, words, spaces) = text;
+    let mut bytes = vec![in alloc; b'\n'; line_feeds]?;
+    bytes.extend_from_slice(words.as_bytes())?;
+    for _ in 0..spaces {
+        bytes.push(b' ')?;
+    }
+    Ok(bytes)
+}
+
+/// Texts as they stand, and what they become, before a line feed: a last line without a line feed is a line; lines that are too long;
+/// a long comment; and lines behind the first 400,000.
+static WHOLE: [(Text, Text); 14] = [
+    ((0, "\na = list", 0), (0, "\na = list", 0)),
+    ((0, "m = wmap", 0), (0, "m = dict", 0)),
+    ((0, "wdrop m 1\n\n ", 0), (0, "drop m 1\n\n ", 0)),
+    ((0, "wdrop m", 0), (0, "bad 1 3", 0)),
+    ((0, "wdrop m 1", 991), (0, "drop m 1", 0)),
+    ((0, "wdrop m 1", 992), (0, "bad 1 5", 0)),
+    ((0, "wdrop m", 994), (0, "bad 1 5", 0)),
+    ((0, "wdrop m \t", 994), (0, "bad 1 1", 0)),
+    ((0, "wv_1", 2000), (0, "bad 1 4", 0)),
+    ((0, "x = list\n#", 5000), (0, "x = list\n#", 5000)),
+    ((399_999, "m = wmap\n", 0), (399_999, "m = dict", 0)),
+    ((399_999, "\na = list\n", 0), (399_999, "\na = list", 0)),
+    ((399_999, "\nm = wmap 1", 0), (0, "bad 400001 5", 0)),
+    ((399_999, "\n\nwv_1", 0), (0, "bad 400002 4", 0)),
 ];
 
 #[test]
-fn long_comments_and_lines_behind_the_first_400_000(rt: HostRuntime) -> Result<(), Fail> {
+fn texts_as_they_stand_are_expanded(rt: HostRuntime) -> Result<(), Fail> {
     let alloc = rt.alloc();
-    let comment = repeated(alloc, "x = list\n#", " ", 5000)?;
-    let copy = format!(in alloc; "{comment}\n")?;
-    assert!(&rt;
-        told(alloc, comment.as_bytes())?.as_slice() == copy.as_bytes(),
-        "a long comment"
-    );
-    let blank = repeated(alloc, "", "\n", 399_999)?;
-    for (script, want, stays) in LATE {
-        let text = format!(in alloc; "{blank}{script}")?;
-        let found = told(alloc, text.as_bytes())?;
-        let wanted = if stays {
-            format!(in alloc; "{blank}{want}")?
-        } else {
-            String::from_str(alloc, want)?
-        };
-        assert!(&rt; found.as_slice() == wanted.as_bytes(), "at {script:?}");
+    for (text, want) in &WHOLE {
+        let mut wanted = bytes_of(alloc, *want)?;
+        wanted.push(b'\n')?;
+        check(&rt, alloc, &bytes_of(alloc, *text)?, &wanted, text.1)?;
     }
     Ok(())
 }

@@ -2,6 +2,7 @@
 use crate::texts::{fault_text, repeated};
 use cg_script::parse;
 use std::alloc::{AllocError, Global};
+use std::process::Abort;
 use std::test::Fail;
 
 /// Whether the bytes spell a script, or else the number and the code of their first bad line.
@@ -13,7 +14,7 @@ fn told(alloc: Global, bytes: &[u8]) -> Result<String, AllocError> {
 }
 
 /// Worked scripts.
-const WORKED: [(&str, &str); 10] = [
+static WORKED: [(&str, &str); 10] = [
     ("", "good"),
     ("a = list\nappend a a\ndel a\ncollect 2", "good"),
     (
@@ -37,7 +38,7 @@ const WORKED: [(&str, &str); 10] = [
 ];
 
 /// Words at the edges of their forms.
-const WORDS: [(&str, &str); 40] = [
+static WORDS: [(&str, &str); 40] = [
     // Numbers.
     ("x = -0", "good"),
     ("x = 007", "good"),
@@ -87,7 +88,7 @@ const WORDS: [(&str, &str); 40] = [
 ];
 
 /// Each code, and lines with two faults.
-const BAD_LINES: [(&str, &str); 72] = [
+static BAD_LINES: [(&str, &str); 72] = [
     // 1 before 5, 5 before 2.
     ("nonsense\t", "bad 1 1"),
     // 2 before all else.
@@ -173,7 +174,7 @@ const BAD_LINES: [(&str, &str); 72] = [
 ];
 
 /// A profile and a shutdown: their words, and where they stand.
-const DECLARATIONS: [(&str, &str); 40] = [
+static DECLARATIONS: [(&str, &str); 40] = [
     ("profile 1", "good"),
     ("profile 2", "good"),
     ("profile 0000000002", "good"),
@@ -224,7 +225,7 @@ const DECLARATIONS: [(&str, &str); 40] = [
 ];
 
 /// The commands that ask where objects are held.
-const INSPECTIONS: [(&str, &str); 22] = [
+static INSPECTIONS: [(&str, &str); 22] = [
     ("referents x", "good"),
     ("referents 'x", "good"),
     ("referrers garbage", "good"),
@@ -256,7 +257,7 @@ const INSPECTIONS: [(&str, &str); 22] = [
 ];
 
 /// Bad lines of a few forms.
-const FEW: [(&str, &str); 30] = [
+static FEW: [(&str, &str); 30] = [
     // Bytes that are not printable come first.
     ("a\t= list", "bad 1 1"),
     ("a = list\r\nlist = list", "bad 1 1"),
@@ -297,7 +298,7 @@ const FEW: [(&str, &str); 30] = [
 ];
 
 /// Lines of the collector's commands and of `tracked` that are bad, behind a good one.
-const CONTROLS: [(&str, &str); 36] = [
+static CONTROLS: [(&str, &str); 36] = [
     // The number of words.
     ("collect 1 2", "bad 2 3"),
     ("enable 1", "bad 2 3"),
@@ -344,7 +345,7 @@ const CONTROLS: [(&str, &str); 36] = [
 ];
 
 /// Lines of each form, behind a procedure and a class.
-const EACH: [(&str, &str); 48] = [
+static EACH: [(&str, &str); 48] = [
     ("x = list 1 x", "good"),
     ("x = tuple x 'a", "good"),
     ("x = dict", "good"),
@@ -395,20 +396,8 @@ const EACH: [(&str, &str); 48] = [
     ("def q\nend", "good"),
 ];
 
-/// Lines with what stands before and behind each of them.
-const TABLES: [(&str, &[(&str, &str)], &str); 8] = [
-    ("", &WORKED, ""),
-    ("", &WORDS, ""),
-    ("", &BAD_LINES, ""),
-    ("", &DECLARATIONS, ""),
-    ("", &INSPECTIONS, ""),
-    ("", &FEW, ""),
-    ("a = list\n", &CONTROLS, "\n\x01"),
-    ("def p\nend\nclass C\n", &EACH, ""),
-];
-
 /// Lines that begin so and go on with so many words.
-const MANY: [(&str, &str, usize, &str); 14] = [
+static MANY: [(&str, &str, usize, &str); 14] = [
     ("x = list", " 1", 61, "good"),
     ("x = list", " 1", 62, "bad 1 5"),
     ("x = tuple", " 1", 0, "bad 1 3"),
@@ -425,26 +414,46 @@ const MANY: [(&str, &str, usize, &str); 14] = [
     ("# # #", " a b", 31, "bad 1 5"),
 ];
 
+/// The text is to be told of so.
+fn check(rt: &impl Abort, alloc: Global, text: &str, want: &str) -> Result<(), AllocError> {
+    let found = told(alloc, text.as_bytes())?;
+    assert_eq!(rt; found.as_str(), want, "at {text:?}");
+    Ok(())
+}
+
+/// The same of each line, with what stands before and behind it.
+fn check_each(
+    rt: &impl Abort,
+    alloc: Global,
+    front: &str,
+    lines: &[(&str, &str)],
+    back: &str,
+) -> Result<(), AllocError> {
+    for (line, want) in lines {
+        check(rt, alloc, &format!(in alloc; "{front}{line}{back}")?, want)?;
+    }
+    Ok(())
+}
+
 #[test]
 fn lines_and_their_codes(rt: HostRuntime) -> Result<(), Fail> {
     let alloc = rt.alloc();
-    for (front, table, back) in TABLES {
-        for (line, want) in table {
-            let text = format!(in alloc; "{front}{line}{back}")?;
-            assert_eq!(&rt;
-                told(alloc, text.as_bytes())?.as_str(),
-                *want,
-                "at {line:?}"
-            );
-        }
-    }
-    for (front, word, times, want) in MANY {
-        let line = repeated(alloc, front, word, times)?;
-        assert_eq!(&rt;
-            told(alloc, line.as_bytes())?.as_str(),
-            want,
-            "at {front:?} and {times}"
-        );
+    check_each(&rt, alloc, "", &WORKED, "")?;
+    check_each(&rt, alloc, "", &WORDS, "")?;
+    check_each(&rt, alloc, "", &BAD_LINES, "")?;
+    check_each(&rt, alloc, "", &DECLARATIONS, "")?;
+    check_each(&rt, alloc, "", &INSPECTIONS, "")?;
+    check_each(&rt, alloc, "", &FEW, "")?;
+    check_each(&rt, alloc, "a = list\n", &CONTROLS, "\n\x01")?;
+    check_each(&rt, alloc, "def p\nend\nclass C\n", &EACH, "")?;
+    Ok(())
+}
+
+#[test]
+fn numbers_of_words(rt: HostRuntime) -> Result<(), Fail> {
+    let alloc = rt.alloc();
+    for (front, word, times, want) in &MANY {
+        check(&rt, alloc, &repeated(alloc, front, word, *times)?, want)?;
     }
     Ok(())
 }

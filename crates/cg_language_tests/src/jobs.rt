@@ -1,6 +1,7 @@
 //! Words and their jobs.
 use cg_words::{Job, read_words};
 use std::alloc::{AllocError, Global};
+use std::process::Abort;
 use std::test::Fail;
 
 /// Words, and their job, if they have one.
@@ -111,21 +112,31 @@ static WORDS: [(&[&str], Option<Job>); 81] = [
     (&["records"], None),
 ];
 
-/// The words as strings.
-fn strings(alloc: Global, words: &[&str]) -> Result<Vec<String>, AllocError> {
+/// What is read of the words.
+fn job_of(alloc: Global, words: &[&str]) -> Result<Option<Job>, AllocError> {
     let mut strings = Vec::new(alloc);
     for word in words {
         strings.push(String::from_str(alloc, word)?)?;
     }
-    Ok(strings)
+    read_words(alloc, strings.as_slice())
+}
+
+/// The words are to have this job.
+fn check(
+    rt: &impl Abort,
+    alloc: Global,
+    words: &[&str],
+    job: Option<Job>,
+) -> Result<(), AllocError> {
+    let found = job_of(alloc, words)?;
+    assert_eq!(rt; found, job, "at {words:?}");
+    Ok(())
 }
 
 #[test]
 fn words_with_a_job_and_without_one(rt: HostRuntime) -> Result<(), Fail> {
-    let alloc = rt.alloc();
-    for (words, job) in WORDS {
-        let strings = strings(alloc, words)?;
-        assert_eq!(&rt; read_words(alloc, strings.as_slice())?, job, "at {words:?}");
+    for (words, job) in &WORDS {
+        check(&rt, rt.alloc(), words, *job)?;
     }
     Ok(())
 }

@@ -1,5 +1,7 @@
 //! Interned texts and their numbers.
 use cg_value::Names;
+use std::alloc::AllocError;
+use std::process::Abort;
 use std::test::Fail;
 
 /// Texts in the order in which they are interned, the numbers that they get, all texts by their numbers, and one that is none.
@@ -25,26 +27,42 @@ static ORDERS: [(&[(&str, u32)], &[&str], &str); 2] = [
     ),
 ];
 
+/// A text that is interned gets this number.
+fn check_interned(
+    rt: &impl Abort,
+    names: &mut Names,
+    text: &str,
+    number: u32,
+) -> Result<(), AllocError> {
+    assert!(rt; names.len() < 100);
+    assert_eq!(rt; names.intern(text)?, number, "at {text:?}");
+    assert_eq!(rt; names.find(text), Some(number), "at {text:?}");
+    Ok(())
+}
+
+/// All texts stand by their numbers, and another text has none.
+fn check_all(rt: &impl Abort, names: &Names, all: &[&str], none: &str) {
+    assert!(rt;
+        names.len() as usize == all.len() && names.find(none).is_none() && !names.has(none)
+    );
+    for number in 0..names.len() {
+        let text = names.text(number);
+        let is_there = names.find(text) == Some(number) && names.has(text);
+        assert!(rt;
+            is_there && all.get(number as usize) == Some(&text),
+            "at {text:?}"
+        );
+    }
+}
+
 #[test]
 fn a_text_has_its_first_number(rt: HostRuntime) -> Result<(), Fail> {
-    for (texts, all, none) in ORDERS {
+    for (texts, all, none) in &ORDERS {
         let mut names = Names::new(rt.alloc());
-        for (text, number) in texts {
-            assert!(&rt; names.len() < 100);
-            assert_eq!(&rt; names.intern(text)?, *number, "at {text:?}");
-            assert_eq!(&rt; names.find(text), Some(*number), "at {text:?}");
+        for (text, number) in *texts {
+            check_interned(&rt, &mut names, text, *number)?;
         }
-        let mut number = 0;
-        for text in all {
-            assert!(&rt; number < names.len(), "at {text:?}");
-            assert_eq!(&rt; names.text(number), *text);
-            assert_eq!(&rt; names.find(text), Some(number), "at {text:?}");
-            assert!(&rt; names.has(text), "at {text:?}");
-            number += 1;
-        }
-        assert_eq!(&rt; names.len(), number);
-        assert_eq!(&rt; names.find(none), None);
-        assert!(&rt; !names.has(none));
+        check_all(&rt, &names, all, none);
     }
     Ok(())
 }

@@ -2,6 +2,7 @@
 use crate::texts::fault_text;
 use cg_script::{parse, print};
 use std::alloc::{AllocError, Global};
+use std::process::Abort;
 use std::test::Fail;
 
 /// What is printed of a script, or the number and the code of its first bad line.
@@ -13,7 +14,7 @@ fn printed(alloc: Global, bytes: &[u8]) -> Result<String, AllocError> {
 }
 
 /// Lines behind two procedures and a class, and what is printed of them.
-const LINES: [(&str, &str); 52] = [
+static LINES: [(&str, &str); 63] = [
     ("  x =  list   -0 007", "x = list 0 7"),
     ("x = list", "x = list"),
     ("x = tuple y 'a none", "x = tuple y 'a none"),
@@ -69,9 +70,6 @@ const LINES: [(&str, &str); 52] = [
     ("class D legacy=p del=q", "class D del=q legacy=p"),
     ("class D  legacy=q", "class D legacy=q"),
     ("class D del=p", "class D del=p"),
-];
-
-const QUERIES: [(&str, &str); 11] = [
     ("print 007", "print 7"),
     ("refs x", "refs x"),
     ("tracked 'x", "tracked 'x"),
@@ -88,7 +86,7 @@ const QUERIES: [(&str, &str); 11] = [
 const FRONT: &str = "def p\nend\ndef q\ndel x\nend\nclass C\n";
 
 /// Lines that are ignored and spaces are not printed.
-const PASSED: [(&str, &str); 5] = [
+static PASSED: [(&str, &str); 5] = [
     ("", ""),
     ("\n# a\n\n", ""),
     (
@@ -102,22 +100,32 @@ const PASSED: [(&str, &str); 5] = [
     ),
 ];
 
-/// Lines, and what stands before each of them.
-const TABLES: [(&str, &[(&str, &str)]); 3] = [(FRONT, &LINES), (FRONT, &QUERIES), ("", &PASSED)];
+/// What stands before a line is printed as it is, the line in another way; what was printed is printed as it is.
+fn check(
+    rt: &impl Abort,
+    alloc: Global,
+    front: &str,
+    line: &str,
+    want: &str,
+) -> Result<(), AllocError> {
+    let text = format!(in alloc; "{front}{line}")?;
+    let end = if want.is_empty() { "" } else { "\n" };
+    let wanted = format!(in alloc; "{front}{want}{end}")?;
+    let once = printed(alloc, text.as_bytes())?;
+    assert_eq!(rt; once.as_str(), wanted.as_str(), "at {line:?}");
+    let again = printed(alloc, once.as_bytes())?;
+    assert_eq!(rt; again.as_str(), once.as_str(), "again at {line:?}");
+    Ok(())
+}
 
 #[test]
 fn lines_as_they_are_printed(rt: HostRuntime) -> Result<(), Fail> {
     let alloc = rt.alloc();
-    for (front, table) in TABLES {
-        for (line, want) in table {
-            let text = format!(in alloc; "{front}{line}")?;
-            let end = if want.is_empty() { "" } else { "\n" };
-            let wanted = format!(in alloc; "{front}{want}{end}")?;
-            let once = printed(alloc, text.as_bytes())?;
-            assert_eq!(&rt; once.as_str(), wanted.as_str(), "at {line:?}");
-            let again = printed(alloc, once.as_bytes())?;
-            assert_eq!(&rt; again.as_str(), once.as_str(), "again at {line:?}");
-        }
+    for (line, want) in &LINES {
+        check(&rt, alloc, FRONT, line, want)?;
+    }
+    for (line, want) in &PASSED {
+        check(&rt, alloc, "", line, want)?;
     }
     Ok(())
 }

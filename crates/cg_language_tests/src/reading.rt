@@ -2,6 +2,7 @@
 use crate::texts::{fault_text, repeated};
 use cg_script::{ClassDef, Command, Item, Operand, Script, parse};
 use std::alloc::{AllocError, Global};
+use std::process::Abort;
 use std::test::Fail;
 
 /// Appends a word and a name with its number.
@@ -32,37 +33,43 @@ fn told(alloc: Global, bytes: &[u8]) -> Result<String, AllocError> {
     Ok(text)
 }
 
-/// Scripts, and what they are read as.
-static READ: [(&str, &str); 9] = [
-    ("", ""),
-    ("\n\n \n# a = list\n  #del a\n#\n", ""),
+/// Texts, each with another that follows it so many times, and what they are read as.
+static READ: [(&str, &str, usize, &str); 18] = [
+    ("", "", 0, ""),
+    ("\n\n \n# a = list\n  #del a\n#\n", "", 0, ""),
     (
         "a = list\na = list\ndel a\ndel a",
+        "",
+        0,
         "make a 0; make a 0; del a 0; del a 0; ",
     ),
     (
         "b = list\na = list\ndel b\n",
+        "",
+        0,
         "make b 0; make a 1; del b 0; ",
     ),
-    ("  _x9   =  list ", "make _x9 0; "),
-    ("c8 = list\ndel List", "make c8 0; del List 1; "),
+    ("  _x9   =  list ", "", 0, "make _x9 0; "),
+    ("c8 = list\ndel List", "", 0, "make c8 0; del List 1; "),
     (
         "a234567890123456789012345678901_ = list",
+        "",
+        0,
         "make a234567890123456789012345678901_ 0; ",
     ),
     // Names whose last bytes are the same.
     (
         "aabc = list\nbabc = list\naabc = list\ndel babc\ndel aabc",
+        "",
+        0,
         "make aabc 0; make babc 1; make aabc 0; del babc 1; del aabc 0; ",
     ),
     (
         "ab = list\nab = list\ndel ab",
+        "",
+        0,
         "make ab 0; make ab 0; del ab 0; ",
     ),
-];
-
-/// The same of a text that begins so, and goes on with another so many times.
-static LONG: [(&str, &str, usize, &str); 9] = [
     ("#", "#", 1023, ""),
     ("#", "#", 1024, "bad 1 5"),
     ("\t", "#", 1024, "bad 1 1"),
@@ -77,20 +84,10 @@ static LONG: [(&str, &str, usize, &str); 9] = [
 #[test]
 fn scripts_are_read_line_by_line(rt: HostRuntime) -> Result<(), Fail> {
     let alloc = rt.alloc();
-    for (script, want) in READ {
-        assert_eq!(&rt;
-            told(alloc, script.as_bytes())?.as_str(),
-            want,
-            "at {script:?}"
-        );
-    }
-    for (front, more, times, want) in LONG {
-        let text = repeated(alloc, front, more, times)?;
-        assert_eq!(&rt;
-            told(alloc, text.as_bytes())?.as_str(),
-            want,
-            "at {front:?} and {times}"
-        );
+    for (front, more, times, want) in &READ {
+        let text = repeated(alloc, front, more, *times)?;
+        let found = told(alloc, text.as_bytes())?;
+        assert_eq!(&rt; found.as_str(), *want, "at {front:?} and {times}");
     }
     Ok(())
 }
@@ -298,13 +295,22 @@ static LAST: [(&str, usize, &str, Parts); 22] = [
     ("class C", 1, "class", ("", [0, -1, -1], [NONE; 3])),
 ];
 
+/// There are to be so many items, the last one with these parts.
+fn check_last(rt: &impl Abort, items: &[Item], count: usize, told: (&str, Parts), name: &str) {
+    let (sort, (word, numbers, operands)) = last_of(items);
+    let (wanted, parts) = told;
+    assert!(rt;
+        items.len() == count && sort == wanted && word == parts.0,
+        "at {name:?}"
+    );
+    assert!(rt; numbers == parts.1 && operands == parts.2, "at {name:?}");
+}
+
 #[test]
 fn items_have_their_words_and_numbers(rt: HostRuntime) -> Result<(), Fail> {
-    for (text, count, sort, parts) in LAST {
+    for (text, count, sort, parts) in &LAST {
         let script = parse(rt.alloc(), text.as_bytes())?;
-        let items = script.items.as_slice();
-        assert_eq!(&rt; items.len(), count, "at {text:?}");
-        assert_eq!(&rt; last_of(items), (sort, parts), "at {text:?}");
+        check_last(&rt, script.items.as_slice(), *count, (*sort, *parts), text);
     }
     Ok(())
 }

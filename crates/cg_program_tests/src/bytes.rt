@@ -103,7 +103,7 @@ fn each_byte_in_each_place(rt: HostRuntime) -> Result<(), Fail> {
 ///
 /// A line without `=` as its second word is of no form (2) until its first word is complete, and then has too few words (3). One with it has
 /// too few (3) until there is a third word, which is a variable as long as it is not the word of a form.
-const FRONTS: [(&str, &str); 17] = [
+static FRONTS: [(&str, &str); 17] = [
     ("def cb\n", "2233777"),
     ("end\n", "22.."),
     ("def d\n", "223377"),

@@ -2,6 +2,8 @@
 use crate::calls::words_of;
 use cg_cert::{CheckStatus, check_run};
 use cg_io::{MemSink, MemSource};
+use std::alloc::{AllocError, Global};
+use std::process::Abort;
 use std::test::Fail;
 
 /// A list that holds itself was thrown away.
@@ -20,7 +22,7 @@ type Call = (
     &'static [u8],
 );
 
-const CALLS: [Call; 7] = [
+static CALLS: [Call; 7] = [
     ("a list", &[], LIST, &[], &[], CheckStatus::Yes, b"yes 1\n"),
     (
         "no records",
@@ -78,17 +80,23 @@ const CALLS: [Call; 7] = [
     ),
 ];
 
+/// The call is to end so, and to write its text.
+fn check_call(rt: &impl Abort, alloc: Global, call: Call) -> Result<(), AllocError> {
+    let (name, words, records, reads, writes, status, text) = call;
+    let words = words_of(alloc, words)?;
+    let bytes = Vec::from_slice(alloc, records.as_bytes())?;
+    let mut source = MemSource::new(bytes, Vec::from_slice(alloc, reads)?);
+    let mut sink = MemSink::new(alloc, Vec::from_slice(alloc, writes)?, 2);
+    let found = check_run(alloc, words.as_slice(), &mut source, &mut sink);
+    assert_eq!(rt; found, status, "at {name:?}");
+    assert_eq!(rt; sink.bytes(), text, "at {name:?}");
+    Ok(())
+}
+
 #[test]
 fn verdicts_are_written_and_faults_are_told(rt: HostRuntime) -> Result<(), Fail> {
-    let alloc = rt.alloc();
-    for (name, words, records, reads, writes, status, text) in CALLS {
-        let words = words_of(alloc, words)?;
-        let bytes = Vec::from_slice(alloc, records.as_bytes())?;
-        let mut source = MemSource::new(bytes, Vec::from_slice(alloc, reads)?);
-        let mut sink = MemSink::new(alloc, Vec::from_slice(alloc, writes)?, 2);
-        let found = check_run(alloc, words.as_slice(), &mut source, &mut sink);
-        assert_eq!(&rt; found, status, "at {name:?}");
-        assert_eq!(&rt; sink.bytes(), text, "at {name:?}");
+    for call in &CALLS {
+        check_call(&rt, rt.alloc(), *call)?;
     }
     Ok(())
 }

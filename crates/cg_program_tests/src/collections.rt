@@ -3,7 +3,7 @@ use crate::calls::{Case, RECORD, RUN, Worked};
 use cg_cli::Status;
 
 /// Cycles, with finalizers and weak references; legacy finalizers and flags; tracking; collections that are due; frozen objects.
-pub const DONE: [Worked; 44] = [
+pub static DONE: [Worked; 44] = [
     (
         "a list that holds itself",
         "a = list; append a a; del a; collect 2",
@@ -231,7 +231,7 @@ const LAST: &str =
     "def cb; end; def d; call f; end; class C del=d; f = func cb; a = new C; setattr a me a; w = ref a f; del a; collect; print 1";
 
 /// The last of the budget in a collection.
-pub const BUDGETS: [Case; 3] = [
+pub static BUDGETS: [Case; 3] = [
     (
         "no callback begins in a collection",
         &["run", "--budget", "0"],
@@ -256,7 +256,7 @@ pub const BUDGETS: [Case; 3] = [
 ];
 
 /// The rules leave the order of some lines free: each has one of these texts.
-pub const EITHER: [(&str, &[&str], &str, &[&str]); 5] = [
+pub static EITHER: [(&str, &[&str], &str, &[&str]); 5] = [
     (
         "a tree with strong parents",
         RUN,

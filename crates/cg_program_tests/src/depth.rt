@@ -7,7 +7,7 @@ use cg_cli::Status;
 use std::test::Fail;
 
 /// Calls within each other.
-const DEEP: [Long; 5] = [
+static DEEP: [Long; 5] = [
     // Each finalizer calls a function that makes an instance and drops it: its finalizer begins in that frame. Each object takes two
     // of 100,000 frames, and the finalizer of the last is one too many.
     (
@@ -138,7 +138,7 @@ const DEEP: [Long; 5] = [
 ];
 
 /// Large graphs, and the limits of objects and of entries.
-const LARGE: [Long; 6] = [
+static LARGE: [Long; 6] = [
     (
         "a chain of lists is collected and dropped",
         &["run"],

@@ -1,6 +1,7 @@
 //! Two texts with each line left out, doubled and swapped with the next, and the verdict that each then gets.
 use cg_cert::{Verdict, check_records};
 use std::alloc::{AllocError, Global};
+use std::process::Abort;
 use std::test::Fail;
 
 /// What is done to one of the lines.
@@ -70,7 +71,7 @@ const INSTANCE: [&[u8]; 9] = [
 ];
 
 /// The verdicts, by graph and code, on texts with each line edited, in order. The last line has no next.
-const VERDICTS: [(&str, &[&[u8]], Edit, &[(u64, u8)]); 6] = [
+static VERDICTS: [(&str, &[&[u8]], Edit, &[(u64, u8)]); 6] = [
     (
         "a line of the list left out",
         &LIST,
@@ -153,18 +154,27 @@ const VERDICTS: [(&str, &[&[u8]], Edit, &[(u64, u8)]); 6] = [
     ),
 ];
 
+/// Wants these verdicts of the lines with each line edited, in order.
+fn check_edits(
+    rt: &impl Abort,
+    alloc: Global,
+    lines: &[&[u8]],
+    edit: Edit,
+    wanted: &[(u64, u8)],
+    name: &str,
+) -> Result<(), AllocError> {
+    for (at, (graph, code)) in wanted.iter().copied().enumerate() {
+        let text = edited(alloc, lines, edit, at)?;
+        let verdict = check_records(alloc, &text)?;
+        assert_eq!(rt; verdict, Verdict::No { graph, code }, "{name}, at {at}");
+    }
+    Ok(())
+}
+
 #[test]
 fn each_line_is_edited(rt: HostRuntime) -> Result<(), Fail> {
-    let alloc = rt.alloc();
-    for (name, lines, edit, wanted) in VERDICTS {
-        for (at, (graph, code)) in wanted.iter().enumerate() {
-            let verdict = check_records(alloc, &edited(alloc, lines, edit, at)?)?;
-            let no = Verdict::No {
-                graph: *graph,
-                code: *code,
-            };
-            assert_eq!(&rt; verdict, no, "{name}, at {at}");
-        }
+    for (name, lines, edit, wanted) in &VERDICTS {
+        check_edits(&rt, rt.alloc(), lines, *edit, wanted, name)?;
     }
     Ok(())
 }

@@ -4,7 +4,7 @@ use crate::calls::{Case, EXPAND};
 use cg_cli::Status;
 
 /// Expansions, and first bad lines.
-pub const WRITTEN: [Case; 5] = [
+pub static WRITTEN: [Case; 5] = [
     (
         "a map of weak values",
         EXPAND,
@@ -43,7 +43,7 @@ pub const WRITTEN: [Case; 5] = [
 ];
 
 /// How runs of expansions end, and what they write.
-pub const RUNS: [(&str, &str, Status, &str); 5] = [
+pub static RUNS: [(&str, &str, Status, &str); 5] = [
     (
         "a map of weak values",
         "class C; m = wmap; a = new C; wset m 1 a; x = wget m 1; print x; del x; del a; x = wget m 1; print x",

@@ -1,7 +1,5 @@
 //! A write refused at each line, and a read refused at each call, whatever the job.
-use crate::calls::{
-    EXPAND, Faults, NO_FAULT, RECORD, RUN, answer_to, answer_under, assert_answer, lines,
-};
+use crate::calls::{EXPAND, Faults, RECORD, RUN, answer_to, answer_under, assert_answer, lines};
 use crate::one_byte::OneByte;
 use crate::parts::Line::Filled;
 use crate::parts::Part::Turns;
@@ -26,7 +24,7 @@ type Call = (
 
 /// Two callbacks, a shutdown, an inspection, a spent budget, a bad script, bad words, a summary, records, an expansion, and one of a
 /// bad script.
-const CALLS: [Call; 10] = [
+static CALLS: [Call; 10] = [
     (
         RUN,
         "def p; end; class C; f = func p; a = new C; u = ref a f; v = ref a f; del a",
@@ -150,10 +148,10 @@ fn check_writes(
 #[test]
 fn each_write_fails_in_turn(rt: HostRuntime) -> Result<(), Fail> {
     let alloc = rt.alloc();
-    for (words, script, _, status, text) in CALLS {
+    for (words, script, _, status, text) in &CALLS {
         let bytes = lines(alloc, script)?;
         let text = lines(alloc, text)?;
-        check_writes(&rt, alloc, words, &bytes, status, &text, script)?;
+        check_writes(&rt, alloc, words, &bytes, *status, &text, script)?;
     }
     let bytes = built(alloc, &TOO_LARGE)?;
     let large = Status::TooLarge;
@@ -220,10 +218,10 @@ const SPACES: Call = (RUN, "twenty lines of spaces", 6, Status::Done, "end");
 #[test]
 fn each_read_fails_in_turn(rt: HostRuntime) -> Result<(), Fail> {
     let alloc = rt.alloc();
-    for call in CALLS {
+    for call in &CALLS {
         let script = lines(alloc, call.1)?;
-        check_reads(&rt, alloc, call, &script)?;
-        check_reads_of_a_byte(&rt, alloc, call, &script)?;
+        check_reads(&rt, alloc, *call, &script)?;
+        check_reads_of_a_byte(&rt, alloc, *call, &script)?;
     }
     let script = built(alloc, &[Turns(20, &[Filled(b" ", 1023)])])?;
     check_reads(&rt, alloc, SPACES, &script)?;
@@ -232,7 +230,7 @@ fn each_read_fails_in_turn(rt: HostRuntime) -> Result<(), Fail> {
 
 /// Calls where the lists refuse a call of `make`: their words, how many were made before, how they end, and their text. The script
 /// makes the garbage list, `a` and `b` by one call each; that of three blocks makes eight.
-const REFUSED: [(&[&str], usize, Status, &str); 12] = [
+static REFUSED: [(&[&str], usize, Status, &str); 12] = [
     (RECORD, 0, Status::OutOfMemory, ""),
     (RECORD, 1, Status::OutOfMemory, ""),
     (RECORD, 2, Status::OutOfMemory, RECORD_OF_RING),
@@ -247,25 +245,38 @@ const REFUSED: [(&[&str], usize, Status, &str); 12] = [
     (GENERATE, 8, Status::Done, "summary 7 7 1 2 18"),
 ];
 
+/// A call is refused so.
+fn check_refused(
+    rt: &impl Abort,
+    alloc: Global,
+    words: &[&str],
+    before: usize,
+    status: Status,
+    text: &str,
+) -> Result<(), AllocError> {
+    let script = "a = list; append a a; del a; collect 2; b = list; append b b; del b; collect 2";
+    let mut source = PlainSource::new(lines(alloc, script)?);
+    let faults = Faults {
+        write: 0,
+        keep: 0,
+        make: Some(before),
+    };
+    let found = answer_under(alloc, words, &mut source, faults)?;
+    assert_eq!(rt; found.status, status, "after {before}");
+    if text.is_empty() {
+        assert!(rt; found.text.is_empty(), "after {before}");
+    } else {
+        assert_answer(rt, &found, status, &lines(alloc, text)?, text);
+    }
+    Ok(())
+}
+
 #[test]
 fn a_list_that_is_refused_ends_the_records_and_leaves_no_summary(
     rt: HostRuntime,
 ) -> Result<(), Fail> {
-    let alloc = rt.alloc();
-    let script = "a = list; append a a; del a; collect 2; b = list; append b b; del b; collect 2";
-    for (words, before, status, text) in REFUSED {
-        let mut source = PlainSource::new(lines(alloc, script)?);
-        let faults = Faults {
-            make: Some(before),
-            ..NO_FAULT
-        };
-        let found = answer_under(alloc, words, &mut source, faults)?;
-        if text.is_empty() {
-            assert!(&rt; found.text.is_empty(), "after {before}");
-        } else {
-            assert_eq!(&rt; found.text, lines(alloc, text)?, "after {before}");
-        }
-        assert_eq!(&rt; found.status, status, "after {before}");
+    for (words, before, status, text) in &REFUSED {
+        check_refused(&rt, rt.alloc(), words, *before, *status, text)?;
     }
     Ok(())
 }

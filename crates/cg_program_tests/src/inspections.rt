@@ -2,7 +2,7 @@
 use crate::calls::Worked;
 
 /// What refers to what, and why an object is alive.
-pub const DONE: [Worked; 5] = [
+pub static DONE: [Worked; 5] = [
     (
         "a list in a list, before and after that is dropped",
         "a = list; b = list a; referrers a; referents b; why a; del b; why a",

@@ -3,7 +3,7 @@
 use crate::calls::Worked;
 
 /// Finalizers begin once, the dead are not named, and a set that is half cleared is out of reach.
-pub const DONE: [Worked; 9] = [
+pub static DONE: [Worked; 9] = [
     (
         "brought back by count and then condemned: the finalizer has run",
         "def d; x = self; end; class C del=d; a = new C; del a; setattr x me x; del x; collect",

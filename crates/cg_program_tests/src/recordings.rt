@@ -28,7 +28,7 @@ const RECORDS_OF_THRICE: &str =
     "record 0; graph 1; m 2 2 0; r 2; graph 2; stop; record 0; graph 1; graph 2; stop; record 1; graph 1; m 2 1 0; r 2; lost 2; graph 2; m 2 1 0; r 2; lost 2; stop; end";
 
 /// Records, and what comes in place of them.
-pub const CASES: [Case; 14] = [
+pub static CASES: [Case; 14] = [
     (
         "a list that holds itself",
         RECORD,
@@ -130,7 +130,7 @@ pub const CASES: [Case; 14] = [
 ];
 
 /// Scripts whose records are right, and how many these are.
-pub const RIGHT: [(&str, u64); 7] = [
+pub static RIGHT: [(&str, u64); 7] = [
     (RING, 1),
     (LEGACY, 1),
     (BACK, 1),

@@ -1,7 +1,7 @@
 //! Texts of records, and bytes that are none.
 use crate::calls::shown;
 use crate::edits::{Edit, LIST, edited};
-use cg_records::{Graph, read_records, write_records};
+use cg_records::{Graph, Rec, read_records, write_records};
 use std::alloc::{AllocError, Global};
 use std::process::Abort;
 use std::test::Fail;
@@ -37,7 +37,7 @@ fn assert_graph(rt: &impl Abort, graph: &Graph, told: Told) {
 }
 
 /// A record of one collection: its text, its generation, its first graph, and its second, if it has one.
-const RECORDS: [(&[u8], u8, Told, Option<Told>); 2] = [
+static RECORDS: [(&[u8], u8, Told, Option<Told>); 2] = [
     (
         b"record 2\ngraph 1\nm 2 1 0\nr 2\nlost 2\ngraph 2\nm 2 1 0\nr 2\nlost 2\nstop\nend\n",
         2,
@@ -57,21 +57,33 @@ const RECORDS: [(&[u8], u8, Told, Option<Told>); 2] = [
     ),
 ];
 
+/// One record is to be read, with these graphs.
+fn assert_record(
+    rt: &impl Abort,
+    records: &[Rec],
+    generation: u8,
+    first: Told,
+    second: Option<Told>,
+) {
+    let [rec] = records else {
+        panic!(rt; "not one record");
+    };
+    assert_eq!(rt; rec.generation, generation);
+    assert_graph(rt, &rec.first, first);
+    match (&rec.second, second) {
+        (Some(graph), Some(told)) => assert_graph(rt, graph, told),
+        (None, None) => {}
+        _ => panic!(rt; "another number of graphs"),
+    }
+}
+
 #[test]
 fn records_are_read_and_written(rt: HostRuntime) -> Result<(), Fail> {
     let alloc = rt.alloc();
-    for (text, generation, first, second) in RECORDS {
+    for (text, generation, first, second) in &RECORDS {
         let read = read_records(alloc, text)?.ok_or("nothing was read")?;
-        assert_eq!(&rt; read.as_slice().len(), 1);
-        let rec = read.as_slice().first().ok_or("no record")?;
-        assert_eq!(&rt; rec.generation, generation);
-        assert_graph(&rt, &rec.first, first);
-        match (&rec.second, second) {
-            (Some(graph), Some(told)) => assert_graph(&rt, graph, told),
-            (None, None) => {}
-            _ => panic!(&rt; "another number of graphs"),
-        }
-        assert_eq!(&rt; write_records(alloc, &read)?.as_slice(), text);
+        assert_record(&rt, read.as_slice(), *generation, *first, *second);
+        assert_eq!(&rt; write_records(alloc, &read)?.as_slice(), *text);
     }
     Ok(())
 }
@@ -108,48 +120,50 @@ fn lines_left_out_doubled_and_swapped(rt: HostRuntime) -> Result<(), Fail> {
     Ok(())
 }
 
-/// Bytes that are no records.
-const NONE: [&[u8]; 24] = [
-    b"",
-    b"\n",
-    b"end",
-    b"end\r\n",
-    b"end\nend\n",
-    b"end\n\n",
-    b" end\n",
-    b"END\n",
-    b"record 3\ngraph 1\ncut\nend\n",
-    b"record 02\ngraph 1\ncut\nend\n",
-    b"record +2\ngraph 1\ncut\nend\n",
-    b"record  2\ngraph 1\ncut\nend\n",
-    b"record 2 \ngraph 1\ncut\nend\n",
-    b"record \ngraph 1\ncut\nend\n",
-    b"record 2\ngraph 2\ncut\nend\n",
-    b"record 2\ngraph 1\nstop\nend\n",
-    b"record 2\ngraph 1\ngraph 2\ncut\nend\n",
-    b"record 2\ngraph 1\ngraph 2\nlegacy 2\nstop\nend\n",
-    b"record 2\ngraph 1\nlegacy 2\nlost 2\ncut\nend\n",
-    b"record 2\ngraph 1\nm 2 1 2\ncut\nend\n",
-    b"record 2\ngraph 1\nm 2 1\ncut\nend\n",
-    b"record 2\ngraph 1\nm 2 01 0\ncut\nend\n",
-    b"record 2\ngraph 1\nm 18446744073709551616 1 0\ncut\nend\n",
-    b"record 2\ngraph 1\nlost 100000000000000000000\ncut\nend\n",
-];
-
-/// The smallest texts.
-const SMALL: [&[u8]; 3] = [
-    b"end\n",
-    b"record 1\ngraph 1\ncut\nend\n",
-    b"record 0\ngraph 1\nm 0 0 0\nlegacy 0\ngraph 2\nstop\nrecord 0\ngraph 1\ncut\nend\n",
+/// Bytes that are no records, and the smallest texts.
+static TEXTS: [(&[u8], bool); 27] = [
+    (b"", false),
+    (b"\n", false),
+    (b"end", false),
+    (b"end\r\n", false),
+    (b"end\nend\n", false),
+    (b"end\n\n", false),
+    (b" end\n", false),
+    (b"END\n", false),
+    (b"record 3\ngraph 1\ncut\nend\n", false),
+    (b"record 02\ngraph 1\ncut\nend\n", false),
+    (b"record +2\ngraph 1\ncut\nend\n", false),
+    (b"record  2\ngraph 1\ncut\nend\n", false),
+    (b"record 2 \ngraph 1\ncut\nend\n", false),
+    (b"record \ngraph 1\ncut\nend\n", false),
+    (b"record 2\ngraph 2\ncut\nend\n", false),
+    (b"record 2\ngraph 1\nstop\nend\n", false),
+    (b"record 2\ngraph 1\ngraph 2\ncut\nend\n", false),
+    (b"record 2\ngraph 1\ngraph 2\nlegacy 2\nstop\nend\n", false),
+    (b"record 2\ngraph 1\nlegacy 2\nlost 2\ncut\nend\n", false),
+    (b"record 2\ngraph 1\nm 2 1 2\ncut\nend\n", false),
+    (b"record 2\ngraph 1\nm 2 1\ncut\nend\n", false),
+    (b"record 2\ngraph 1\nm 2 01 0\ncut\nend\n", false),
+    (
+        b"record 2\ngraph 1\nm 18446744073709551616 1 0\ncut\nend\n",
+        false,
+    ),
+    (
+        b"record 2\ngraph 1\nlost 100000000000000000000\ncut\nend\n",
+        false,
+    ),
+    (b"end\n", true),
+    (b"record 1\ngraph 1\ncut\nend\n", true),
+    (
+        b"record 0\ngraph 1\nm 0 0 0\nlegacy 0\ngraph 2\nstop\nrecord 0\ngraph 1\ncut\nend\n",
+        true,
+    ),
 ];
 
 #[test]
 fn the_smallest_texts_are_records_and_other_bytes_are_none(rt: HostRuntime) -> Result<(), Fail> {
-    for text in NONE {
-        check_text(&rt, rt.alloc(), text, false)?;
-    }
-    for text in SMALL {
-        check_text(&rt, rt.alloc(), text, true)?;
+    for (text, is_read) in &TEXTS {
+        check_text(&rt, rt.alloc(), text, *is_read)?;
     }
     Ok(())
 }

@@ -5,7 +5,7 @@ use cg_cli::Status;
 const RUN_ONE: &[&str] = &["run", "--budget", "1"];
 
 /// Lists, deaths, frames, finalizers, weak references and callbacks.
-pub const DONE: [Worked; 50] = [
+pub static DONE: [Worked; 50] = [
     ("an empty script", "", "end"),
     ("a comment is not run", "# nothing is run", "end"),
     (
@@ -251,7 +251,7 @@ pub const DONE: [Worked; 50] = [
 ];
 
 /// Budgets that are spent.
-pub const SPENT: [Worked; 5] = [
+pub static SPENT: [Worked; 5] = [
     (
         "the second finalizer finds the budget spent",
         "budget 1; def d; end; class C del=d; a = new C; del a; b = new C; del b",
@@ -280,7 +280,7 @@ pub const SPENT: [Worked; 5] = [
 ];
 
 /// Budgets in the words.
-pub const BUDGETS: [Case; 3] = [
+pub static BUDGETS: [Case; 3] = [
     (
         "the budget of the words",
         RUN_ONE,
@@ -302,15 +302,4 @@ pub const BUDGETS: [Case; 3] = [
         Status::Budget,
         "made function #2; enter call #2; leave; budget spent",
     ),
-];
-
-/// Bad lines.
-pub const BAD: [(&str, &str); 7] = [
-    ("a = list; b = list; del a; append a", "bad script 4 3"),
-    ("def p; print 1", "bad script 3 7"),
-    ("a = list; end", "bad script 2 7"),
-    ("a = new C; class C", "bad script 1 6"),
-    ("class C del=d; def d; end", "bad script 1 6"),
-    ("budget 1; budget 2", "bad script 2 8"),
-    ("budget 100001", "bad script 1 4"),
 ];

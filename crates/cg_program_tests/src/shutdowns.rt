@@ -2,7 +2,7 @@
 use crate::calls::Worked;
 
 /// What the shutdown leaves, and collections that are due at it.
-pub const DONE: [Worked; 10] = [
+pub static DONE: [Worked; 10] = [
     (
         "nothing is left of nothing",
         "shutdown",
@@ -56,7 +56,7 @@ pub const DONE: [Worked; 10] = [
 ];
 
 /// Budgets that are spent in the shutdown.
-pub const SPENT: [Worked; 2] = [
+pub static SPENT: [Worked; 2] = [
     (
         "the second finalizer of the shutdown finds the budget spent",
         "budget 1; shutdown; def d; end; class C del=d; a = new C; b = new C",

@@ -19,19 +19,28 @@ pub type Long = (
     &'static [Part],
 );
 
-/// Each call is to end so, and to write its text, which is too long to be shown.
+/// The call is to end so, and to write its text, which is too long to be shown.
+fn check_long(rt: &impl Abort, alloc: Global, call: Long) -> Result<(), AllocError> {
+    let (name, words, script, status, text) = call;
+    let found = answer_to(alloc, words, &mut PlainSource::new(built(alloc, script)?))?;
+    assert_eq!(rt; found.status, status, "at {name:?}");
+    let wanted = built(alloc, text)?;
+    assert!(rt;
+        found.text.as_slice() == wanted.as_slice(),
+        "the text at {name:?}"
+    );
+    Ok(())
+}
+
 pub fn check_long_calls(rt: &impl Abort, alloc: Global, calls: &[Long]) -> Result<(), AllocError> {
-    for (name, words, script, status, text) in calls {
-        let mut source = PlainSource::new(built(alloc, script)?);
-        let found = answer_to(alloc, words, &mut source)?;
-        assert_eq!(rt; found.status, *status, "at {name:?}");
-        assert!(rt; found.text == built(alloc, text)?, "the text at {name:?}");
+    for call in calls {
+        check_long(rt, alloc, *call)?;
     }
     Ok(())
 }
 
 /// 16,777,216 bytes are the most.
-const BYTES: [Long; 15] = [
+static BYTES: [Long; 15] = [
     (
         "the byte 0",
         RUN,
@@ -142,8 +151,8 @@ const BYTES: [Long; 15] = [
 /// Lines of spaces, with one byte more than a script may have.
 pub const TOO_LARGE: [Part; 2] = [Turns(16_384, &[Filled(b" ", 1023)]), Again(b" ", 1)];
 
-/// 1,024 bytes and 64 words are the most of a line, and 400,000 lines the most of a script.
-const LINES: [Long; 10] = [
+/// 1,024 bytes and 64 words are the most of a line, and 400,000 lines the most of a script. At the end bad scripts, byte by byte.
+static LINES: [Long; 14] = [
     (
         "a line of 1,024 bytes",
         RUN,
@@ -226,6 +235,34 @@ const LINES: [Long; 10] = [
         Status::BadScript,
         &[Lines("bad script 400001 5")],
     ),
+    (
+        "a bad last line without a line feed",
+        RUN,
+        &[Again(b"a = list\nlist = list", 1)],
+        Status::BadScript,
+        &[Lines("bad script 2 4")],
+    ),
+    (
+        "a bad line behind an empty one and a comment",
+        RUN,
+        &[Again(b"a = list\n\n# a comment\nfly a\n", 1)],
+        Status::BadScript,
+        &[Lines("bad script 4 2")],
+    ),
+    (
+        "a bad line of one word",
+        RUN,
+        &[Again(b"del a\ndel\n", 1)],
+        Status::BadScript,
+        &[Lines("bad script 2 3")],
+    ),
+    (
+        "a tab",
+        RUN,
+        &[Again(b"a = list\ta\n", 1)],
+        Status::BadScript,
+        &[Lines("bad script 1 1")],
+    ),
 ];
 
 #[test]
@@ -240,23 +277,26 @@ fn lines_at_their_limits(rt: HostRuntime) -> Result<(), Fail> {
     Ok(())
 }
 
-/// A source that gives a byte a call is read once for each byte, and once for the end, up to 16,777,217 times.
+/// Line feeds, how often a source that gives a byte a call is read for them, and how the run ends.
+static READS: [(u32, u64, Status); 6] = [
+    (0, 1, Status::Done),
+    (1, 2, Status::Done),
+    (400_000, 400_001, Status::Done),
+    (16_777_216, 16_777_217, Status::BadScript),
+    (16_777_217, 16_777_217, Status::TooLarge),
+    (20_000_000, 16_777_217, Status::TooLarge),
+];
+
+/// A source is read once for each byte, and once for the end, up to 16,777,217 times.
 #[test]
 fn sources_are_read_a_bounded_number_of_times(rt: HostRuntime) -> Result<(), Fail> {
     let alloc = rt.alloc();
-    for (bytes, reads, status) in [
-        (0, 1, Status::Done),
-        (1, 2, Status::Done),
-        (400_000, 400_001, Status::Done),
-        (16_777_216, 16_777_217, Status::BadScript),
-        (16_777_217, 16_777_217, Status::TooLarge),
-        (20_000_000, 16_777_217, Status::TooLarge),
-    ] {
-        let script = built(alloc, &[Again(b"\n", bytes)])?;
+    for (bytes, reads, status) in &READS {
+        let script = built(alloc, &[Again(b"\n", *bytes)])?;
         let mut source = OneByte::new(MemSource::new(script, Vec::new(alloc)));
         let found = answer_to(alloc, RUN, &mut source)?;
-        assert_eq!(&rt; found.status, status, "of {bytes} bytes");
-        assert_eq!(&rt; source.calls(), reads, "of {bytes} bytes");
+        assert_eq!(&rt; found.status, *status, "of {bytes} bytes");
+        assert_eq!(&rt; source.calls(), *reads, "of {bytes} bytes");
     }
     Ok(())
 }

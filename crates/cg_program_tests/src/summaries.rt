@@ -3,7 +3,7 @@ use crate::calls::Case;
 use cg_cli::Status;
 
 /// Summaries of some blocks.
-pub const CASES: [Case; 6] = [
+pub static CASES: [Case; 6] = [
     (
         "one block",
         &["generate", "1"],

@@ -3,7 +3,7 @@ use cg_cert::{Verdict, check_records};
 use std::test::Fail;
 
 /// Texts, and the verdicts on them.
-const TEXTS: [(&str, &[u8], Verdict); 26] = [
+static TEXTS: [(&str, &[u8], Verdict); 26] = [
     (
         "a list that holds itself is lost",
         b"record 2\ngraph 1\nm 2 1 0\nr 2\nlost 2\ngraph 2\nm 2 1 0\nr 2\nlost 2\nstop\nend\n",
@@ -134,8 +134,8 @@ const TEXTS: [(&str, &[u8], Verdict); 26] = [
 
 #[test]
 fn verdicts_on_small_records(rt: HostRuntime) -> Result<(), Fail> {
-    for (name, text, wanted) in TEXTS {
-        assert_eq!(&rt; check_records(rt.alloc(), text)?, wanted, "at {name:?}");
+    for (name, text, wanted) in &TEXTS {
+        assert_eq!(&rt; check_records(rt.alloc(), text)?, *wanted, "at {name:?}");
     }
     Ok(())
 }

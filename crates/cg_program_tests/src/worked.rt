@@ -1,7 +1,7 @@
 //! Calls of the top call with worked scripts, by the tables of the other files.
 use crate::calls::{
-    Answered, Case, EXPAND, NO_FAULT, RECORD, RUN, Worked, answer_to, answer_under, assert_answer,
-    check, check_bytes, lines, words_of,
+    Case, EXPAND, RECORD, RUN, Worked, answer_to, assert_answer, check, check_bytes, lines,
+    words_of,
 };
 use crate::kinds::six;
 use crate::{
@@ -15,99 +15,129 @@ use std::alloc::{AllocError, Global};
 use std::process::Abort;
 use std::test::Fail;
 
-/// Scripts that run to their end, or until the budget is spent.
-const WORKED: [(&[Worked], Status); 8] = [
-    (&rows::DONE, Status::Done),
-    (&rows::SPENT, Status::Budget),
-    (&collections::DONE, Status::Done),
-    (&shutdowns::DONE, Status::Done),
-    (&shutdowns::SPENT, Status::Budget),
-    (&inspections::DONE, Status::Done),
-    (&promises::DONE, Status::Done),
-    (&edges::DONE, Status::Done),
-];
-
-/// Calls with other words.
-const CASES: [&[Case]; 5] = [
-    &rows::BUDGETS,
-    &collections::BUDGETS,
-    &recordings::CASES,
-    &expansions::WRITTEN,
-    &summaries::CASES,
-];
+/// A run of each script is to end so, and to write its text.
+fn check_worked(
+    rt: &impl Abort,
+    alloc: Global,
+    table: &[Worked],
+    status: Status,
+) -> Result<(), AllocError> {
+    for (name, script, text) in table {
+        check(rt, alloc, RUN, script, status, text, name)?;
+    }
+    Ok(())
+}
 
 #[test]
 fn worked_scripts_write_their_texts(rt: HostRuntime) -> Result<(), Fail> {
     let alloc = rt.alloc();
-    for (table, status) in WORKED {
-        for (name, script, text) in table {
-            check(&rt, alloc, RUN, script, status, text, name)?;
-        }
-    }
-    for table in CASES {
-        for (name, words, script, status, text) in table {
-            check(&rt, alloc, words, script, *status, text, name)?;
-        }
+    check_worked(&rt, alloc, &rows::DONE, Status::Done)?;
+    check_worked(&rt, alloc, &rows::SPENT, Status::Budget)?;
+    check_worked(&rt, alloc, &collections::DONE, Status::Done)?;
+    check_worked(&rt, alloc, &shutdowns::DONE, Status::Done)?;
+    check_worked(&rt, alloc, &shutdowns::SPENT, Status::Budget)?;
+    check_worked(&rt, alloc, &inspections::DONE, Status::Done)?;
+    check_worked(&rt, alloc, &promises::DONE, Status::Done)?;
+    check_worked(&rt, alloc, &edges::DONE, Status::Done)?;
+    Ok(())
+}
+
+/// Each call is to end so, and to write its text.
+fn check_cases(rt: &impl Abort, alloc: Global, table: &[Case]) -> Result<(), AllocError> {
+    for (name, words, script, status, text) in table {
+        check(rt, alloc, words, script, *status, text, name)?;
     }
     Ok(())
 }
 
 #[test]
-fn bad_words_and_bad_scripts_are_told(rt: HostRuntime) -> Result<(), Fail> {
+fn other_calls_write_their_texts(rt: HostRuntime) -> Result<(), Fail> {
     let alloc = rt.alloc();
-    let bad = Status::BadScript;
-    for (script, text) in rows::BAD {
-        check(&rt, alloc, RUN, script, bad, text, script)?;
-    }
-    for script in edges::PAST {
-        check(&rt, alloc, RUN, script, bad, "bad script 1 4", script)?;
-    }
-    for (script, text) in bad_input::WHOLE {
-        let bytes = Vec::from_slice(alloc, script.as_bytes())?;
-        check_bytes(&rt, alloc, RUN, bytes, bad, text.as_bytes(), script)?;
-    }
-    for (name, words) in bad_input::WORDS {
-        check(&rt, alloc, words, "", Status::BadWords, "bad words", name)?;
+    check_cases(&rt, alloc, &rows::BUDGETS)?;
+    check_cases(&rt, alloc, &collections::BUDGETS)?;
+    check_cases(&rt, alloc, &recordings::CASES)?;
+    check_cases(&rt, alloc, &expansions::WRITTEN)?;
+    check_cases(&rt, alloc, &summaries::CASES)?;
+    check_cases(&rt, alloc, &bad_input::WORDS)?;
+    Ok(())
+}
+
+#[test]
+fn bad_scripts_are_told(rt: HostRuntime) -> Result<(), Fail> {
+    for (script, text) in &bad_input::SCRIPTS {
+        check(
+            &rt,
+            rt.alloc(),
+            RUN,
+            script,
+            Status::BadScript,
+            text,
+            script,
+        )?;
     }
     Ok(())
 }
 
-/// Whether these bytes are one of some texts.
-fn is_one_of(alloc: Global, found: &[u8], texts: &[&str]) -> Result<bool, AllocError> {
+/// The text among some that these bytes are, and otherwise the first one.
+fn one_of(alloc: Global, found: &[u8], texts: &[&str]) -> Result<Vec<u8>, AllocError> {
+    let mut first = Vec::new(alloc);
     for text in texts {
-        if lines(alloc, text)?.as_slice() == found {
-            return Ok(true);
+        let wanted = lines(alloc, text)?;
+        if wanted.as_slice() == found || first.is_empty() {
+            first = wanted;
         }
     }
-    Ok(false)
+    Ok(first)
 }
 
 #[test]
-fn lines_in_any_order_that_the_rules_allow(rt: HostRuntime) -> Result<(), Fail> {
+fn lines_stand_in_any_order_that_the_rules_allow(rt: HostRuntime) -> Result<(), Fail> {
     let alloc = rt.alloc();
-    for (name, words, script, texts) in collections::EITHER {
+    for (name, words, script, texts) in &collections::EITHER {
         let found = answer_to(alloc, words, &mut PlainSource::new(lines(alloc, script)?))?;
-        assert!(&rt; is_one_of(alloc, &found.text, texts)?, "at {name:?}");
-        assert_eq!(&rt; found.status, Status::Done, "at {name:?}");
+        let wanted = one_of(alloc, &found.text, texts)?;
+        assert_answer(&rt, &found, Status::Done, &wanted, name);
+    }
+    Ok(())
+}
+
+/// What is written with these words, to which the script leads without a fault.
+fn written(
+    rt: &impl Abort,
+    alloc: Global,
+    words: &[&str],
+    script: &str,
+) -> Result<Vec<u8>, AllocError> {
+    let found = answer_to(alloc, words, &mut PlainSource::new(lines(alloc, script)?))?;
+    assert_eq!(rt; found.status, Status::Done, "at {script:?}");
+    Ok(found.text)
+}
+
+#[test]
+fn expansions_are_run(rt: HostRuntime) -> Result<(), Fail> {
+    let alloc = rt.alloc();
+    for (name, script, status, text) in &expansions::RUNS {
+        let expansion = written(&rt, alloc, EXPAND, script)?;
+        check_bytes(
+            &rt,
+            alloc,
+            RUN,
+            expansion,
+            *status,
+            &lines(alloc, text)?,
+            name,
+        )?;
     }
     Ok(())
 }
 
 #[test]
-fn what_one_call_writes_is_read_by_the_next(rt: HostRuntime) -> Result<(), Fail> {
+fn records_are_right(rt: HostRuntime) -> Result<(), Fail> {
     let alloc = rt.alloc();
-    for (name, script, status, text) in expansions::RUNS {
-        let mut source = PlainSource::new(lines(alloc, script)?);
-        let found = answer_to(alloc, EXPAND, &mut source)?;
-        assert_eq!(&rt; found.status, Status::Done, "at {name:?}");
-        let wanted = lines(alloc, text)?;
-        check_bytes(&rt, alloc, RUN, found.text, status, &wanted, name)?;
-    }
-    for (script, records) in recordings::RIGHT {
-        let mut source = PlainSource::new(lines(alloc, script)?);
-        let found = answer_to(alloc, RECORD, &mut source)?;
-        let verdict = check_records(alloc, found.text.as_slice())?;
-        assert_eq!(&rt; verdict, Verdict::Yes { records }, "at {script:?}");
+    for (script, records) in &recordings::RIGHT {
+        let text = written(&rt, alloc, RECORD, script)?;
+        let yes = Verdict::Yes { records: *records };
+        assert_eq!(&rt; check_records(alloc, &text)?, yes, "at {script:?}");
     }
     Ok(())
 }
