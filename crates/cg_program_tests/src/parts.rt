@@ -40,7 +40,8 @@ fn push_numbered(bytes: &mut Vec<u8>, front: &str, number: i64) -> Result<(), Al
     let mut digits = Buffer::new();
     bytes.extend_from_slice(front.as_bytes())?;
     bytes.extend_from_slice(digits.format(number).as_bytes())?;
-    bytes.push(b'\n')
+    bytes.push(b'\n')?;
+    Ok(())
 }
 
 /// Appends a line of a turn. The turns are counted from 0.
@@ -59,7 +60,8 @@ fn push_line(bytes: &mut Vec<u8>, line: Line, turn: i64) -> Result<(), AllocErro
             return Ok(());
         }
     }
-    bytes.push(b'\n')
+    bytes.push(b'\n')?;
+    Ok(())
 }
 
 /// The whole of these parts.
