@@ -224,7 +224,7 @@ const YOUNG: Place = Place::Gen(0);
 const OLD: Place = Place::Gen(2);
 
 /// Four nodes in generation 0 and two candidates move to the ends of lists.
-const MOVES: [Row; 21] = [
+static MOVES: [Row; 21] = [
     Row::Put(1, YOUNG),
     Row::Put(2, YOUNG),
     Row::Put(3, YOUNG),
@@ -251,7 +251,7 @@ const MOVES: [Row; 21] = [
 ];
 
 /// The lists of such six are merged in order.
-const MERGES: [Row; 17] = [
+static MERGES: [Row; 17] = [
     Row::Put(1, YOUNG),
     Row::Put(2, YOUNG),
     Row::Put(3, YOUNG),
@@ -274,7 +274,7 @@ const MERGES: [Row; 17] = [
 ];
 
 /// Fields are kept by serial, and counts come down to zero.
-const FIELDS: [Row; 16] = [
+static FIELDS: [Row; 16] = [
     Row::PutReserved(7, YOUNG),
     Row::Put(9, Place::Gen(1)),
     Row::Marks(7, Some((0, 0, false))),
@@ -294,7 +294,7 @@ const FIELDS: [Row; 16] = [
 ];
 
 /// Those that share a guess keep their nodes; the slot of a node that is gone is another's.
-const SHARED: [Row; 17] = [
+static SHARED: [Row; 17] = [
     Row::Put(SHARING[0], YOUNG),
     Row::Put(SHARING[1], YOUNG),
     Row::Put(SHARING[2], YOUNG),

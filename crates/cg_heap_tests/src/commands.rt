@@ -45,7 +45,7 @@ enum Answer {
 /// running; and the answer.
 type Row = (&'static str, Asked, Option<u64>, bool, bool, Answer);
 
-const ROWS: [Row; 12] = [
+static ROWS: [Row; 12] = [
     (
         "what refers to the inner list",
         Asked::Referrers,

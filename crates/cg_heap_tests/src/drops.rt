@@ -32,16 +32,24 @@ fn drop_key<K: Kind>(rt: &impl Abort, kind: &mut K, at: usize, place: usize, key
     requires { Holds (K.bodies kind.old) at }
     ensures { Holds (K.bodies kind.new) at }
 {
-    assert_eq!(rt; kind.find(at, Val::Ref(key)), Some(place));
-    assert_eq!(rt; kind.value_of(at, Val::Ref(key)), Some(Val::Int(7)));
+    let found = kind.find(at, Val::Ref(key));
+    let value = kind.value_of(at, Val::Ref(key));
+    assert!(rt;
+        found == Some(place) && value == Some(Val::Int(7)),
+        "at {key}"
+    );
     let dropped = match by {
         By::Place => take(kind, at, place),
         By::Key => take_key(kind, at, Val::Ref(key)),
     };
     assert_eq!(rt; dropped, Answer::Entry(Val::Ref(key), 7));
-    assert_eq!(rt; kind.find(at, Val::Ref(key)), None);
-    assert_eq!(rt; kind.value_of(at, Val::Ref(key)), None);
-    assert_eq!(rt; take_key(kind, at, Val::Ref(key)), Answer::Nothing);
+    let found = kind.find(at, Val::Ref(key));
+    let value = kind.value_of(at, Val::Ref(key));
+    let again = take_key(kind, at, Val::Ref(key));
+    assert!(rt;
+        found.is_none() && value.is_none() && again == Answer::Nothing,
+        "at {key}"
+    );
 }
 
 /// The place and the key of the pair that goes next, of keys from 0 to before `count` of which so many are gone.

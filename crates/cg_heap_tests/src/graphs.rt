@@ -13,7 +13,7 @@ type Row = (
     &'static [u64],
 );
 
-const ROWS: [Row; 4] = [
+static ROWS: [Row; 4] = [
     (
         "a ring that is not held",
         &[(2, 3), (3, 2)],

@@ -15,11 +15,13 @@ use std::process::Abort;
 use std::test::Fail;
 
 #[derive(Clone, Copy, Debug, Drop)]
-enum Step {
+pub enum Step {
     List,
+    ListOf(Val),
     Dict,
     Inst,
     Weak(u64),
+    Append(u64, Val),
     Put(u64, Val, Val),
     Take(u64, usize),
     TakeKey(u64, Val),
@@ -39,9 +41,10 @@ enum Step {
 }
 
 #[derive(Clone, Copy, Debug, PartialEq, Drop)]
-enum Answer {
+pub enum Answer {
     Nothing,
     Made(Result<u64, HeapFault>),
+    Appended(Result<(), HeapFault>),
     Replaced(Result<Option<Val>, HeapFault>),
     Taken(Entry),
     TakenIf(Option<Entry>),
@@ -65,6 +68,7 @@ fn give_up<B: Kind>(rt: &impl Abort, scene: &mut Scene<B>, object: u64) -> bool 
 fn change_objects<B: Kind>(rt: &impl Abort, scene: &mut Scene<B>, step: Step) -> Option<Answer> {
     match step {
         Step::List => Some(Answer::Made(scene.list(rt))),
+        Step::ListOf(val) => Some(Answer::Made(scene.list_of(rt, val))),
         Step::Dict => Some(Answer::Made(scene.dict(rt))),
         Step::Inst => Some(Answer::Made(scene.make(rt, KindCode::Inst, Some(4), None))),
         Step::Weak(object) => {
@@ -82,6 +86,7 @@ fn change_entries<B: Kind>(
     step: Step,
 ) -> Result<Option<Answer>, AllocError> {
     match step {
+        Step::Append(list, val) => Ok(Some(Answer::Appended(scene.append(rt, list, val)))),
         Step::Put(object, key, val) => Ok(Some(Answer::Replaced(scene.put(rt, object, key, val)))),
         Step::Take(object, i) => {
             let entry = scene.take(rt, object, i)?;
@@ -162,13 +167,13 @@ fn answer_to<B: Kind>(
 }
 
 /// A step and what it answers.
-type Row = (Step, Answer);
+pub type Row = (Step, Answer);
 
 /// Steps from a new heap on, with their name.
 type Case = (&'static str, &'static [Row]);
 
 /// Takes a heap through the steps.
-fn follow<B: Kind>(
+pub fn follow<B: Kind>(
     rt: &impl Abort,
     scene: &mut Scene<B>,
     name: &str,
@@ -215,7 +220,7 @@ const SEVEN: Entry = Entry {
 const NO_MEMORY: Answer = Answer::Made(Err(HeapFault::OutOfMemory));
 
 /// An entry that is taken holds value and key from outside.
-const TAKEN: [Row; 17] = [
+static TAKEN: [Row; 17] = [
     (Step::List, Answer::Made(Ok(2))),
     (Step::Inst, Answer::Made(Ok(3))),
     (Step::Dict, Answer::Made(Ok(4))),
@@ -239,7 +244,7 @@ const TAKEN: [Row; 17] = [
 ];
 
 /// An entry is taken by its key.
-const BY_KEY: [Row; 15] = [
+static BY_KEY: [Row; 15] = [
     (Step::Dict, Answer::Made(Ok(2))),
     (Step::Inst, Answer::Made(Ok(3))),
     (Step::Put(2, NUMBER, LIST), Answer::Replaced(Ok(None))),
@@ -263,7 +268,7 @@ const BY_KEY: [Row; 15] = [
 ];
 
 /// A list that is refused changes nothing: the garbage list is the one that is made.
-const REFUSED: [Row; 7] = [
+static REFUSED: [Row; 7] = [
     (Step::List, NO_MEMORY),
     (Step::Live, Answer::Number(0)),
     (Step::Size(YOUNG), Answer::Number(0)),
@@ -275,7 +280,7 @@ const REFUSED: [Row; 7] = [
 ];
 
 /// Weak references are cleared and forgotten.
-const WEAK: [Row; 20] = [
+static WEAK: [Row; 20] = [
     (Step::List, Answer::Made(Ok(2))),
     (Step::Weak(2), Answer::Made(Ok(3))),
     (Step::Weak(2), Answer::Made(Ok(4))),
@@ -301,7 +306,7 @@ const WEAK: [Row; 20] = [
 ];
 
 /// The greatest bound name is answered.
-const NAMES: [Row; 11] = [
+static NAMES: [Row; 11] = [
     (Step::Greatest, Answer::Name(None)),
     (Step::Bind(1, Val::Int(7)), Answer::Nothing),
     (Step::Bind(3, Val::None), Answer::Nothing),
@@ -316,6 +321,25 @@ const NAMES: [Row; 11] = [
     (Step::Greatest, Answer::Name(None)),
 ];
 
+/// Each call that may be refused succeeds where there is memory.
+static CALLS: [Row; 9] = [
+    (Step::Live, Answer::Number(0)),
+    (Step::List, Answer::Made(Ok(2))),
+    (Step::Append(2, Val::Int(5)), Answer::Appended(Ok(()))),
+    (Step::ListOf(Val::Int(7)), Answer::Made(Ok(3))),
+    (Step::Dict, Answer::Made(Ok(4))),
+    (
+        Step::Put(4, Val::Int(1), Val::Int(2)),
+        Answer::Replaced(Ok(None)),
+    ),
+    (
+        Step::Put(4, Val::Int(1), Val::Int(3)),
+        Answer::Replaced(Ok(Some(Val::Int(2)))),
+    ),
+    (Step::Live, Answer::Number(3)),
+    (Step::Entries, Answer::Number(3)),
+];
+
 #[test]
 fn heaps_answer_step_by_step(rt: HostRuntime) -> Result<(), Fail> {
     let alloc = rt.alloc();
@@ -324,6 +348,7 @@ fn heaps_answer_step_by_step(rt: HostRuntime) -> Result<(), Fail> {
         ("an entry that is taken by its key", BY_KEY.as_slice()),
         ("weak references", WEAK.as_slice()),
         ("names", NAMES.as_slice()),
+        ("each call", CALLS.as_slice()),
     ] {
         drive(&rt, alloc, six(alloc)?, case)?;
     }

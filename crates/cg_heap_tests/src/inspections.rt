@@ -74,7 +74,7 @@ type Row = (
     &'static [u64],
 );
 
-const ROWS: [Row; 10] = [
+static ROWS: [Row; 10] = [
     (
         "a name holds #3, which holds #2",
         &[(3, 2)],
@@ -180,7 +180,7 @@ fn ask_row<B: Kind>(
 }
 
 /// Objects, what the entries of each refer to, and the objects whose entries refer to it.
-const REFERENCES: [(u64, &[u64], &[u64]); 4] = [
+static REFERENCES: [(u64, &[u64], &[u64]); 4] = [
     (2, &[4, 3], &[5]),
     (3, &[], &[2]),
     (4, &[], &[2, 5]),

@@ -22,7 +22,7 @@ const B: Val = Val::Str(2);
 const C: Val = Val::Ref(3);
 
 #[derive(Clone, Copy, Debug, Drop)]
-enum Step {
+pub enum Step {
     Put(Val, i64),
     Find(Val),
     Value(Val),
@@ -144,7 +144,8 @@ pub fn take_first<K: Kind>(kind: &mut K, at: usize) -> Option<Val>
     Some(kind.take(at, 0).val)
 }
 
-fn advance<K: Kind>(kind: &mut K, at: usize, step: Step) -> Result<Answer, AllocError>
+/// Does a step.
+pub fn advance<K: Kind>(kind: &mut K, at: usize, step: Step) -> Result<Answer, AllocError>
     requires { Holds (K.bodies kind.old) at }
     ensures { (place : ℕ) → Holds (K.bodies kind.old) place → Holds (K.bodies kind.new) place }
 {
@@ -254,11 +255,9 @@ fn drive<K: Kind>(
     let at = make(kind, parts)?;
     'rows: for (taken, answer, left) in rows {
         assert_eq!(rt; advance(kind, at, *taken)?, *answer, "at {taken:?}");
-        let now = entries(alloc, kind, at)?;
-        let expected = listed(alloc, left)?;
-        assert_eq!(rt; now.as_slice(), expected.as_slice(), "after {taken:?}");
+        assert_entries(rt, alloc, kind, at, &listed(alloc, left)?)?;
     }
-    assert_eq!(rt; entries(alloc, kind, other)?.as_slice(), parts);
+    assert_entries(rt, alloc, kind, other, parts)?;
     free(kind, at);
     Ok(())
 }
@@ -278,7 +277,7 @@ fn drive_boxed<K: Kind>(
 }
 
 /// Lists: three items, 10, 20 and 30.
-const LIST: [Row; 17] = [
+static LIST: [Row; 17] = [
     (
         Step::Find(NO),
         Answer::Position(Some(0)),
@@ -339,7 +338,7 @@ const LIST: [Row; 17] = [
 ];
 
 /// Tuples, which lose their last item alone: 10 and 20.
-const TUPLE: [Row; 10] = [
+static TUPLE: [Row; 10] = [
     (
         Step::Find(NO),
         Answer::Position(Some(0)),
@@ -369,7 +368,7 @@ const TUPLE: [Row; 10] = [
 ];
 
 /// Dictionaries and instances, which keep the order: nothing at first.
-const PAIRS: [Row; 21] = [
+static PAIRS: [Row; 21] = [
     (Step::Put(A, 10), Answer::Replaced(None), &[(A, 10)]),
     (
         Step::Put(B, 20),
@@ -446,7 +445,7 @@ const PAIRS: [Row; 21] = [
 ];
 
 /// Functions, of up to eight cells: the numbers from 1 to 8.
-const CELLS: [Row; 2] = [
+static CELLS: [Row; 2] = [
     (
         Step::Find(B),
         Answer::Position(None),
@@ -477,7 +476,7 @@ const CELLS: [Row; 2] = [
 ];
 
 /// Weak references, which keep one callback: 10.
-const CALLBACK: [Row; 9] = [
+static CALLBACK: [Row; 9] = [
     (Step::Find(NO), Answer::Position(Some(0)), &[(NO, 10)]),
     (Step::Put(NO, 11), Answer::Replaced(None), &[(NO, 10)]),
     (

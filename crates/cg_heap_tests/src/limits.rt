@@ -3,21 +3,16 @@ ghost use Rattle.std.specs.Prelude.{◌≡◌, map, replicate};
 ghost use Rattle.std.specs.FinMap as fin;
 ghost use Rattle.cg_heap.specs.Boxes.{six_kinds};
 
+use crate::heaps::{Answer, Row, Step, follow};
 use crate::scene::Scene;
 use cg_any_kind::six;
 use cg_graph::reference_in;
-use cg_heap::{Heap, HeapFault};
+use cg_heap::HeapFault;
 use cg_kind::Kind;
 use cg_value::{Place, Val};
 use std::alloc::{AllocError, Global};
 use std::process::Abort;
 use std::test::Fail;
-
-/// It stops where other numbers of objects and entries live.
-fn assert_sizes<B: Kind>(rt: &impl Abort, heap: &Heap<B>, objects: u64, entries: u64) {
-    assert_eq!(rt; heap.live(), objects);
-    assert_eq!(rt; heap.entries(), entries);
-}
 
 /// Takes all entries of an object off. It answers the object to which the last one that was taken refers, and which is held
 /// then, if there is one.
@@ -78,33 +73,55 @@ fn fill<B: Kind>(
     Ok(last)
 }
 
-/// A million lists of four numbers: one object more is refused until one is let go.
+const FULL: Answer = Answer::Made(Err(HeapFault::ObjectLimit));
+
+/// A million lists of four numbers: one object more is refused.
+static MILLION: [Row; 4] = [
+    (Step::Live, Answer::Number(1_000_000)),
+    (Step::Entries, Answer::Number(4_000_000)),
+    (Step::List, FULL),
+    (Step::Dict, FULL),
+];
+
+/// One was let go. No serial was used by a refusal, and none is used again.
+static ONE_LESS: [Row; 5] = [
+    (Step::Live, Answer::Number(999_999)),
+    (Step::Entries, Answer::Number(3_999_996)),
+    (Step::List, Answer::Made(Ok(1_000_002))),
+    (Step::Live, Answer::Number(1_000_000)),
+    (Step::List, FULL),
+];
+
 fn reach_objects<B: Kind>(rt: &impl Abort, scene: &mut Scene<B>) -> Result<(), Fail> {
     let last = fill(rt, scene, 1_000_000, 4)?;
-    assert_sizes(rt, &scene.heap, 1_000_000, 4_000_000);
-    assert_eq!(rt; scene.list(rt), Err(HeapFault::ObjectLimit));
-    assert_eq!(rt; scene.dict(rt), Err(HeapFault::ObjectLimit));
-    assert_eq!(rt; give_up(rt, scene, last)?, None);
-    assert_sizes(rt, &scene.heap, 999_999, 3_999_996);
-    // No serial was used by a refusal, and none is used again.
-    assert_eq!(rt; scene.list(rt), Ok(1_000_002));
-    assert_eq!(rt; scene.heap.live(), 1_000_000);
-    assert_eq!(rt; scene.list(rt), Err(HeapFault::ObjectLimit));
-    Ok(())
+    follow(rt, scene, "a million objects", &MILLION)?;
+    assert!(rt; give_up(rt, scene, last)?.is_none());
+    follow(rt, scene, "a million objects but one", &ONE_LESS)
 }
 
+const LIMIT: HeapFault = HeapFault::EntryLimit;
+
 /// A thousand lists of four thousand numbers: one entry more is refused, an object without entries is not.
+static ENTRIES: [Row; 8] = [
+    (Step::Entries, Answer::Number(4_000_000)),
+    (
+        Step::Append(1001, Val::Int(1)),
+        Answer::Appended(Err(LIMIT)),
+    ),
+    (Step::ListOf(Val::Int(7)), Answer::Made(Err(LIMIT))),
+    (Step::List, Answer::Made(Ok(1002))),
+    (Step::Dict, Answer::Made(Ok(1003))),
+    (
+        Step::Put(1003, Val::Int(1), Val::Int(2)),
+        Answer::Replaced(Err(LIMIT)),
+    ),
+    (Step::Live, Answer::Number(1002)),
+    (Step::Entries, Answer::Number(4_000_000)),
+];
+
 fn reach_entries<B: Kind>(rt: &impl Abort, scene: &mut Scene<B>) -> Result<(), Fail> {
-    let limit = HeapFault::EntryLimit;
-    let last = fill(rt, scene, 1000, 4000)?;
-    assert_eq!(rt; scene.heap.entries(), 4_000_000);
-    assert_eq!(rt; scene.append(rt, last, Val::Int(1)), Err(limit));
-    assert_eq!(rt; scene.list_of(rt, Val::Int(7)), Err(limit));
-    assert_eq!(rt; scene.list(rt), Ok(1002));
-    assert_eq!(rt; scene.dict(rt), Ok(1003));
-    assert_eq!(rt; scene.put(rt, 1003, Val::Int(1), Val::Int(2)), Err(limit));
-    assert_sizes(rt, &scene.heap, 1002, 4_000_000);
-    Ok(())
+    fill(rt, scene, 1000, 4000)?;
+    follow(rt, scene, "four million entries", &ENTRIES)
 }
 
 /// Lists of which each holds the one before, which nothing else holds. It answers the last one.
@@ -135,31 +152,26 @@ fn unchain<B: Kind>(
     Ok(left)
 }
 
-/// A long chain, made and given up.
+/// A long chain.
+static CHAIN: [Row; 2] = [
+    (Step::Live, Answer::Number(300_000)),
+    (Step::Entries, Answer::Number(299_999)),
+];
+
+/// The garbage list is left.
+static NOTHING: [Row; 4] = [
+    (Step::Live, Answer::Number(0)),
+    (Step::Entries, Answer::Number(0)),
+    (Step::Size(Place::Untracked), Answer::Number(1)),
+    (Step::Size(Place::Gen(0)), Answer::Number(0)),
+];
+
+/// A long chain is made and given up.
 fn give_up_chain<B: Kind>(rt: &impl Abort, scene: &mut Scene<B>) -> Result<(), Fail> {
     let last = chain(rt, scene, 300_000)?;
-    assert_sizes(rt, &scene.heap, 300_000, 299_999);
-    assert_eq!(rt; unchain(rt, scene, last, 300_000)?, None);
-    assert_sizes(rt, &scene.heap, 0, 0);
-    // The garbage list is left.
-    assert_eq!(rt; scene.heap.size(Place::Untracked), 1);
-    assert_eq!(rt; scene.heap.size(Place::Gen(0)), 0);
-    Ok(())
-}
-
-/// Each call that may be refused succeeds where there is memory.
-fn call_each<B: Kind>(rt: &impl Abort, scene: &mut Scene<B>) {
-    assert_eq!(rt; scene.heap.live(), 0);
-    assert_eq!(rt; scene.list(rt), Ok(2));
-    assert_eq!(rt; scene.append(rt, 2, Val::Int(5)), Ok(()));
-    assert_eq!(rt; scene.list_of(rt, Val::Int(7)), Ok(3));
-    assert_eq!(rt; scene.dict(rt), Ok(4));
-    assert_eq!(rt; scene.put(rt, 4, Val::Int(1), Val::Int(2)), Ok(None));
-    assert_eq!(rt;
-        scene.put(rt, 4, Val::Int(1), Val::Int(3)),
-        Ok(Some(Val::Int(2)))
-    );
-    assert_sizes(rt, &scene.heap, 3, 3);
+    follow(rt, scene, "a chain", &CHAIN)?;
+    assert!(rt; unchain(rt, scene, last, 300_000)?.is_none());
+    follow(rt, scene, "no chain", &NOTHING)
 }
 
 /// What is tried on a heap.
@@ -168,7 +180,6 @@ enum Trial {
     Objects,
     Entries,
     Chain,
-    Calls,
 }
 
 fn attempt<B: Kind>(rt: &impl Abort, scene: &mut Scene<B>, trial: Trial) -> Result<(), Fail> {
@@ -176,10 +187,6 @@ fn attempt<B: Kind>(rt: &impl Abort, scene: &mut Scene<B>, trial: Trial) -> Resu
         Trial::Objects => reach_objects(rt, scene),
         Trial::Entries => reach_entries(rt, scene),
         Trial::Chain => give_up_chain(rt, scene),
-        Trial::Calls => {
-            call_each(rt, scene);
-            Ok(())
-        }
     }
 }
 
@@ -195,7 +202,7 @@ fn check<B: Kind>(rt: &impl Abort, alloc: Global, kinds: Vec<B>, trial: Trial) -
 #[test]
 fn heaps_reach_their_limits(rt: HostRuntime) -> Result<(), Fail> {
     let alloc = rt.alloc();
-    for trial in [Trial::Objects, Trial::Entries, Trial::Chain, Trial::Calls] {
+    for trial in [Trial::Objects, Trial::Entries, Trial::Chain] {
         check(&rt, alloc, six(alloc)?, trial)?;
     }
     Ok(())

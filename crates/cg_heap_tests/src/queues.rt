@@ -3,7 +3,7 @@ ghost use Rattle.std.specs.Prelude.{[], IfOk};
 ghost use Rattle.cg_kind.specs.Bodies.{Holds};
 ghost use Rattle.cg_kind.specs.Calls.{IsParts};
 
-use crate::kinds::{Answer, append, detach, make, put, take, take_first};
+use crate::kinds::{Answer, Step, advance, append, make, take_first};
 use cg_kind::Kind;
 use cg_kinds::ListKind;
 use cg_value::Val;
@@ -121,20 +121,31 @@ fn ninety<K: Kind>(rt: &impl Abort, kind: &mut K) -> Result<usize, AllocError>
 }
 
 /// What leaves at the front moves the places of the others.
+static PLACES: [(Step, Answer); 7] = [
+    (
+        Step::Put(Val::Int(0), -10),
+        Answer::Replaced(Some(Val::Int(10))),
+    ),
+    (
+        Step::Put(Val::Int(89), -99),
+        Answer::Replaced(Some(Val::Int(99))),
+    ),
+    (Step::Take(1), Answer::Entry(Val::None, 11)),
+    (Step::Detach, Answer::Entry(Val::None, -99)),
+    (Step::Detach, Answer::Entry(Val::None, 98)),
+    (Step::Take(0), Answer::Entry(Val::None, -10)),
+    (Step::Take(0), Answer::Entry(Val::None, 12)),
+];
+
 fn change_ninety<K: Kind>(rt: &impl Abort, kind: &mut K) -> Result<(), Fail>
     requires { IsParts (K.kind kind.old) [] }
 {
     let at = ninety(rt, kind)?;
-    let first = put(kind, at, Val::Int(0), -10)?;
-    assert_eq!(rt; first, Answer::Replaced(Some(Val::Int(10))));
-    let last = put(kind, at, Val::Int(89), -99)?;
-    assert_eq!(rt; last, Answer::Replaced(Some(Val::Int(99))));
-    assert_eq!(rt; take(kind, at, 1), Answer::Entry(Val::None, 11));
-    assert_eq!(rt; detach(kind, at), Answer::Entry(Val::None, -99));
-    assert_eq!(rt; detach(kind, at), Answer::Entry(Val::None, 98));
-    assert_eq!(rt; take_first(kind, at), Some(Val::Int(-10)));
-    assert_eq!(rt; take_first(kind, at), Some(Val::Int(12)));
-    assert_eq!(rt; kind.len(at), 85);
+    'rows: for (step, answer) in &PLACES {
+        let found = advance(kind, at, *step)?;
+        assert_eq!(rt; found, *answer, "at {step:?}");
+    }
+    assert!(rt; kind.len(at) == 85);
     Ok(())
 }
 

@@ -45,29 +45,83 @@ const RING: Graph = Graph::Lists(4, &[(2, 3), (3, 4), (4, 2)]);
 const CHAIN: Graph = Graph::Lists(4, &[(2, 3), (3, 2), (4, 2), (5, 4)]);
 
 /// A name, a graph, the objects that stay held from outside, what is unreachable, and whether all objects are candidates before.
-type Row = (
-    &'static str,
-    Graph,
-    &'static [u64],
-    &'static [u64],
-    bool,
-);
+type Row = (&'static str, Graph, &'static [u64], &'static [u64], bool);
 
-const ROWS: [Row; 14] = [
+static ROWS: [Row; 14] = [
     ("#2 holds itself twice", TWICE, &[], &[2], false),
-    ("#2 holds itself twice, and is held", TWICE, &[2], &[], false),
+    (
+        "#2 holds itself twice, and is held",
+        TWICE,
+        &[2],
+        &[],
+        false,
+    ),
     ("#2 holds itself three times", THRICE, &[], &[2], false),
     ("two rings with a bridge", BRIDGE, &[], &[2, 3, 4, 5], false),
-    ("two rings with a bridge, the first held", BRIDGE, &[3], &[], false),
-    ("two rings with a bridge, the second held", BRIDGE, &[4], &[2, 3], false),
-    ("a ring of three that is held, and one alone", RING, &[3], &[5], false),
-    ("a chain into a ring, held at its front", CHAIN, &[5], &[], false),
-    ("a chain into a ring, held behind its front", CHAIN, &[4], &[5], false),
+    (
+        "two rings with a bridge, the first held",
+        BRIDGE,
+        &[3],
+        &[],
+        false,
+    ),
+    (
+        "two rings with a bridge, the second held",
+        BRIDGE,
+        &[4],
+        &[2, 3],
+        false,
+    ),
+    (
+        "a ring of three that is held, and one alone",
+        RING,
+        &[3],
+        &[5],
+        false,
+    ),
+    (
+        "a chain into a ring, held at its front",
+        CHAIN,
+        &[5],
+        &[],
+        false,
+    ),
+    (
+        "a chain into a ring, held behind its front",
+        CHAIN,
+        &[4],
+        &[5],
+        false,
+    ),
     ("a chain into a ring", CHAIN, &[], &[2, 3, 4, 5], false),
-    ("a key and a cell, the function held", Graph::KeyAndCell, &[5], &[], false),
-    ("a key and a cell, the dictionary held", Graph::KeyAndCell, &[2], &[5], false),
-    ("a key and a cell", Graph::KeyAndCell, &[], &[2, 3, 4, 5], false),
-    ("two rings with a bridge among the candidates, the second held", BRIDGE, &[4], &[2, 3], true),
+    (
+        "a key and a cell, the function held",
+        Graph::KeyAndCell,
+        &[5],
+        &[],
+        false,
+    ),
+    (
+        "a key and a cell, the dictionary held",
+        Graph::KeyAndCell,
+        &[2],
+        &[5],
+        false,
+    ),
+    (
+        "a key and a cell",
+        Graph::KeyAndCell,
+        &[],
+        &[2, 3, 4, 5],
+        false,
+    ),
+    (
+        "two rings with a bridge among the candidates, the second held",
+        BRIDGE,
+        &[4],
+        &[2, 3],
+        true,
+    ),
 ];
 
 fn build<B: Kind>(scene: &mut Scene<B>, rt: &impl Abort, graph: Graph) -> Result<(), HeapFault> {

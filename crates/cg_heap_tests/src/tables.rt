@@ -216,7 +216,7 @@ const ENDS: &[(u32, Step)] = &[
 
 /// Dictionaries: one key too many for a list; enough keys behind the first for its drop to note the order down; keys that come again;
 /// values at the ends of their ranges.
-const DICTS: [Row; 12] = [
+static DICTS: [Row; 12] = [
     (0, 23, false, CHANGES, 22),
     (0, 24, false, CHANGES, 23),
     (0, 25, false, CHANGES, 24),
@@ -231,7 +231,7 @@ const DICTS: [Row; 12] = [
     (1, 49, false, ENDS, 10),
 ];
 
-const INSTANCES: [Row; 3] = [
+static INSTANCES: [Row; 3] = [
     (0, 25, false, CHANGES, 24),
     (0, 46, false, CHANGES, 45),
     (1, 49, false, ENDS, 10),

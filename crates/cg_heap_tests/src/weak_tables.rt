@@ -155,7 +155,7 @@ fn follow(
 }
 
 /// The weak references 11, 13, 14, 16 to object 1, and 12, 15 to object 2.
-const SIX: [Row; 6] = [
+static SIX: [Row; 6] = [
     Row::Attach(1),
     Row::Attach(2),
     Row::Attach(1),
@@ -165,7 +165,7 @@ const SIX: [Row; 6] = [
 ];
 
 /// Walks go from the newest to the oldest.
-const WALKS: [Row; 13] = [
+static WALKS: [Row; 13] = [
     Row::Walks([&[16, 14, 13, 11], &[15, 12], &[]]),
     // From the middle, the newest end and the oldest end; the one of another object stays.
     Row::Clear(14, false),
@@ -184,7 +184,7 @@ const WALKS: [Row; 13] = [
 ];
 
 /// A weak reference has its referent until it is cleared.
-const REFERENTS: [Row; 10] = [
+static REFERENTS: [Row; 10] = [
     Row::Clear(13, true),
     Row::Clear(15, false),
     Row::Referent(10, None),
@@ -198,7 +198,7 @@ const REFERENTS: [Row; 10] = [
 ];
 
 /// Those that wait are forgotten newest first. They are set waiting in an order that is neither rising nor falling.
-const WAITING: [Row; 20] = [
+static WAITING: [Row; 20] = [
     Row::Clear(14, true),
     Row::Clear(16, true),
     Row::Clear(11, true),

@@ -64,6 +64,14 @@ fn push_line(bytes: &mut Vec<u8>, line: Line, turn: i64) -> Result<(), AllocErro
     Ok(())
 }
 
+/// Appends the lines of a turn.
+fn push_turn(bytes: &mut Vec<u8>, each: &[Line], turn: i64) -> Result<(), AllocError> {
+    for line in each {
+        push_line(bytes, *line, turn)?;
+    }
+    Ok(())
+}
+
 /// The whole of these parts.
 pub fn built(alloc: Global, parts: &[Part]) -> Result<Vec<u8>, AllocError> {
     let mut bytes = Vec::new(alloc);
@@ -73,9 +81,7 @@ pub fn built(alloc: Global, parts: &[Part]) -> Result<Vec<u8>, AllocError> {
             Part::Again(some, times) => push_again(&mut bytes, some, times)?,
             Part::Turns(turns, each) => {
                 for turn in 0..turns {
-                    for line in each {
-                        push_line(&mut bytes, *line, i64::from(turn))?;
-                    }
+                    push_turn(&mut bytes, each, i64::from(turn))?;
                 }
             }
         }
