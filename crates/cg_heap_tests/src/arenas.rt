@@ -250,6 +250,10 @@ static MOVES: [Row; 21] = [
     Row::Lists(&[], &[6, 2, 5, 3], &[1, 4]),
 ];
 
+fn moves() -> &'static [Row] {
+    &MOVES
+}
+
 /// The lists of such six are merged in order.
 static MERGES: [Row; 17] = [
     Row::Put(1, YOUNG),
@@ -273,6 +277,10 @@ static MERGES: [Row; 17] = [
     Row::Lists(&[3], &[], &[6, 2]),
 ];
 
+fn merges() -> &'static [Row] {
+    &MERGES
+}
+
 /// Fields are kept by serial, and counts come down to zero.
 static FIELDS: [Row; 16] = [
     Row::PutReserved(7, YOUNG),
@@ -292,6 +300,10 @@ static FIELDS: [Row; 16] = [
     Row::Marks(9, None),
     Row::Marks(7, Some((1, 5, true))),
 ];
+
+fn fields() -> &'static [Row] {
+    &FIELDS
+}
 
 /// Those that share a guess keep their nodes; the slot of a node that is gone is another's.
 static SHARED: [Row; 17] = [
@@ -314,15 +326,14 @@ static SHARED: [Row; 17] = [
     Row::Parts(135, Some((KindCode::List, None, 135, YOUNG))),
 ];
 
+fn shared() -> &'static [Row] {
+    &SHARED
+}
+
 #[test]
 fn nodes_move_are_merged_and_keep_their_fields(rt: HostRuntime) -> Result<(), Fail> {
     let alloc = rt.alloc();
-    for rows in [
-        MOVES.as_slice(),
-        MERGES.as_slice(),
-        FIELDS.as_slice(),
-        SHARED.as_slice(),
-    ] {
+    for rows in [moves(), merges(), fields(), shared()] {
         follow(&rt, alloc, &mut Arena::new(alloc), rows)?;
     }
     Ok(())

@@ -145,6 +145,10 @@ static ROWS: [Row; 12] = [
     ),
 ];
 
+fn rows() -> &'static [Row] {
+    &ROWS
+}
+
 /// A policy without a collection that is running, or with one.
 fn policy_of(running: bool) -> Policy
     ensures { IsBounded (with_one_made result.numbers) }
@@ -265,8 +269,8 @@ fn check_row<B: Kind>(rt: &impl Abort, alloc: Global, kinds: Vec<B>, row: Row) -
 #[test]
 fn two_lists_are_told_and_explained(rt: HostRuntime) -> Result<(), Fail> {
     let alloc = rt.alloc();
-    for row in ROWS {
-        check_row(&rt, alloc, six(alloc)?, row)?;
+    for row in rows() {
+        check_row(&rt, alloc, six(alloc)?, *row)?;
     }
     Ok(())
 }

@@ -45,19 +45,23 @@ static ROWS: [Row; 4] = [
     ),
 ];
 
+fn rows() -> &'static [Row] {
+    &ROWS
+}
+
 #[test]
 fn what_is_held_leads_to_what_is_found(rt: HostRuntime) -> Result<(), Fail> {
     let alloc = rt.alloc();
-    for (name, pairs, members, held, expected) in ROWS {
+    for (name, pairs, members, held, expected) in rows() {
         let mut edges = Vec::new(alloc);
-        for (from, to) in pairs {
+        for (from, to) in *pairs {
             edges.push(Edge {
                 from: *from,
                 to: *to,
             })?;
         }
         let found = reach_plain(alloc, &edges, members, held)?;
-        assert_eq!(&rt; found.as_slice(), expected, "at {name:?}");
+        assert_eq!(&rt; found.as_slice(), *expected, "at {name:?}");
     }
     Ok(())
 }

@@ -243,6 +243,10 @@ static TAKEN: [Row; 17] = [
     (Step::Size(YOUNG), Answer::Number(0)),
 ];
 
+fn taken() -> &'static [Row] {
+    &TAKEN
+}
+
 /// An entry is taken by its key.
 static BY_KEY: [Row; 15] = [
     (Step::Dict, Answer::Made(Ok(2))),
@@ -267,6 +271,10 @@ static BY_KEY: [Row; 15] = [
     (Step::GiveUp(3), Answer::Died(true)),
 ];
 
+fn by_key() -> &'static [Row] {
+    &BY_KEY
+}
+
 /// A list that is refused changes nothing: the garbage list is the one that is made.
 static REFUSED: [Row; 7] = [
     (Step::List, NO_MEMORY),
@@ -278,6 +286,10 @@ static REFUSED: [Row; 7] = [
     (Step::Size(YOUNG), Answer::Number(1)),
     (Step::Live, Answer::Number(1)),
 ];
+
+fn refused() -> &'static [Row] {
+    &REFUSED
+}
 
 /// Weak references are cleared and forgotten.
 static WEAK: [Row; 20] = [
@@ -305,6 +317,10 @@ static WEAK: [Row; 20] = [
     (Step::GiveUp(2), Answer::Died(true)),
 ];
 
+fn weak() -> &'static [Row] {
+    &WEAK
+}
+
 /// The greatest bound name is answered.
 static NAMES: [Row; 11] = [
     (Step::Greatest, Answer::Name(None)),
@@ -320,6 +336,10 @@ static NAMES: [Row; 11] = [
     (Step::Unbind(2), Answer::Nothing),
     (Step::Greatest, Answer::Name(None)),
 ];
+
+fn names() -> &'static [Row] {
+    &NAMES
+}
 
 /// Each call that may be refused succeeds where there is memory.
 static CALLS: [Row; 9] = [
@@ -340,22 +360,26 @@ static CALLS: [Row; 9] = [
     (Step::Entries, Answer::Number(3)),
 ];
 
+fn calls() -> &'static [Row] {
+    &CALLS
+}
+
 #[test]
 fn heaps_answer_step_by_step(rt: HostRuntime) -> Result<(), Fail> {
     let alloc = rt.alloc();
     for case in [
-        ("an entry that is taken", TAKEN.as_slice()),
-        ("an entry that is taken by its key", BY_KEY.as_slice()),
-        ("weak references", WEAK.as_slice()),
-        ("names", NAMES.as_slice()),
-        ("each call", CALLS.as_slice()),
+        ("an entry that is taken", taken()),
+        ("an entry that is taken by its key", by_key()),
+        ("weak references", weak()),
+        ("names", names()),
+        ("each call", calls()),
     ] {
         drive(&rt, alloc, six(alloc)?, case)?;
     }
     // A kind that does not write the calls by key has the bodies of the trait.
     for case in [
-        ("an entry that is taken by its key", BY_KEY.as_slice()),
-        ("a list that is refused", REFUSED.as_slice()),
+        ("an entry that is taken by its key", by_key()),
+        ("a list that is refused", refused()),
     ] {
         drive(&rt, alloc, six_of_one(alloc)?, case)?;
     }

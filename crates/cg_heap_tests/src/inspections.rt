@@ -150,6 +150,10 @@ static ROWS: [Row; 10] = [
     ),
 ];
 
+fn rows() -> &'static [Row] {
+    &ROWS
+}
+
 /// No path is empty.
 fn path_in(answer: &Why) -> &[u64] {
     match answer {
@@ -187,6 +191,10 @@ static REFERENCES: [(u64, &[u64], &[u64]); 4] = [
     (5, &[4, 2, 4], &[]),
 ];
 
+fn references() -> &'static [(u64, &'static [u64], &'static [u64])] {
+    &REFERENCES
+}
+
 /// The dictionary #2 has the list #4 under the list #3, and the list #5 has #4, #2 and #4.
 fn ask_references<B: Kind>(
     scene: &mut Scene<B>,
@@ -201,11 +209,11 @@ fn ask_references<B: Kind>(
     for object in [4, 2, 4] {
         scene.append(rt, 5, Val::Ref(object))?;
     }
-    for (object, to, from) in REFERENCES {
-        let listed = forwards::<B, Brand>(rt, alloc, &scene.heap, object, Blank::new(1))?;
-        assert_eq!(rt; listed.as_slice(), to, "of {object}");
-        let listed = backwards::<B, Brand>(rt, alloc, &scene.heap, object, Blank::new(1))?;
-        assert_eq!(rt; listed.as_slice(), from, "to {object}");
+    for (object, to, from) in references() {
+        let listed = forwards::<B, Brand>(rt, alloc, &scene.heap, *object, Blank::new(1))?;
+        assert_eq!(rt; listed.as_slice(), *to, "of {object}");
+        let listed = backwards::<B, Brand>(rt, alloc, &scene.heap, *object, Blank::new(1))?;
+        assert_eq!(rt; listed.as_slice(), *from, "to {object}");
     }
     Ok(())
 }
@@ -233,8 +241,8 @@ fn references_are_told_and_objects_are_alive_by_shortest_paths(
 ) -> Result<(), Fail> {
     let alloc = rt.alloc();
     check(&rt, alloc, six(alloc)?, None)?;
-    for row in ROWS {
-        check(&rt, alloc, six(alloc)?, Some(row))?;
+    for row in rows() {
+        check(&rt, alloc, six(alloc)?, Some(*row))?;
     }
     Ok(())
 }

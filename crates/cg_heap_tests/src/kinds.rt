@@ -263,7 +263,7 @@ fn drive<K: Kind>(
 }
 
 /// The same with a kind in a box.
-fn drive_boxed<K: Kind>(
+fn drive_boxed<K: Kind + 'static>(
     rt: &impl Abort,
     alloc: Global,
     kind: K,
@@ -337,6 +337,10 @@ static LIST: [Row; 17] = [
     (Step::Detach, Answer::Nothing, &[]),
 ];
 
+fn list() -> &'static [Row] {
+    &LIST
+}
+
 /// Tuples, which lose their last item alone: 10 and 20.
 static TUPLE: [Row; 10] = [
     (
@@ -366,6 +370,10 @@ static TUPLE: [Row; 10] = [
     (Step::Detach, Answer::Entry(NO, 10), &[]),
     (Step::Detach, Answer::Nothing, &[]),
 ];
+
+fn tuple() -> &'static [Row] {
+    &TUPLE
+}
 
 /// Dictionaries and instances, which keep the order: nothing at first.
 static PAIRS: [Row; 21] = [
@@ -444,6 +452,10 @@ static PAIRS: [Row; 21] = [
     (Step::Detach, Answer::Nothing, &[]),
 ];
 
+fn pairs() -> &'static [Row] {
+    &PAIRS
+}
+
 /// Functions, of up to eight cells: the numbers from 1 to 8.
 static CELLS: [Row; 2] = [
     (
@@ -475,6 +487,10 @@ static CELLS: [Row; 2] = [
     ),
 ];
 
+fn cells() -> &'static [Row] {
+    &CELLS
+}
+
 /// Weak references, which keep one callback: 10.
 static CALLBACK: [Row; 9] = [
     (Step::Find(NO), Answer::Position(Some(0)), &[(NO, 10)]),
@@ -492,19 +508,23 @@ static CALLBACK: [Row; 9] = [
     (Step::Detach, Answer::Nothing, &[]),
 ];
 
+fn callback() -> &'static [Row] {
+    &CALLBACK
+}
+
 #[test]
 fn each_kind_changes_as_in_python(rt: HostRuntime) -> Result<(), Fail> {
     let alloc = rt.alloc();
     let parts = items(alloc, &[10, 20, 30])?;
-    drive_boxed(&rt, alloc, ListKind::new(alloc), &parts, &LIST)?;
+    drive_boxed(&rt, alloc, ListKind::new(alloc), &parts, list())?;
     let parts = items(alloc, &[10, 20])?;
-    drive_boxed(&rt, alloc, TupleKind::new(alloc), &parts, &TUPLE)?;
-    drive_boxed(&rt, alloc, DictKind::new(alloc), &[], &PAIRS)?;
-    drive_boxed(&rt, alloc, InstKind::new(alloc), &[], &PAIRS)?;
+    drive_boxed(&rt, alloc, TupleKind::new(alloc), &parts, tuple())?;
+    drive_boxed(&rt, alloc, DictKind::new(alloc), &[], pairs())?;
+    drive_boxed(&rt, alloc, InstKind::new(alloc), &[], pairs())?;
     let parts = items(alloc, &[1, 2, 3, 4, 5, 6, 7, 8])?;
-    drive_boxed(&rt, alloc, FuncKind::new(alloc), &parts, &CELLS)?;
+    drive_boxed(&rt, alloc, FuncKind::new(alloc), &parts, cells())?;
     let parts = items(alloc, &[10])?;
-    drive_boxed(&rt, alloc, WeakKind::new(alloc), &parts, &CALLBACK)
+    drive_boxed(&rt, alloc, WeakKind::new(alloc), &parts, callback())
 }
 
 /// Makes an object of items, appends the same items to an empty one, and takes them off again.

@@ -137,11 +137,15 @@ static PLACES: [(Step, Answer); 7] = [
     (Step::Take(0), Answer::Entry(Val::None, 12)),
 ];
 
+fn places() -> &'static [(Step, Answer)] {
+    &PLACES
+}
+
 fn change_ninety<K: Kind>(rt: &impl Abort, kind: &mut K) -> Result<(), Fail>
     requires { IsParts (K.kind kind.old) [] }
 {
     let at = ninety(rt, kind)?;
-    'rows: for (step, answer) in &PLACES {
+    'rows: for (step, answer) in places() {
         let found = advance(kind, at, *step)?;
         assert_eq!(rt; found, *answer, "at {step:?}");
     }

@@ -124,6 +124,10 @@ static ROWS: [Row; 14] = [
     ),
 ];
 
+fn rows() -> &'static [Row] {
+    &ROWS
+}
+
 fn build<B: Kind>(scene: &mut Scene<B>, rt: &impl Abort, graph: Graph) -> Result<(), HeapFault> {
     match graph {
         Graph::Lists(count, links) => scene.build_lists(rt, count, links),
@@ -308,8 +312,8 @@ fn check_row<B: Kind, L: Ledger>(
 #[test]
 fn what_no_path_reaches_is_left(rt: HostRuntime) -> Result<(), Fail> {
     let alloc = rt.alloc();
-    for row in ROWS {
-        check_row::<AnyKind, Brand>(&rt, alloc, six(alloc)?, Blank::new(1), row)?;
+    for row in rows() {
+        check_row::<AnyKind, Brand>(&rt, alloc, six(alloc)?, Blank::new(1), *row)?;
     }
     Ok(())
 }

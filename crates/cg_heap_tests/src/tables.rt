@@ -231,20 +231,28 @@ static DICTS: [Row; 12] = [
     (1, 49, false, ENDS, 10),
 ];
 
+fn dicts() -> &'static [Row] {
+    &DICTS
+}
+
 static INSTANCES: [Row; 3] = [
     (0, 25, false, CHANGES, 24),
     (0, 46, false, CHANGES, 45),
     (1, 49, false, ENDS, 10),
 ];
 
+fn instances() -> &'static [Row] {
+    &INSTANCES
+}
+
 #[test]
 fn dictionaries_and_instances_keep_the_order_of_a_plain_list(rt: HostRuntime) -> Result<(), Fail> {
     let alloc = rt.alloc();
-    for row in DICTS {
-        follow(&rt, alloc, &mut DictKind::new(alloc), row)?;
+    for row in dicts() {
+        follow(&rt, alloc, &mut DictKind::new(alloc), *row)?;
     }
-    for row in INSTANCES {
-        follow(&rt, alloc, &mut InstKind::new(alloc), row)?;
+    for row in instances() {
+        follow(&rt, alloc, &mut InstKind::new(alloc), *row)?;
     }
     Ok(())
 }

@@ -164,6 +164,10 @@ static SIX: [Row; 6] = [
     Row::Attach(1),
 ];
 
+fn six() -> &'static [Row] {
+    &SIX
+}
+
 /// Walks go from the newest to the oldest.
 static WALKS: [Row; 13] = [
     Row::Walks([&[16, 14, 13, 11], &[15, 12], &[]]),
@@ -183,6 +187,10 @@ static WALKS: [Row; 13] = [
     Row::Walks([&[17, 13], &[], &[]]),
 ];
 
+fn walks() -> &'static [Row] {
+    &WALKS
+}
+
 /// A weak reference has its referent until it is cleared.
 static REFERENTS: [Row; 10] = [
     Row::Clear(13, true),
@@ -196,6 +204,10 @@ static REFERENTS: [Row; 10] = [
     Row::Referent(16, Some(1)),
     Row::Referent(17, None),
 ];
+
+fn referents() -> &'static [Row] {
+    &REFERENTS
+}
 
 /// Those that wait are forgotten newest first. They are set waiting in an order that is neither rising nor falling.
 static WAITING: [Row; 20] = [
@@ -221,12 +233,16 @@ static WAITING: [Row; 20] = [
     Row::Forget(2, None),
 ];
 
+fn waiting() -> &'static [Row] {
+    &WAITING
+}
+
 #[test]
 fn weak_references_are_walked_cleared_and_forgotten(rt: HostRuntime) -> Result<(), Fail> {
     let alloc = rt.alloc();
-    for rows in [WALKS.as_slice(), REFERENTS.as_slice(), WAITING.as_slice()] {
+    for rows in [walks(), referents(), waiting()] {
         let mut numbered = Numbered::new(alloc, 11);
-        follow(&rt, alloc, &mut numbered, &SIX)?;
+        follow(&rt, alloc, &mut numbered, six())?;
         follow(&rt, alloc, &mut numbered, rows)?;
     }
     Ok(())

@@ -65,6 +65,10 @@ static LINES: [(Event, &str); 21] = [
     (Event::Refused(13), "refused 13\n"),
 ];
 
+fn lines() -> &'static [(Event, &'static str)] {
+    &LINES
+}
+
 /// Whether an event can be printed where no text has a number.
 fn is_printable(event: &Event) -> bool
     ensures { IsTrue result → (names : List (List ℕ)) → IsPrintable names event.now }
@@ -87,7 +91,7 @@ fn check(rt: &impl Abort, names: &Names, event: &Event, line: &str) {
 #[test]
 fn events_have_their_lines(rt: HostRuntime) -> Result<(), Fail> {
     let names = Names::new(rt.alloc());
-    for (event, line) in &LINES {
+    for (event, line) in lines() {
         check(&rt, &names, event, line);
     }
     Ok(())

@@ -143,6 +143,10 @@ static LINES: [(&str, &str); 75] = [
     ),
 ];
 
+fn lines() -> &'static [(&'static str, &'static str)] {
+    &LINES
+}
+
 /// The script is to be expanded so.
 fn check(
     rt: &impl Abort,
@@ -159,7 +163,7 @@ fn check(
 #[test]
 fn scripts_are_expanded_or_have_a_bad_line(rt: HostRuntime) -> Result<(), Fail> {
     let alloc = rt.alloc();
-    for (script, want) in &LINES {
+    for (script, want) in lines() {
         check(
             &rt,
             alloc,
@@ -203,10 +207,14 @@ static WHOLE: [(Text, Text); 14] = [
     ((399_999, "\n\nwv_1", 0), (0, "bad 400002 4", 0)),
 ];
 
+fn whole() -> &'static [(Text, Text)] {
+    &WHOLE
+}
+
 #[test]
 fn texts_as_they_stand_are_expanded(rt: HostRuntime) -> Result<(), Fail> {
     let alloc = rt.alloc();
-    for (text, want) in &WHOLE {
+    for (text, want) in whole() {
         let mut wanted = bytes_of(alloc, *want)?;
         wanted.push(b'\n')?;
         check(&rt, alloc, &bytes_of(alloc, *text)?, &wanted, text.1)?;

@@ -37,6 +37,10 @@ static WORKED: [(&str, &str); 10] = [
     ("def p\n\n# end\nend", "good"),
 ];
 
+fn worked() -> &'static [(&'static str, &'static str)] {
+    &WORKED
+}
+
 /// Words at the edges of their forms.
 static WORDS: [(&str, &str); 40] = [
     // Numbers.
@@ -86,6 +90,10 @@ static WORDS: [(&str, &str); 40] = [
     ("setattr x 9 1", "bad 1 4"),
     ("delattr x", "bad 1 3"),
 ];
+
+fn words() -> &'static [(&'static str, &'static str)] {
+    &WORDS
+}
 
 /// Each code, and lines with two faults.
 static BAD_LINES: [(&str, &str); 72] = [
@@ -173,6 +181,10 @@ static BAD_LINES: [(&str, &str); 72] = [
     ("# \x7f", "bad 1 1"),
 ];
 
+fn bad_lines() -> &'static [(&'static str, &'static str)] {
+    &BAD_LINES
+}
+
 /// A profile and a shutdown: their words, and where they stand.
 static DECLARATIONS: [(&str, &str); 40] = [
     ("profile 1", "good"),
@@ -224,6 +236,10 @@ static DECLARATIONS: [(&str, &str); 40] = [
     ("budget 1\nshutdown\nshutdown", "bad 3 8"),
 ];
 
+fn declarations() -> &'static [(&'static str, &'static str)] {
+    &DECLARATIONS
+}
+
 /// The commands that ask where objects are held.
 static INSPECTIONS: [(&str, &str); 22] = [
     ("referents x", "good"),
@@ -255,6 +271,10 @@ static INSPECTIONS: [(&str, &str); 22] = [
     ("why 'x", "bad 1 4"),
     ("why self", "bad 1 4"),
 ];
+
+fn inspections() -> &'static [(&'static str, &'static str)] {
+    &INSPECTIONS
+}
 
 /// Bad lines of a few forms.
 static FEW: [(&str, &str); 30] = [
@@ -296,6 +316,10 @@ static FEW: [(&str, &str); 30] = [
     // A line of an unknown form behind spaces and a tab.
     (" a = list \n\n\tb", "bad 3 1"),
 ];
+
+fn few() -> &'static [(&'static str, &'static str)] {
+    &FEW
+}
 
 /// Lines of the collector's commands and of `tracked` that are bad, behind a good one.
 static CONTROLS: [(&str, &str); 36] = [
@@ -343,6 +367,10 @@ static CONTROLS: [(&str, &str); 36] = [
     ("gens = list", "bad 2 4"),
     ("del count", "bad 2 4"),
 ];
+
+fn controls() -> &'static [(&'static str, &'static str)] {
+    &CONTROLS
+}
 
 /// Lines of each form, behind a procedure and a class.
 static EACH: [(&str, &str); 48] = [
@@ -396,6 +424,10 @@ static EACH: [(&str, &str); 48] = [
     ("def q\nend", "good"),
 ];
 
+fn each() -> &'static [(&'static str, &'static str)] {
+    &EACH
+}
+
 /// Lines that begin so and go on with so many words.
 static MANY: [(&str, &str, usize, &str); 14] = [
     ("x = list", " 1", 61, "good"),
@@ -413,6 +445,10 @@ static MANY: [(&str, &str, usize, &str); 14] = [
     ("# #", " a b", 31, "good"),
     ("# # #", " a b", 31, "bad 1 5"),
 ];
+
+fn many() -> &'static [(&'static str, &'static str, usize, &'static str)] {
+    &MANY
+}
 
 /// The text is to be told of so.
 fn check(rt: &impl Abort, alloc: Global, text: &str, want: &str) -> Result<(), AllocError> {
@@ -438,21 +474,21 @@ fn check_each(
 #[test]
 fn lines_and_their_codes(rt: HostRuntime) -> Result<(), Fail> {
     let alloc = rt.alloc();
-    check_each(&rt, alloc, "", &WORKED, "")?;
-    check_each(&rt, alloc, "", &WORDS, "")?;
-    check_each(&rt, alloc, "", &BAD_LINES, "")?;
-    check_each(&rt, alloc, "", &DECLARATIONS, "")?;
-    check_each(&rt, alloc, "", &INSPECTIONS, "")?;
-    check_each(&rt, alloc, "", &FEW, "")?;
-    check_each(&rt, alloc, "a = list\n", &CONTROLS, "\n\x01")?;
-    check_each(&rt, alloc, "def p\nend\nclass C\n", &EACH, "")?;
+    check_each(&rt, alloc, "", worked(), "")?;
+    check_each(&rt, alloc, "", words(), "")?;
+    check_each(&rt, alloc, "", bad_lines(), "")?;
+    check_each(&rt, alloc, "", declarations(), "")?;
+    check_each(&rt, alloc, "", inspections(), "")?;
+    check_each(&rt, alloc, "", few(), "")?;
+    check_each(&rt, alloc, "a = list\n", controls(), "\n\x01")?;
+    check_each(&rt, alloc, "def p\nend\nclass C\n", each(), "")?;
     Ok(())
 }
 
 #[test]
 fn numbers_of_words(rt: HostRuntime) -> Result<(), Fail> {
     let alloc = rt.alloc();
-    for (front, word, times, want) in &MANY {
+    for (front, word, times, want) in many() {
         check(&rt, alloc, &repeated(alloc, front, word, *times)?, want)?;
     }
     Ok(())

@@ -112,6 +112,10 @@ static WORDS: [(&[&str], Option<Job>); 81] = [
     (&["records"], None),
 ];
 
+fn words() -> &'static [(&'static [&'static str], Option<Job>)] {
+    &WORDS
+}
+
 /// What is read of the words.
 fn job_of(alloc: Global, words: &[&str]) -> Result<Option<Job>, AllocError> {
     let mut strings = Vec::new(alloc);
@@ -135,7 +139,7 @@ fn check(
 
 #[test]
 fn words_with_a_job_and_without_one(rt: HostRuntime) -> Result<(), Fail> {
-    for (words, job) in &WORDS {
+    for (words, job) in words() {
         check(&rt, rt.alloc(), words, *job)?;
     }
     Ok(())

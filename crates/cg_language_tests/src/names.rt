@@ -27,6 +27,14 @@ static ORDERS: [(&[(&str, u32)], &[&str], &str); 2] = [
     ),
 ];
 
+fn orders() -> &'static [(
+    &'static [(&'static str, u32)],
+    &'static [&'static str],
+    &'static str,
+)] {
+    &ORDERS
+}
+
 /// A text that is interned gets this number.
 fn check_interned(
     rt: &impl Abort,
@@ -57,7 +65,7 @@ fn check_all(rt: &impl Abort, names: &Names, all: &[&str], none: &str) {
 
 #[test]
 fn a_text_has_its_first_number(rt: HostRuntime) -> Result<(), Fail> {
-    for (texts, all, none) in &ORDERS {
+    for (texts, all, none) in orders() {
         let mut names = Names::new(rt.alloc());
         for (text, number) in *texts {
             check_interned(&rt, &mut names, text, *number)?;

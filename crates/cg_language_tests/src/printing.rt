@@ -83,6 +83,10 @@ static LINES: [(&str, &str); 63] = [
     ("# nothing", ""),
 ];
 
+fn lines() -> &'static [(&'static str, &'static str)] {
+    &LINES
+}
+
 const FRONT: &str = "def p\nend\ndef q\ndel x\nend\nclass C\n";
 
 /// Lines that are ignored and spaces are not printed.
@@ -99,6 +103,10 @@ static PASSED: [(&str, &str); 5] = [
         "profile 1\nshutdown\nshutdown = profile\nbudget 1",
     ),
 ];
+
+fn passed() -> &'static [(&'static str, &'static str)] {
+    &PASSED
+}
 
 /// What stands before a line is printed as it is, the line in another way; what was printed is printed as it is.
 fn check(
@@ -121,10 +129,10 @@ fn check(
 #[test]
 fn lines_as_they_are_printed(rt: HostRuntime) -> Result<(), Fail> {
     let alloc = rt.alloc();
-    for (line, want) in &LINES {
+    for (line, want) in lines() {
         check(&rt, alloc, FRONT, line, want)?;
     }
-    for (line, want) in &PASSED {
+    for (line, want) in passed() {
         check(&rt, alloc, "", line, want)?;
     }
     Ok(())

@@ -81,10 +81,14 @@ static READ: [(&str, &str, usize, &str); 18] = [
     ("# #", " a b", 31, ""),
 ];
 
+fn read() -> &'static [(&'static str, &'static str, usize, &'static str)] {
+    &READ
+}
+
 #[test]
 fn scripts_are_read_line_by_line(rt: HostRuntime) -> Result<(), Fail> {
     let alloc = rt.alloc();
-    for (front, more, times, want) in &READ {
+    for (front, more, times, want) in read() {
         let text = repeated(alloc, front, more, *times)?;
         let found = told(alloc, text.as_bytes())?;
         assert_eq!(&rt; found.as_str(), *want, "at {front:?} and {times}");
@@ -295,6 +299,10 @@ static LAST: [(&str, usize, &str, Parts); 22] = [
     ("class C", 1, "class", ("", [0, -1, -1], [NONE; 3])),
 ];
 
+fn last() -> &'static [(&'static str, usize, &'static str, Parts)] {
+    &LAST
+}
+
 /// There are to be so many items, the last one with these parts.
 fn check_last(rt: &impl Abort, items: &[Item], count: usize, told: (&str, Parts), name: &str) {
     let (sort, (word, numbers, operands)) = last_of(items);
@@ -308,7 +316,7 @@ fn check_last(rt: &impl Abort, items: &[Item], count: usize, told: (&str, Parts)
 
 #[test]
 fn items_have_their_words_and_numbers(rt: HostRuntime) -> Result<(), Fail> {
-    for (text, count, sort, parts) in &LAST {
+    for (text, count, sort, parts) in last() {
         let script = parse(rt.alloc(), text.as_bytes())?;
         check_last(&rt, script.items.as_slice(), *count, (*sort, *parts), text);
     }

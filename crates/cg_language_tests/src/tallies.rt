@@ -132,10 +132,14 @@ static SCRIPTS: [(u32, &str); 2] = [
     ),
 ];
 
+fn scripts() -> &'static [(u32, &'static str)] {
+    &SCRIPTS
+}
+
 #[test]
 fn scripts_have_the_lines_of_their_blocks(rt: HostRuntime) -> Result<(), Fail> {
     let alloc = rt.alloc();
-    for (blocks, lines) in SCRIPTS {
+    for (blocks, lines) in scripts() {
         let text = print(alloc, &generated_script(alloc, blocks)?)?;
         assert_eq!(&rt; text.as_slice(), lines.as_bytes(), "of {blocks}");
     }

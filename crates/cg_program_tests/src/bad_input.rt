@@ -3,7 +3,7 @@ use crate::calls::Case;
 use cg_cli::Status;
 
 /// Words that ask for nothing.
-pub static WORDS: [Case; 15] = [
+static WORDS: [Case; 15] = [
     ("no word", &[], "", Status::BadWords, "bad words"),
     (
         "a word too many",
@@ -105,8 +105,12 @@ pub static WORDS: [Case; 15] = [
     ),
 ];
 
+pub fn words() -> &'static [Case] {
+    &WORDS
+}
+
 /// Bad scripts, and what is told of them.
-pub static SCRIPTS: [(&str, &str); 29] = [
+static SCRIPTS: [(&str, &str); 29] = [
     ("a = list; b = list; del a; append a", "bad script 4 3"),
     ("def p; print 1", "bad script 3 7"),
     ("a = list; end", "bad script 2 7"),
@@ -150,3 +154,7 @@ pub static SCRIPTS: [(&str, &str); 29] = [
         "bad script 1 4",
     ),
 ];
+
+pub fn scripts() -> &'static [(&'static str, &'static str)] {
+    &SCRIPTS
+}

@@ -80,6 +80,10 @@ static CALLS: [Call; 7] = [
     ),
 ];
 
+fn calls() -> &'static [Call] {
+    &CALLS
+}
+
 /// The call is to end so, and to write its text.
 fn check_call(rt: &impl Abort, alloc: Global, call: Call) -> Result<(), AllocError> {
     let (name, words, records, reads, writes, status, text) = call;
@@ -95,7 +99,7 @@ fn check_call(rt: &impl Abort, alloc: Global, call: Call) -> Result<(), AllocErr
 
 #[test]
 fn verdicts_are_written_and_faults_are_told(rt: HostRuntime) -> Result<(), Fail> {
-    for call in &CALLS {
+    for call in calls() {
         check_call(&rt, rt.alloc(), *call)?;
     }
     Ok(())

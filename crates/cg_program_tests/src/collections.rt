@@ -3,7 +3,7 @@ use crate::calls::{Case, RECORD, RUN, Worked};
 use cg_cli::Status;
 
 /// Cycles, with finalizers and weak references; legacy finalizers and flags; tracking; collections that are due; frozen objects.
-pub static DONE: [Worked; 44] = [
+static DONE: [Worked; 44] = [
     (
         "a list that holds itself",
         "a = list; append a a; del a; collect 2",
@@ -226,12 +226,16 @@ pub static DONE: [Worked; 44] = [
     ),
 ];
 
+pub fn done() -> &'static [Worked] {
+    &DONE
+}
+
 /// A callback, a finalizer and a call that it makes, in a collection.
 const LAST: &str =
     "def cb; end; def d; call f; end; class C del=d; f = func cb; a = new C; setattr a me a; w = ref a f; del a; collect; print 1";
 
 /// The last of the budget in a collection.
-pub static BUDGETS: [Case; 3] = [
+static BUDGETS: [Case; 3] = [
     (
         "no callback begins in a collection",
         &["run", "--budget", "0"],
@@ -255,8 +259,12 @@ pub static BUDGETS: [Case; 3] = [
     ),
 ];
 
+pub fn budgets() -> &'static [Case] {
+    &BUDGETS
+}
+
 /// The rules leave the order of some lines free: each has one of these texts.
-pub static EITHER: [(&str, &[&str], &str, &[&str]); 5] = [
+static EITHER: [(&str, &[&str], &str, &[&str]); 5] = [
     (
         "a tree with strong parents",
         RUN,
@@ -304,3 +312,12 @@ pub static EITHER: [(&str, &[&str], &str, &[&str]); 5] = [
         ],
     ),
 ];
+
+pub fn either() -> &'static [(
+    &'static str,
+    &'static [&'static str],
+    &'static str,
+    &'static [&'static str],
+)] {
+    &EITHER
+}

@@ -137,6 +137,10 @@ static DEEP: [Long; 5] = [
     ),
 ];
 
+fn deep() -> &'static [Long] {
+    &DEEP
+}
+
 /// Large graphs, and the limits of objects and of entries.
 static LARGE: [Long; 6] = [
     (
@@ -251,14 +255,18 @@ static LARGE: [Long; 6] = [
     ),
 ];
 
+fn large() -> &'static [Long] {
+    &LARGE
+}
+
 #[test]
 fn frames_within_each_other(rt: HostRuntime) -> Result<(), Fail> {
-    check_long_calls(&rt, rt.alloc(), &DEEP)?;
+    check_long_calls(&rt, rt.alloc(), deep())?;
     Ok(())
 }
 
 #[test]
 fn large_graphs(rt: HostRuntime) -> Result<(), Fail> {
-    check_long_calls(&rt, rt.alloc(), &LARGE)?;
+    check_long_calls(&rt, rt.alloc(), large())?;
     Ok(())
 }

@@ -2,7 +2,7 @@
 use crate::calls::Worked;
 
 /// Numbers, counts and names at their edges.
-pub static DONE: [Worked; 8] = [
+static DONE: [Worked; 8] = [
     (
         "the greatest number, the least and -0",
         "print 9223372036854775807; print -9223372036854775808; print -0",
@@ -44,3 +44,7 @@ pub static DONE: [Worked; 8] = [
         "made instance #2; value '23456789012345678901234567890123; enter del #2; leave; free #2; end",
     ),
 ];
+
+pub fn done() -> &'static [Worked] {
+    &DONE
+}

@@ -154,6 +154,15 @@ static VERDICTS: [(&str, &[&[u8]], Edit, &[(u64, u8)]); 6] = [
     ),
 ];
 
+fn verdicts() -> &'static [(
+    &'static str,
+    &'static [&'static [u8]],
+    Edit,
+    &'static [(u64, u8)],
+)] {
+    &VERDICTS
+}
+
 /// Wants these verdicts of the lines with each line edited, in order.
 fn check_edits(
     rt: &impl Abort,
@@ -173,7 +182,7 @@ fn check_edits(
 
 #[test]
 fn each_line_is_edited(rt: HostRuntime) -> Result<(), Fail> {
-    for (name, lines, edit, wanted) in &VERDICTS {
+    for (name, lines, edit, wanted) in verdicts() {
         check_edits(&rt, rt.alloc(), lines, *edit, wanted, name)?;
     }
     Ok(())

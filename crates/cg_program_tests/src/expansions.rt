@@ -4,7 +4,7 @@ use crate::calls::{Case, EXPAND};
 use cg_cli::Status;
 
 /// Expansions, and first bad lines.
-pub static WRITTEN: [Case; 5] = [
+static WRITTEN: [Case; 5] = [
     (
         "a map of weak values",
         EXPAND,
@@ -42,8 +42,12 @@ pub static WRITTEN: [Case; 5] = [
     ),
 ];
 
+pub fn written() -> &'static [Case] {
+    &WRITTEN
+}
+
 /// How runs of expansions end, and what they write.
-pub static RUNS: [(&str, &str, Status, &str); 5] = [
+static RUNS: [(&str, &str, Status, &str); 5] = [
     (
         "a map of weak values",
         "class C; m = wmap; a = new C; wset m 1 a; x = wget m 1; print x; del x; del a; x = wget m 1; print x",
@@ -75,3 +79,7 @@ pub static RUNS: [(&str, &str, Status, &str); 5] = [
         "bad script 6 7",
     ),
 ];
+
+pub fn runs() -> &'static [(&'static str, &'static str, Status, &'static str)] {
+    &RUNS
+}

@@ -80,6 +80,10 @@ static CALLS: [Call; 10] = [
     (EXPAND, "wdrop m", 2, Status::BadScript, "bad script 1 3"),
 ];
 
+fn calls() -> &'static [Call] {
+    &CALLS
+}
+
 const GENERATE: &[&str] = &["generate", "3"];
 
 /// How many lines a text has.
@@ -148,7 +152,7 @@ fn check_writes(
 #[test]
 fn each_write_fails_in_turn(rt: HostRuntime) -> Result<(), Fail> {
     let alloc = rt.alloc();
-    for (words, script, _, status, text) in &CALLS {
+    for (words, script, _, status, text) in calls() {
         let bytes = lines(alloc, script)?;
         let text = lines(alloc, text)?;
         check_writes(&rt, alloc, words, &bytes, *status, &text, script)?;
@@ -218,7 +222,7 @@ const SPACES: Call = (RUN, "twenty lines of spaces", 6, Status::Done, "end");
 #[test]
 fn each_read_fails_in_turn(rt: HostRuntime) -> Result<(), Fail> {
     let alloc = rt.alloc();
-    for call in &CALLS {
+    for call in calls() {
         let script = lines(alloc, call.1)?;
         check_reads(&rt, alloc, *call, &script)?;
         check_reads_of_a_byte(&rt, alloc, *call, &script)?;
@@ -244,6 +248,10 @@ static REFUSED: [(&[&str], usize, Status, &str); 12] = [
     (GENERATE, 7, Status::OutOfMemory, ""),
     (GENERATE, 8, Status::Done, "summary 7 7 1 2 18"),
 ];
+
+fn refused() -> &'static [(&'static [&'static str], usize, Status, &'static str)] {
+    &REFUSED
+}
 
 /// A call is refused so.
 fn check_refused(
@@ -275,7 +283,7 @@ fn check_refused(
 fn a_list_that_is_refused_ends_the_records_and_leaves_no_summary(
     rt: HostRuntime,
 ) -> Result<(), Fail> {
-    for (words, before, status, text) in &REFUSED {
+    for (words, before, status, text) in refused() {
         check_refused(&rt, rt.alloc(), words, *before, *status, text)?;
     }
     Ok(())

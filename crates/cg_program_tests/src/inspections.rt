@@ -2,7 +2,7 @@
 use crate::calls::Worked;
 
 /// What refers to what, and why an object is alive.
-pub static DONE: [Worked; 5] = [
+static DONE: [Worked; 5] = [
     (
         "a list in a list, before and after that is dropped",
         "a = list; b = list a; referrers a; referents b; why a; del b; why a",
@@ -29,3 +29,7 @@ pub static DONE: [Worked; 5] = [
         "made list #2; made function #3; enter call #3; listed 0; refused 2; leave; refused 1; refused 1; end",
     ),
 ];
+
+pub fn done() -> &'static [Worked] {
+    &DONE
+}

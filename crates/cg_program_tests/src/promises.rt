@@ -3,7 +3,7 @@
 use crate::calls::Worked;
 
 /// Finalizers begin once, the dead are not named, and a set that is half cleared is out of reach.
-pub static DONE: [Worked; 9] = [
+static DONE: [Worked; 9] = [
     (
         "brought back by count and then condemned: the finalizer has run",
         "def d; x = self; end; class C del=d; a = new C; del a; setattr x me x; del x; collect",
@@ -50,3 +50,7 @@ pub static DONE: [Worked; 9] = [
         "made list #2; made tuple #3; made tuple #4; gc start 2; free #3; free #4; free #2; gc stop 2 3 0; collected 3; gens 0 0 0 0; end",
     ),
 ];
+
+pub fn done() -> &'static [Worked] {
+    &DONE
+}

@@ -28,7 +28,7 @@ const RECORDS_OF_THRICE: &str =
     "record 0; graph 1; m 2 2 0; r 2; graph 2; stop; record 0; graph 1; graph 2; stop; record 1; graph 1; m 2 1 0; r 2; lost 2; graph 2; m 2 1 0; r 2; lost 2; stop; end";
 
 /// Records, and what comes in place of them.
-pub static CASES: [Case; 14] = [
+static CASES: [Case; 14] = [
     (
         "a list that holds itself",
         RECORD,
@@ -129,8 +129,12 @@ pub static CASES: [Case; 14] = [
     ),
 ];
 
+pub fn cases() -> &'static [Case] {
+    &CASES
+}
+
 /// Scripts whose records are right, and how many these are.
-pub static RIGHT: [(&str, u64); 7] = [
+static RIGHT: [(&str, u64); 7] = [
     (RING, 1),
     (LEGACY, 1),
     (BACK, 1),
@@ -145,3 +149,7 @@ pub static RIGHT: [(&str, u64); 7] = [
         1,
     ),
 ];
+
+pub fn right() -> &'static [(&'static str, u64)] {
+    &RIGHT
+}

@@ -57,6 +57,10 @@ static RECORDS: [(&[u8], u8, Told, Option<Told>); 2] = [
     ),
 ];
 
+fn records() -> &'static [(&'static [u8], u8, Told, Option<Told>)] {
+    &RECORDS
+}
+
 /// One record is to be read, with these graphs.
 fn assert_record(
     rt: &impl Abort,
@@ -80,7 +84,7 @@ fn assert_record(
 #[test]
 fn records_are_read_and_written(rt: HostRuntime) -> Result<(), Fail> {
     let alloc = rt.alloc();
-    for (text, generation, first, second) in &RECORDS {
+    for (text, generation, first, second) in records() {
         let read = read_records(alloc, text)?.ok_or("nothing was read")?;
         assert_record(&rt, read.as_slice(), *generation, *first, *second);
         assert_eq!(&rt; write_records(alloc, &read)?.as_slice(), *text);
@@ -160,9 +164,13 @@ static TEXTS: [(&[u8], bool); 27] = [
     ),
 ];
 
+fn texts() -> &'static [(&'static [u8], bool)] {
+    &TEXTS
+}
+
 #[test]
 fn the_smallest_texts_are_records_and_other_bytes_are_none(rt: HostRuntime) -> Result<(), Fail> {
-    for (text, is_read) in &TEXTS {
+    for (text, is_read) in texts() {
         check_text(&rt, rt.alloc(), text, *is_read)?;
     }
     Ok(())

@@ -5,7 +5,7 @@ use cg_cli::Status;
 const RUN_ONE: &[&str] = &["run", "--budget", "1"];
 
 /// Lists, deaths, frames, finalizers, weak references and callbacks.
-pub static DONE: [Worked; 50] = [
+static DONE: [Worked; 50] = [
     ("an empty script", "", "end"),
     ("a comment is not run", "# nothing is run", "end"),
     (
@@ -250,8 +250,12 @@ pub static DONE: [Worked; 50] = [
     ),
 ];
 
+pub fn done() -> &'static [Worked] {
+    &DONE
+}
+
 /// Budgets that are spent.
-pub static SPENT: [Worked; 5] = [
+static SPENT: [Worked; 5] = [
     (
         "the second finalizer finds the budget spent",
         "budget 1; def d; end; class C del=d; a = new C; del a; b = new C; del b",
@@ -279,8 +283,12 @@ pub static SPENT: [Worked; 5] = [
     ),
 ];
 
+pub fn spent() -> &'static [Worked] {
+    &SPENT
+}
+
 /// Budgets in the words.
-pub static BUDGETS: [Case; 3] = [
+static BUDGETS: [Case; 3] = [
     (
         "the budget of the words",
         RUN_ONE,
@@ -303,3 +311,7 @@ pub static BUDGETS: [Case; 3] = [
         "made function #2; enter call #2; leave; budget spent",
     ),
 ];
+
+pub fn budgets() -> &'static [Case] {
+    &BUDGETS
+}

@@ -2,7 +2,7 @@
 use crate::calls::Worked;
 
 /// What the shutdown leaves, and collections that are due at it.
-pub static DONE: [Worked; 10] = [
+static DONE: [Worked; 10] = [
     (
         "nothing is left of nothing",
         "shutdown",
@@ -55,8 +55,12 @@ pub static DONE: [Worked; 10] = [
     ),
 ];
 
+pub fn done() -> &'static [Worked] {
+    &DONE
+}
+
 /// Budgets that are spent in the shutdown.
-pub static SPENT: [Worked; 2] = [
+static SPENT: [Worked; 2] = [
     (
         "the second finalizer of the shutdown finds the budget spent",
         "budget 1; shutdown; def d; end; class C del=d; a = new C; b = new C",
@@ -68,3 +72,7 @@ pub static SPENT: [Worked; 2] = [
         "made instance #2; gc start 2; budget spent",
     ),
 ];
+
+pub fn spent() -> &'static [Worked] {
+    &SPENT
+}

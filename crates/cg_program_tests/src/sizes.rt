@@ -148,6 +148,10 @@ static BYTES: [Long; 15] = [
     ),
 ];
 
+fn bytes() -> &'static [Long] {
+    &BYTES
+}
+
 /// Lines of spaces, with one byte more than a script may have.
 pub const TOO_LARGE: [Part; 2] = [Turns(16_384, &[Filled(b" ", 1023)]), Again(b" ", 1)];
 
@@ -265,15 +269,19 @@ static LINES: [Long; 14] = [
     ),
 ];
 
+fn lines() -> &'static [Long] {
+    &LINES
+}
+
 #[test]
 fn scripts_of_sixteen_mebibytes(rt: HostRuntime) -> Result<(), Fail> {
-    check_long_calls(&rt, rt.alloc(), &BYTES)?;
+    check_long_calls(&rt, rt.alloc(), bytes())?;
     Ok(())
 }
 
 #[test]
 fn lines_at_their_limits(rt: HostRuntime) -> Result<(), Fail> {
-    check_long_calls(&rt, rt.alloc(), &LINES)?;
+    check_long_calls(&rt, rt.alloc(), lines())?;
     Ok(())
 }
 
@@ -287,11 +295,15 @@ static READS: [(u32, u64, Status); 6] = [
     (20_000_000, 16_777_217, Status::TooLarge),
 ];
 
+fn reads() -> &'static [(u32, u64, Status)] {
+    &READS
+}
+
 /// A source is read once for each byte, and once for the end, up to 16,777,217 times.
 #[test]
 fn sources_are_read_a_bounded_number_of_times(rt: HostRuntime) -> Result<(), Fail> {
     let alloc = rt.alloc();
-    for (bytes, reads, status) in &READS {
+    for (bytes, reads, status) in reads() {
         let script = built(alloc, &[Again(b"\n", *bytes)])?;
         let mut source = OneByte::new(MemSource::new(script, Vec::new(alloc)));
         let found = answer_to(alloc, RUN, &mut source)?;

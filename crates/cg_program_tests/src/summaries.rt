@@ -3,7 +3,7 @@ use crate::calls::Case;
 use cg_cli::Status;
 
 /// Summaries of some blocks.
-pub static CASES: [Case; 6] = [
+static CASES: [Case; 6] = [
     (
         "one block",
         &["generate", "1"],
@@ -48,3 +48,7 @@ pub static CASES: [Case; 6] = [
         "summary 20001 20001 15 6668 40034",
     ),
 ];
+
+pub fn cases() -> &'static [Case] {
+    &CASES
+}

@@ -132,9 +132,13 @@ static TEXTS: [(&str, &[u8], Verdict); 26] = [
     ),
 ];
 
+fn texts() -> &'static [(&'static str, &'static [u8], Verdict)] {
+    &TEXTS
+}
+
 #[test]
 fn verdicts_on_small_records(rt: HostRuntime) -> Result<(), Fail> {
-    for (name, text, wanted) in &TEXTS {
+    for (name, text, wanted) in texts() {
         assert_eq!(&rt; check_records(rt.alloc(), text)?, *wanted, "at {name:?}");
     }
     Ok(())

@@ -31,14 +31,14 @@ fn check_worked(
 #[test]
 fn worked_scripts_write_their_texts(rt: HostRuntime) -> Result<(), Fail> {
     let alloc = rt.alloc();
-    check_worked(&rt, alloc, &rows::DONE, Status::Done)?;
-    check_worked(&rt, alloc, &rows::SPENT, Status::Budget)?;
-    check_worked(&rt, alloc, &collections::DONE, Status::Done)?;
-    check_worked(&rt, alloc, &shutdowns::DONE, Status::Done)?;
-    check_worked(&rt, alloc, &shutdowns::SPENT, Status::Budget)?;
-    check_worked(&rt, alloc, &inspections::DONE, Status::Done)?;
-    check_worked(&rt, alloc, &promises::DONE, Status::Done)?;
-    check_worked(&rt, alloc, &edges::DONE, Status::Done)?;
+    check_worked(&rt, alloc, rows::done(), Status::Done)?;
+    check_worked(&rt, alloc, rows::spent(), Status::Budget)?;
+    check_worked(&rt, alloc, collections::done(), Status::Done)?;
+    check_worked(&rt, alloc, shutdowns::done(), Status::Done)?;
+    check_worked(&rt, alloc, shutdowns::spent(), Status::Budget)?;
+    check_worked(&rt, alloc, inspections::done(), Status::Done)?;
+    check_worked(&rt, alloc, promises::done(), Status::Done)?;
+    check_worked(&rt, alloc, edges::done(), Status::Done)?;
     Ok(())
 }
 
@@ -53,18 +53,18 @@ fn check_cases(rt: &impl Abort, alloc: Global, table: &[Case]) -> Result<(), All
 #[test]
 fn other_calls_write_their_texts(rt: HostRuntime) -> Result<(), Fail> {
     let alloc = rt.alloc();
-    check_cases(&rt, alloc, &rows::BUDGETS)?;
-    check_cases(&rt, alloc, &collections::BUDGETS)?;
-    check_cases(&rt, alloc, &recordings::CASES)?;
-    check_cases(&rt, alloc, &expansions::WRITTEN)?;
-    check_cases(&rt, alloc, &summaries::CASES)?;
-    check_cases(&rt, alloc, &bad_input::WORDS)?;
+    check_cases(&rt, alloc, rows::budgets())?;
+    check_cases(&rt, alloc, collections::budgets())?;
+    check_cases(&rt, alloc, recordings::cases())?;
+    check_cases(&rt, alloc, expansions::written())?;
+    check_cases(&rt, alloc, summaries::cases())?;
+    check_cases(&rt, alloc, bad_input::words())?;
     Ok(())
 }
 
 #[test]
 fn bad_scripts_are_told(rt: HostRuntime) -> Result<(), Fail> {
-    for (script, text) in &bad_input::SCRIPTS {
+    for (script, text) in bad_input::scripts() {
         check(
             &rt,
             rt.alloc(),
@@ -93,7 +93,7 @@ fn one_of(alloc: Global, found: &[u8], texts: &[&str]) -> Result<Vec<u8>, AllocE
 #[test]
 fn lines_stand_in_any_order_that_the_rules_allow(rt: HostRuntime) -> Result<(), Fail> {
     let alloc = rt.alloc();
-    for (name, words, script, texts) in &collections::EITHER {
+    for (name, words, script, texts) in collections::either() {
         let found = answer_to(alloc, words, &mut PlainSource::new(lines(alloc, script)?))?;
         let wanted = one_of(alloc, &found.text, texts)?;
         assert_answer(&rt, &found, Status::Done, &wanted, name);
@@ -116,7 +116,7 @@ fn written(
 #[test]
 fn expansions_are_run(rt: HostRuntime) -> Result<(), Fail> {
     let alloc = rt.alloc();
-    for (name, script, status, text) in &expansions::RUNS {
+    for (name, script, status, text) in expansions::runs() {
         let expansion = written(&rt, alloc, EXPAND, script)?;
         check_bytes(
             &rt,
@@ -134,7 +134,7 @@ fn expansions_are_run(rt: HostRuntime) -> Result<(), Fail> {
 #[test]
 fn records_are_right(rt: HostRuntime) -> Result<(), Fail> {
     let alloc = rt.alloc();
-    for (script, records) in &recordings::RIGHT {
+    for (script, records) in recordings::right() {
         let text = written(&rt, alloc, RECORD, script)?;
         let yes = Verdict::Yes { records: *records };
         assert_eq!(&rt; check_records(alloc, &text)?, yes, "at {script:?}");
