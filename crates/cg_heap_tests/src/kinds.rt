@@ -262,20 +262,6 @@ fn drive<K: Kind>(
     Ok(())
 }
 
-/// The same with a kind in a box.
-fn drive_boxed<K: Kind + 'static>(
-    rt: &impl Abort,
-    alloc: Global,
-    kind: K,
-    parts: &[Entry],
-    rows: &[Row],
-) -> Result<(), Fail>
-    requires { IsParts (K.kind kind) parts.now }
-{
-    let mut boxed: Box<dyn Kind> = Box::new(alloc, kind)?;
-    drive(rt, alloc, &mut boxed, parts, rows)
-}
-
 /// Lists: three items, 10, 20 and 30.
 static LIST: [Row; 17] = [
     (
@@ -513,18 +499,39 @@ fn callback() -> &'static [Row] {
 }
 
 #[test]
-fn each_kind_changes_as_in_python(rt: HostRuntime) -> Result<(), Fail> {
+fn lists_and_tuples_change_as_in_python(rt: HostRuntime) -> Result<(), Fail> {
     let alloc = rt.alloc();
-    let parts = items(alloc, &[10, 20, 30])?;
-    drive_boxed(&rt, alloc, ListKind::new(alloc), &parts, list())?;
-    let parts = items(alloc, &[10, 20])?;
-    drive_boxed(&rt, alloc, TupleKind::new(alloc), &parts, tuple())?;
-    drive_boxed(&rt, alloc, DictKind::new(alloc), &[], pairs())?;
-    drive_boxed(&rt, alloc, InstKind::new(alloc), &[], pairs())?;
+    let mut lists: Box<dyn Kind> = Box::new(alloc, ListKind::new(alloc))?;
+    drive(
+        &rt,
+        alloc,
+        &mut lists,
+        &items(alloc, &[10, 20, 30])?,
+        list(),
+    )?;
+    let mut tuples: Box<dyn Kind> = Box::new(alloc, TupleKind::new(alloc))?;
+    drive(&rt, alloc, &mut tuples, &items(alloc, &[10, 20])?, tuple())
+}
+
+#[test]
+fn dictionaries_and_instances_keep_the_order(rt: HostRuntime) -> Result<(), Fail> {
+    let alloc = rt.alloc();
+    let mut dicts: Box<dyn Kind> = Box::new(alloc, DictKind::new(alloc))?;
+    drive(&rt, alloc, &mut dicts, &[], pairs())?;
+    let mut instances: Box<dyn Kind> = Box::new(alloc, InstKind::new(alloc))?;
+    drive(&rt, alloc, &mut instances, &[], pairs())
+}
+
+#[test]
+fn functions_keep_eight_cells_and_weak_references_one_callback(
+    rt: HostRuntime,
+) -> Result<(), Fail> {
+    let alloc = rt.alloc();
+    let mut functions: Box<dyn Kind> = Box::new(alloc, FuncKind::new(alloc))?;
     let parts = items(alloc, &[1, 2, 3, 4, 5, 6, 7, 8])?;
-    drive_boxed(&rt, alloc, FuncKind::new(alloc), &parts, cells())?;
-    let parts = items(alloc, &[10])?;
-    drive_boxed(&rt, alloc, WeakKind::new(alloc), &parts, callback())
+    drive(&rt, alloc, &mut functions, &parts, cells())?;
+    let mut weak: Box<dyn Kind> = Box::new(alloc, WeakKind::new(alloc))?;
+    drive(&rt, alloc, &mut weak, &items(alloc, &[10])?, callback())
 }
 
 /// Makes an object of items, appends the same items to an empty one, and takes them off again.

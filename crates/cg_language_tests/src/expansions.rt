@@ -24,7 +24,7 @@ fn text_of(bytes: &[u8]) -> Option<&str> {
 }
 
 /// Scripts and their expansions, or their first bad lines.
-static LINES: [(&str, &str); 75] = [
+static SCRIPTS: [(&str, &str); 75] = [
     // Lines with a form.
     ("m = wmap", "m = dict"),
     ("wset m 1 a", "wv_1 = ref a; put m 1 wv_1; del wv_1"),
@@ -143,8 +143,8 @@ static LINES: [(&str, &str); 75] = [
     ),
 ];
 
-fn lines() -> &'static [(&'static str, &'static str)] {
-    &LINES
+fn scripts() -> &'static [(&'static str, &'static str)] {
+    &SCRIPTS
 }
 
 /// The script is to be expanded so.
@@ -163,7 +163,7 @@ fn check(
 #[test]
 fn scripts_are_expanded_or_have_a_bad_line(rt: HostRuntime) -> Result<(), Fail> {
     let alloc = rt.alloc();
-    for (script, want) in lines() {
+    for (script, want) in scripts() {
         check(
             &rt,
             alloc,

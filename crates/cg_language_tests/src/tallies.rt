@@ -140,7 +140,7 @@ fn scripts() -> &'static [(u32, &'static str)] {
 fn scripts_have_the_lines_of_their_blocks(rt: HostRuntime) -> Result<(), Fail> {
     let alloc = rt.alloc();
     for (blocks, lines) in scripts() {
-        let text = print(alloc, &generated_script(alloc, blocks)?)?;
+        let text = print(alloc, &generated_script(alloc, *blocks)?)?;
         assert_eq!(&rt; text.as_slice(), lines.as_bytes(), "of {blocks}");
     }
     for (blocks, lines) in [(1, 8), (2, 12), (3, 13), (4, 18), (10_000, 33_338)] {
