@@ -24,33 +24,130 @@ use std::process::Abort;
 use std::test::Fail;
 
 /// A command.
-#[derive(Clone, Copy, Debug, Drop)]
+#[derive(Clone, Copy, Drop)]
 enum Asked {
-    /// `referents self`, in the frame of the object's finalizer.
-    ReferentsOf(u64),
-    /// `referrers self`, in the frame of the object's finalizer.
-    ReferrersOf(u64),
-    /// `referents self`, without a frame.
-    ReferentsOfNone,
-    /// `referrers 5`.
+    /// `referents self`
+    Referents,
+    /// `referrers self`
+    Referrers,
+    /// `referrers 5`
     ReferrersOfNumber,
-    /// `why a`.
+    /// `why a`
     Why,
 }
 
-#[derive(Clone, Copy, Debug, Drop)]
+#[derive(Clone, Copy, Drop)]
 enum Answer {
     Lines(&'static [Event]),
     Refused(u8),
 }
 
-/// A command, whether the outer list is held, whether a collection is under way, and the answer.
-#[derive(Clone, Copy, Drop)]
-struct Row {
-    asked: Asked,
-    held: bool,
-    running: bool,
-    answer: Answer,
+/// A name; a command, the object in the frame of whose finalizer it is given, whether the outer list is held, whether a collection is
+/// running; and the answer.
+type Row = (&'static str, Asked, Option<u64>, bool, bool, Answer);
+
+static ROWS: [Row; 12] = [
+    (
+        "what refers to the inner list",
+        Asked::Referrers,
+        Some(2),
+        true,
+        false,
+        Answer::Lines(&[Event::Referrer(3), Event::Listed(1)]),
+    ),
+    (
+        "what the outer list refers to",
+        Asked::Referents,
+        Some(3),
+        true,
+        false,
+        Answer::Lines(&[Event::Referent(2), Event::Listed(1)]),
+    ),
+    (
+        "what the inner list refers to",
+        Asked::Referents,
+        Some(2),
+        true,
+        false,
+        Answer::Lines(&[Event::Listed(0)]),
+    ),
+    (
+        "why the inner list is alive",
+        Asked::Why,
+        None,
+        true,
+        false,
+        Answer::Lines(&[Event::Held(3), Event::Via(2)]),
+    ),
+    (
+        "why it is where nothing holds the outer one",
+        Asked::Why,
+        None,
+        false,
+        false,
+        Answer::Lines(&[Event::Unreachable]),
+    ),
+    (
+        "referents while a collection runs",
+        Asked::Referents,
+        Some(2),
+        true,
+        true,
+        Answer::Refused(13),
+    ),
+    (
+        "referrers while a collection runs",
+        Asked::Referrers,
+        Some(2),
+        true,
+        true,
+        Answer::Refused(13),
+    ),
+    (
+        "why while a collection runs",
+        Asked::Why,
+        None,
+        true,
+        true,
+        Answer::Refused(13),
+    ),
+    // No object is refused before a collection is.
+    (
+        "no subject",
+        Asked::Referents,
+        None,
+        true,
+        false,
+        Answer::Refused(1),
+    ),
+    (
+        "no subject while a collection runs",
+        Asked::Referents,
+        None,
+        true,
+        true,
+        Answer::Refused(1),
+    ),
+    (
+        "a number",
+        Asked::ReferrersOfNumber,
+        None,
+        true,
+        false,
+        Answer::Refused(2),
+    ),
+    (
+        "a number while a collection runs",
+        Asked::ReferrersOfNumber,
+        None,
+        true,
+        true,
+        Answer::Refused(2),
+    ),
+];
+
+fn rows() -> &'static [Row] {
+    &ROWS
 }
 
 /// A policy with or without a collection under way.
@@ -97,39 +194,21 @@ fn inspect<B: Kind>(
     perform(alloc, heap, &mut policy, &locals, command, false)
 }
 
-/// Does the command of a row.
-fn ask<B: Kind>(
-    rt: &impl Abort,
-    alloc: Global,
-    heap: &mut Heap<B>,
-    running: bool,
-    asked: Asked,
-) -> Result<Done, Refusal>
-    requires few { HasFewHolds heap.old }
-    requires last { heap.old.last < 9223372036854775808 }
-    requires names { length heap.old.names ≡ 1 }
+/// The command, where the heap has one name.
+fn command_of(asked: Asked) -> Command
+    ensures { IsSpelledCommand 1 result }
 {
-    let value = Operand::SelfLocal;
     match asked {
-        Asked::ReferentsOf(object) => {
-            let command = Command::Referents { value };
-            inspect(rt, alloc, heap, running, Some(object), &command)
-        }
-        Asked::ReferrersOf(object) => {
-            let command = Command::Referrers { value };
-            inspect(rt, alloc, heap, running, Some(object), &command)
-        }
-        Asked::ReferentsOfNone => {
-            let command = Command::Referents { value };
-            inspect(rt, alloc, heap, running, None, &command)
-        }
-        Asked::ReferrersOfNumber => {
-            let command = Command::Referrers {
-                value: Operand::Int(5),
-            };
-            inspect(rt, alloc, heap, running, None, &command)
-        }
-        Asked::Why => inspect(rt, alloc, heap, running, None, &Command::Why { name: 0 }),
+        Asked::Referents => Command::Referents {
+            value: Operand::SelfLocal,
+        },
+        Asked::Referrers => Command::Referrers {
+            value: Operand::SelfLocal,
+        },
+        Asked::ReferrersOfNumber => Command::Referrers {
+            value: Operand::Int(5),
+        },
+        Asked::Why => Command::Why { name: 0 },
     }
 }
 
@@ -164,16 +243,16 @@ fn two_lists<B: Kind>(
     Ok(scene.into_heap(rt))
 }
 
-/// Panics if the answer is another.
-fn assert_answer(rt: &impl Abort, found: Result<Done, Refusal>, row: Row) {
-    match (found, row.answer) {
+/// It stops where an answer is another.
+fn assert_answer(rt: &impl Abort, found: Result<Done, Refusal>, expected: Answer, name: &str) {
+    match (found, expected) {
         (Ok(Done::Tells(lines)), Answer::Lines(expected)) => {
-            assert_eq!(rt; lines.as_slice(), expected, "{:?}", row.asked);
+            assert_eq!(rt; lines.as_slice(), expected, "at {name:?}");
         }
         (Err(refusal), Answer::Refused(number)) => {
-            assert_eq!(rt; refusal.number(), number, "{:?}", row.asked);
+            assert_eq!(rt; refusal.number(), number, "at {name:?}");
         }
-        _ => panic!(rt; "{:?} is answered in another way", row.asked),
+        _ => panic!(rt; "{name:?} is answered in another way"),
     }
 }
 
@@ -181,69 +260,19 @@ fn check_row<B: Kind>(rt: &impl Abort, alloc: Global, kinds: Vec<B>, row: Row) -
     requires kinds { map B.kind kinds.items ≡ six_kinds }
     requires empty { map B.bodies kinds.items ≡ replicate 6 fin.empty }
 {
-    let mut heap = two_lists(rt, alloc, kinds, row.held)?;
-    let found = ask(rt, alloc, &mut heap, row.running, row.asked);
-    assert_answer(rt, found, row);
+    let (name, asked, subject, held, running, answer) = row;
+    let mut heap = two_lists(rt, alloc, kinds, held)?;
+    let command = command_of(asked);
+    let found = inspect(rt, alloc, &mut heap, running, subject, &command);
+    assert_answer(rt, found, answer, name);
     Ok(())
-}
-
-/// The outer list is held, and no collection is under way.
-fn told(asked: Asked, lines: &'static [Event]) -> Row {
-    Row {
-        asked,
-        held: true,
-        running: false,
-        answer: Answer::Lines(lines),
-    }
-}
-
-fn refused(asked: Asked, running: bool, number: u8) -> Row {
-    Row {
-        asked,
-        held: true,
-        running,
-        answer: Answer::Refused(number),
-    }
 }
 
 #[test]
 fn two_lists_are_inspected(rt: HostRuntime) -> Result<(), Fail> {
     let alloc = rt.alloc();
-    let rows = [
-        told(
-            Asked::ReferrersOf(2),
-            &[Event::Referrer(3), Event::Listed(1)],
-        ),
-        told(
-            Asked::ReferentsOf(3),
-            &[Event::Referent(2), Event::Listed(1)],
-        ),
-        told(Asked::ReferentsOf(2), &[Event::Listed(0)]),
-        told(Asked::Why, &[Event::Held(3), Event::Via(2)]),
-        Row {
-            held: false,
-            ..told(Asked::Why, &[Event::Unreachable])
-        },
-        refused(Asked::ReferentsOf(2), true, 13),
-        refused(Asked::ReferrersOf(2), true, 13),
-        refused(Asked::Why, true, 13),
-    ];
-    for row in rows {
-        check_row(&rt, alloc, six(alloc)?, row)?;
-    }
-    Ok(())
-}
-
-#[test]
-fn no_object_is_refused_before_a_collection_is(rt: HostRuntime) -> Result<(), Fail> {
-    let alloc = rt.alloc();
-    for running in [false, true] {
-        for row in [
-            refused(Asked::ReferentsOfNone, running, 1),
-            refused(Asked::ReferrersOfNumber, running, 2),
-        ] {
-            check_row(&rt, alloc, six(alloc)?, row)?;
-        }
+    for row in rows() {
+        check_row(&rt, alloc, six(alloc)?, *row)?;
     }
     Ok(())
 }

@@ -22,7 +22,7 @@ const B: Val = Val::Str(2);
 const C: Val = Val::Ref(3);
 
 #[derive(Clone, Copy, Debug, Drop)]
-enum Step {
+pub enum Step {
     Put(Val, i64),
     Find(Val),
     Value(Val),
@@ -42,7 +42,10 @@ pub enum Answer {
     NotDone,
 }
 
-/// The entry of a value without key.
+/// A step, what it answers, and the entries after it.
+type Row = (Step, Answer, &'static [(Val, i64)]);
+
+/// The entry of a value that has no key.
 fn item_of(val: Val) -> Entry
     ensures { result ≡ item val }
 {
@@ -141,7 +144,8 @@ pub fn take_first<K: Kind>(kind: &mut K, at: usize) -> Option<Val>
     Some(kind.take(at, 0).val)
 }
 
-fn advance<K: Kind>(kind: &mut K, at: usize, step: Step) -> Result<Answer, AllocError>
+/// Does a step.
+pub fn advance<K: Kind>(kind: &mut K, at: usize, step: Step) -> Result<Answer, AllocError>
     requires { Holds (K.bodies kind.old) at }
     ensures { (place : ℕ) → Holds (K.bodies kind.old) place → Holds (K.bodies kind.new) place }
 {
@@ -243,7 +247,7 @@ fn drive<K: Kind>(
     alloc: Global,
     kind: &mut K,
     parts: &[Entry],
-    rows: &[(Step, Answer, &[(Val, i64)])],
+    rows: &[Row],
 ) -> Result<(), Fail>
     requires { IsParts (K.kind kind.old) parts.now }
 {
@@ -251,292 +255,283 @@ fn drive<K: Kind>(
     let at = make(kind, parts)?;
     'rows: for (taken, answer, left) in rows {
         assert_eq!(rt; advance(kind, at, *taken)?, *answer, "at {taken:?}");
-        let now = entries(alloc, kind, at)?;
-        let expected = listed(alloc, left)?;
-        assert_eq!(rt; now.as_slice(), expected.as_slice(), "after {taken:?}");
+        assert_entries(rt, alloc, kind, at, &listed(alloc, left)?)?;
     }
-    assert_eq!(rt; entries(alloc, kind, other)?.as_slice(), parts);
+    assert_entries(rt, alloc, kind, other, parts)?;
     free(kind, at);
     Ok(())
 }
 
-#[test]
-fn lists_change_as_in_python(rt: HostRuntime) -> Result<(), Fail> {
-    let alloc = rt.alloc();
-    let mut kind: Box<dyn Kind> = Box::new(alloc, ListKind::new(alloc))?;
-    let parts = items(alloc, &[10, 20, 30])?;
-    drive(
-        &rt,
-        alloc,
-        &mut kind,
-        parts.as_slice(),
+/// Lists: three items, 10, 20 and 30.
+static LIST: [Row; 17] = [
+    (
+        Step::Find(NO),
+        Answer::Position(Some(0)),
+        &[(NO, 10), (NO, 20), (NO, 30)],
+    ),
+    (
+        Step::Find(A),
+        Answer::Position(None),
+        &[(NO, 10), (NO, 20), (NO, 30)],
+    ),
+    (
+        Step::Value(NO),
+        Answer::Value(Some(Val::Int(10))),
+        &[(NO, 10), (NO, 20), (NO, 30)],
+    ),
+    (
+        Step::Value(A),
+        Answer::Value(None),
+        &[(NO, 10), (NO, 20), (NO, 30)],
+    ),
+    (
+        Step::Put(Val::Int(1), 21),
+        Answer::Replaced(Some(Val::Int(20))),
+        &[(NO, 10), (NO, 21), (NO, 30)],
+    ),
+    (
+        Step::Put(Val::Int(3), 41),
+        Answer::NotDone,
+        &[(NO, 10), (NO, 21), (NO, 30)],
+    ),
+    (
+        Step::Append(40),
+        Answer::Nothing,
+        &[(NO, 10), (NO, 21), (NO, 30), (NO, 40)],
+    ),
+    (
+        Step::Take(0),
+        Answer::Entry(NO, 10),
+        &[(NO, 21), (NO, 30), (NO, 40)],
+    ),
+    (Step::Detach, Answer::Entry(NO, 40), &[(NO, 21), (NO, 30)]),
+    (Step::TakeKey(A), Answer::Nothing, &[(NO, 21), (NO, 30)]),
+    (
+        Step::Append(50),
+        Answer::Nothing,
+        &[(NO, 21), (NO, 30), (NO, 50)],
+    ),
+    (
+        Step::TakeKey(NO),
+        Answer::Entry(NO, 21),
+        &[(NO, 30), (NO, 50)],
+    ),
+    (Step::Detach, Answer::Entry(NO, 50), &[(NO, 30)]),
+    (Step::TakeKey(NO), Answer::Entry(NO, 30), &[]),
+    (Step::TakeKey(NO), Answer::Nothing, &[]),
+    (Step::Value(NO), Answer::Value(None), &[]),
+    (Step::Detach, Answer::Nothing, &[]),
+];
+
+fn list() -> &'static [Row] {
+    &LIST
+}
+
+/// Tuples, which lose their last item alone: 10 and 20.
+static TUPLE: [Row; 10] = [
+    (
+        Step::Find(NO),
+        Answer::Position(Some(0)),
+        &[(NO, 10), (NO, 20)],
+    ),
+    (
+        Step::Put(Val::Int(1), 21),
+        Answer::Replaced(None),
+        &[(NO, 10), (NO, 20)],
+    ),
+    (Step::Append(40), Answer::Nothing, &[(NO, 10), (NO, 20)]),
+    (
+        Step::Value(NO),
+        Answer::Value(Some(Val::Int(10))),
+        &[(NO, 10), (NO, 20)],
+    ),
+    (Step::Take(0), Answer::Entry(NO, 10), &[(NO, 10), (NO, 20)]),
+    (
+        Step::TakeKey(NO),
+        Answer::Entry(NO, 10),
+        &[(NO, 10), (NO, 20)],
+    ),
+    (Step::TakeKey(A), Answer::Nothing, &[(NO, 10), (NO, 20)]),
+    (Step::Detach, Answer::Entry(NO, 20), &[(NO, 10)]),
+    (Step::Detach, Answer::Entry(NO, 10), &[]),
+    (Step::Detach, Answer::Nothing, &[]),
+];
+
+fn tuple() -> &'static [Row] {
+    &TUPLE
+}
+
+/// Dictionaries and instances, which keep the order: nothing at first.
+static PAIRS: [Row; 21] = [
+    (Step::Put(A, 10), Answer::Replaced(None), &[(A, 10)]),
+    (
+        Step::Put(B, 20),
+        Answer::Replaced(None),
+        &[(A, 10), (B, 20)],
+    ),
+    (
+        Step::Put(C, 30),
+        Answer::Replaced(None),
+        &[(A, 10), (B, 20), (C, 30)],
+    ),
+    (
+        Step::Put(B, 21),
+        Answer::Replaced(Some(Val::Int(20))),
+        &[(A, 10), (B, 21), (C, 30)],
+    ),
+    (
+        Step::Find(C),
+        Answer::Position(Some(2)),
+        &[(A, 10), (B, 21), (C, 30)],
+    ),
+    (
+        Step::Find(NO),
+        Answer::Position(None),
+        &[(A, 10), (B, 21), (C, 30)],
+    ),
+    (
+        Step::Value(B),
+        Answer::Value(Some(Val::Int(21))),
+        &[(A, 10), (B, 21), (C, 30)],
+    ),
+    (
+        Step::Value(NO),
+        Answer::Value(None),
+        &[(A, 10), (B, 21), (C, 30)],
+    ),
+    (
+        Step::TakeKey(NO),
+        Answer::Nothing,
+        &[(A, 10), (B, 21), (C, 30)],
+    ),
+    (
+        Step::Append(40),
+        Answer::Nothing,
+        &[(A, 10), (B, 21), (C, 30)],
+    ),
+    (Step::Take(0), Answer::Entry(A, 10), &[(B, 21), (C, 30)]),
+    (
+        Step::Put(A, 11),
+        Answer::Replaced(None),
+        &[(B, 21), (C, 30), (A, 11)],
+    ),
+    (
+        Step::Find(A),
+        Answer::Position(Some(2)),
+        &[(B, 21), (C, 30), (A, 11)],
+    ),
+    (Step::TakeKey(C), Answer::Entry(C, 30), &[(B, 21), (A, 11)]),
+    (
+        Step::Put(C, 31),
+        Answer::Replaced(None),
+        &[(B, 21), (A, 11), (C, 31)],
+    ),
+    (
+        Step::Value(C),
+        Answer::Value(Some(Val::Int(31))),
+        &[(B, 21), (A, 11), (C, 31)],
+    ),
+    (Step::TakeKey(A), Answer::Entry(A, 11), &[(B, 21), (C, 31)]),
+    (Step::Detach, Answer::Entry(C, 31), &[(B, 21)]),
+    (Step::Take(0), Answer::Entry(B, 21), &[]),
+    (Step::TakeKey(B), Answer::Nothing, &[]),
+    (Step::Detach, Answer::Nothing, &[]),
+];
+
+fn pairs() -> &'static [Row] {
+    &PAIRS
+}
+
+/// Functions, of up to eight cells: the numbers from 1 to 8.
+static CELLS: [Row; 2] = [
+    (
+        Step::Find(B),
+        Answer::Position(None),
         &[
-            (
-                Step::Find(NO),
-                Answer::Position(Some(0)),
-                &[(NO, 10), (NO, 20), (NO, 30)],
-            ),
-            (
-                Step::Find(A),
-                Answer::Position(None),
-                &[(NO, 10), (NO, 20), (NO, 30)],
-            ),
-            (
-                Step::Value(NO),
-                Answer::Value(Some(Val::Int(10))),
-                &[(NO, 10), (NO, 20), (NO, 30)],
-            ),
-            (
-                Step::Value(A),
-                Answer::Value(None),
-                &[(NO, 10), (NO, 20), (NO, 30)],
-            ),
-            (
-                Step::Put(Val::Int(1), 21),
-                Answer::Replaced(Some(Val::Int(20))),
-                &[(NO, 10), (NO, 21), (NO, 30)],
-            ),
-            (
-                Step::Put(Val::Int(3), 41),
-                Answer::NotDone,
-                &[(NO, 10), (NO, 21), (NO, 30)],
-            ),
-            (
-                Step::Append(40),
-                Answer::Nothing,
-                &[(NO, 10), (NO, 21), (NO, 30), (NO, 40)],
-            ),
-            (
-                Step::Take(0),
-                Answer::Entry(NO, 10),
-                &[(NO, 21), (NO, 30), (NO, 40)],
-            ),
-            (Step::Detach, Answer::Entry(NO, 40), &[(NO, 21), (NO, 30)]),
-            (Step::TakeKey(A), Answer::Nothing, &[(NO, 21), (NO, 30)]),
-            (
-                Step::Append(50),
-                Answer::Nothing,
-                &[(NO, 21), (NO, 30), (NO, 50)],
-            ),
-            (
-                Step::TakeKey(NO),
-                Answer::Entry(NO, 21),
-                &[(NO, 30), (NO, 50)],
-            ),
-            (Step::Detach, Answer::Entry(NO, 50), &[(NO, 30)]),
-            (Step::TakeKey(NO), Answer::Entry(NO, 30), &[]),
-            (Step::TakeKey(NO), Answer::Nothing, &[]),
-            (Step::Value(NO), Answer::Value(None), &[]),
-            (Step::Detach, Answer::Nothing, &[]),
+            (NO, 1),
+            (NO, 2),
+            (NO, 3),
+            (NO, 4),
+            (NO, 5),
+            (NO, 6),
+            (NO, 7),
+            (NO, 8),
         ],
-    )
+    ),
+    (
+        Step::Detach,
+        Answer::Entry(NO, 8),
+        &[
+            (NO, 1),
+            (NO, 2),
+            (NO, 3),
+            (NO, 4),
+            (NO, 5),
+            (NO, 6),
+            (NO, 7),
+        ],
+    ),
+];
+
+fn cells() -> &'static [Row] {
+    &CELLS
+}
+
+/// Weak references, which keep one callback: 10.
+static CALLBACK: [Row; 9] = [
+    (Step::Find(NO), Answer::Position(Some(0)), &[(NO, 10)]),
+    (Step::Put(NO, 11), Answer::Replaced(None), &[(NO, 10)]),
+    (
+        Step::Value(NO),
+        Answer::Value(Some(Val::Int(10))),
+        &[(NO, 10)],
+    ),
+    (Step::Take(0), Answer::Entry(NO, 10), &[(NO, 10)]),
+    (Step::TakeKey(NO), Answer::Entry(NO, 10), &[(NO, 10)]),
+    (Step::Detach, Answer::Entry(NO, 10), &[]),
+    (Step::Value(NO), Answer::Value(None), &[]),
+    (Step::TakeKey(NO), Answer::Nothing, &[]),
+    (Step::Detach, Answer::Nothing, &[]),
+];
+
+fn callback() -> &'static [Row] {
+    &CALLBACK
 }
 
 #[test]
-fn tuples_only_lose_their_last_item(rt: HostRuntime) -> Result<(), Fail> {
+fn lists_and_tuples_change_as_in_python(rt: HostRuntime) -> Result<(), Fail> {
     let alloc = rt.alloc();
-    let mut kind: Box<dyn Kind> = Box::new(alloc, TupleKind::new(alloc))?;
-    let parts = items(alloc, &[10, 20])?;
+    let mut lists: Box<dyn Kind> = Box::new(alloc, ListKind::new(alloc))?;
     drive(
         &rt,
         alloc,
-        &mut kind,
-        parts.as_slice(),
-        &[
-            (
-                Step::Find(NO),
-                Answer::Position(Some(0)),
-                &[(NO, 10), (NO, 20)],
-            ),
-            (
-                Step::Put(Val::Int(1), 21),
-                Answer::Replaced(None),
-                &[(NO, 10), (NO, 20)],
-            ),
-            (Step::Append(40), Answer::Nothing, &[(NO, 10), (NO, 20)]),
-            (
-                Step::Value(NO),
-                Answer::Value(Some(Val::Int(10))),
-                &[(NO, 10), (NO, 20)],
-            ),
-            (Step::Take(0), Answer::Entry(NO, 10), &[(NO, 10), (NO, 20)]),
-            (
-                Step::TakeKey(NO),
-                Answer::Entry(NO, 10),
-                &[(NO, 10), (NO, 20)],
-            ),
-            (Step::TakeKey(A), Answer::Nothing, &[(NO, 10), (NO, 20)]),
-            (Step::Detach, Answer::Entry(NO, 20), &[(NO, 10)]),
-            (Step::Detach, Answer::Entry(NO, 10), &[]),
-            (Step::Detach, Answer::Nothing, &[]),
-        ],
-    )
-}
-
-/// The steps of a dictionary, which also apply to an instance.
-fn drive_pairs<K: Kind>(rt: &impl Abort, alloc: Global, kind: &mut K) -> Result<(), Fail>
-    requires { IsParts (K.kind kind.old) [] }
-{
-    drive(
-        rt,
-        alloc,
-        kind,
-        &[],
-        &[
-            (Step::Put(A, 10), Answer::Replaced(None), &[(A, 10)]),
-            (
-                Step::Put(B, 20),
-                Answer::Replaced(None),
-                &[(A, 10), (B, 20)],
-            ),
-            (
-                Step::Put(C, 30),
-                Answer::Replaced(None),
-                &[(A, 10), (B, 20), (C, 30)],
-            ),
-            (
-                Step::Put(B, 21),
-                Answer::Replaced(Some(Val::Int(20))),
-                &[(A, 10), (B, 21), (C, 30)],
-            ),
-            (
-                Step::Find(C),
-                Answer::Position(Some(2)),
-                &[(A, 10), (B, 21), (C, 30)],
-            ),
-            (
-                Step::Find(NO),
-                Answer::Position(None),
-                &[(A, 10), (B, 21), (C, 30)],
-            ),
-            (
-                Step::Value(B),
-                Answer::Value(Some(Val::Int(21))),
-                &[(A, 10), (B, 21), (C, 30)],
-            ),
-            (
-                Step::Value(NO),
-                Answer::Value(None),
-                &[(A, 10), (B, 21), (C, 30)],
-            ),
-            (
-                Step::TakeKey(NO),
-                Answer::Nothing,
-                &[(A, 10), (B, 21), (C, 30)],
-            ),
-            (
-                Step::Append(40),
-                Answer::Nothing,
-                &[(A, 10), (B, 21), (C, 30)],
-            ),
-            (Step::Take(0), Answer::Entry(A, 10), &[(B, 21), (C, 30)]),
-            (
-                Step::Put(A, 11),
-                Answer::Replaced(None),
-                &[(B, 21), (C, 30), (A, 11)],
-            ),
-            (
-                Step::Find(A),
-                Answer::Position(Some(2)),
-                &[(B, 21), (C, 30), (A, 11)],
-            ),
-            (Step::TakeKey(C), Answer::Entry(C, 30), &[(B, 21), (A, 11)]),
-            (
-                Step::Put(C, 31),
-                Answer::Replaced(None),
-                &[(B, 21), (A, 11), (C, 31)],
-            ),
-            (
-                Step::Value(C),
-                Answer::Value(Some(Val::Int(31))),
-                &[(B, 21), (A, 11), (C, 31)],
-            ),
-            (Step::TakeKey(A), Answer::Entry(A, 11), &[(B, 21), (C, 31)]),
-            (Step::Detach, Answer::Entry(C, 31), &[(B, 21)]),
-            (Step::Take(0), Answer::Entry(B, 21), &[]),
-            (Step::TakeKey(B), Answer::Nothing, &[]),
-            (Step::Detach, Answer::Nothing, &[]),
-        ],
-    )
+        &mut lists,
+        &items(alloc, &[10, 20, 30])?,
+        list(),
+    )?;
+    let mut tuples: Box<dyn Kind> = Box::new(alloc, TupleKind::new(alloc))?;
+    drive(&rt, alloc, &mut tuples, &items(alloc, &[10, 20])?, tuple())
 }
 
 #[test]
 fn dictionaries_and_instances_keep_the_order(rt: HostRuntime) -> Result<(), Fail> {
     let alloc = rt.alloc();
     let mut dicts: Box<dyn Kind> = Box::new(alloc, DictKind::new(alloc))?;
-    drive_pairs(&rt, alloc, &mut dicts)?;
+    drive(&rt, alloc, &mut dicts, &[], pairs())?;
     let mut instances: Box<dyn Kind> = Box::new(alloc, InstKind::new(alloc))?;
-    drive_pairs(&rt, alloc, &mut instances)
+    drive(&rt, alloc, &mut instances, &[], pairs())
 }
 
 #[test]
-fn functions_keep_up_to_eight_cells(rt: HostRuntime) -> Result<(), Fail> {
+fn functions_keep_eight_cells_and_weak_references_one_callback(
+    rt: HostRuntime,
+) -> Result<(), Fail> {
     let alloc = rt.alloc();
-    let mut kind: Box<dyn Kind> = Box::new(alloc, FuncKind::new(alloc))?;
+    let mut functions: Box<dyn Kind> = Box::new(alloc, FuncKind::new(alloc))?;
     let parts = items(alloc, &[1, 2, 3, 4, 5, 6, 7, 8])?;
-    drive(
-        &rt,
-        alloc,
-        &mut kind,
-        parts.as_slice(),
-        &[
-            (
-                Step::Find(B),
-                Answer::Position(None),
-                &[
-                    (NO, 1),
-                    (NO, 2),
-                    (NO, 3),
-                    (NO, 4),
-                    (NO, 5),
-                    (NO, 6),
-                    (NO, 7),
-                    (NO, 8),
-                ],
-            ),
-            (
-                Step::Detach,
-                Answer::Entry(NO, 8),
-                &[
-                    (NO, 1),
-                    (NO, 2),
-                    (NO, 3),
-                    (NO, 4),
-                    (NO, 5),
-                    (NO, 6),
-                    (NO, 7),
-                ],
-            ),
-        ],
-    )
-}
-
-#[test]
-fn weak_references_keep_one_callback(rt: HostRuntime) -> Result<(), Fail> {
-    let alloc = rt.alloc();
-    let mut kind: Box<dyn Kind> = Box::new(alloc, WeakKind::new(alloc))?;
-    let parts = items(alloc, &[10])?;
-    drive(
-        &rt,
-        alloc,
-        &mut kind,
-        parts.as_slice(),
-        &[
-            (Step::Find(NO), Answer::Position(Some(0)), &[(NO, 10)]),
-            (Step::Put(NO, 11), Answer::Replaced(None), &[(NO, 10)]),
-            (
-                Step::Value(NO),
-                Answer::Value(Some(Val::Int(10))),
-                &[(NO, 10)],
-            ),
-            (Step::Take(0), Answer::Entry(NO, 10), &[(NO, 10)]),
-            (Step::TakeKey(NO), Answer::Entry(NO, 10), &[(NO, 10)]),
-            (Step::Detach, Answer::Entry(NO, 10), &[]),
-            (Step::Value(NO), Answer::Value(None), &[]),
-            (Step::TakeKey(NO), Answer::Nothing, &[]),
-            (Step::Detach, Answer::Nothing, &[]),
-        ],
-    )
+    drive(&rt, alloc, &mut functions, &parts, cells())?;
+    let mut weak: Box<dyn Kind> = Box::new(alloc, WeakKind::new(alloc))?;
+    drive(&rt, alloc, &mut weak, &items(alloc, &[10])?, callback())
 }
 
 /// Makes an object of items, appends the same items to an empty one, and removes them.
@@ -563,40 +558,19 @@ fn pass_through<K: Kind>(
     Ok(())
 }
 
-#[test]
-fn lists_keep_values_at_the_ends_of_their_ranges(rt: HostRuntime) -> Result<(), Fail> {
-    let alloc = rt.alloc();
-    let mut kind: Box<dyn Kind> = Box::new(alloc, ListKind::new(alloc))?;
-    let parts = items_with(
-        alloc,
-        &[
-            Val::None,
-            Val::Int(i64::MIN),
-            Val::Int(-1),
-            Val::Int(0),
-            Val::Int(i64::MAX),
-            Val::Str(0),
-            Val::Str(u32::MAX),
-            Val::Ref(0),
-            Val::Ref(1 << 32),
-            Val::Ref(u64::MAX),
-        ],
-    )?;
-    pass_through(&rt, alloc, &mut kind, parts.as_slice())
-}
-
-/// Puts values under new keys.
-fn put_many<K: Kind>(rt: &impl Abort, kind: &mut K, count: u64) -> Result<(), Fail>
-    requires { IsParts (K.kind kind.old) [] }
-{
-    let at = make(kind, &[])?;
-    'keys: for key in 0..count {
-        put(kind, at, Val::Ref(key), 7)?;
-    }
-    assert_eq!(rt; kind.len(at) as u64, count);
-    assert_eq!(rt; kind.find(at, Val::Ref(0)), Some(0));
-    Ok(())
-}
+/// Values at the ends of their ranges.
+const ENDS: [Val; 10] = [
+    Val::None,
+    Val::Int(i64::MIN),
+    Val::Int(-1),
+    Val::Int(0),
+    Val::Int(i64::MAX),
+    Val::Str(0),
+    Val::Str(u32::MAX),
+    Val::Ref(0),
+    Val::Ref(1 << 32),
+    Val::Ref(u64::MAX),
+];
 
 /// Appends items, and removes each again.
 fn append_many<K: Kind>(rt: &impl Abort, kind: &mut K, count: u32) -> Result<(), Fail>
@@ -715,21 +689,12 @@ fn grow_and_shrink<K: Kind>(rt: &impl Abort, alloc: Global, kind: &mut K) -> Res
 }
 
 #[test]
-fn a_list_becomes_long_and_short_again(rt: HostRuntime) -> Result<(), Fail> {
+fn lists_keep_what_they_get_and_become_long_and_short_again(rt: HostRuntime) -> Result<(), Fail> {
     let alloc = rt.alloc();
-    let mut appended: Box<dyn Kind> = Box::new(alloc, ListKind::new(alloc))?;
-    grow_and_shrink(&rt, alloc, &mut appended)?;
-    let mut made: Box<dyn Kind> = Box::new(alloc, ListKind::new(alloc))?;
-    let parts = numbers(alloc, 200)?;
-    pass_through(&rt, alloc, &mut made, parts.as_slice())
-}
-
-#[test]
-fn a_dictionary_holds_a_hundred_thousand_keys(rt: HostRuntime) -> Result<(), Fail> {
-    put_many(&rt, &mut DictKind::new(rt.alloc()), 100_000)
-}
-
-#[test]
-fn a_list_holds_four_million_items(rt: HostRuntime) -> Result<(), Fail> {
-    append_many(&rt, &mut ListKind::new(rt.alloc()), 4_000_000)
+    let ends = items_with(alloc, &ENDS)?;
+    pass_through(&rt, alloc, &mut ListKind::new(alloc), &ends)?;
+    let long = numbers(alloc, 200)?;
+    pass_through(&rt, alloc, &mut ListKind::new(alloc), &long)?;
+    grow_and_shrink(&rt, alloc, &mut ListKind::new(alloc))?;
+    append_many(&rt, &mut ListKind::new(alloc), 4_000_000)
 }

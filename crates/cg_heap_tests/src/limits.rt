@@ -3,23 +3,19 @@ ghost use Rattle.std.specs.Prelude.{◌≡◌, map, replicate};
 ghost use Rattle.std.specs.FinMap as fin;
 ghost use Rattle.cg_heap.specs.Boxes.{six_kinds};
 
+use crate::heaps::{Answer, Row, Step, follow};
 use crate::scene::Scene;
 use cg_any_kind::six;
 use cg_graph::reference_in;
-use cg_heap::{Heap, HeapFault};
+use cg_heap::HeapFault;
 use cg_kind::Kind;
 use cg_value::{Place, Val};
 use std::alloc::{AllocError, Global};
 use std::process::Abort;
 use std::test::Fail;
 
-/// Panics if other numbers of objects and entries live.
-fn assert_sizes<B: Kind>(rt: &impl Abort, heap: &Heap<B>, objects: u64, entries: u64) {
-    assert_eq!(rt; heap.live(), objects);
-    assert_eq!(rt; heap.entries(), entries);
-}
-
-/// Removes all entries of an object. Answers the object that the last removed entry refers to, which is then held, if any.
+/// Takes all entries of an object off. It answers the object to which the last one that was taken refers, and which is held
+/// then, if there is one.
 fn empty<B: Kind>(
     rt: &impl Abort,
     scene: &mut Scene<B>,
@@ -77,33 +73,67 @@ fn fill<B: Kind>(
     Ok(last)
 }
 
-/// A million lists of four numbers: one more object is refused until one is freed.
-fn reach_objects<B: Kind>(rt: &impl Abort, scene: &mut Scene<B>) -> Result<(), Fail> {
-    let last = fill(rt, scene, 1_000_000, 4)?;
-    assert_sizes(rt, &scene.heap, 1_000_000, 4_000_000);
-    assert_eq!(rt; scene.list(rt), Err(HeapFault::ObjectLimit));
-    assert_eq!(rt; scene.dict(rt), Err(HeapFault::ObjectLimit));
-    assert_eq!(rt; give_up(rt, scene, last)?, None);
-    assert_sizes(rt, &scene.heap, 999_999, 3_999_996);
-    // A refusal uses no serial, and none is reused.
-    assert_eq!(rt; scene.list(rt), Ok(1_000_002));
-    assert_eq!(rt; scene.heap.live(), 1_000_000);
-    assert_eq!(rt; scene.list(rt), Err(HeapFault::ObjectLimit));
-    Ok(())
+const FULL: Answer = Answer::Made(Err(HeapFault::ObjectLimit));
+
+/// A million lists of four numbers: one object more is refused.
+static MILLION: [Row; 4] = [
+    (Step::Live, Answer::Number(1_000_000)),
+    (Step::Entries, Answer::Number(4_000_000)),
+    (Step::List, FULL),
+    (Step::Dict, FULL),
+];
+
+fn million() -> &'static [Row] {
+    &MILLION
 }
 
-/// A thousand lists of four thousand numbers: one more entry is refused, but not an object without entries.
+/// One was let go. No serial was used by a refusal, and none is used again.
+static ONE_LESS: [Row; 5] = [
+    (Step::Live, Answer::Number(999_999)),
+    (Step::Entries, Answer::Number(3_999_996)),
+    (Step::List, Answer::Made(Ok(1_000_002))),
+    (Step::Live, Answer::Number(1_000_000)),
+    (Step::List, FULL),
+];
+
+fn one_less() -> &'static [Row] {
+    &ONE_LESS
+}
+
+fn reach_objects<B: Kind>(rt: &impl Abort, scene: &mut Scene<B>) -> Result<(), Fail> {
+    let last = fill(rt, scene, 1_000_000, 4)?;
+    follow(rt, scene, "a million objects", million())?;
+    assert!(rt; give_up(rt, scene, last)?.is_none());
+    follow(rt, scene, "a million objects but one", one_less())
+}
+
+const LIMIT: HeapFault = HeapFault::EntryLimit;
+
+/// A thousand lists of four thousand numbers: one entry more is refused, an object without entries is not.
+static ENTRIES: [Row; 8] = [
+    (Step::Entries, Answer::Number(4_000_000)),
+    (
+        Step::Append(1001, Val::Int(1)),
+        Answer::Appended(Err(LIMIT)),
+    ),
+    (Step::ListOf(Val::Int(7)), Answer::Made(Err(LIMIT))),
+    (Step::List, Answer::Made(Ok(1002))),
+    (Step::Dict, Answer::Made(Ok(1003))),
+    (
+        Step::Put(1003, Val::Int(1), Val::Int(2)),
+        Answer::Replaced(Err(LIMIT)),
+    ),
+    (Step::Live, Answer::Number(1002)),
+    (Step::Entries, Answer::Number(4_000_000)),
+];
+
+fn entries() -> &'static [Row] {
+    &ENTRIES
+}
+
 fn reach_entries<B: Kind>(rt: &impl Abort, scene: &mut Scene<B>) -> Result<(), Fail> {
-    let limit = HeapFault::EntryLimit;
-    let last = fill(rt, scene, 1000, 4000)?;
-    assert_eq!(rt; scene.heap.entries(), 4_000_000);
-    assert_eq!(rt; scene.append(rt, last, Val::Int(1)), Err(limit));
-    assert_eq!(rt; scene.list_of(rt, Val::Int(7)), Err(limit));
-    assert_eq!(rt; scene.list(rt), Ok(1002));
-    assert_eq!(rt; scene.dict(rt), Ok(1003));
-    assert_eq!(rt; scene.put(rt, 1003, Val::Int(1), Val::Int(2)), Err(limit));
-    assert_sizes(rt, &scene.heap, 1002, 4_000_000);
-    Ok(())
+    fill(rt, scene, 1000, 4000)?;
+    follow(rt, scene, "four million entries", entries())
 }
 
 /// Lists that each hold the previous one, which nothing else holds. Answers the last one.
@@ -134,31 +164,34 @@ fn unchain<B: Kind>(
     Ok(left)
 }
 
-/// Makes a long chain and frees it.
-fn give_up_chain<B: Kind>(rt: &impl Abort, scene: &mut Scene<B>) -> Result<(), Fail> {
-    let last = chain(rt, scene, 300_000)?;
-    assert_sizes(rt, &scene.heap, 300_000, 299_999);
-    assert_eq!(rt; unchain(rt, scene, last, 300_000)?, None);
-    assert_sizes(rt, &scene.heap, 0, 0);
-    // The garbage list is left.
-    assert_eq!(rt; scene.heap.size(Place::Untracked), 1);
-    assert_eq!(rt; scene.heap.size(Place::Gen(0)), 0);
-    Ok(())
+/// A long chain.
+static LONG_CHAIN: [Row; 2] = [
+    (Step::Live, Answer::Number(300_000)),
+    (Step::Entries, Answer::Number(299_999)),
+];
+
+fn long_chain() -> &'static [Row] {
+    &LONG_CHAIN
 }
 
-/// Each call that may be refused succeeds if there is memory.
-fn call_each<B: Kind>(rt: &impl Abort, scene: &mut Scene<B>) {
-    assert_eq!(rt; scene.heap.live(), 0);
-    assert_eq!(rt; scene.list(rt), Ok(2));
-    assert_eq!(rt; scene.append(rt, 2, Val::Int(5)), Ok(()));
-    assert_eq!(rt; scene.list_of(rt, Val::Int(7)), Ok(3));
-    assert_eq!(rt; scene.dict(rt), Ok(4));
-    assert_eq!(rt; scene.put(rt, 4, Val::Int(1), Val::Int(2)), Ok(None));
-    assert_eq!(rt;
-        scene.put(rt, 4, Val::Int(1), Val::Int(3)),
-        Ok(Some(Val::Int(2)))
-    );
-    assert_sizes(rt, &scene.heap, 3, 3);
+/// The garbage list is left.
+static NOTHING: [Row; 4] = [
+    (Step::Live, Answer::Number(0)),
+    (Step::Entries, Answer::Number(0)),
+    (Step::Size(Place::Untracked), Answer::Number(1)),
+    (Step::Size(Place::Gen(0)), Answer::Number(0)),
+];
+
+fn nothing() -> &'static [Row] {
+    &NOTHING
+}
+
+/// A long chain is made and given up.
+fn give_up_chain<B: Kind>(rt: &impl Abort, scene: &mut Scene<B>) -> Result<(), Fail> {
+    let last = chain(rt, scene, 300_000)?;
+    follow(rt, scene, "a chain", long_chain())?;
+    assert!(rt; unchain(rt, scene, last, 300_000)?.is_none());
+    follow(rt, scene, "no chain", nothing())
 }
 
 /// The experiments on a heap.
@@ -167,7 +200,6 @@ enum Trial {
     Objects,
     Entries,
     Chain,
-    Calls,
 }
 
 fn attempt<B: Kind>(rt: &impl Abort, scene: &mut Scene<B>, trial: Trial) -> Result<(), Fail> {
@@ -175,10 +207,6 @@ fn attempt<B: Kind>(rt: &impl Abort, scene: &mut Scene<B>, trial: Trial) -> Resu
         Trial::Objects => reach_objects(rt, scene),
         Trial::Entries => reach_entries(rt, scene),
         Trial::Chain => give_up_chain(rt, scene),
-        Trial::Calls => {
-            call_each(rt, scene);
-            Ok(())
-        }
     }
 }
 
@@ -199,19 +227,10 @@ fn a_million_objects_are_the_most(rt: HostRuntime) -> Result<(), Fail> {
 }
 
 #[test]
-fn four_million_entries_are_the_most(rt: HostRuntime) -> Result<(), Fail> {
+fn four_million_entries_are_the_most_and_a_long_chain_is_given_up(
+    rt: HostRuntime,
+) -> Result<(), Fail> {
     let alloc = rt.alloc();
-    check(&rt, alloc, six(alloc)?, Trial::Entries)
-}
-
-#[test]
-fn a_long_chain_is_freed(rt: HostRuntime) -> Result<(), Fail> {
-    let alloc = rt.alloc();
+    check(&rt, alloc, six(alloc)?, Trial::Entries)?;
     check(&rt, alloc, six(alloc)?, Trial::Chain)
-}
-
-#[test]
-fn with_memory_each_call_succeeds(rt: HostRuntime) -> Result<(), Fail> {
-    let alloc = rt.alloc();
-    check(&rt, alloc, six(alloc)?, Trial::Calls)
 }

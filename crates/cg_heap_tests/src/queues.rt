@@ -3,7 +3,7 @@ ghost use Rattle.std.specs.Prelude.{[], IfOk};
 ghost use Rattle.cg_kind.specs.Bodies.{Holds};
 ghost use Rattle.cg_kind.specs.Calls.{IsParts};
 
-use crate::kinds::{Answer, append, detach, make, put, take, take_first};
+use crate::kinds::{Answer, Step, advance, append, make, take_first};
 use cg_kind::Kind;
 use cg_kinds::ListKind;
 use cg_value::Val;
@@ -11,8 +11,9 @@ use std::alloc::{AllocError, Global};
 use std::process::Abort;
 use std::test::Fail;
 
-/// The whole numbers from one to below another, as the items of a list: appended one by one, and removed in the same order.
-#[derive(Clone, Copy, Debug, PartialEq, Drop)]
+/// The whole numbers from one to before another, which are the items of a list: appended one by one, and taken off in the same
+/// order.
+#[derive(Clone, Copy, Drop)]
 struct Numbers {
     first: i64,
     next: i64,
@@ -108,12 +109,7 @@ fn queue_up<K: Kind>(rt: &impl Abort, kind: &mut K) -> Result<(), Fail>
     Ok(())
 }
 
-#[test]
-fn a_queue_is_first_in_first_out(rt: HostRuntime) -> Result<(), Fail> {
-    queue_up(&rt, &mut ListKind::new(rt.alloc()))
-}
-
-/// A list of the numbers from 10 to 99, with the first ten removed at the front.
+/// A list of the numbers from 10 to 99, of which the first ten have left at the front.
 fn ninety<K: Kind>(rt: &impl Abort, kind: &mut K) -> Result<usize, AllocError>
     requires { IsParts (K.kind kind.old) [] }
     ensures { IfOk result (λ at. Holds (K.bodies kind.new) at) }
@@ -124,25 +120,43 @@ fn ninety<K: Kind>(rt: &impl Abort, kind: &mut K) -> Result<usize, AllocError>
     Ok(at)
 }
 
-/// Removals at the front shift the positions of the others.
+/// What leaves at the front moves the places of the others.
+static PLACES: [(Step, Answer); 7] = [
+    (
+        Step::Put(Val::Int(0), -10),
+        Answer::Replaced(Some(Val::Int(10))),
+    ),
+    (
+        Step::Put(Val::Int(89), -99),
+        Answer::Replaced(Some(Val::Int(99))),
+    ),
+    (Step::Take(1), Answer::Entry(Val::None, 11)),
+    (Step::Detach, Answer::Entry(Val::None, -99)),
+    (Step::Detach, Answer::Entry(Val::None, 98)),
+    (Step::Take(0), Answer::Entry(Val::None, -10)),
+    (Step::Take(0), Answer::Entry(Val::None, 12)),
+];
+
+fn places() -> &'static [(Step, Answer)] {
+    &PLACES
+}
+
 fn change_ninety<K: Kind>(rt: &impl Abort, kind: &mut K) -> Result<(), Fail>
     requires { IsParts (K.kind kind.old) [] }
 {
     let at = ninety(rt, kind)?;
-    let first = put(kind, at, Val::Int(0), -10)?;
-    assert_eq!(rt; first, Answer::Replaced(Some(Val::Int(10))));
-    let last = put(kind, at, Val::Int(89), -99)?;
-    assert_eq!(rt; last, Answer::Replaced(Some(Val::Int(99))));
-    assert_eq!(rt; take(kind, at, 1), Answer::Entry(Val::None, 11));
-    assert_eq!(rt; detach(kind, at), Answer::Entry(Val::None, -99));
-    assert_eq!(rt; detach(kind, at), Answer::Entry(Val::None, 98));
-    assert_eq!(rt; take_first(kind, at), Some(Val::Int(-10)));
-    assert_eq!(rt; take_first(kind, at), Some(Val::Int(12)));
-    assert_eq!(rt; kind.len(at), 85);
+    'rows: for (step, answer) in places() {
+        let found = advance(kind, at, *step)?;
+        assert_eq!(rt; found, *answer, "at {step:?}");
+    }
+    assert!(rt; kind.len(at) == 85);
     Ok(())
 }
 
 #[test]
-fn a_place_counts_from_the_first_value(rt: HostRuntime) -> Result<(), Fail> {
+fn numbers_leave_at_the_front_and_places_count_from_the_first_left(
+    rt: HostRuntime,
+) -> Result<(), Fail> {
+    queue_up(&rt, &mut ListKind::new(rt.alloc()))?;
     change_ninety(&rt, &mut ListKind::new(rt.alloc()))
 }

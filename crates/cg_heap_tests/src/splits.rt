@@ -1,5 +1,5 @@
-//! Small graphs in a heap over six kinds, split. What is left is worked out by hand, and what is kept by the plain search.
-ghost use Rattle.std.specs.Prelude.{◌≡◌, ◌<◌, ◌≤◌, ◌+◌, map, replicate, IfOk};
+//! Small graphs in a heap over six kinds, split. What is to be left is found by hand, and what is kept by the plain search.
+ghost use Rattle.std.specs.Prelude.{◌≡◌, ◌<◌, map, replicate, IfOk};
 ghost use Rattle.std.specs.List.{All};
 ghost use Rattle.std.specs.FinMap as fin;
 ghost use Rattle.cg_graph.specs.Store.{IsLive, list_at};
@@ -20,54 +20,119 @@ use std::process::Abort;
 use std::sync::ledger::{Blank, Ledger};
 use std::test::Fail;
 
-/// The graphs of the table.
-#[derive(Clone, Copy, Debug, PartialEq, Eq, Drop)]
+/// A graph.
+#[derive(Clone, Copy, Drop)]
 enum Graph {
-    /// #2 holds itself twice.
-    HoldsItselfTwice,
-    /// #2 holds itself three times.
-    HoldsItselfThrice,
-    /// #2 and #3 hold each other, so do #4 and #5, and #3 holds #4.
-    RingsWithBridge,
-    /// #2 holds #3, which holds #4, which holds #2; #5 stands alone.
-    RingOfThree,
-    /// #2 and #3 hold each other, #4 holds #2, and #5 holds #4.
-    ChainIntoRing,
+    /// So many lists from #2 on, and their items.
+    Lists(u32, &'static [(u64, u64)]),
     /// The dictionary #2 has the object #4 under the object #3, and the function #5 has the dictionary as a cell.
     KeyAndCell,
 }
 
-/// A graph, the objects that stay held from outside, whether all objects are candidates before, and the unreachable
-/// ones.
-#[derive(Clone, Copy, Drop)]
-struct Row {
-    graph: Graph,
-    held: &'static [u64],
-    among_candidates: bool,
-    left: &'static [u64],
+/// #2 holds itself twice.
+const TWICE: Graph = Graph::Lists(1, &[(2, 2), (2, 2)]);
+
+/// #2 holds itself three times.
+const THRICE: Graph = Graph::Lists(1, &[(2, 2), (2, 2), (2, 2)]);
+
+/// #2 and #3 hold each other, so do #4 and #5, and #3 holds #4.
+const BRIDGE: Graph = Graph::Lists(4, &[(2, 3), (3, 2), (4, 5), (5, 4), (3, 4)]);
+
+/// #2 holds #3, which holds #4, which holds #2; #5 stands alone.
+const RING: Graph = Graph::Lists(4, &[(2, 3), (3, 4), (4, 2)]);
+
+/// #2 and #3 hold each other, #4 holds #2, and #5 holds #4.
+const CHAIN: Graph = Graph::Lists(4, &[(2, 3), (3, 2), (4, 2), (5, 4)]);
+
+/// A name, a graph, the objects that stay held from outside, what is unreachable, and whether all objects are candidates before.
+type Row = (&'static str, Graph, &'static [u64], &'static [u64], bool);
+
+static ROWS: [Row; 14] = [
+    ("#2 holds itself twice", TWICE, &[], &[2], false),
+    (
+        "#2 holds itself twice, and is held",
+        TWICE,
+        &[2],
+        &[],
+        false,
+    ),
+    ("#2 holds itself three times", THRICE, &[], &[2], false),
+    ("two rings with a bridge", BRIDGE, &[], &[2, 3, 4, 5], false),
+    (
+        "two rings with a bridge, the first held",
+        BRIDGE,
+        &[3],
+        &[],
+        false,
+    ),
+    (
+        "two rings with a bridge, the second held",
+        BRIDGE,
+        &[4],
+        &[2, 3],
+        false,
+    ),
+    (
+        "a ring of three that is held, and one alone",
+        RING,
+        &[3],
+        &[5],
+        false,
+    ),
+    (
+        "a chain into a ring, held at its front",
+        CHAIN,
+        &[5],
+        &[],
+        false,
+    ),
+    (
+        "a chain into a ring, held behind its front",
+        CHAIN,
+        &[4],
+        &[5],
+        false,
+    ),
+    ("a chain into a ring", CHAIN, &[], &[2, 3, 4, 5], false),
+    (
+        "a key and a cell, the function held",
+        Graph::KeyAndCell,
+        &[5],
+        &[],
+        false,
+    ),
+    (
+        "a key and a cell, the dictionary held",
+        Graph::KeyAndCell,
+        &[2],
+        &[5],
+        false,
+    ),
+    (
+        "a key and a cell",
+        Graph::KeyAndCell,
+        &[],
+        &[2, 3, 4, 5],
+        false,
+    ),
+    (
+        "two rings with a bridge among the candidates, the second held",
+        BRIDGE,
+        &[4],
+        &[2, 3],
+        true,
+    ),
+];
+
+fn rows() -> &'static [Row] {
+    &ROWS
 }
 
 fn build<B: Kind>(scene: &mut Scene<B>, rt: &impl Abort, graph: Graph) -> Result<(), HeapFault> {
     match graph {
-        Graph::HoldsItselfTwice => build_self(scene, rt, 2),
-        Graph::HoldsItselfThrice => build_self(scene, rt, 3),
-        Graph::RingsWithBridge => scene.build_lists(
-            rt,
-            4,
-            &[(2, 3), (3, 2), (4, 5), (5, 4), (3, 4)],
-        ),
-        Graph::RingOfThree => scene.build_lists(rt, 4, &[(2, 3), (3, 4), (4, 2)]),
-        Graph::ChainIntoRing => scene.build_lists(rt, 4, &[(2, 3), (3, 2), (4, 2), (5, 4)]),
+        Graph::Lists(count, links) => scene.build_lists(rt, count, links),
         Graph::KeyAndCell => build_key_and_cell(scene, rt),
     }
-}
-
-fn build_self<B: Kind>(scene: &mut Scene<B>, rt: &impl Abort, times: u32) -> Result<(), HeapFault> {
-    let list = scene.list(rt)?;
-    for _ in 0..times {
-        scene.append(rt, list, Val::Ref(list))?;
-    }
-    Ok(())
 }
 
 fn build_key_and_cell<B: Kind>(scene: &mut Scene<B>, rt: &impl Abort) -> Result<(), HeapFault> {
@@ -213,15 +278,16 @@ fn split_as_row<B: Kind, L: Ledger>(
     steps: &mut Steps<L>,
     row: Row,
 ) -> Result<(), Fail> {
-    let from = if row.among_candidates {
+    let (name, _, _, expected, among_candidates) = row;
+    let from = if among_candidates {
         heap.merge(Place::Gen(0), Place::Cand);
         Place::Cand
     } else {
         Place::Gen(0)
     };
     let (left, kept, reached) = split_place(rt, alloc, heap, from, steps)?;
-    assert_eq!(rt; kept.as_slice(), reached.as_slice(), "{:?}", row.graph);
-    assert_eq!(rt; left.as_slice(), row.left, "{:?}", row.graph);
+    assert_eq!(rt; kept.as_slice(), reached.as_slice(), "at {name:?}");
+    assert_eq!(rt; left.as_slice(), expected, "at {name:?}");
     Ok(())
 }
 
@@ -239,99 +305,16 @@ fn check_row<B: Kind, L: Ledger>(
     requires parts { blank.parts ≡ L.parts }
     requires some { 0 < blank.parts }
 {
-    let mut heap = heap_of(rt, alloc, kinds, row.graph, row.held)?;
+    let mut heap = heap_of(rt, alloc, kinds, row.1, row.2)?;
     let mut steps = Steps::<L>::new(blank);
     split_as_row(rt, alloc, &mut heap, &mut steps, row)
-}
-
-/// Splits generation 0, which has one object with three entries; there are no candidates. Panics otherwise.
-fn split_one_of_three<B: Kind, L: Ledger>(rt: &impl Abort, heap: &mut Heap<B>, steps: &mut Steps<L>)
-    ensures least { steps.old + 3 ≤ steps.new }
-    ensures most { steps.new ≤ steps.old + 6 }
-{
-    heap.sound();
-    assert!(rt; heap.size(Place::Gen(0)) == 1);
-    assert!(rt; heap.size(Place::Cand) == 0);
-    assert!(rt; heap.size(Place::Back) == 0);
-    let Some(object) = heap.first(Place::Gen(0)) else {
-        panic!(rt; "no object stands in generation 0");
-    };
-    assert!(rt; heap.len(object) == 3);
-    split(heap, Place::Gen(0), steps);
-}
-
-/// Splits a list that holds itself three times, which is left.
-fn look_at_three_in<B: Kind, L: Ledger>(
-    rt: &impl Abort,
-    alloc: Global,
-    heap: &mut Heap<B>,
-    steps: &mut Steps<L>,
-) -> Result<(), Fail> {
-    split_one_of_three(rt, heap, steps);
-    let left = serials_in(alloc, heap, Place::Cand)?;
-    assert_eq!(rt; left.as_slice(), [2u64].as_slice());
-    Ok(())
-}
-
-/// The same in a heap of its own: each entry is looked at, at most twice.
-fn look_at_three<B: Kind, L: Ledger>(
-    rt: &impl Abort,
-    alloc: Global,
-    kinds: Vec<B>,
-    blank: Blank,
-) -> Result<(), Fail>
-    requires kinds { map B.kind kinds.items ≡ six_kinds }
-    requires empty { map B.bodies kinds.items ≡ replicate 6 fin.empty }
-    requires name { blank.name ≡ L.name }
-    requires parts { blank.parts ≡ L.parts }
-    requires some { 0 < blank.parts }
-{
-    let mut heap = heap_of(rt, alloc, kinds, Graph::HoldsItselfThrice, &[])?;
-    let mut steps = Steps::<L>::new(blank);
-    look_at_three_in(rt, alloc, &mut heap, &mut steps)
-}
-
-fn table_row(graph: Graph, held: &'static [u64], left: &'static [u64]) -> Row {
-    Row {
-        graph,
-        held,
-        among_candidates: false,
-        left,
-    }
 }
 
 #[test]
 fn what_no_path_reaches_is_left(rt: HostRuntime) -> Result<(), Fail> {
     let alloc = rt.alloc();
-    let rows = [
-        table_row(Graph::HoldsItselfTwice, &[], &[2]),
-        table_row(Graph::HoldsItselfTwice, &[2], &[]),
-        table_row(Graph::HoldsItselfThrice, &[], &[2]),
-        table_row(Graph::RingsWithBridge, &[], &[2, 3, 4, 5]),
-        table_row(Graph::RingsWithBridge, &[3], &[]),
-        table_row(Graph::RingsWithBridge, &[4], &[2, 3]),
-        table_row(Graph::RingOfThree, &[3], &[5]),
-        table_row(Graph::ChainIntoRing, &[5], &[]),
-        table_row(Graph::ChainIntoRing, &[4], &[5]),
-        table_row(Graph::ChainIntoRing, &[], &[2, 3, 4, 5]),
-        table_row(Graph::KeyAndCell, &[5], &[]),
-        table_row(Graph::KeyAndCell, &[2], &[5]),
-        table_row(Graph::KeyAndCell, &[], &[2, 3, 4, 5]),
-        Row {
-            graph: Graph::RingsWithBridge,
-            held: &[4],
-            among_candidates: true,
-            left: &[2, 3],
-        },
-    ];
-    for row in rows {
-        check_row::<AnyKind, Brand>(&rt, alloc, six(alloc)?, Blank::new(1), row)?;
+    for row in rows() {
+        check_row::<AnyKind, Brand>(&rt, alloc, six(alloc)?, Blank::new(1), *row)?;
     }
     Ok(())
-}
-
-#[test]
-fn three_entries_are_looked_at_three_to_six_times(rt: HostRuntime) -> Result<(), Fail> {
-    let alloc = rt.alloc();
-    look_at_three::<AnyKind, Brand>(&rt, alloc, six(alloc)?, Blank::new(1))
 }

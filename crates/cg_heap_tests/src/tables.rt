@@ -83,159 +83,216 @@ fn put_both<K: Kind>(
     Ok(())
 }
 
-/// Removes the entry at a position from an object and from a plain list, if there is one.
-fn take_both<K: Kind>(kind: &mut K, at: usize, plain: &mut Vec<Entry>, place: usize)
+/// Takes the entry at a place out of an object and out of a plain list, where there is one. Its key is found no more.
+fn take_both<K: Kind>(
+    rt: &impl Abort,
+    kind: &mut K,
+    at: usize,
+    plain: &mut Vec<Entry>,
+    place: usize,
+)
     requires { Holds (K.bodies kind.old) at }
     ensures { Holds (K.bodies kind.new) at }
 {
     if place < plain.len() {
         let _ = take(kind, at, place);
-        let _ = plain.remove(place);
+        let gone = plain.remove(place);
+        assert_eq!(rt; kind.find(at, gone.key), None);
     }
 }
 
-/// Removes the entry of a key from an object and from a plain list, if there is one.
+/// Takes the entry of a key out of an object and out of a plain list, where there is one. The key is found no more.
 fn take_key_of_both<K: Kind>(
     rt: &impl Abort,
     kind: &mut K,
     at: usize,
     plain: &mut Vec<Entry>,
-    key: i64,
-) -> Result<(), Fail>
+    key: Val,
+)
     requires { Holds (K.bodies kind.old) at }
     ensures { Holds (K.bodies kind.new) at }
 {
-    let expected = match take_plainly(plain, Val::Int(key)) {
+    let expected = match take_plainly(plain, key) {
         Some(entry) => answer_of(entry),
         None => Answer::Nothing,
     };
-    assert_eq!(rt; take_key(kind, at, Val::Int(key)), expected);
-    assert_eq!(rt; kind.value_of(at, Val::Int(key)), None);
-    Ok(())
+    assert_eq!(rt; take_key(kind, at, key), expected);
+    assert_eq!(rt; kind.value_of(at, key), None);
+    assert_eq!(rt; take_key(kind, at, key), Answer::Nothing);
 }
 
-/// Puts this many keys, replaces a value, and removes and re-adds the first key.
-fn go_over<K: Kind>(rt: &impl Abort, alloc: Global, kind: &mut K, count: i64) -> Result<(), Fail>
-    requires { IsParts (K.kind kind.old) [] }
-{
-    let at = make(kind, &[])?;
-    let mut plain = Vec::new(alloc);
-    'keys: for key in 0..count {
-        put_both(rt, alloc, kind, at, &mut plain, Val::Int(key), Val::Int(10))?;
-        assert_has(rt, alloc, kind, at, plain.as_slice())?;
-    }
-    put_both(rt, alloc, kind, at, &mut plain, Val::Int(3), Val::Int(30))?;
-    assert_has(rt, alloc, kind, at, plain.as_slice())?;
-    take_both(kind, at, &mut plain, 0);
-    assert_eq!(rt; kind.find(at, Val::Int(0)), None);
-    put_both(rt, alloc, kind, at, &mut plain, Val::Int(0), Val::Int(40))?;
-    assert_has(rt, alloc, kind, at, plain.as_slice())?;
-    take_key_of_both(rt, kind, at, &mut plain, 2)?;
-    take_key_of_both(rt, kind, at, &mut plain, 99)?;
-    assert_has(rt, alloc, kind, at, plain.as_slice())
-}
-
-#[test]
-fn one_key_too_many_for_a_list_keeps_the_order(rt: HostRuntime) -> Result<(), Fail> {
-    let alloc = rt.alloc();
-    let mut dicts = DictKind::new(alloc);
-    'counts: for count in 23..=27 {
-        go_over(&rt, alloc, &mut dicts, count)?;
-    }
-    // With this many keys, enough follow the first for its drop to record the order.
-    'more: for count in 45..=49 {
-        go_over(&rt, alloc, &mut dicts, count)?;
-    }
-    let mut instances = InstKind::new(alloc);
-    go_over(&rt, alloc, &mut instances, 25)?;
-    go_over(&rt, alloc, &mut instances, 46)
-}
-
-/// Random steps: how many, over how many keys, and after how many of them all entries are checked.
+/// What is done to an object and to a plain list.
 #[derive(Clone, Copy, Drop)]
-struct RandomWalk {
-    steps: u32,
-    keys: u64,
-    between_looks: u64,
+enum Step {
+    Put(Val, Val),
+    Take(usize),
+    TakeKey(Val),
 }
 
-/// One random step on a dictionary and on a plain list.
-fn step<K: Kind>(
+/// Does a step of both.
+fn advance<K: Kind>(
     rt: &impl Abort,
     alloc: Global,
     kind: &mut K,
     at: usize,
     plain: &mut Vec<Entry>,
-    number: u64,
-    keys: u64,
+    step: Step,
 ) -> Result<(), Fail>
     requires { Holds (K.bodies kind.old) at }
     ensures { Holds (K.bodies kind.new) at }
 {
-    let drawn = (number / 6 % keys.clamp(1, 1000)) as i64;
-    if number % 6 == 0 {
-        take_key_of_both(rt, kind, at, plain, drawn)
-    } else if number % 6 == 3 {
-        take_both(kind, at, plain, drawn as usize);
-        Ok(())
-    } else {
-        let val = Val::Int((number % 1000) as i64);
-        put_both(rt, alloc, kind, at, plain, Val::Int(drawn), val)
-    }
-}
-
-/// Takes an object without entries through random steps, and compares it with a plain list. Answers the list.
-fn walk<K: Kind>(
-    rt: &impl Abort,
-    alloc: Global,
-    kind: &mut K,
-    at: usize,
-    first: u64,
-    walk: RandomWalk,
-) -> Result<Vec<Entry>, Fail>
-    requires { Holds (K.bodies kind.old) at }
-    ensures { Holds (K.bodies kind.new) at }
-{
-    let mut plain = Vec::new(alloc);
-    let mut draw = first;
-    'steps: for _ in 0..walk.steps {
-        draw = next(draw);
-        step(rt, alloc, kind, at, &mut plain, draw >> 20, walk.keys)?;
-        if draw % walk.between_looks.max(1) == 0 {
-            assert_has(rt, alloc, kind, at, plain.as_slice())?;
-        }
-    }
-    Ok(plain)
-}
-
-#[test]
-fn steps_about_the_limit_of_a_list_are_those_of_a_plain_list(rt: HostRuntime) -> Result<(), Fail> {
-    let alloc = rt.alloc();
-    let mut kind = DictKind::new(alloc);
-    let short = RandomWalk {
-        steps: 200,
-        keys: 32,
-        between_looks: 1,
-    };
-    'walks: for first in 1..=20 {
-        let at = make(&mut kind, &[])?;
-        walk(&rt, alloc, &mut kind, at, first, short)?;
+    match step {
+        Step::Put(key, val) => put_both(rt, alloc, kind, at, plain, key, val)?,
+        Step::Take(place) => take_both(rt, kind, at, plain, place),
+        Step::TakeKey(key) => take_key_of_both(rt, kind, at, plain, key),
     }
     Ok(())
 }
 
-/// A long walk over many keys, which are then all removed.
-fn walk_and_empty<K: Kind>(rt: &impl Abort, alloc: Global, kind: &mut K) -> Result<(), Fail>
+/// The keys from the first to before the last are put, each with ten times itself or with 10; then come steps, each so many times;
+/// so many entries are left.
+type Row = (i64, i64, bool, &'static [(u32, Step)], usize);
+
+/// Takes an object through a row, and looks at all entries after each step.
+fn follow<K: Kind>(rt: &impl Abort, alloc: Global, kind: &mut K, row: Row) -> Result<(), Fail>
     requires { IsParts (K.kind kind.old) [] }
 {
-    let long = RandomWalk {
-        steps: 6_000,
-        keys: 600,
-        between_looks: 16,
-    };
+    let (first, past, tenfold, steps, left) = row;
     let at = make(kind, &[])?;
-    let mut plain = walk(rt, alloc, kind, at, 1, long)?;
-    assert_has(rt, alloc, kind, at, plain.as_slice())?;
+    let mut plain = Vec::new(alloc);
+    'keys: for key in first..past {
+        let val = if tenfold { key.wrapping_mul(10) } else { 10 };
+        let step = Step::Put(Val::Int(key), Val::Int(val));
+        advance(rt, alloc, kind, at, &mut plain, step)?;
+        assert_has(rt, alloc, kind, at, &plain)?;
+    }
+    'steps: for (times, step) in steps {
+        'times: for _ in 0..*times {
+            advance(rt, alloc, kind, at, &mut plain, *step)?;
+            assert_has(rt, alloc, kind, at, &plain)?;
+        }
+    }
+    assert_eq!(rt; plain.len(), left);
+    Ok(())
+}
+
+/// A value is replaced, the first key goes and comes again, and two keys are taken, one of which is not there.
+const CHANGES: &[(u32, Step)] = &[
+    (1, Step::Put(Val::Int(3), Val::Int(30))),
+    (1, Step::Take(0)),
+    (1, Step::Put(Val::Int(0), Val::Int(40))),
+    (1, Step::TakeKey(Val::Int(2))),
+    (1, Step::TakeKey(Val::Int(99))),
+];
+
+/// Some keys of 48 are taken, two are put again, and one more is taken. The newest goes while the map keeps the order, the others from
+/// an order that the oldest brought. The keys that are left: 2 to 45 without 12 and 44, and then 12 and 0.
+const AGAIN: &[(u32, Step)] = &[
+    (1, Step::TakeKey(Val::Int(47))),
+    (1, Step::TakeKey(Val::Int(0))),
+    (1, Step::TakeKey(Val::Int(12))),
+    (1, Step::TakeKey(Val::Int(1))),
+    (1, Step::TakeKey(Val::Int(46))),
+    (1, Step::Put(Val::Int(12), Val::Int(120))),
+    (1, Step::Put(Val::Int(0), Val::Int(0))),
+    (1, Step::TakeKey(Val::Int(44))),
+];
+
+/// Values at the ends of their ranges, as keys and as values. They come out as they went in, from the map's own order, and from another
+/// once the first keys are gone.
+const ENDS: &[(u32, Step)] = &[
+    (1, Step::Put(Val::None, Val::Ref(u64::MAX))),
+    (1, Step::Put(Val::Int(i64::MIN), Val::Ref(u32::MAX as u64))),
+    (1, Step::Put(Val::Int(-1), Val::Ref(0))),
+    (1, Step::Put(Val::Int(0), Val::Str(u32::MAX))),
+    (1, Step::Put(Val::Int(i64::MAX), Val::Str(0))),
+    (1, Step::Put(Val::Str(0), Val::Int(i64::MAX))),
+    (1, Step::Put(Val::Str(u32::MAX), Val::Int(0))),
+    (1, Step::Put(Val::Ref(0), Val::Int(-1))),
+    (1, Step::Put(Val::Ref(u32::MAX as u64), Val::Int(i64::MIN))),
+    (1, Step::Put(Val::Ref(u64::MAX), Val::None)),
+    (48, Step::Take(0)),
+];
+
+/// Dictionaries: one key too many for a list; enough keys behind the first for its drop to note the order down; keys that come again;
+/// values at the ends of their ranges.
+static DICTS: [Row; 12] = [
+    (0, 23, false, CHANGES, 22),
+    (0, 24, false, CHANGES, 23),
+    (0, 25, false, CHANGES, 24),
+    (0, 26, false, CHANGES, 25),
+    (0, 27, false, CHANGES, 26),
+    (0, 45, false, CHANGES, 44),
+    (0, 46, false, CHANGES, 45),
+    (0, 47, false, CHANGES, 46),
+    (0, 48, false, CHANGES, 47),
+    (0, 49, false, CHANGES, 48),
+    (0, 48, true, AGAIN, 44),
+    (1, 49, false, ENDS, 10),
+];
+
+fn dicts() -> &'static [Row] {
+    &DICTS
+}
+
+static INSTANCES: [Row; 3] = [
+    (0, 25, false, CHANGES, 24),
+    (0, 46, false, CHANGES, 45),
+    (1, 49, false, ENDS, 10),
+];
+
+fn instances() -> &'static [Row] {
+    &INSTANCES
+}
+
+#[test]
+fn dictionaries_and_instances_keep_the_order_of_a_plain_list(rt: HostRuntime) -> Result<(), Fail> {
+    let alloc = rt.alloc();
+    for row in dicts() {
+        follow(&rt, alloc, &mut DictKind::new(alloc), *row)?;
+    }
+    for row in instances() {
+        follow(&rt, alloc, &mut InstKind::new(alloc), *row)?;
+    }
+    Ok(())
+}
+
+/// The step that a number at random stands for, over so many keys.
+fn drawn(number: u64, keys: u64) -> Step {
+    let key = number / 6 % keys.clamp(1, 1000);
+    if number % 6 == 0 {
+        Step::TakeKey(Val::Int(key as i64))
+    } else if number % 6 == 3 {
+        Step::Take(key as usize)
+    } else {
+        Step::Put(Val::Int(key as i64), Val::Int((number % 1000) as i64))
+    }
+}
+
+/// Takes an object through steps at random, over so many keys, and looks at all entries each time after so many of them. At the end they
+/// are taken off, past the end.
+fn walk<K: Kind>(
+    rt: &impl Abort,
+    alloc: Global,
+    kind: &mut K,
+    first: u64,
+    steps: u32,
+    keys: u64,
+    between_looks: u64,
+) -> Result<(), Fail>
+    requires { IsParts (K.kind kind.old) [] }
+{
+    let at = make(kind, &[])?;
+    let mut plain = Vec::new(alloc);
+    let mut draw = first;
+    'steps: for _ in 0..steps {
+        draw = next(draw);
+        advance(rt, alloc, kind, at, &mut plain, drawn(draw >> 20, keys))?;
+        if draw % between_looks.max(1) == 0 {
+            assert_has(rt, alloc, kind, at, &plain)?;
+        }
+    }
+    assert_has(rt, alloc, kind, at, &plain)?;
     detach_each(rt, kind, at, &mut plain, 600);
     Ok(())
 }
@@ -243,112 +300,9 @@ fn walk_and_empty<K: Kind>(rt: &impl Abort, alloc: Global, kind: &mut K) -> Resu
 #[test]
 fn steps_at_random_are_those_of_a_plain_list(rt: HostRuntime) -> Result<(), Fail> {
     let alloc = rt.alloc();
-    walk_and_empty(&rt, alloc, &mut DictKind::new(alloc))
-}
-
-/// Puts keys, each with ten times itself.
-fn put_tenfold<K: Kind>(
-    rt: &impl Abort,
-    alloc: Global,
-    kind: &mut K,
-    at: usize,
-    plain: &mut Vec<Entry>,
-    keys: &[i64],
-) -> Result<(), Fail>
-    requires { Holds (K.bodies kind.old) at }
-    ensures { Holds (K.bodies kind.new) at }
-{
-    'keys: for key in keys {
-        let tenfold = Val::Int(key.wrapping_mul(10));
-        put_both(rt, alloc, kind, at, plain, Val::Int(*key), tenfold)?;
+    // About the limit of a list.
+    for first in 1..=20 {
+        walk(&rt, alloc, &mut DictKind::new(alloc), first, 200, 32, 1)?;
     }
-    Ok(())
-}
-
-/// Removes keys.
-fn take_keys<K: Kind>(
-    rt: &impl Abort,
-    kind: &mut K,
-    at: usize,
-    plain: &mut Vec<Entry>,
-    keys: &[i64],
-) -> Result<(), Fail>
-    requires { Holds (K.bodies kind.old) at }
-    ensures { Holds (K.bodies kind.new) at }
-{
-    'keys: for key in keys {
-        take_key_of_both(rt, kind, at, plain, *key)?;
-        assert_eq!(rt; take_key(kind, at, Val::Int(*key)), Answer::Nothing);
-    }
-    Ok(())
-}
-
-/// Removes some keys of 48, puts two again, and removes one more.
-fn take_and_put_again<K: Kind>(rt: &impl Abort, alloc: Global, kind: &mut K) -> Result<(), Fail>
-    requires { IsParts (K.kind kind.old) [] }
-{
-    let at = make(kind, &[])?;
-    let mut plain = Vec::new(alloc);
-    let keys = Vec::from_iter(alloc, 0..48i64)?;
-    put_tenfold(rt, alloc, kind, at, &mut plain, keys.as_slice())?;
-    // The newest goes while the map has the order, the others from an order that the oldest recorded.
-    take_keys(rt, kind, at, &mut plain, &[47, 0, 12, 1, 46])?;
-    put_tenfold(rt, alloc, kind, at, &mut plain, &[12, 0])?;
-    take_keys(rt, kind, at, &mut plain, &[44])?;
-    // The remaining keys: 2 to 45 without 12 and 44, then 12 and 0.
-    assert_eq!(rt; plain.len(), 44);
-    assert_has(rt, alloc, kind, at, plain.as_slice())
-}
-
-#[test]
-fn keys_that_come_again_go_last(rt: HostRuntime) -> Result<(), Fail> {
-    let alloc = rt.alloc();
-    take_and_put_again(&rt, alloc, &mut DictKind::new(alloc))
-}
-
-/// Puts this many keys, and then these values, as keys and as values. They come out unchanged, from the map's own order,
-/// and from another one after the first keys are gone.
-fn pass_through<K: Kind>(
-    rt: &impl Abort,
-    alloc: Global,
-    kind: &mut K,
-    count: i64,
-    values: &[Val],
-) -> Result<(), Fail>
-    requires { IsParts (K.kind kind.old) [] }
-{
-    let at = make(kind, &[])?;
-    let mut plain = Vec::new(alloc);
-    'keys: for key in 1..=count {
-        put_both(rt, alloc, kind, at, &mut plain, Val::Int(key), Val::Int(10))?;
-    }
-    'values: for i in 0..values.len() {
-        let val = values[values.len() - 1 - i];
-        put_both(rt, alloc, kind, at, &mut plain, values[i], val)?;
-        assert_has(rt, alloc, kind, at, plain.as_slice())?;
-    }
-    'taken: for _ in 0..count {
-        take_both(kind, at, &mut plain, 0);
-        assert_has(rt, alloc, kind, at, plain.as_slice())?;
-    }
-    Ok(())
-}
-
-#[test]
-fn dictionaries_keep_values_at_the_ends_of_their_ranges(rt: HostRuntime) -> Result<(), Fail> {
-    let alloc = rt.alloc();
-    let values = [
-        Val::None,
-        Val::Int(i64::MIN),
-        Val::Int(-1),
-        Val::Int(0),
-        Val::Int(i64::MAX),
-        Val::Str(0),
-        Val::Str(u32::MAX),
-        Val::Ref(0),
-        Val::Ref(u32::MAX as u64),
-        Val::Ref(u64::MAX),
-    ];
-    pass_through(&rt, alloc, &mut DictKind::new(alloc), 48, &values)?;
-    pass_through(&rt, alloc, &mut InstKind::new(alloc), 48, &values)
+    walk(&rt, alloc, &mut DictKind::new(alloc), 1, 6_000, 600, 16)
 }

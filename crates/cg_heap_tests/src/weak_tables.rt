@@ -86,92 +86,166 @@ impl Numbered {
     }
 }
 
-fn assert_walks(
+/// A step, with what it answers, or a look at the table.
+#[derive(Clone, Copy)]
+enum Row {
+    Attach(u64),
+    AttachReserved(u64),
+    Clear(u64, bool),
+    /// The weak references to the objects 1, 2 and 3.
+    Walks(&'static [u64], &'static [u64], &'static [u64]),
+    Referent(u64, Option<u64>),
+    Newest(u64, Option<u64>),
+    Waiting(u64, Option<u64>),
+    Forget(u64, Option<u64>),
+}
+
+/// Changes the table.
+fn change(rt: &impl Abort, numbered: &mut Numbered, row: Row) -> Result<(), AllocError> {
+    match row {
+        Row::Attach(referent) => numbered.attach(referent)?,
+        Row::AttachReserved(referent) => numbered.attach_reserved(referent)?,
+        Row::Clear(weak, wait) => numbered.clear(weak, wait),
+        Row::Forget(referent, want) => {
+            assert_eq!(rt; numbered.forget_newest(referent), want, "of {referent}");
+        }
+        _ => {}
+    }
+    Ok(())
+}
+
+/// Looks at the table.
+fn look(rt: &impl Abort, alloc: Global, numbered: &Numbered, row: Row) -> Result<(), AllocError> {
+    let (found, want, object) = match row {
+        Row::Walks(first, second, third) => {
+            assert!(rt;
+                numbered.walk(alloc, 1)?.as_slice() == first,
+                "the walk of 1"
+            );
+            assert!(rt;
+                numbered.walk(alloc, 2)?.as_slice() == second,
+                "the walk of 2"
+            );
+            assert!(rt;
+                numbered.walk(alloc, 3)?.as_slice() == third,
+                "the walk of 3"
+            );
+            return Ok(());
+        }
+        Row::Referent(weak, want) => (numbered.table.referent_of(weak), want, weak),
+        Row::Newest(object, want) => (numbered.table.newest_of(object), want, object),
+        Row::Waiting(object, want) => (numbered.table.newest_waiting(object), want, object),
+        _ => return Ok(()),
+    };
+    assert_eq!(rt; found, want, "of {object}");
+    Ok(())
+}
+
+/// Takes a table through the rows. What owns a table stands apart: with all that is asked of it, it would be proved for long.
+fn follow(
     rt: &impl Abort,
     alloc: Global,
-    numbered: &Numbered,
-    want: [&[u64]; 3],
-) -> Result<(), AllocError> {
-    assert_eq!(rt; numbered.walk(alloc, 1)?.as_slice(), want[0]);
-    assert_eq!(rt; numbered.walk(alloc, 2)?.as_slice(), want[1]);
-    assert_eq!(rt; numbered.walk(alloc, 3)?.as_slice(), want[2]);
+    numbered: &mut Numbered,
+    rows: &[Row],
+) -> Result<(), Fail> {
+    'rows: for row in rows {
+        change(rt, numbered, *row)?;
+        look(rt, alloc, numbered, *row)?;
+    }
     Ok(())
 }
 
 /// The weak references 11, 13, 14, 16 to object 1, and 12, 15 to object 2.
-fn six(alloc: Global) -> Result<Numbered, AllocError> {
-    let mut numbered = Numbered::new(alloc, 11);
-    for referent in [1, 2, 1, 1, 2, 1] {
-        numbered.attach(referent)?;
-    }
-    Ok(numbered)
+static SIX: [Row; 6] = [
+    Row::Attach(1),
+    Row::Attach(2),
+    Row::Attach(1),
+    Row::Attach(1),
+    Row::Attach(2),
+    Row::Attach(1),
+];
+
+fn six() -> &'static [Row] {
+    &SIX
 }
 
-/// Clears some of six, and attaches two. The table's owner is a separate function: with all these calls in it, its proof would
-/// take long.
-fn clear_and_attach(rt: &impl Abort, alloc: Global, numbered: &mut Numbered) -> Result<(), Fail> {
-    assert_walks(rt, alloc, numbered, [&[16, 14, 13, 11], &[15, 12], &[]])?;
-    // From the middle, the newest end and the oldest end; that of another object stays.
-    numbered.clear(14, false);
-    assert_walks(rt, alloc, numbered, [&[16, 13, 11], &[15, 12], &[]])?;
-    numbered.clear(16, true);
-    numbered.clear(11, false);
-    assert_walks(rt, alloc, numbered, [&[13], &[15, 12], &[]])?;
-    // A new one is the newest; that of an object without one is alone.
-    numbered.attach_reserved(1)?;
-    numbered.attach(3)?;
-    assert_walks(rt, alloc, numbered, [&[17, 13], &[15, 12], &[18]])?;
-    numbered.clear(18, true);
-    numbered.clear(12, true);
-    numbered.clear(15, true);
-    assert_walks(rt, alloc, numbered, [&[17, 13], &[], &[]])?;
-    Ok(())
+/// Walks go from the newest to the oldest.
+static WALKS: [Row; 13] = [
+    Row::Walks(&[16, 14, 13, 11], &[15, 12], &[]),
+    // From the middle, the newest end and the oldest end; the one of another object stays.
+    Row::Clear(14, false),
+    Row::Walks(&[16, 13, 11], &[15, 12], &[]),
+    Row::Clear(16, true),
+    Row::Clear(11, false),
+    Row::Walks(&[13], &[15, 12], &[]),
+    // A new one is the newest; one of an object that had none is alone.
+    Row::AttachReserved(1),
+    Row::Attach(3),
+    Row::Walks(&[17, 13], &[15, 12], &[18]),
+    Row::Clear(18, true),
+    Row::Clear(12, true),
+    Row::Clear(15, true),
+    Row::Walks(&[17, 13], &[], &[]),
+];
+
+fn walks() -> &'static [Row] {
+    &WALKS
+}
+
+/// A weak reference has its referent until it is cleared.
+static REFERENTS: [Row; 10] = [
+    Row::Clear(13, true),
+    Row::Clear(15, false),
+    Row::Referent(10, None),
+    Row::Referent(11, Some(1)),
+    Row::Referent(12, Some(2)),
+    Row::Referent(13, None),
+    Row::Referent(14, Some(1)),
+    Row::Referent(15, None),
+    Row::Referent(16, Some(1)),
+    Row::Referent(17, None),
+];
+
+fn referents() -> &'static [Row] {
+    &REFERENTS
+}
+
+/// Those that wait are forgotten newest first. They are set waiting in an order that is neither rising nor falling.
+static WAITING: [Row; 20] = [
+    Row::Clear(14, true),
+    Row::Clear(16, true),
+    Row::Clear(11, true),
+    Row::Clear(13, true),
+    Row::Clear(12, true),
+    Row::Newest(1, None),
+    Row::Newest(2, Some(15)),
+    Row::Waiting(3, None),
+    Row::Waiting(1, Some(16)),
+    Row::Forget(1, Some(16)),
+    Row::Waiting(1, Some(14)),
+    Row::Forget(1, Some(14)),
+    Row::Waiting(1, Some(13)),
+    Row::Forget(1, Some(13)),
+    Row::Waiting(1, Some(11)),
+    Row::Forget(1, Some(11)),
+    Row::Waiting(1, None),
+    Row::Forget(1, None),
+    Row::Forget(2, Some(12)),
+    Row::Forget(2, None),
+];
+
+fn waiting() -> &'static [Row] {
+    &WAITING
 }
 
 #[test]
-fn walks_go_from_the_newest_to_the_oldest(rt: HostRuntime) -> Result<(), Fail> {
+fn weak_references_are_walked_cleared_and_forgotten(rt: HostRuntime) -> Result<(), Fail> {
     let alloc = rt.alloc();
-    let mut numbered = six(alloc)?;
-    clear_and_attach(&rt, alloc, &mut numbered)
-}
-
-#[test]
-fn a_weak_reference_has_its_referent_until_it_is_cleared(rt: HostRuntime) -> Result<(), Fail> {
-    let mut numbered = six(rt.alloc())?;
-    numbered.clear(13, true);
-    numbered.clear(15, false);
-    let wants = [
-        (10, None),
-        (11, Some(1)),
-        (12, Some(2)),
-        (13, None),
-        (14, Some(1)),
-        (15, None),
-        (16, Some(1)),
-        (17, None),
-    ];
-    for (weak, want) in wants {
-        assert_eq!(&rt; numbered.table.referent_of(weak), want, "of {weak}");
+    for rows in [walks(), referents(), waiting()] {
+        let mut numbered = Numbered::new(alloc, 11);
+        follow(&rt, alloc, &mut numbered, six())?;
+        follow(&rt, alloc, &mut numbered, rows)?;
     }
-    Ok(())
-}
-
-#[test]
-fn waiting_ones_are_forgotten_newest_first(rt: HostRuntime) -> Result<(), Fail> {
-    let mut numbered = six(rt.alloc())?;
-    // They begin to wait in an order that neither rises nor falls.
-    for weak in [14, 16, 11, 13, 12] {
-        numbered.clear(weak, true);
-    }
-    assert_eq!(&rt; numbered.table.newest_of(1), None);
-    assert_eq!(&rt; numbered.table.newest_of(2), Some(15));
-    assert_eq!(&rt; numbered.table.newest_waiting(3), None);
-    for want in [Some(16), Some(14), Some(13), Some(11), None] {
-        assert_eq!(&rt; numbered.table.newest_waiting(1), want);
-        assert_eq!(&rt; numbered.forget_newest(1), want);
-    }
-    assert_eq!(&rt; numbered.forget_newest(2), Some(12));
-    assert_eq!(&rt; numbered.forget_newest(2), None);
     Ok(())
 }
 

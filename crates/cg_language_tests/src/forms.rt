@@ -1,7 +1,8 @@
-//! Reading each form.
-use crate::texts::fault_text;
-use cg_script::{Command, Item, Operand, Script, ScriptFault, parse};
+//! Which lines spell a script, and which code comes first.
+use crate::texts::{fault_text, repeated};
+use cg_script::parse;
 use std::alloc::{AllocError, Global};
+use std::process::Abort;
 use std::test::Fail;
 
 /// Whether the bytes spell a script; else the number and the code of their first bad line.
@@ -12,6 +13,7 @@ fn told(alloc: Global, bytes: &[u8]) -> Result<String, AllocError> {
     }
 }
 
+/// Worked scripts.
 static WORKED: [(&str, &str); 10] = [
     ("", "good"),
     ("a = list\nappend a a\ndel a\ncollect 2", "good"),
@@ -35,7 +37,11 @@ static WORKED: [(&str, &str); 10] = [
     ("def p\n\n# end\nend", "good"),
 ];
 
-/// Words at the limits of their forms.
+fn worked() -> &'static [(&'static str, &'static str)] {
+    &WORKED
+}
+
+/// Words at the edges of their forms.
 static WORDS: [(&str, &str); 40] = [
     // Numbers.
     ("x = -0", "good"),
@@ -84,6 +90,10 @@ static WORDS: [(&str, &str); 40] = [
     ("setattr x 9 1", "bad 1 4"),
     ("delattr x", "bad 1 3"),
 ];
+
+fn words() -> &'static [(&'static str, &'static str)] {
+    &WORDS
+}
 
 /// Each code, and lines with two faults.
 static BAD_LINES: [(&str, &str); 72] = [
@@ -171,7 +181,11 @@ static BAD_LINES: [(&str, &str); 72] = [
     ("# \x7f", "bad 1 1"),
 ];
 
-/// A profile and a shutdown: their words, and where they may be.
+fn bad_lines() -> &'static [(&'static str, &'static str)] {
+    &BAD_LINES
+}
+
+/// A profile and a shutdown: their words, and where they stand.
 static DECLARATIONS: [(&str, &str); 40] = [
     ("profile 1", "good"),
     ("profile 2", "good"),
@@ -222,7 +236,11 @@ static DECLARATIONS: [(&str, &str); 40] = [
     ("budget 1\nshutdown\nshutdown", "bad 3 8"),
 ];
 
-/// The commands that ask who holds objects.
+fn declarations() -> &'static [(&'static str, &'static str)] {
+    &DECLARATIONS
+}
+
+/// The commands that ask where objects are held.
 static INSPECTIONS: [(&str, &str); 22] = [
     ("referents x", "good"),
     ("referents 'x", "good"),
@@ -254,248 +272,224 @@ static INSPECTIONS: [(&str, &str); 22] = [
     ("why self", "bad 1 4"),
 ];
 
+fn inspections() -> &'static [(&'static str, &'static str)] {
+    &INSPECTIONS
+}
+
+/// Bad lines of a few forms.
+static FEW: [(&str, &str); 30] = [
+    // Bytes that are not printable come first.
+    ("a\t= list", "bad 1 1"),
+    ("a = list\r\nlist = list", "bad 1 1"),
+    ("# \x7f", "bad 1 1"),
+    // Unknown forms, whatever else is wrong.
+    ("a = list\ntrack a", "bad 2 2"),
+    ("collected x", "bad 1 2"),
+    ("def p\nable 9", "bad 2 2"),
+    ("delete x", "bad 1 2"),
+    ("a", "bad 1 2"),
+    // The number of words.
+    ("x =", "bad 1 3"),
+    ("9 =", "bad 1 3"),
+    ("del =", "bad 1 3"),
+    ("del", "bad 1 3"),
+    ("del a b", "bad 1 3"),
+    ("del 9 9", "bad 1 3"),
+    // The form of a word.
+    ("a = list\nlist = list", "bad 2 4"),
+    ("del = list", "bad 1 4"),
+    ("del c7", "bad 1 4"),
+    ("9a = list", "bad 1 4"),
+    ("a-b = list", "bad 1 4"),
+    ("mist = list\nlist = list", "bad 2 4"),
+    ("ab1 = list\n1ab1 = list", "bad 2 4"),
+    ("a2345678901234567890123456789012x = list", "bad 1 4"),
+    ("9 = dict", "bad 1 4"),
+    ("9 = list 1", "bad 1 4"),
+    // Declarations.
+    ("end", "bad 1 7"),
+    ("def p\ndel a", "bad 3 7"),
+    ("class C\nclass C", "bad 2 8"),
+    ("a = new C", "bad 1 6"),
+    // The least bad line.
+    ("\n\n#\ndel\ncollect x\n\x01", "bad 4 3"),
+    // A line of an unknown form behind spaces and a tab.
+    (" a = list \n\n\tb", "bad 3 1"),
+];
+
+fn few() -> &'static [(&'static str, &'static str)] {
+    &FEW
+}
+
+/// Lines of the collector's commands and of `tracked` that are bad, behind a good one.
+static CONTROLS: [(&str, &str); 36] = [
+    // The number of words.
+    ("collect 1 2", "bad 2 3"),
+    ("enable 1", "bad 2 3"),
+    ("disable x", "bad 2 3"),
+    ("threshold", "bad 2 3"),
+    ("threshold 1 2 3 4", "bad 2 3"),
+    ("debug leak leak leak leak leak leak", "bad 2 3"),
+    ("freeze 2", "bad 2 3"),
+    ("unfreeze none", "bad 2 3"),
+    ("tracked", "bad 2 3"),
+    ("tracked x y", "bad 2 3"),
+    ("count 0", "bad 2 3"),
+    ("gens 0", "bad 2 3"),
+    // The form of a generation: a number.
+    ("collect x", "bad 2 4"),
+    ("collect '2", "bad 2 4"),
+    ("collect +2", "bad 2 4"),
+    ("collect 9223372036854775808", "bad 2 4"),
+    ("collect -9223372036854775809", "bad 2 4"),
+    // The form of a threshold: a count up to 2,147,483,647.
+    ("threshold x", "bad 2 4"),
+    ("threshold -1", "bad 2 4"),
+    ("threshold 2147483648", "bad 2 4"),
+    ("threshold 00000000700", "bad 2 4"),
+    ("threshold 1 2147483648", "bad 2 4"),
+    ("threshold 1 2 -3", "bad 2 4"),
+    ("threshold 1 2 none", "bad 2 4"),
+    // A flag.
+    ("debug Stats", "bad 2 4"),
+    ("debug 1", "bad 2 4"),
+    ("debug stats all", "bad 2 4"),
+    // A value.
+    ("tracked 9a", "bad 2 4"),
+    ("tracked list", "bad 2 4"),
+    // The number of words before their form.
+    ("threshold x 2 3 4", "bad 2 3"),
+    ("collect x y", "bad 2 3"),
+    ("tracked 9a y", "bad 2 3"),
+    // None of these words is a variable.
+    ("collect = 1", "bad 2 4"),
+    ("debug = 1", "bad 2 4"),
+    ("gens = list", "bad 2 4"),
+    ("del count", "bad 2 4"),
+];
+
+fn controls() -> &'static [(&'static str, &'static str)] {
+    &CONTROLS
+}
+
+/// Lines of each form, behind a procedure and a class.
+static EACH: [(&str, &str); 48] = [
+    ("x = list 1 x", "good"),
+    ("x = tuple x 'a", "good"),
+    ("x = dict", "good"),
+    ("x = new C", "good"),
+    ("x = func p x c0", "good"),
+    ("x = ref y", "good"),
+    ("x = ref y f", "good"),
+    ("x = y", "good"),
+    ("del x", "good"),
+    ("append x 1", "good"),
+    ("setitem x 0 y", "good"),
+    ("delitem x -1", "good"),
+    ("put x 'k y", "good"),
+    ("drop x 'k", "good"),
+    ("setattr x n y", "good"),
+    ("delattr x n", "good"),
+    ("x = item y 0", "good"),
+    ("x = get y 'k", "good"),
+    ("x = attr y n", "good"),
+    ("x = deref y", "good"),
+    ("call f", "good"),
+    ("quit none", "good"),
+    ("collect", "good"),
+    ("collect 2", "good"),
+    ("collect -1", "good"),
+    ("collect 7", "good"),
+    ("enable", "good"),
+    ("disable", "good"),
+    ("threshold 700", "good"),
+    ("threshold 700 10", "good"),
+    ("threshold 700 10 2147483647", "good"),
+    ("debug", "good"),
+    ("debug stats", "good"),
+    ("freeze", "good"),
+    ("unfreeze", "good"),
+    ("print garbage", "good"),
+    ("refs x", "good"),
+    ("tracked x", "good"),
+    ("finalized self", "good"),
+    ("referents x", "good"),
+    ("referrers 'x", "good"),
+    ("why x", "good"),
+    ("count", "good"),
+    ("gens", "good"),
+    ("budget 100000", "good"),
+    ("shutdown", "good"),
+    ("class D del=p legacy=p", "good"),
+    ("def q\nend", "good"),
+];
+
+fn each() -> &'static [(&'static str, &'static str)] {
+    &EACH
+}
+
+/// Lines that begin so and go on with so many words.
+static MANY: [(&str, &str, usize, &str); 14] = [
+    ("x = list", " 1", 61, "good"),
+    ("x = list", " 1", 62, "bad 1 5"),
+    ("x = tuple", " 1", 0, "bad 1 3"),
+    ("x = tuple", " 1", 61, "good"),
+    ("def p\nend\nf = func p", " 1", 8, "good"),
+    ("def p\nend\nf = func p", " 1", 9, "bad 3 3"),
+    ("nonsense", " 1", 63, "bad 1 2"),
+    ("nonsense", " 1", 64, "bad 1 5"),
+    ("nonsense x y", " a b", 30, "bad 1 2"),
+    ("nonsense x y", " a b", 31, "bad 1 5"),
+    ("tracked x y", " a b", 30, "bad 1 3"),
+    ("tracked x y", " a b", 31, "bad 1 5"),
+    ("# #", " a b", 31, "good"),
+    ("# # #", " a b", 31, "bad 1 5"),
+];
+
+fn many() -> &'static [(&'static str, &'static str, usize, &'static str)] {
+    &MANY
+}
+
+/// The text is to be told of so.
+fn check(rt: &impl Abort, alloc: Global, text: &str, want: &str) -> Result<(), AllocError> {
+    let found = told(alloc, text.as_bytes())?;
+    assert_eq!(rt; found.as_str(), want, "at {text:?}");
+    Ok(())
+}
+
+/// The same of each line, with what stands before and behind it.
+fn check_each(
+    rt: &impl Abort,
+    alloc: Global,
+    front: &str,
+    lines: &[(&str, &str)],
+    back: &str,
+) -> Result<(), AllocError> {
+    for (line, want) in lines {
+        check(rt, alloc, &format!(in alloc; "{front}{line}{back}")?, want)?;
+    }
+    Ok(())
+}
+
 #[test]
 fn lines_and_their_codes(rt: HostRuntime) -> Result<(), Fail> {
-    for table in [
-        WORKED.as_slice(),
-        WORDS.as_slice(),
-        BAD_LINES.as_slice(),
-        DECLARATIONS.as_slice(),
-        INSPECTIONS.as_slice(),
-    ] {
-        for (script, want) in table {
-            assert_eq!(rt;
-                told(rt.alloc(), script.as_bytes())?.as_str(),
-                *want,
-                "at {script:?}"
-            );
-        }
-    }
+    let alloc = rt.alloc();
+    check_each(&rt, alloc, "", worked(), "")?;
+    check_each(&rt, alloc, "", words(), "")?;
+    check_each(&rt, alloc, "", bad_lines(), "")?;
+    check_each(&rt, alloc, "", declarations(), "")?;
+    check_each(&rt, alloc, "", inspections(), "")?;
+    check_each(&rt, alloc, "", few(), "")?;
+    check_each(&rt, alloc, "a = list\n", controls(), "\n\x01")?;
+    check_each(&rt, alloc, "def p\nend\nclass C\n", each(), "")?;
     Ok(())
-}
-
-fn read(alloc: Global, text: &str) -> Result<Script, ScriptFault> {
-    parse(alloc, text.as_bytes())
-}
-
-/// Reads lines, and checks the last item against the pattern.
-macro_rules! assert_last {
-    ($rt:expr, $text:expr, $pattern:pat) => {
-        let script = read($rt.alloc(), $text).expect(&$rt, "a script");
-        assert!($rt; matches!(script.items.as_slice().last(), Some($pattern)));
-    };
-}
-
-#[test]
-fn strings(rt: HostRuntime) -> Result<(), Fail> {
-    assert_last!(
-        rt,
-        "x = 'x",
-        Item::Run(Command::Bind {
-            name: 0,
-            value: Operand::Str(0)
-        })
-    );
-    assert_last!(
-        rt,
-        "x = '",
-        Item::Run(Command::Bind {
-            name: 0,
-            value: Operand::Str(1)
-        })
-    );
-    Ok(())
-}
-
-#[test]
-fn numbers_and_locals(rt: HostRuntime) -> Result<(), Fail> {
-    assert_last!(
-        rt,
-        "x = -9223372036854775808",
-        Item::Run(Command::Bind {
-            name: 0,
-            value: Operand::Int(-9223372036854775808)
-        })
-    );
-    assert_last!(
-        rt,
-        "put x c7 self",
-        Item::Run(Command::Put {
-            dict: Operand::Name(0),
-            key: Operand::Cell(7),
-            value: Operand::SelfLocal
-        })
-    );
-    Ok(())
-}
-
-#[test]
-fn classes_by_number(rt: HostRuntime) -> Result<(), Fail> {
-    assert_last!(
-        rt,
-        "class D\nclass C\nx = new C",
-        Item::Run(Command::MakeInst { name: 2, class: 1 })
-    );
-    Ok(())
-}
-
-#[test]
-fn names_and_callbacks(rt: HostRuntime) -> Result<(), Fail> {
-    assert_last!(
-        rt,
-        "setattr x n 'n",
-        Item::Run(Command::SetAttr {
-            object: Operand::Name(0),
-            attr: 1,
-            value: Operand::Str(1)
-        })
-    );
-    assert_last!(
-        rt,
-        "x = ref y none",
-        Item::Run(Command::MakeRef {
-            name: 0,
-            target: Operand::Name(1),
-            callback: Operand::None
-        })
-    );
-    Ok(())
-}
-
-#[test]
-fn generations(rt: HostRuntime) -> Result<(), Fail> {
-    assert_last!(rt, "collect", Item::Run(Command::Collect { generation: 2 }));
-    assert_last!(
-        rt,
-        "collect -03",
-        Item::Run(Command::Collect { generation: -3 })
-    );
-    Ok(())
-}
-
-#[test]
-fn words_that_may_be_absent(rt: HostRuntime) -> Result<(), Fail> {
-    assert_last!(
-        rt,
-        "threshold 5 006",
-        Item::Run(Command::Threshold {
-            first: 5,
-            second: Some(6),
-            third: None
-        })
-    );
-    assert_last!(
-        rt,
-        "debug leak stats leak",
-        Item::Run(Command::Flags { bits: 39 })
-    );
-    Ok(())
-}
-
-#[test]
-fn lists_of_values(rt: HostRuntime) -> Result<(), Fail> {
-    let text = "def q\nend\ndef p\ndel a\nend\nf = func p c1 f -0";
-    let script = read(rt.alloc(), text).expect(&rt, "a script");
-    assert!(rt;
-        match script.items.as_slice() {
-            [
-                _,
-                Item::Def(procedure),
-                Item::Run(
-                    Command::MakeFunc {
-                        name: 3,
-                        proc: 1,
-                        cells
-                    }
-                )
-            ] => {
-                matches!(procedure.body.as_slice(), [Command::Del { name: 2 }])
-                    && cells.as_slice()
-                        == [Operand::Cell(1), Operand::Name(3), Operand::Int(0)].as_slice()
-            }
-            _ => false,
-        }
-    );
-    Ok(())
-}
-
-#[test]
-fn finalizers_in_either_order(rt: HostRuntime) -> Result<(), Fail> {
-    for line in ["class C del=q legacy=p", "class C legacy=p del=q"] {
-        let text = format!(in rt.alloc(); "def p\nend\ndef q\nend\n{line}")?;
-        let script = read(rt.alloc(), text.as_str()).expect(&rt, "a script");
-        assert!(rt;
-            match script.items.as_slice().last() {
-                Some(Item::Class(class)) => class.name == 2
-                    && class.del == Some(1)
-                    && class.legacy == Some(0),
-                _ => false,
-            },
-            "at {line:?}"
-        );
-    }
-    Ok(())
-}
-
-#[test]
-fn profiles(rt: HostRuntime) -> Result<(), Fail> {
-    assert_last!(rt, "profile 1", Item::Profile(1));
-    assert_last!(rt, "#\nprofile 02", Item::Profile(2));
-    Ok(())
-}
-
-#[test]
-fn shutdown_and_why(rt: HostRuntime) -> Result<(), Fail> {
-    assert_last!(rt, "shutdown", Item::Shutdown);
-    assert_last!(rt, "del a\nwhy b", Item::Run(Command::Why { name: 1 }));
-    Ok(())
-}
-
-#[test]
-fn inspections(rt: HostRuntime) -> Result<(), Fail> {
-    assert_last!(
-        rt,
-        "del a\nreferents b",
-        Item::Run(Command::Referents {
-            value: Operand::Name(1)
-        })
-    );
-    assert_last!(
-        rt,
-        "referrers garbage",
-        Item::Run(Command::Referrers {
-            value: Operand::Garbage
-        })
-    );
-    Ok(())
-}
-
-/// A line with this beginning that goes on with `count` words.
-fn line_of(alloc: Global, front: &str, count: usize) -> Result<String, AllocError> {
-    let mut line = String::from_str(alloc, front)?;
-    for _ in 0..count {
-        line.push_str(" 1")?;
-    }
-    Ok(line)
 }
 
 #[test]
 fn numbers_of_words(rt: HostRuntime) -> Result<(), Fail> {
-    for (front, count, want) in [
-        ("x = list", 61, "good"),
-        ("x = list", 62, "bad 1 5"),
-        ("x = tuple", 0, "bad 1 3"),
-        ("x = tuple", 61, "good"),
-        ("def p\nend\nf = func p", 8, "good"),
-        ("def p\nend\nf = func p", 9, "bad 3 3"),
-        ("nonsense", 63, "bad 1 2"),
-        ("nonsense", 64, "bad 1 5"),
-    ] {
-        assert_eq!(rt;
-            told(rt.alloc(), line_of(rt.alloc(), front, count)?.as_bytes())?.as_str(),
-            want,
-            "at {front:?} and {count}"
-        );
+    let alloc = rt.alloc();
+    for (front, word, times, want) in many() {
+        check(&rt, alloc, &repeated(alloc, front, word, *times)?, want)?;
     }
     Ok(())
 }

@@ -2,6 +2,7 @@
 use crate::texts::fault_text;
 use cg_script::{parse, print};
 use std::alloc::{AllocError, Global};
+use std::process::Abort;
 use std::test::Fail;
 
 /// A script, printed; or the number and the code of its first bad line.
@@ -12,8 +13,8 @@ fn printed(alloc: Global, bytes: &[u8]) -> Result<String, AllocError> {
     }
 }
 
-/// Lines after two procedures and a class, and their printed form.
-static LINES: [(&str, &str); 52] = [
+/// Lines behind two procedures and a class, and what is printed of them.
+static LINES: [(&str, &str); 63] = [
     ("  x =  list   -0 007", "x = list 0 7"),
     ("x = list", "x = list"),
     ("x = tuple y 'a none", "x = tuple y 'a none"),
@@ -69,9 +70,6 @@ static LINES: [(&str, &str); 52] = [
     ("class D legacy=p del=q", "class D del=q legacy=p"),
     ("class D  legacy=q", "class D legacy=q"),
     ("class D del=p", "class D del=p"),
-];
-
-static QUERIES: [(&str, &str); 11] = [
     ("print 007", "print 7"),
     ("refs x", "refs x"),
     ("tracked 'x", "tracked 'x"),
@@ -85,45 +83,57 @@ static QUERIES: [(&str, &str); 11] = [
     ("# nothing", ""),
 ];
 
-static FRONT: &str = "def p\nend\ndef q\ndel x\nend\nclass C\n";
+fn lines() -> &'static [(&'static str, &'static str)] {
+    &LINES
+}
 
-#[test]
-fn lines_as_they_are_printed(rt: HostRuntime) -> Result<(), Fail> {
-    for table in [LINES.as_slice(), QUERIES.as_slice()] {
-        for (line, want) in table {
-            let text = format!(in rt.alloc(); "{FRONT}{line}")?;
-            let end = if want.is_empty() { "" } else { "\n" };
-            let wanted = format!(in rt.alloc(); "{FRONT}{want}{end}")?;
-            let once = printed(rt.alloc(), text.as_bytes())?;
-            assert_eq!(rt; once.as_str(), wanted.as_str(), "at {line:?}");
-            let again = printed(rt.alloc(), once.as_bytes())?;
-            assert_eq!(rt; again.as_str(), once.as_str(), "again at {line:?}");
-        }
-    }
+const FRONT: &str = "def p\nend\ndef q\ndel x\nend\nclass C\n";
+
+/// Lines that are ignored and spaces are not printed.
+static PASSED: [(&str, &str); 5] = [
+    ("", ""),
+    ("\n# a\n\n", ""),
+    (
+        "def p\n\n  del  a\n # b\nprint c0\nend\nf = func p f\nclass end del=p",
+        "def p\ndel a\nprint c0\nend\nf = func p f\nclass end del=p",
+    ),
+    ("# 2\nprofile 02", "profile 2"),
+    (
+        "profile  1\nshutdown\nshutdown = profile\nbudget 01",
+        "profile 1\nshutdown\nshutdown = profile\nbudget 1",
+    ),
+];
+
+fn passed() -> &'static [(&'static str, &'static str)] {
+    &PASSED
+}
+
+/// What stands before a line is printed as it is, the line in another way; what was printed is printed as it is.
+fn check(
+    rt: &impl Abort,
+    alloc: Global,
+    front: &str,
+    line: &str,
+    want: &str,
+) -> Result<(), AllocError> {
+    let text = format!(in alloc; "{front}{line}")?;
+    let end = if want.is_empty() { "" } else { "\n" };
+    let wanted = format!(in alloc; "{front}{want}{end}")?;
+    let once = printed(alloc, text.as_bytes())?;
+    assert_eq!(rt; once.as_str(), wanted.as_str(), "at {line:?}");
+    let again = printed(alloc, once.as_bytes())?;
+    assert_eq!(rt; again.as_str(), once.as_str(), "again at {line:?}");
     Ok(())
 }
 
 #[test]
-fn ignored_lines_and_spaces_are_not_printed(rt: HostRuntime) -> Result<(), Fail> {
-    for (script, want) in [
-        ("", ""),
-        ("\n# a\n\n", ""),
-        (" a = list \n\n\tb", "bad 3 1"),
-        (
-            "def p\n\n  del  a\n # b\nprint c0\nend\nf = func p f\nclass end del=p",
-            "def p\ndel a\nprint c0\nend\nf = func p f\nclass end del=p\n",
-        ),
-        ("# 2\nprofile 02", "profile 2\n"),
-        (
-            "profile  1\nshutdown\nshutdown = profile\nbudget 01",
-            "profile 1\nshutdown\nshutdown = profile\nbudget 1\n",
-        ),
-    ] {
-        assert_eq!(rt;
-            printed(rt.alloc(), script.as_bytes())?.as_str(),
-            want,
-            "at {script:?}"
-        );
+fn lines_as_they_are_printed(rt: HostRuntime) -> Result<(), Fail> {
+    let alloc = rt.alloc();
+    for (line, want) in lines() {
+        check(&rt, alloc, FRONT, line, want)?;
+    }
+    for (line, want) in passed() {
+        check(&rt, alloc, "", line, want)?;
     }
     Ok(())
 }

@@ -120,31 +120,32 @@ fn summaries(rt: HostRuntime) {
     }
 }
 
-#[test]
-fn three_blocks(rt: HostRuntime) -> Result<(), Fail> {
-    let script = generated_script(rt.alloc(), 3)?;
-    let text = print(rt.alloc(), &script)?;
-    let lines =
-        "c = list\na = list\nb = list a\nappend a b\ndel a\ndel b\na = list 2\na = list a a\na = list a a\ndel a\nc = list c\ndel c\ncollect 2\n";
-    assert_eq!(rt; text.as_slice(), lines.as_bytes());
-    Ok(())
+/// Blocks, and the large script of them. The number of a tree is its value.
+static SCRIPTS: [(u32, &str); 2] = [
+    (
+        3,
+        "c = list\na = list\nb = list a\nappend a b\ndel a\ndel b\na = list 2\na = list a a\na = list a a\ndel a\nc = list c\ndel c\ncollect 2\n",
+    ),
+    (
+        5,
+        "c = list\na = list\nb = list a\nappend a b\ndel a\ndel b\na = list 2\na = list a a\na = list a a\ndel a\nc = list c\na = list\nb = list a\nappend a b\ndel a\ndel b\na = list 5\na = list a a\na = list a a\ndel a\ndel c\ncollect 2\n",
+    ),
+];
+
+fn scripts() -> &'static [(u32, &'static str)] {
+    &SCRIPTS
 }
 
 #[test]
-fn as_many_lines_as_the_blocks_have(rt: HostRuntime) -> Result<(), Fail> {
-    for (blocks, lines) in [(1, 8), (2, 12), (3, 13), (4, 18), (10_000, 33_338)] {
-        let script = generated_script(rt.alloc(), blocks)?;
-        assert_eq!(rt; script.items.as_slice().len(), lines, "of {blocks}");
+fn scripts_have_the_lines_of_their_blocks(rt: HostRuntime) -> Result<(), Fail> {
+    let alloc = rt.alloc();
+    for (blocks, lines) in scripts() {
+        let text = print(alloc, &generated_script(alloc, *blocks)?)?;
+        assert_eq!(&rt; text.as_slice(), lines.as_bytes(), "of {blocks}");
     }
-    Ok(())
-}
-
-#[test]
-fn the_number_of_a_tree_is_its_value(rt: HostRuntime) -> Result<(), Fail> {
-    let script = generated_script(rt.alloc(), 5)?;
-    let text = print(rt.alloc(), &script)?;
-    let lines =
-        "c = list\na = list\nb = list a\nappend a b\ndel a\ndel b\na = list 2\na = list a a\na = list a a\ndel a\nc = list c\na = list\nb = list a\nappend a b\ndel a\ndel b\na = list 5\na = list a a\na = list a a\ndel a\ndel c\ncollect 2\n";
-    assert_eq!(rt; text.as_slice(), lines.as_bytes());
+    for (blocks, lines) in [(1, 8), (2, 12), (3, 13), (4, 18), (10_000, 33_338)] {
+        let script = generated_script(alloc, blocks)?;
+        assert_eq!(&rt; script.items.as_slice().len(), lines, "of {blocks}");
+    }
     Ok(())
 }

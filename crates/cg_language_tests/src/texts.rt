@@ -16,13 +16,18 @@ pub fn lines(alloc: Global, text: &str) -> Result<Vec<u8>, AllocError> {
     Ok(bytes)
 }
 
-/// These bytes, followed by one byte `count` times.
-pub fn filled(alloc: Global, front: &[u8], byte: u8, count: usize) -> Result<Vec<u8>, AllocError> {
-    let mut bytes = Vec::from_slice(alloc, front)?;
-    for _ in 0..count {
-        bytes.push(byte)?;
+/// A text, followed by another so many times.
+pub fn repeated(
+    alloc: Global,
+    front: &str,
+    more: &str,
+    times: usize,
+) -> Result<String, AllocError> {
+    let mut text = String::from_str(alloc, front)?;
+    for _ in 0..times {
+        text.push_str(more)?;
     }
-    Ok(bytes)
+    Ok(text)
 }
 
 /// The number and the code of the first bad line.

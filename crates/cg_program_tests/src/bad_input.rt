@@ -1,70 +1,160 @@
-//! Arguments, sizes and bad scripts, through the top call.
-use crate::calls::{answer_to, lines_of_spaces};
+//! Words that ask for nothing, and bad scripts.
+use crate::calls::Case;
 use cg_cli::Status;
-use cg_io::PlainSource;
-use std::alloc::{AllocError, Global};
-use std::process::Abort;
-use std::test::Fail;
 
-/// Expects that these arguments ask for nothing, and that this is reported.
-fn check_bad_words(rt: &impl Abort, alloc: Global, words: &[&str]) -> Result<(), AllocError> {
-    let mut source = PlainSource::new(Vec::new(alloc));
-    let found = answer_to(alloc, words, &mut source)?;
-    assert_eq!(rt; found.status, Status::BadWords, "at {words:?}");
-    assert_eq!(rt;
-        found.text.as_slice(),
-        b"bad words\n".as_slice(),
-        "at {words:?}"
-    );
-    Ok(())
+/// Words that ask for nothing.
+static WORDS: [Case; 15] = [
+    ("no word", &[], "", Status::BadWords, "bad words"),
+    (
+        "a word too many",
+        &["run", "now"],
+        "",
+        Status::BadWords,
+        "bad words",
+    ),
+    (
+        "no block",
+        &["generate", "0"],
+        "",
+        Status::BadWords,
+        "bad words",
+    ),
+    (
+        "an empty word first",
+        &["", "run"],
+        "",
+        Status::BadWords,
+        "bad words",
+    ),
+    (
+        "a budget without a number",
+        &["run", "--budget"],
+        "",
+        Status::BadWords,
+        "bad words",
+    ),
+    (
+        "a word behind the budget",
+        &["run", "--budget", "5", "6"],
+        "",
+        Status::BadWords,
+        "bad words",
+    ),
+    (
+        "the budget first",
+        &["--budget", "5", "run"],
+        "",
+        Status::BadWords,
+        "bad words",
+    ),
+    (
+        "another option",
+        &["run", "--budgets", "5"],
+        "",
+        Status::BadWords,
+        "bad words",
+    ),
+    (
+        "an empty budget",
+        &["run", "--budget", ""],
+        "",
+        Status::BadWords,
+        "bad words",
+    ),
+    (
+        "a negative budget",
+        &["run", "--budget", "-1"],
+        "",
+        Status::BadWords,
+        "bad words",
+    ),
+    (
+        "a budget with a plus",
+        &["run", "--budget", "+5"],
+        "",
+        Status::BadWords,
+        "bad words",
+    ),
+    (
+        "a budget with a space",
+        &["run", "--budget", "5 "],
+        "",
+        Status::BadWords,
+        "bad words",
+    ),
+    (
+        "a budget of seven digits",
+        &["run", "--budget", "0000005"],
+        "",
+        Status::BadWords,
+        "bad words",
+    ),
+    (
+        "a budget past the greatest",
+        &["run", "--budget", "100001"],
+        "",
+        Status::BadWords,
+        "bad words",
+    ),
+    (
+        "a budget in a word",
+        &["run", "--budget", "many"],
+        "",
+        Status::BadWords,
+        "bad words",
+    ),
+];
+
+pub fn words() -> &'static [Case] {
+    &WORDS
 }
 
-#[test]
-fn other_words_are_bad(rt: HostRuntime) -> Result<(), Fail> {
-    let alloc = rt.alloc();
-    check_bad_words(&rt, alloc, &[])?;
-    check_bad_words(&rt, alloc, &["run", "now"])?;
-    check_bad_words(&rt, alloc, &["generate", "0"])?;
-    check_bad_words(&rt, alloc, &["", "run"])?;
-    check_bad_words(&rt, alloc, &["run", "--budget"])?;
-    check_bad_words(&rt, alloc, &["run", "--budget", "5", "6"])?;
-    check_bad_words(&rt, alloc, &["--budget", "5", "run"])?;
-    check_bad_words(&rt, alloc, &["run", "--budgets", "5"])?;
-    Ok(())
-}
+/// Bad scripts, and what is told of them.
+static SCRIPTS: [(&str, &str); 29] = [
+    ("a = list; b = list; del a; append a", "bad script 4 3"),
+    ("def p; print 1", "bad script 3 7"),
+    ("a = list; end", "bad script 2 7"),
+    ("a = new C; class C", "bad script 1 6"),
+    ("class C del=d; def d; end", "bad script 1 6"),
+    ("budget 1; budget 2", "bad script 2 8"),
+    ("budget 100001", "bad script 1 4"),
+    // A number, a count or a name past its edge.
+    ("print 9223372036854775808", "bad script 1 4"),
+    ("print -9223372036854775809", "bad script 1 4"),
+    ("print 9999999999999999999", "bad script 1 4"),
+    ("print 00000000000000000007", "bad script 1 4"),
+    ("print -00000000000000000007", "bad script 1 4"),
+    ("setitem a 9223372036854775808 1", "bad script 1 4"),
+    ("collect 9223372036854775808", "bad script 1 4"),
+    ("threshold 2147483648", "bad script 1 4"),
+    ("threshold 4294967296", "bad script 1 4"),
+    ("threshold 0 0 9999999999", "bad script 1 4"),
+    ("threshold 00000000009", "bad script 1 4"),
+    ("budget 100001", "bad script 1 4"),
+    ("budget 4294967296", "bad script 1 4"),
+    ("budget 00000100000", "bad script 1 4"),
+    ("a23456789012345678901234567890123 = list", "bad script 1 4"),
+    ("print a23456789012345678901234567890123", "bad script 1 4"),
+    ("def a23456789012345678901234567890123", "bad script 1 4"),
+    ("class a23456789012345678901234567890123", "bad script 1 4"),
+    (
+        "class C del=a23456789012345678901234567890123",
+        "bad script 1 4",
+    ),
+    (
+        "setattr a a23456789012345678901234567890123 1",
+        "bad script 1 4",
+    ),
+    (
+        "x = new a23456789012345678901234567890123",
+        "bad script 1 4",
+    ),
+    (
+        "x = func a23456789012345678901234567890123",
+        "bad script 1 4",
+    ),
+];
 
-#[test]
-fn other_budgets_are_bad(rt: HostRuntime) -> Result<(), Fail> {
-    let alloc = rt.alloc();
-    for number in ["", "-1", "+5", "5 ", "0000005", "100001", "many"] {
-        check_bad_words(&rt, alloc, &["run", "--budget", number])?;
-    }
-    Ok(())
-}
-
-#[test]
-fn bad_scripts(rt: HostRuntime) -> Result<(), Fail> {
-    let alloc = rt.alloc();
-    for (script, text) in [
-        ("a = list\nlist = list", "bad script 2 4\n"),
-        ("a = list\n\n# a comment\nfly a\n", "bad script 4 2\n"),
-        ("del a\ndel\n", "bad script 2 3\n"),
-        ("a = list\ta\n", "bad script 1 1\n"),
-    ] {
-        let mut source = PlainSource::new(Vec::from_slice(alloc, script.as_bytes())?);
-        let found = answer_to(alloc, &["run"], &mut source)?;
-        assert_eq!(rt; found.status, Status::BadScript, "at {script:?}");
-        assert_eq!(rt; found.text.as_slice(), text.as_bytes(), "at {script:?}");
-    }
-    Ok(())
-}
-
-#[test]
-fn one_byte_too_many(rt: HostRuntime) -> Result<(), Fail> {
-    let alloc = rt.alloc();
-    let mut source = PlainSource::new(lines_of_spaces(alloc, 16_384, 1)?);
-    let found = answer_to(alloc, &["run"], &mut source)?;
-    assert_eq!(rt; found.status, Status::TooLarge);
-    assert_eq!(rt; found.text.as_slice(), b"too large\n".as_slice());
-    Ok(())
+pub fn scripts() -> &'static [(&'static str, &'static str)] {
+    &SCRIPTS
 }

@@ -1,5 +1,5 @@
-//! Each byte at each position of a short script, and each prefix of a longer one.
-use crate::calls::{answer_to, check_bytes, shown};
+//! Each byte in each place of a short script, and each front of a longer one.
+use crate::calls::{RUN, answer_to, check_bytes, lines, shown};
 use cg_cli::Status;
 use cg_io::PlainSource;
 use std::alloc::{AllocError, Global};
@@ -83,7 +83,8 @@ fn check_place(rt: &impl Abort, alloc: Global, place: usize, there: u8) -> Resul
         } else {
             Status::Done
         };
-        check_bytes(rt, alloc, script_with(alloc, place, byte)?, status, text)?;
+        let script = script_with(alloc, place, byte)?;
+        check_bytes(rt, alloc, RUN, script, status, &lines(alloc, text)?, text)?;
     }
     Ok(())
 }
@@ -100,9 +101,9 @@ fn each_byte_in_each_place(rt: HostRuntime) -> Result<(), Fail> {
 /// A script with a finalizer that makes a weak reference in a collection. Under each byte is what the script that ends there is:
 /// good (a dot); bad in its last line, with this code; or bad with 7 in the line after, where a procedure is still open.
 ///
-/// A line without `=` as its second word has no form (2) until its first word is complete, and then too few words (3). One with
-/// it has too few (3) until there is a third word, which is a variable until it is the word of a form.
-const FRONTS: [(&str, &str); 17] = [
+/// A line without `=` as its second word is of no form (2) until its first word is complete, and then has too few words (3). One with it has
+/// too few (3) until there is a third word, which is a variable as long as it is not the word of a form.
+static FRONTS: [(&str, &str); 17] = [
     ("def cb\n", "2233777"),
     ("end\n", "22.."),
     ("def d\n", "223377"),
@@ -137,7 +138,7 @@ fn check_front(
     code: u8,
 ) -> Result<(), AllocError> {
     let mut source = PlainSource::new(Vec::from_slice(alloc, front)?);
-    let found = answer_to(alloc, &["run"], &mut source)?;
+    let found = answer_to(alloc, RUN, &mut source)?;
     if code == b'.' {
         assert_eq!(rt; found.status, Status::Done, "in line {line}");
         assert!(rt; found.text.ends_with(b"end\n"), "in line {line}");

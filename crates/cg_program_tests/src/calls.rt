@@ -1,12 +1,45 @@
 //! A call of the top call, and its answer.
 //!
-//! The lines of a script, and of a text, are joined by `; `.
-use crate::kinds::{six, six_refusing};
+//! The lines of a script, and of a text, stand with `; ` between them.
+use crate::kinds::six;
 use cg_cli::{Status, gc_run};
 use cg_io::{MemSink, PlainSource, Source};
-use itoa::Buffer;
 use std::alloc::{AllocError, Global};
 use std::process::Abort;
+
+/// A worked script: its name, the script, and the text of a run that ends by `end`.
+pub type Worked = (&'static str, &'static str, &'static str);
+
+/// A call: its name, its words, its script, how it ends, and its text.
+pub type Case = (
+    &'static str,
+    &'static [&'static str],
+    &'static str,
+    Status,
+    &'static str,
+);
+
+pub const RUN: &[&str] = &["run"];
+
+pub const RECORD: &[&str] = &["record"];
+
+pub const EXPAND: &[&str] = &["expand"];
+
+/// The write with this number, from 1, fails after its first `keep` bytes; the lists refuse the call of `make` before which so many
+/// were made.
+#[derive(Clone, Copy)]
+pub struct Faults {
+    pub write: u64,
+    pub keep: usize,
+    pub make: Option<usize>,
+}
+
+/// No write has the number 0.
+pub const NO_FAULT: Faults = Faults {
+    write: 0,
+    keep: 0,
+    make: None,
+};
 
 /// What a call answers, and what it writes.
 #[derive(Drop)]
@@ -24,18 +57,16 @@ pub fn words_of(alloc: Global, words: &[&str]) -> Result<Vec<String>, AllocError
     Ok(all)
 }
 
-/// The answer to these arguments and this source. The sink fails the write with this number, counting from 1, after its
-/// first `keep` bytes.
-pub fn answer_with_fault<S: Source>(
+/// The answer to these words and this source, under faults.
+pub fn answer_under<S: Source>(
     alloc: Global,
     words: &[&str],
     source: &mut S,
-    fails: u64,
-    keep: usize,
+    faults: Faults,
 ) -> Result<Answered, AllocError> {
     let words = words_of(alloc, words)?;
-    let mut sink = MemSink::new(alloc, vec![in alloc; fails]?, keep);
-    let kinds = six(alloc)?;
+    let mut sink = MemSink::new(alloc, vec![in alloc; faults.write]?, faults.keep);
+    let kinds = six(alloc, faults.make)?;
     let status = gc_run(alloc, words.as_slice(), source, &mut sink, kinds);
     Ok(Answered {
         status,
@@ -43,30 +74,13 @@ pub fn answer_with_fault<S: Source>(
     })
 }
 
-/// The answer to these arguments and this source. No write has the number 0.
+/// The answer to these words and this source.
 pub fn answer_to<S: Source>(
     alloc: Global,
     words: &[&str],
     source: &mut S,
 ) -> Result<Answered, AllocError> {
-    answer_with_fault(alloc, words, source, 0, 0)
-}
-
-/// The answer to these arguments and this source, with lists that fail the (n+1)th call of `make`.
-pub fn answer_refusing<S: Source>(
-    alloc: Global,
-    words: &[&str],
-    source: &mut S,
-    before: usize,
-) -> Result<Answered, AllocError> {
-    let words = words_of(alloc, words)?;
-    let mut sink = MemSink::new(alloc, Vec::new(alloc), 0);
-    let kinds = six_refusing(alloc, before)?;
-    let status = gc_run(alloc, words.as_slice(), source, &mut sink, kinds);
-    Ok(Answered {
-        status,
-        text: Vec::from_slice(alloc, sink.bytes())?,
-    })
+    answer_under(alloc, words, source, NO_FAULT)
 }
 
 /// The lines of a script or a text, each with a line feed.
@@ -83,48 +97,33 @@ pub fn lines(alloc: Global, text: &str) -> Result<Vec<u8>, AllocError> {
     Ok(bytes)
 }
 
-/// Lines of 1,023 spaces, and then a line of some spaces.
-pub fn lines_of_spaces(alloc: Global, some: u32, more: u32) -> Result<Vec<u8>, AllocError> {
-    let mut bytes = Vec::new(alloc);
-    for _ in 0..some {
-        bytes.extend_from_slice([b' '; 1023].as_slice())?;
-        bytes.push(b'\n')?;
-    }
-    push_bytes(&mut bytes, b' ', more)?;
-    Ok(bytes)
-}
-
-/// Appends a byte `times` times.
-pub fn push_bytes(bytes: &mut Vec<u8>, byte: u8, times: u32) -> Result<(), AllocError> {
-    for _ in 0..times {
-        bytes.push(byte)?;
-    }
-    Ok(())
-}
-
-/// Appends this text `times` times.
-pub fn push_lines(bytes: &mut Vec<u8>, some: &str, times: u32) -> Result<(), AllocError> {
-    for _ in 0..times {
-        bytes.extend_from_slice(some.as_bytes())?;
-    }
-    Ok(())
-}
-
-/// Appends a line that ends with a number.
-pub fn push_numbered(bytes: &mut Vec<u8>, text: &str, number: u32) -> Result<(), AllocError> {
-    let mut digits = Buffer::new();
-    bytes.extend_from_slice(text.as_bytes())?;
-    bytes.extend_from_slice(digits.format(number).as_bytes())?;
-    bytes.push(b'\n')?;
-    Ok(())
-}
-
-/// Bytes as a text, for messages.
+/// Bytes as a text, to be shown where they are not as they should be.
 pub fn shown(bytes: &[u8]) -> Option<&str> {
     str::from_utf8(bytes).ok()
 }
 
-/// Expects a run of the script with these arguments to end with this status and write this text.
+/// It stops where a call has ended otherwise, or written another text.
+pub fn assert_answer(rt: &impl Abort, found: &Answered, status: Status, text: &[u8], name: &str) {
+    assert_eq!(rt; shown(&found.text), shown(text), "at {name:?}");
+    assert_eq!(rt; found.status, status, "at {name:?}");
+}
+
+/// A call with these words and these bytes is to end so, and to write this text.
+pub fn check_bytes(
+    rt: &impl Abort,
+    alloc: Global,
+    words: &[&str],
+    script: Vec<u8>,
+    status: Status,
+    text: &[u8],
+    name: &str,
+) -> Result<(), AllocError> {
+    let found = answer_to(alloc, words, &mut PlainSource::new(script))?;
+    assert_answer(rt, &found, status, text, name);
+    Ok(())
+}
+
+/// The same with a script and a text of some lines.
 pub fn check(
     rt: &impl Abort,
     alloc: Global,
@@ -132,78 +131,8 @@ pub fn check(
     script: &str,
     status: Status,
     text: &str,
+    name: &str,
 ) -> Result<(), AllocError> {
-    let mut source = PlainSource::new(lines(alloc, script)?);
-    let found = answer_to(alloc, words, &mut source)?;
-    let wanted = lines(alloc, text)?;
-    assert_eq!(rt; shown(&found.text), shown(&wanted), "at {script:?}");
-    assert_eq!(rt; found.status, status, "at {script:?}");
-    Ok(())
-}
-
-/// Expects a run of the script to end by `end` and write this text.
-pub fn check_done(
-    rt: &impl Abort,
-    alloc: Global,
-    script: &str,
-    text: &str,
-) -> Result<(), AllocError> {
-    check(rt, alloc, &["run"], script, Status::Done, text)
-}
-
-/// Whether these bytes are one of some texts.
-fn is_one_of(alloc: Global, found: &[u8], texts: &[&str]) -> Result<bool, AllocError> {
-    for text in texts {
-        if lines(alloc, text)?.as_slice() == found {
-            return Ok(true);
-        }
-    }
-    Ok(false)
-}
-
-/// Expects a run of the script to end by `end` and write one of these texts: the rules leave the order of some lines
-/// open.
-pub fn check_one_of(
-    rt: &impl Abort,
-    alloc: Global,
-    script: &str,
-    texts: &[&str],
-) -> Result<(), AllocError> {
-    let mut source = PlainSource::new(lines(alloc, script)?);
-    let found = answer_to(alloc, &["run"], &mut source)?;
-    assert!(rt;
-        is_one_of(alloc, found.text.as_slice(), texts)?,
-        "at {script:?}"
-    );
-    assert_eq!(rt; found.status, Status::Done, "at {script:?}");
-    Ok(())
-}
-
-/// Expects a run of these bytes to end with this status and write this text.
-pub fn check_bytes(
-    rt: &impl Abort,
-    alloc: Global,
-    script: Vec<u8>,
-    status: Status,
-    text: &str,
-) -> Result<(), AllocError> {
-    let found = answer_to(alloc, &["run"], &mut PlainSource::new(script))?;
-    let wanted = lines(alloc, text)?;
-    assert_eq!(rt; shown(&found.text), shown(&wanted));
-    assert_eq!(rt; found.status, status, "at {text:?}");
-    Ok(())
-}
-
-/// Expects a run of these bytes to end with this status and write this text, which is too long for messages.
-pub fn check_long(
-    rt: &impl Abort,
-    alloc: Global,
-    script: Vec<u8>,
-    status: Status,
-    text: &[u8],
-) -> Result<(), AllocError> {
-    let found = answer_to(alloc, &["run"], &mut PlainSource::new(script))?;
-    assert_eq!(rt; found.status, status);
-    assert!(rt; found.text.as_slice() == text, "a long text");
-    Ok(())
+    let bytes = lines(alloc, script)?;
+    check_bytes(rt, alloc, words, bytes, status, &lines(alloc, text)?, name)
 }

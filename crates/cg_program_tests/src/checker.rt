@@ -1,100 +1,106 @@
-//! Arguments, lines and faults, through the top call of the checker.
+//! Words, lines and faults, through the top call of the checker.
+use crate::calls::words_of;
 use cg_cert::{CheckStatus, check_run};
-use cg_io::{MemSink, MemSource, PlainSource, Source};
+use cg_io::{MemSink, MemSource};
 use std::alloc::{AllocError, Global};
 use std::process::Abort;
 use std::test::Fail;
 
 /// A list that holds itself was thrown away.
-static LIST: &[u8] =
-    b"record 2\ngraph 1\nm 2 1 0\nr 2\nlost 2\ngraph 2\nm 2 1 0\nr 2\nlost 2\nstop\nend\n";
+const LIST: &str =
+    "record 2\ngraph 1\nm 2 1 0\nr 2\nlost 2\ngraph 2\nm 2 1 0\nr 2\nlost 2\nstop\nend\n";
 
-/// Expects this status and this text for these arguments and this source. The writes with these numbers fail, each after
-/// its first two bytes.
-fn check_call<S: Source>(
-    rt: &impl Abort,
-    alloc: Global,
-    words: &[String],
-    source: &mut S,
-    fails: Vec<u64>,
-    status: CheckStatus,
-    text: &[u8],
-) -> Result<(), AllocError> {
-    let mut sink = MemSink::new(alloc, fails, 2);
-    let found = check_run(alloc, words, source, &mut sink);
-    assert_eq!(rt; found, status);
-    assert_eq!(rt; sink.bytes(), text);
-    Ok(())
-}
+/// Calls: a name, the words, the records, which reads fail, which writes fail, each after its first two bytes, how it ends, and its
+/// text.
+type Call = (
+    &'static str,
+    &'static [&'static str],
+    &'static str,
+    &'static [u64],
+    &'static [u64],
+    CheckStatus,
+    &'static [u8],
+);
 
-#[test]
-fn verdicts_are_written(rt: HostRuntime) -> Result<(), Fail> {
-    let alloc = rt.alloc();
-    for (bytes, status, text) in [
-        (LIST, CheckStatus::Yes, b"yes 1\n".as_slice()),
-        (b"end\n".as_slice(), CheckStatus::Yes, b"yes 0\n".as_slice()),
-        (b"end".as_slice(), CheckStatus::No, b"no 0 1\n".as_slice()),
-        (
-            b"record 0\ngraph 1\ngraph 2\nm 3 0 0\nstop\nend\n".as_slice(),
-            CheckStatus::No,
-            b"no 2 4\n".as_slice(),
-        ),
-    ] {
-        let mut source = PlainSource::new(Vec::from_slice(alloc, bytes)?);
-        check_call(&rt, alloc, &[], &mut source, Vec::new(alloc), status, text)?;
-    }
-    Ok(())
-}
-
-#[test]
-fn words_are_bad(rt: HostRuntime) -> Result<(), Fail> {
-    let alloc = rt.alloc();
-    let mut words = Vec::new(alloc);
-    words.push(String::new(alloc))?;
-    let mut source = PlainSource::new(Vec::from_slice(alloc, LIST)?);
-    check_call(
-        &rt,
-        alloc,
-        words.as_slice(),
-        &mut source,
-        Vec::new(alloc),
+static CALLS: [Call; 7] = [
+    ("a list", &[], LIST, &[], &[], CheckStatus::Yes, b"yes 1\n"),
+    (
+        "no records",
+        &[],
+        "end\n",
+        &[],
+        &[],
+        CheckStatus::Yes,
+        b"yes 0\n",
+    ),
+    (
+        "no line feed",
+        &[],
+        "end",
+        &[],
+        &[],
+        CheckStatus::No,
+        b"no 0 1\n",
+    ),
+    (
+        "an object that is not lost",
+        &[],
+        "record 0\ngraph 1\ngraph 2\nm 3 0 0\nstop\nend\n",
+        &[],
+        &[],
+        CheckStatus::No,
+        b"no 2 4\n",
+    ),
+    (
+        "an empty word",
+        &[""],
+        LIST,
+        &[],
+        &[],
         CheckStatus::BadWords,
         b"bad words\n",
-    )?;
-    Ok(())
-}
-
-#[test]
-fn a_failed_write_leaves_two_bytes(rt: HostRuntime) -> Result<(), Fail> {
-    let alloc = rt.alloc();
-    let mut source = PlainSource::new(Vec::from_slice(alloc, LIST)?);
-    let fails = vec![in alloc; 1]?;
-    check_call(
-        &rt,
-        alloc,
+    ),
+    (
+        "a failed write",
         &[],
-        &mut source,
-        fails,
+        LIST,
+        &[],
+        &[1],
         CheckStatus::WriteFault,
         b"ye",
-    )?;
+    ),
+    (
+        "a failed read",
+        &[],
+        LIST,
+        &[1],
+        &[],
+        CheckStatus::ReadFault,
+        b"",
+    ),
+];
+
+fn calls() -> &'static [Call] {
+    &CALLS
+}
+
+/// The call is to end so, and to write its text.
+fn check_call(rt: &impl Abort, alloc: Global, call: Call) -> Result<(), AllocError> {
+    let (name, words, records, reads, writes, status, text) = call;
+    let words = words_of(alloc, words)?;
+    let bytes = Vec::from_slice(alloc, records.as_bytes())?;
+    let mut source = MemSource::new(bytes, Vec::from_slice(alloc, reads)?);
+    let mut sink = MemSink::new(alloc, Vec::from_slice(alloc, writes)?, 2);
+    let found = check_run(alloc, words.as_slice(), &mut source, &mut sink);
+    assert_eq!(rt; found, status, "at {name:?}");
+    assert_eq!(rt; sink.bytes(), text, "at {name:?}");
     Ok(())
 }
 
 #[test]
-fn a_failed_read_writes_nothing(rt: HostRuntime) -> Result<(), Fail> {
-    let alloc = rt.alloc();
-    let bytes = Vec::from_slice(alloc, LIST)?;
-    let mut source = MemSource::new(bytes, vec![in alloc; 1]?);
-    let none = Vec::new(alloc);
-    check_call(
-        &rt,
-        alloc,
-        &[],
-        &mut source,
-        none,
-        CheckStatus::ReadFault,
-        b"",
-    )?;
+fn verdicts_are_written_and_faults_are_told(rt: HostRuntime) -> Result<(), Fail> {
+    for call in calls() {
+        check_call(&rt, rt.alloc(), *call)?;
+    }
     Ok(())
 }

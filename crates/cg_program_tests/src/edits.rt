@@ -42,24 +42,8 @@ pub fn edited(
     Ok(text)
 }
 
-/// Expects this graph and this code for the lines with each line edited, in order.
-fn check_edits(
-    rt: &impl Abort,
-    alloc: Global,
-    lines: &[&[u8]],
-    edit: Edit,
-    wanted: &[(u64, u8)],
-) -> Result<(), AllocError> {
-    for (at, (graph, code)) in wanted.iter().copied().enumerate() {
-        let text = edited(alloc, lines, edit, at)?;
-        let verdict = check_records(alloc, &text)?;
-        assert_eq!(rt; verdict, Verdict::No { graph, code }, "at line {at}");
-    }
-    Ok(())
-}
-
 /// A list that holds itself was thrown away: both graphs are that list, and it is lost.
-pub static LIST: [&[u8]; 11] = [
+pub const LIST: [&[u8]; 11] = [
     b"record 2\n",
     b"graph 1\n",
     b"m 2 1 0\n",
@@ -74,7 +58,7 @@ pub static LIST: [&[u8]; 11] = [
 ];
 
 /// An instance with a legacy finalizer that holds itself was thrown away.
-static INSTANCE: [&[u8]; 9] = [
+const INSTANCE: [&[u8]; 9] = [
     b"record 2\n",
     b"graph 1\n",
     b"m 2 1 1\n",
@@ -86,70 +70,120 @@ static INSTANCE: [&[u8]; 9] = [
     b"end\n",
 ];
 
-#[test]
-fn lines_of_a_list_are_edited(rt: HostRuntime) -> Result<(), Fail> {
-    let alloc = rt.alloc();
-    let left_out = [
-        (0, 1),
-        (0, 1),
-        (0, 1),
-        (1, 4),
-        (1, 4),
-        (0, 1),
-        (0, 1),
-        (2, 4),
-        (2, 4),
-        (0, 1),
-        (0, 1),
-    ];
-    check_edits(&rt, alloc, &LIST, Edit::LeftOut, &left_out)?;
-    let doubled = [
-        (0, 1),
-        (0, 1),
-        (1, 2),
-        (1, 3),
-        (1, 2),
-        (0, 1),
-        (2, 2),
-        (2, 3),
-        (2, 2),
-        (0, 1),
-        (0, 1),
-    ];
-    check_edits(&rt, alloc, &LIST, Edit::Doubled, &doubled)?;
-    // The last line has no successor.
-    check_edits(&rt, alloc, &LIST, Edit::Swapped, &[(0, 1); 10])?;
+/// The verdicts, by graph and code, on texts with each line edited, in order. The last line has no next.
+static VERDICTS: [(&str, &[&[u8]], Edit, &[(u64, u8)]); 6] = [
+    (
+        "a line of the list left out",
+        &LIST,
+        Edit::LeftOut,
+        &[
+            (0, 1),
+            (0, 1),
+            (0, 1),
+            (1, 4),
+            (1, 4),
+            (0, 1),
+            (0, 1),
+            (2, 4),
+            (2, 4),
+            (0, 1),
+            (0, 1),
+        ],
+    ),
+    (
+        "a line of the list doubled",
+        &LIST,
+        Edit::Doubled,
+        &[
+            (0, 1),
+            (0, 1),
+            (1, 2),
+            (1, 3),
+            (1, 2),
+            (0, 1),
+            (2, 2),
+            (2, 3),
+            (2, 2),
+            (0, 1),
+            (0, 1),
+        ],
+    ),
+    (
+        "two lines of the list swapped",
+        &LIST,
+        Edit::Swapped,
+        &[(0, 1); 10],
+    ),
+    (
+        "a line of the instance left out",
+        &INSTANCE,
+        Edit::LeftOut,
+        &[
+            (0, 1),
+            (0, 1),
+            (0, 1),
+            (1, 4),
+            (1, 4),
+            (1, 5),
+            (0, 1),
+            (0, 1),
+            (0, 1),
+        ],
+    ),
+    (
+        "a line of the instance doubled",
+        &INSTANCE,
+        Edit::Doubled,
+        &[
+            (0, 1),
+            (0, 1),
+            (1, 2),
+            (1, 3),
+            (1, 2),
+            (1, 2),
+            (0, 1),
+            (0, 1),
+            (0, 1),
+        ],
+    ),
+    (
+        "two lines of the instance swapped",
+        &INSTANCE,
+        Edit::Swapped,
+        &[(0, 1); 8],
+    ),
+];
+
+fn verdicts() -> &'static [(
+    &'static str,
+    &'static [&'static [u8]],
+    Edit,
+    &'static [(u64, u8)],
+)] {
+    &VERDICTS
+}
+
+/// Wants these verdicts of the lines with each line edited, in order.
+fn check_edits(
+    rt: &impl Abort,
+    alloc: Global,
+    lines: &[&[u8]],
+    edit: Edit,
+    wanted: &[(u64, u8)],
+    name: &str,
+) -> Result<(), AllocError> {
+    for (at, (graph, code)) in wanted.iter().copied().enumerate() {
+        let text = edited(alloc, lines, edit, at)?;
+        let verdict = check_records(alloc, &text)?;
+        assert_eq!(rt; verdict, Verdict::No { graph, code }, "{name}, at {at}");
+    }
     Ok(())
 }
 
 #[test]
-fn lines_of_an_instance_are_edited(rt: HostRuntime) -> Result<(), Fail> {
-    let alloc = rt.alloc();
-    let left_out = [
-        (0, 1),
-        (0, 1),
-        (0, 1),
-        (1, 4),
-        (1, 4),
-        (1, 5),
-        (0, 1),
-        (0, 1),
-        (0, 1),
-    ];
-    check_edits(&rt, alloc, &INSTANCE, Edit::LeftOut, &left_out)?;
-    let doubled = [
-        (0, 1),
-        (0, 1),
-        (1, 2),
-        (1, 3),
-        (1, 2),
-        (1, 2),
-        (0, 1),
-        (0, 1),
-        (0, 1),
-    ];
-    check_edits(&rt, alloc, &INSTANCE, Edit::Doubled, &doubled)?;
-    // The last line has no successor.
-    check_edits(&rt, alloc, &INSTANCE, Edit::Swapped, &[(0, 1); 8])?;
+fn each_line_is_edited(rt: HostRuntime) -> Result<(), Fail> {
+    for (name, lines, edit, wanted) in verdicts() {
+        check_edits(&rt, rt.alloc(), lines, *edit, wanted, name)?;
+    }
     Ok(())
 }

@@ -1,99 +1,90 @@
-//! A write refused at each line, and a read refused at each call, for every job.
-use crate::calls::{answer_to, answer_with_fault, lines, lines_of_spaces, shown};
+//! A write refused at each line, and a read refused at each call, whatever the job.
+use crate::calls::{EXPAND, Faults, RECORD, RUN, answer_to, answer_under, assert_answer, lines};
 use crate::one_byte::OneByte;
+use crate::parts::Line::Filled;
+use crate::parts::Part::Turns;
+use crate::parts::built;
+use crate::recordings::RECORD_OF_RING;
+use crate::sizes::TOO_LARGE;
 use cg_cli::Status;
 use cg_io::{MemSource, PlainSource, Source};
 use std::alloc::{AllocError, Global};
 use std::process::Abort;
 use std::test::Fail;
 
-/// A call with a known result: its arguments and its script, how often it reads a source that gives the whole script at
-/// once, its status and its text.
-#[derive(Clone, Copy)]
-struct Call {
-    words: &'static [&'static str],
-    script: &'static str,
-    reads: u64,
-    status: Status,
-    text: &'static str,
-}
+/// A call of which all is known: its words and its script, how often it reads a source that gives the whole script at once,
+/// how it ends and its text.
+type Call = (
+    &'static [&'static str],
+    &'static str,
+    u64,
+    Status,
+    &'static str,
+);
 
-/// Two callbacks, a shutdown, an inspection, a spent budget, a bad script, bad words, a summary, records, an expansion.
-const CALLS: [Call; 9] = [
-    Call {
-        words: &["run"],
-        script: "def p; end; class C; f = func p; a = new C; u = ref a f; v = ref a f; del a",
-        reads: 2,
-        status: Status::Done,
-        text: "made function #2; made instance #3; made weakref #4; made weakref #5; cleared #5; cleared #4; enter callback #5; leave; enter callback #4; leave; free #3; end",
-    },
-    Call {
-        words: &["run"],
-        script: "shutdown; a = list",
-        reads: 2,
-        status: Status::Done,
-        text: "made list #2; free #2; gc start 2; gc stop 2 0 0; left 0; end",
-    },
-    Call {
-        words: &["run"],
-        script: "a = list; b = list a; c = list a; referrers a",
-        reads: 2,
-        status: Status::Done,
-        text: "made list #2; made list #3; made list #4; referrer #3; referrer #4; listed 2; end",
-    },
-    Call {
-        words: &["run", "--budget", "1"],
-        script: "def d; end; class C del=d; a = new C; del a; b = new C; del b",
-        reads: 2,
-        status: Status::Budget,
-        text: "made instance #2; enter del #2; leave; free #2; made instance #3; budget spent",
-    },
-    Call {
-        words: &["run"],
-        script: "a = list; b = list; del a; append a",
-        reads: 2,
-        status: Status::BadScript,
-        text: "bad script 4 3",
-    },
-    Call {
-        words: &["run", "now"],
-        script: "a = list",
-        reads: 0,
-        status: Status::BadWords,
-        text: "bad words",
-    },
-    Call {
-        words: &["generate", "3"],
-        script: "a = list",
-        reads: 0,
-        status: Status::Done,
-        text: "summary 7 7 1 2 18",
-    },
-    Call {
-        words: &["record"],
-        script: "a = list; append a a; del a; collect 2",
-        reads: 2,
-        status: Status::Done,
-        text: "record 2; graph 1; m 2 1 0; r 2; lost 2; graph 2; m 2 1 0; r 2; lost 2; stop; end",
-    },
-    // An expansion is one write, so here it has one line.
-    Call {
-        words: &["expand"],
-        script: "m = wmap",
-        reads: 2,
-        status: Status::Done,
-        text: "m = dict",
-    },
+/// Two callbacks, a shutdown, an inspection, a spent budget, a bad script, bad words, a summary, records, an expansion, and one of a
+/// bad script.
+static CALLS: [Call; 10] = [
+    (
+        RUN,
+        "def p; end; class C; f = func p; a = new C; u = ref a f; v = ref a f; del a",
+        2,
+        Status::Done,
+        "made function #2; made instance #3; made weakref #4; made weakref #5; cleared #5; cleared #4; enter callback #5; leave; enter callback #4; leave; free #3; end",
+    ),
+    (
+        RUN,
+        "shutdown; a = list",
+        2,
+        Status::Done,
+        "made list #2; free #2; gc start 2; gc stop 2 0 0; left 0; end",
+    ),
+    (
+        RUN,
+        "a = list; b = list a; c = list a; referrers a",
+        2,
+        Status::Done,
+        "made list #2; made list #3; made list #4; referrer #3; referrer #4; listed 2; end",
+    ),
+    (
+        &["run", "--budget", "1"],
+        "def d; end; class C del=d; a = new C; del a; b = new C; del b",
+        2,
+        Status::Budget,
+        "made instance #2; enter del #2; leave; free #2; made instance #3; budget spent",
+    ),
+    (
+        RUN,
+        "a = list; b = list; del a; append a",
+        2,
+        Status::BadScript,
+        "bad script 4 3",
+    ),
+    (
+        &["run", "now"],
+        "a = list",
+        0,
+        Status::BadWords,
+        "bad words",
+    ),
+    (GENERATE, "a = list", 0, Status::Done, "summary 7 7 1 2 18"),
+    (
+        RECORD,
+        "a = list; append a a; del a; collect 2",
+        2,
+        Status::Done,
+        "record 2; graph 1; m 2 1 0; r 2; lost 2; graph 2; m 2 1 0; r 2; lost 2; stop; end",
+    ),
+    // An expansion is written at once, so here it has one line.
+    (EXPAND, "m = wmap", 2, Status::Done, "m = dict"),
+    (EXPAND, "wdrop m", 2, Status::BadScript, "bad script 1 3"),
 ];
 
-/// A script of twenty distinct lines of 1,024 bytes each.
-const SPACES: Call = Call {
-    words: &["run"],
-    script: "twenty lines of spaces",
-    reads: 6,
-    status: Status::Done,
-    text: "end",
-};
+fn calls() -> &'static [Call] {
+    &CALLS
+}
+
+const GENERATE: &[&str] = &["generate", "3"];
 
 /// How many lines a text has.
 fn line_count(text: &[u8]) -> u32 {
@@ -127,7 +118,7 @@ fn front_of(text: &[u8], line: u32, keep: usize) -> &[u8] {
     &text[..end.min(text.len())]
 }
 
-/// Each write of a job fails in turn, after none, two or all bytes of its line.
+/// Each write of a call fails in turn, and keeps nothing, two bytes or all of its line.
 fn check_writes(
     rt: &impl Abort,
     alloc: Global,
@@ -135,21 +126,24 @@ fn check_writes(
     script: &[u8],
     status: Status,
     text: &[u8],
+    name: &str,
 ) -> Result<(), AllocError> {
     let last = line_count(text);
     for keep in [0usize, 2, 100] {
         for line in 0..=last {
             let mut source = PlainSource::new(Vec::from_slice(alloc, script)?);
-            let fails = u64::from(line) + 1;
-            let found = answer_with_fault(alloc, words, &mut source, fails, keep)?;
+            let faults = Faults {
+                write: u64::from(line) + 1,
+                keep,
+                make: None,
+            };
+            let found = answer_under(alloc, words, &mut source, faults)?;
             let wanted = if line < last {
                 Status::WriteFault
             } else {
                 status
             };
-            assert_eq!(rt; found.status, wanted, "at {line} of {words:?}");
-            let front = front_of(text, line, keep);
-            assert_eq!(rt; shown(&found.text), shown(front), "at {line} of {words:?}");
+            assert_answer(rt, &found, wanted, front_of(text, line, keep), name);
         }
     }
     Ok(())
@@ -158,24 +152,18 @@ fn check_writes(
 #[test]
 fn each_write_fails_in_turn(rt: HostRuntime) -> Result<(), Fail> {
     let alloc = rt.alloc();
-    for call in CALLS {
-        let script = lines(alloc, call.script)?;
-        let text = lines(alloc, call.text)?;
-        check_writes(&rt, alloc, call.words, &script, call.status, &text)?;
+    for (words, script, _, status, text) in calls() {
+        let bytes = lines(alloc, script)?;
+        let text = lines(alloc, text)?;
+        check_writes(&rt, alloc, words, &bytes, *status, &text, script)?;
     }
-    let script = lines_of_spaces(alloc, 16_384, 1)?;
-    check_writes(
-        &rt,
-        alloc,
-        &["run"],
-        &script,
-        Status::TooLarge,
-        b"too large\n",
-    )?;
+    let bytes = built(alloc, &TOO_LARGE)?;
+    let large = Status::TooLarge;
+    check_writes(&rt, alloc, RUN, &bytes, large, b"too large\n", "spaces")?;
     Ok(())
 }
 
-/// A job with a source that fails one read, or none.
+/// A call with a source of which a read fails, or none.
 fn check_read<S: Source>(
     rt: &impl Abort,
     alloc: Global,
@@ -183,35 +171,27 @@ fn check_read<S: Source>(
     source: &mut S,
     fails: bool,
 ) -> Result<(), AllocError> {
-    let Call {
-        words,
-        script,
-        status,
-        text,
-        ..
-    } = call;
+    let (words, script, _, status, text) = call;
     let found = answer_to(alloc, words, source)?;
-    let (status, text) = if fails {
-        (Status::ReadFault, Vec::new(alloc))
+    if fails {
+        assert_answer(rt, &found, Status::ReadFault, b"", script);
     } else {
-        (status, lines(alloc, text)?)
-    };
-    assert_eq!(rt; found.status, status, "at {script:?}");
-    assert_eq!(rt; shown(&found.text), shown(&text), "at {script:?}");
+        assert_answer(rt, &found, status, &lines(alloc, text)?, script);
+    }
     Ok(())
 }
 
-/// Each read of a job fails in turn, and the one after the last, with a source that gives all that is requested.
+/// Each read of a call fails in turn, and the one after the last, with a source that gives all that is asked for.
 fn check_reads(
     rt: &impl Abort,
     alloc: Global,
     call: Call,
     script: &[u8],
 ) -> Result<(), AllocError> {
-    for number in 1..call.reads.saturating_add(2) {
+    for number in 1..call.2.saturating_add(2) {
         let bytes = Vec::from_slice(alloc, script)?;
         let mut source = MemSource::new(bytes, vec![in alloc; number]?);
-        check_read(rt, alloc, call, &mut source, number <= call.reads)?;
+        check_read(rt, alloc, call, &mut source, number <= call.2)?;
     }
     Ok(())
 }
@@ -223,7 +203,7 @@ fn check_reads_of_a_byte(
     call: Call,
     script: &[u8],
 ) -> Result<(), AllocError> {
-    let reads = if call.reads == 0 {
+    let reads = if call.2 == 0 {
         0
     } else {
         (script.len() as u64).saturating_add(1)
@@ -236,16 +216,75 @@ fn check_reads_of_a_byte(
     Ok(())
 }
 
+/// A script of twenty lines of 1,024 bytes each: five reads of 4,096 bytes, and one of the end.
+const SPACES: Call = (RUN, "twenty lines of spaces", 6, Status::Done, "end");
+
 #[test]
 fn each_read_fails_in_turn(rt: HostRuntime) -> Result<(), Fail> {
     let alloc = rt.alloc();
-    for call in CALLS {
-        let script = lines(alloc, call.script)?;
-        check_reads(&rt, alloc, call, &script)?;
-        check_reads_of_a_byte(&rt, alloc, call, &script)?;
+    for call in calls() {
+        let script = lines(alloc, call.1)?;
+        check_reads(&rt, alloc, *call, &script)?;
+        check_reads_of_a_byte(&rt, alloc, *call, &script)?;
     }
-    // Five reads of 4,096 bytes, and one for the end.
-    let script = lines_of_spaces(alloc, 20, 0)?;
+    let script = built(alloc, &[Turns(20, &[Filled(b" ", 1023)])])?;
     check_reads(&rt, alloc, SPACES, &script)?;
+    Ok(())
+}
+
+/// Calls where the lists refuse a call of `make`: their words, how many were made before, how they end, and their text. The script
+/// makes the garbage list, `a` and `b` by one call each; that of three blocks makes eight.
+static REFUSED: [(&[&str], usize, Status, &str); 12] = [
+    (RECORD, 0, Status::OutOfMemory, ""),
+    (RECORD, 1, Status::OutOfMemory, ""),
+    (RECORD, 2, Status::OutOfMemory, RECORD_OF_RING),
+    (GENERATE, 0, Status::OutOfMemory, ""),
+    (GENERATE, 1, Status::OutOfMemory, ""),
+    (GENERATE, 2, Status::OutOfMemory, ""),
+    (GENERATE, 3, Status::OutOfMemory, ""),
+    (GENERATE, 4, Status::OutOfMemory, ""),
+    (GENERATE, 5, Status::OutOfMemory, ""),
+    (GENERATE, 6, Status::OutOfMemory, ""),
+    (GENERATE, 7, Status::OutOfMemory, ""),
+    (GENERATE, 8, Status::Done, "summary 7 7 1 2 18"),
+];
+
+fn refused() -> &'static [(&'static [&'static str], usize, Status, &'static str)] {
+    &REFUSED
+}
+
+/// A call is refused so.
+fn check_refused(
+    rt: &impl Abort,
+    alloc: Global,
+    words: &[&str],
+    before: usize,
+    status: Status,
+    text: &str,
+) -> Result<(), AllocError> {
+    let script = "a = list; append a a; del a; collect 2; b = list; append b b; del b; collect 2";
+    let mut source = PlainSource::new(lines(alloc, script)?);
+    let faults = Faults {
+        write: 0,
+        keep: 0,
+        make: Some(before),
+    };
+    let found = answer_under(alloc, words, &mut source, faults)?;
+    assert_eq!(rt; found.status, status, "after {before}");
+    if text.is_empty() {
+        assert!(rt; found.text.is_empty(), "after {before}");
+    } else {
+        assert_answer(rt, &found, status, &lines(alloc, text)?, text);
+    }
+    Ok(())
+}
+
+#[test]
+fn a_list_that_is_refused_ends_the_records_and_leaves_no_summary(
+    rt: HostRuntime,
+) -> Result<(), Fail> {
+    for (words, before, status, text) in refused() {
+        check_refused(&rt, rt.alloc(), words, *before, *status, text)?;
+    }
     Ok(())
 }

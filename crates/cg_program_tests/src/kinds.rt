@@ -77,17 +77,6 @@ impl Kind for Refusing {
     }
 }
 
-/// Lists that fail one call of `make`.
-fn refusing_lists(alloc: Global, before: usize) -> Result<Box<dyn Kind>, AllocError>
-    ensures kind { IfOk result (λ b. kind b ≡ code.List) }
-    ensures empty { IfOk result (λ b. bodies b ≡ fin.empty) }
-{
-    let kind = ListKind::new(alloc);
-    let before = Some(before);
-    let boxed: Box<dyn Kind> = Box::new(alloc, Refusing { kind, before })?;
-    Ok(boxed)
-}
-
 /// An empty kind, in a box.
 fn boxed(alloc: Global, code: KindCode) -> Result<Box<dyn Kind>, AllocError>
     ensures kind { IfOk result (λ b. kind b ≡ code) }
@@ -98,7 +87,20 @@ fn boxed(alloc: Global, code: KindCode) -> Result<Box<dyn Kind>, AllocError>
     Ok(boxed)
 }
 
-/// Pushes one more box.
+/// Lists, which refuse one call of `make`, or none.
+fn lists(alloc: Global, before: Option<usize>) -> Result<Box<dyn Kind>, AllocError>
+    ensures kind { IfOk result (λ b. kind b ≡ code.List) }
+    ensures empty { IfOk result (λ b. bodies b ≡ fin.empty) }
+{
+    if before.is_none() {
+        return boxed(alloc, KindCode::List);
+    }
+    let kind = ListKind::new(alloc);
+    let boxed: Box<dyn Kind> = Box::new(alloc, Refusing { kind, before })?;
+    Ok(boxed)
+}
+
+/// One box more.
 fn push(kinds: &mut Vec<Box<dyn Kind>>, made: Box<dyn Kind>) -> Result<(), AllocError>
     ensures codes { OnOk result (map (λ b. kind b) kinds.new.items ≡
         map (λ b. kind b) kinds.old.items ++ kind made ∷ []) }
@@ -109,28 +111,13 @@ fn push(kinds: &mut Vec<Box<dyn Kind>>, made: Box<dyn Kind>) -> Result<(), Alloc
     Ok(())
 }
 
-/// Six empty kinds.
-pub fn six(alloc: Global) -> Result<Vec<Box<dyn Kind>>, AllocError>
+/// Six empty kinds; the lists refuse the call of `make` before which so many were made, if any.
+pub fn six(alloc: Global, before: Option<usize>) -> Result<Vec<Box<dyn Kind>>, AllocError>
     ensures kinds { IfOk result (λ kinds. map (λ b. kind b) kinds.items ≡ six_kinds) }
     ensures empty { IfOk result (λ kinds. map (λ b. bodies b) kinds.items ≡ replicate 6 fin.empty) }
 {
     let mut kinds: Vec<Box<dyn Kind>> = Vec::new(alloc);
-    push(&mut kinds, boxed(alloc, KindCode::List)?)?;
-    push(&mut kinds, boxed(alloc, KindCode::Tuple)?)?;
-    push(&mut kinds, boxed(alloc, KindCode::Dict)?)?;
-    push(&mut kinds, boxed(alloc, KindCode::Inst)?)?;
-    push(&mut kinds, boxed(alloc, KindCode::Func)?)?;
-    push(&mut kinds, boxed(alloc, KindCode::Weak)?)?;
-    Ok(kinds)
-}
-
-/// Six empty kinds; the lists fail the (n+1)th call of `make`.
-pub fn six_refusing(alloc: Global, before: usize) -> Result<Vec<Box<dyn Kind>>, AllocError>
-    ensures kinds { IfOk result (λ kinds. map (λ b. kind b) kinds.items ≡ six_kinds) }
-    ensures empty { IfOk result (λ kinds. map (λ b. bodies b) kinds.items ≡ replicate 6 fin.empty) }
-{
-    let mut kinds: Vec<Box<dyn Kind>> = Vec::new(alloc);
-    push(&mut kinds, refusing_lists(alloc, before)?)?;
+    push(&mut kinds, lists(alloc, before)?)?;
     push(&mut kinds, boxed(alloc, KindCode::Tuple)?)?;
     push(&mut kinds, boxed(alloc, KindCode::Dict)?)?;
     push(&mut kinds, boxed(alloc, KindCode::Inst)?)?;

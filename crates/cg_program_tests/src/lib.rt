@@ -27,9 +27,9 @@ mod inspections;
 #[cfg(test)]
 mod kinds;
 #[cfg(test)]
-mod limits;
-#[cfg(test)]
 mod one_byte;
+#[cfg(test)]
+mod parts;
 #[cfg(test)]
 mod promises;
 #[cfg(test)]
@@ -48,3 +48,5 @@ mod sources_and_sinks;
 mod summaries;
 #[cfg(test)]
 mod verdicts;
+#[cfg(test)]
+mod worked;

@@ -1,97 +1,56 @@
 //! What every run promises, by scripts that would print something else if a promise were broken. The texts come from the rules
 //! of docs/RULES.md, worked out by hand.
-use crate::calls::{check_done, check_one_of};
-use std::test::Fail;
+use crate::calls::Worked;
 
-#[test]
-fn finalizers_begin_once_and_the_dead_are_not_named(rt: HostRuntime) -> Result<(), Fail> {
-    let alloc = rt.alloc();
-    for (script, text) in [
-        // Resurrected by count and then condemned: the finalizer has run.
-        (
-            "def d; x = self; end; class C del=d; a = new C; del a; setattr x me x; del x; collect",
-            "made instance #2; enter del #2; leave; alive #2; gc start 2; free #2; gc stop 2 1 0; collected 1; end",
-        ),
-        // Resurrected from a collection and then dropped.
-        (
-            "def d; x = self; end; class C del=d; a = new C; setattr a me a; del a; collect; delattr x me; finalized x; del x",
-            "made instance #2; gc start 2; enter del #2; leave; alive #2; gc stop 2 0 0; collected 0; finalized yes; free #2; end",
-        ),
-        // A weak reference to a freed object has no referent.
-        (
-            "class C; a = new C; w = ref a; x = deref w; print x; del x; del a; x = deref w; print x",
-            "made instance #2; made weakref #3; value #2; cleared #3; free #2; value none; end",
-        ),
-        // An unheld object is gone before the next command, also in a frame.
-        (
-            "def d; setitem l 0 none; print 1; end; class C del=d; l = list 0; m = list; setitem l 0 m; del m; a = new C; del a; b = list 2; setitem l 0 b; del b; setitem l 0 3; print 4",
-            "made list #2; made list #3; made instance #4; enter del #4; free #3; value 1; leave; free #4; made list #5; free #5; value 4; end",
-        ),
-    ] {
-        check_done(&rt, alloc, script, text)?;
-    }
-    Ok(())
-}
-
-#[test]
-fn a_half_cleared_set_is_out_of_reach(rt: HostRuntime) -> Result<(), Fail> {
-    let alloc = rt.alloc();
-    for (script, text) in [
-        // An older object that only a member holds dies while the set is cleared; its finalizer looks for a member.
-        (
-            "def d; x = deref w; print x; end; class C del=d; class D; o = new C; collect 0; b = new D; setattr b me b; setattr b old o; w = ref b; del o; del b; collect 0",
-            "made instance #2; gc start 0; gc stop 0 0 0; collected 0; made instance #3; made weakref #4; gc start 0; cleared #4; enter del #2; value none; leave; free #2; free #3; gc stop 0 1 0; collected 1; end",
-        ),
-        // A finalizer makes a weak reference to its doomed neighbour.
-        (
-            "def cb; end; def d; n = attr self other; w = ref n f; del n; end; class C del=d; class D; f = func cb; a = new C; b = new D; setattr a other b; setattr a me a; del a; del b; collect 2",
-            "made function #2; made instance #3; made instance #4; gc start 2; enter del #3; made weakref #5; leave; cleared #5; free #4; free #3; gc stop 2 2 0; collected 2; end",
-        ),
-        // It asks the existing one: the referent is already lost.
-        (
-            "def cb; end; def d; x = deref w; n = attr self other; w = ref n f; del n; end; class C del=d; class D; f = func cb; a = new C; b = new D; setattr a other b; w = ref b; setattr a me a; del a; del b; collect 2",
-            "made function #2; made instance #3; made instance #4; made weakref #5; gc start 2; cleared #5; enter del #3; made weakref #6; free #5; leave; cleared #6; free #4; free #3; gc stop 2 2 0; collected 2; end",
-        ),
-        // It asks the new one, and so resurrects the neighbour.
-        (
-            "def cb; end; def d; n = attr self other; w = ref n f; del n; x = deref w; end; class C del=d; class D; f = func cb; a = new C; b = new D; setattr a other b; w = ref b; setattr a me a; del a; del b; collect 2",
-            "made function #2; made instance #3; made instance #4; made weakref #5; gc start 2; cleared #5; enter del #3; made weakref #6; free #5; leave; alive #4; free #3; gc stop 2 1 0; collected 1; end",
-        ),
-    ] {
-        check_done(&rt, alloc, script, text)?;
-    }
-    Ok(())
-}
-
-#[test]
-fn unreachable_objects_are_freed_and_living_ones_are_whole(rt: HostRuntime) -> Result<(), Fail> {
-    let alloc = rt.alloc();
-    // A tuple is not emptied: it is freed when the list that holds it is.
-    check_done(
-        &rt,
-        alloc,
+/// Finalizers begin once, the dead are not named, and a set that is half cleared is out of reach.
+static DONE: [Worked; 9] = [
+    (
+        "brought back by count and then condemned: the finalizer has run",
+        "def d; x = self; end; class C del=d; a = new C; del a; setattr x me x; del x; collect",
+        "made instance #2; enter del #2; leave; alive #2; gc start 2; free #2; gc stop 2 1 0; collected 1; end",
+    ),
+    (
+        "brought back from a collection and then dropped: the finalizer has run",
+        "def d; x = self; end; class C del=d; a = new C; setattr a me a; del a; collect; delattr x me; finalized x; del x",
+        "made instance #2; gc start 2; enter del #2; leave; alive #2; gc stop 2 0 0; collected 0; finalized yes; free #2; end",
+    ),
+    (
+        "a weak reference to what is gone has no referent",
+        "class C; a = new C; w = ref a; x = deref w; print x; del x; del a; x = deref w; print x",
+        "made instance #2; made weakref #3; value #2; cleared #3; free #2; value none; end",
+    ),
+    (
+        "what nothing holds is gone before the next command, also in a frame",
+        "def d; setitem l 0 none; print 1; end; class C del=d; l = list 0; m = list; setitem l 0 m; del m; a = new C; del a; b = list 2; setitem l 0 b; del b; setitem l 0 3; print 4",
+        "made list #2; made list #3; made instance #4; enter del #4; free #3; value 1; leave; free #4; made list #5; free #5; value 4; end",
+    ),
+    (
+        "an older object that a member alone holds dies while the set is cleared; its finalizer looks for a member",
+        "def d; x = deref w; print x; end; class C del=d; class D; o = new C; collect 0; b = new D; setattr b me b; setattr b old o; w = ref b; del o; del b; collect 0",
+        "made instance #2; gc start 0; gc stop 0 0 0; collected 0; made instance #3; made weakref #4; gc start 0; cleared #4; enter del #2; value none; leave; free #2; free #3; gc stop 0 1 0; collected 1; end",
+    ),
+    (
+        "a finalizer makes a weak reference to its doomed neighbour",
+        "def cb; end; def d; n = attr self other; w = ref n f; del n; end; class C del=d; class D; f = func cb; a = new C; b = new D; setattr a other b; setattr a me a; del a; del b; collect 2",
+        "made function #2; made instance #3; made instance #4; gc start 2; enter del #3; made weakref #5; leave; cleared #5; free #4; free #3; gc stop 2 2 0; collected 2; end",
+    ),
+    (
+        "a finalizer asks the weak reference that was there before: the referent is lost already",
+        "def cb; end; def d; x = deref w; n = attr self other; w = ref n f; del n; end; class C del=d; class D; f = func cb; a = new C; b = new D; setattr a other b; w = ref b; setattr a me a; del a; del b; collect 2",
+        "made function #2; made instance #3; made instance #4; made weakref #5; gc start 2; cleared #5; enter del #3; made weakref #6; free #5; leave; cleared #6; free #4; free #3; gc stop 2 2 0; collected 2; end",
+    ),
+    (
+        "a finalizer asks its new weak reference, and so brings the neighbour back",
+        "def cb; end; def d; n = attr self other; w = ref n f; del n; x = deref w; end; class C del=d; class D; f = func cb; a = new C; b = new D; setattr a other b; w = ref b; setattr a me a; del a; del b; collect 2",
+        "made function #2; made instance #3; made instance #4; made weakref #5; gc start 2; cleared #5; enter del #3; made weakref #6; free #5; leave; alive #4; free #3; gc stop 2 1 0; collected 1; end",
+    ),
+    (
+        "a tuple is not emptied: it goes when the list that holds it is",
         "a = list; t = tuple a; u = tuple t; append a u; del a; del t; del u; collect; gens",
         "made list #2; made tuple #3; made tuple #4; gc start 2; free #3; free #4; free #2; gc stop 2 3 0; collected 3; gens 0 0 0 0; end",
-    )?;
-    // A resurrected object has all its entries, and what is reachable from it has its own.
-    check_one_of(
-        &rt,
-        alloc,
-        "def d; x = self; end; class C del=d; a = new C; setattr a me a; l = list 7; setattr a l l; del l; del a; collect; y = attr x l; z = item y 0; print z",
-        &[
-            "made instance #2; made list #3; gc start 2; enter del #2; leave; alive #2; alive #3; gc stop 2 0 0; collected 0; value 7; end",
-            "made instance #2; made list #3; gc start 2; enter del #2; leave; alive #3; alive #2; gc stop 2 0 0; collected 0; value 7; end",
-        ],
-    )?;
-    // A full collection leaves no garbage, whatever is between its objects.
-    check_one_of(
-        &rt,
-        alloc,
-        "d = dict; l = list; put d 1 l; append l d; del d; del l; collect; gens",
-        &[
-            "made dict #2; made list #3; gc start 2; free #3; free #2; gc stop 2 2 0; collected 2; gens 0 0 0 0; end",
-            "made dict #2; made list #3; gc start 2; free #2; free #3; gc stop 2 2 0; collected 2; gens 0 0 0 0; end",
-        ],
-    )?;
-    Ok(())
+    ),
+];
+
+pub fn done() -> &'static [Worked] {
+    &DONE
 }

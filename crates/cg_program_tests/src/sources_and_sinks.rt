@@ -2,64 +2,20 @@
 use cg_io::{
     MemSink, MemSource, PlainSource, ReadFailed, ReadSource, Sink, Source, WriteFailed, WriteSink,
 };
-use std::alloc::{AllocError, Global};
 use std::io::{self, ErrorKind, Read, Write};
 use std::process::Abort;
 use std::test::Fail;
 
-fn numbers(alloc: Global, all: &[u64]) -> Result<Vec<u64>, AllocError> {
-    Vec::from_slice(alloc, all)
-}
-
-/// Reads up to three bytes, and compares them.
-fn reads<S: Source>(rt: &impl Abort, source: &mut S, want: &[u8]) {
-    let mut buf = [0; 3];
-    let Ok(n) = source.read(&mut buf) else {
-        assert!(rt; false, "a fault in place of {want:?}");
-        return;
-    };
-    assert_eq!(rt; &buf[..n], want);
-}
-
-fn fails_to_read<S: Source>(rt: &impl Abort, source: &mut S) {
-    let mut buf = [0; 3];
-    assert_eq!(rt; source.read(&mut buf), Err(ReadFailed));
-}
-
-#[test]
-fn a_plain_source_gives_its_bytes(rt: HostRuntime) -> Result<(), Fail> {
-    let mut source = PlainSource::new(Vec::from_slice(rt.alloc(), b"abcde")?);
-    reads(&rt, &mut source, b"abc");
-    reads(&rt, &mut source, b"de");
-    reads(&rt, &mut source, b"");
-    Ok(())
-}
-
-#[test]
-fn a_source_in_memory_fails_at_the_given_read(rt: HostRuntime) -> Result<(), Fail> {
-    let alloc = rt.alloc();
-    let mut source = MemSource::new(Vec::from_slice(alloc, b"abcde")?, numbers(alloc, &[4, 2])?);
-    reads(&rt, &mut source, b"abc");
-    fails_to_read(&rt, &mut source);
-    reads(&rt, &mut source, b"de");
-    fails_to_read(&rt, &mut source);
-    reads(&rt, &mut source, b"");
-    Ok(())
-}
-
-#[test]
-fn a_failed_write_keeps_a_prefix(rt: HostRuntime) -> Result<(), Fail> {
-    let alloc = rt.alloc();
-    let mut sink = MemSink::new(alloc, numbers(alloc, &[3])?, 3);
-    assert_eq!(rt; sink.write(b"made list #2\n"), Ok(()));
-    assert_eq!(rt; sink.write(b"made list #3\n"), Ok(()));
-    assert_eq!(rt; sink.write(b"made list #4\n"), Err(WriteFailed));
-    assert_eq!(rt; sink.bytes(), b"made list #2\nmade list #3\nmad".as_slice());
-
-    let mut long = MemSink::new(alloc, numbers(alloc, &[1])?, 100);
-    assert_eq!(rt; long.write(b"end\n"), Err(WriteFailed));
-    assert_eq!(rt; long.bytes(), b"end\n".as_slice());
-    Ok(())
+/// Reads up to three bytes again and again. It is to give these, or to fail where there are none.
+fn check_reads<S: Source>(rt: &impl Abort, source: &mut S, wants: &[Option<&[u8]>]) {
+    for want in wants {
+        let mut buf = [0; 3];
+        match (source.read(&mut buf), want) {
+            (Ok(n), Some(want)) => assert_eq!(rt; &buf[..n], *want),
+            (Err(ReadFailed), None) => {}
+            _ => panic!(rt; "not {want:?}"),
+        }
+    }
 }
 
 /// A reader that is interrupted a number of times before it gives `ab`.
@@ -81,21 +37,23 @@ impl Read for HaltingReader {
 }
 
 #[test]
-fn a_reader_is_a_source(rt: HostRuntime) {
+fn sources_give_their_bytes_and_fail_where_they_are_told(rt: HostRuntime) -> Result<(), Fail> {
+    let alloc = rt.alloc();
+    let all: [Option<&[u8]>; 3] = [Some(b"abc"), Some(b"de"), Some(b"")];
+    let mut plain = PlainSource::new(Vec::from_slice(alloc, b"abcde")?);
+    check_reads(&rt, &mut plain, &all);
+    let bytes = Vec::from_slice(alloc, b"abcde")?;
+    let mut failing = MemSource::new(bytes, Vec::from_slice(alloc, &[4, 2])?);
+    let some: [Option<&[u8]>; 5] = [Some(b"abc"), None, Some(b"de"), None, Some(b"")];
+    check_reads(&rt, &mut failing, &some);
     let mut text = b"abcde".as_slice();
-    let mut source = ReadSource::new(&mut text);
-    reads(&rt, &mut source, b"abc");
-    reads(&rt, &mut source, b"de");
-    reads(&rt, &mut source, b"");
-}
-
-#[test]
-fn an_interrupted_read_is_tried_again_a_hundred_times(rt: HostRuntime) {
+    check_reads(&rt, &mut ReadSource::new(&mut text), &all);
+    // An interrupted read is tried again a hundred times.
     let mut patient = ReadSource::new(HaltingReader { halts: 100 });
-    reads(&rt, &mut patient, b"ab");
+    check_reads(&rt, &mut patient, &[Some(b"ab")]);
     let mut gives_up = ReadSource::new(HaltingReader { halts: 101 });
-    fails_to_read(&rt, &mut gives_up);
-    reads(&rt, &mut gives_up, b"ab");
+    check_reads(&rt, &mut gives_up, &[None, Some(b"ab")]);
+    Ok(())
 }
 
 /// What a writer does when it has no room.
@@ -139,7 +97,16 @@ impl Write for SlowWriter {
 }
 
 #[test]
-fn a_writer_is_a_sink(rt: HostRuntime) -> Result<(), Fail> {
+fn sinks_keep_what_they_take(rt: HostRuntime) -> Result<(), Fail> {
+    let alloc = rt.alloc();
+    let mut sink = MemSink::new(alloc, Vec::from_slice(alloc, &[3])?, 3);
+    assert_eq!(&rt; sink.write(b"made list #2\n"), Ok(()));
+    assert_eq!(&rt; sink.write(b"made list #3\n"), Ok(()));
+    assert_eq!(&rt; sink.write(b"made list #4\n"), Err(WriteFailed));
+    assert_eq!(&rt; sink.bytes(), b"made list #2\nmade list #3\nmad".as_slice());
+    let mut long = MemSink::new(alloc, Vec::from_slice(alloc, &[1])?, 100);
+    assert_eq!(&rt; long.write(b"end\n"), Err(WriteFailed));
+    assert_eq!(&rt; long.bytes(), b"end\n".as_slice());
     let line = b"free #2\n";
     for (room, full, answer, want) in [
         (100, Full::Breaks, Ok(()), line.as_slice()),
@@ -147,7 +114,7 @@ fn a_writer_is_a_sink(rt: HostRuntime) -> Result<(), Fail> {
         (4, Full::TakesNothing, Err(WriteFailed), b"free".as_slice()),
         (5, Full::Breaks, Err(WriteFailed), b"free ".as_slice()),
     ] {
-        let taken = Vec::new(rt.alloc());
+        let taken = Vec::new(alloc);
         let mut writer = SlowWriter {
             taken,
             room,
@@ -155,8 +122,8 @@ fn a_writer_is_a_sink(rt: HostRuntime) -> Result<(), Fail> {
             full,
         };
         let mut sink = WriteSink::new(&mut writer);
-        assert_eq!(rt; sink.write(line), answer, "with room for {room}");
-        assert_eq!(rt; writer.taken.as_slice(), want, "with room for {room}");
+        assert_eq!(&rt; sink.write(line), answer, "with room for {room}");
+        assert_eq!(&rt; writer.taken.as_slice(), want, "with room for {room}");
     }
     Ok(())
 }

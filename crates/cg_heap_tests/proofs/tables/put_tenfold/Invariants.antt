@@ -1,5 +1,0 @@
-use Rattle.cg_kind.specs.Bodies.{Holds}
-use Rattle.cg_heap_tests.proofs.tables.put_tenfold.Given as goal
-
-abbrev pub invariant-keys : goal.invariant-keys
-invariant-keys g l = Holds (g.K.Kind.bodies l.kind) l.at
