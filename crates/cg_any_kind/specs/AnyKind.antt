@@ -11,7 +11,8 @@ use Rattle.cg_any_kind.specs.declared.AnyKind.{AnyKind}
 use Rattle.cg_any_kind.specs.declared.AnyKind.TheVariants.{List, Tuple, Dict, Inst, Func, Weak}
 
 -- applies the function for the kind
-abbrev pub by_kind : {T : Type 0} → (BodySlab ListItems → T) → (BodySlab TupleItems → T) → (BodySlab (Pairs Dictionary) → T) → (BodySlab (Pairs Instance) → T) → (BodySlab Cells → T) → (BodySlab Callback → T) → AnyKind → T
+abbrev pub by_kind : {T : Type 0} → (BodySlab ListItems → T) → (BodySlab TupleItems → T) → (BodySlab (Pairs Dictionary) → T) → (BodySlab (Pairs Instance) → T)
+    → (BodySlab Cells → T) → (BodySlab Callback → T) → AnyKind → T
 by_kind list tuple dict inst func weak (List k) = list k
 by_kind list tuple dict inst func weak (Tuple k) = tuple k
 by_kind list tuple dict inst func weak (Dict k) = dict k

@@ -1,5 +1,5 @@
-//! Any of the six kinds in one type, and six of them for a heap: `Heap<AnyKind>` is a heap without boxes. The tests of
-//! the layers above use it.
+//! Any of the six kinds in one type, and six of them for a heap: `Heap<AnyKind>` is a heap without
+//! boxes. The tests of the layers above use it.
 #![tactic(auto)]
 
 ghost use Rattle.std.specs.Prelude.{◌≡◌, IfOk, map, replicate};

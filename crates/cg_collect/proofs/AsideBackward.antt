@@ -10,8 +10,8 @@ use Rattle.cg_graph.specs.Store.{Store, entries_of}
 use Rattle.cg_graph.proofs.Members.{either, Includes-append_left, Includes-append_right, Includes-append_cases}
 use Rattle.cg_trial.specs.View.{targets}
 use Rattle.cg_collect.specs.Starting.{SetsReferencesAside}
-use Rattle.cg_collect.proofs.Standing.{entries_on}
-use Rattle.cg_collect.proofs.Aside.{aside_none, aside_more}
+use Rattle.cg_collect.proofs.PlacesOfObjects.{entries_on}
+use Rattle.cg_collect.proofs.Uncollectable.{aside_none, aside_more}
 
 -- in which order references stand does not matter
 aside_as : (r q : List ℕ) (old new : Store) → SetsReferencesAside r old new → ((o : ℕ) → Includes r o → Includes q o) → ((o : ℕ) → Includes q o → Includes r o) → SetsReferencesAside q old new

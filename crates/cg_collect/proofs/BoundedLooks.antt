@@ -24,7 +24,8 @@ passed step phase at onward = subst (λ (p : Phase). pass_of p + passes_on p ≤
 past_unlinking : (g : ℕ) (phase : Phase) (looks : ℕ) (steps : List SteppedPhase) → 10 ≤ pass_of phase → AreSteps g phase looks steps → looks_after looks steps ≤ looks + looks_in_turns steps
 past_unlinking g phase looks [] late are = omega arith
 past_unlinking g phase looks (step ∷ steps) late are =
-    by step.phase (subst (λ p. 10 ≤ pass_of p) (sym are.0) late) (found_at g step step.phase looks step.store refl are.1 refl are.2) are.2.onward (λ h. past_unlinking g step.phase_now step.looks_now steps h are.4)
+    by step.phase (subst (λ p. 10 ≤ pass_of p) (sym are.0) late) (found_at g step step.phase looks step.store refl are.1 refl are.2) are.2.onward
+    (λ h. past_unlinking g step.phase_now step.looks_now steps h are.4)
   where
     by : (p : Phase) → 10 ≤ pass_of p → step.looks_now + looks_left p step.phase_now step.store_now ≤ looks + most_looks g p step.store → pass_of p + passes_on p ≤ pass_of step.phase_now
         → (10 ≤ pass_of step.phase_now → looks_after step.looks_now steps ≤ step.looks_now + looks_in_turns steps)
@@ -45,7 +46,8 @@ past_unlinking g phase looks (step ∷ steps) late are =
     by _ h l o rest = omega (arith, rest (omega (arith, h, o)), l)
 
 -- The third walk, after one of its steps.
-after_unlinking : (g : ℕ) (member weak : Option ℕ) (phase_now : Phase) (looks : ℕ) (store : Store) (most : ℕ) (steps : List SteppedPhase) → looks + looks_left (phase_of.Unlinking member weak) phase_now store ≤ most → 9 ≤ pass_of phase_now
+after_unlinking : (g : ℕ) (member weak : Option ℕ) (phase_now : Phase) (looks : ℕ) (store : Store) (most : ℕ) (steps : List SteppedPhase)
+    → looks + looks_left (phase_of.Unlinking member weak) phase_now store ≤ most → 9 ≤ pass_of phase_now
     → (¬ MayRun phase_now → FindsHeap store steps) → AreSteps g phase_now looks steps → looks_after looks steps ≤ most + looks_in_turns steps
 after_unlinking g member weak phase_now looks store most [] few late finds are = omega (arith, few)
 after_unlinking g member weak phase_of.Start looks store most (step ∷ steps) few late finds are = absurd (omega (arith, late))
@@ -68,14 +70,21 @@ after_unlinking g member weak (phase_of.Unlinking later older) looks store most 
 after_unlinking g member weak phase_now looks store most (step ∷ steps) few late finds are = omega (arith, few, past_unlinking g phase_now looks (step ∷ steps) (omega (arith, late)) are)
 
 -- After the second walk, also the third.
-past_detaching : (g : ℕ) (phase : Phase) (looks : ℕ) (steps : List SteppedPhase) → 9 ≤ pass_of phase → AreSteps g phase looks steps → looks_after looks steps ≤ looks + looks_at_unlinking g steps + looks_in_turns steps
+past_detaching : (g : ℕ) (phase : Phase) (looks : ℕ) (steps : List SteppedPhase) → 9 ≤ pass_of phase → AreSteps g phase looks steps → looks_after looks steps ≤
+    looks + looks_at_unlinking g steps + looks_in_turns steps
 past_detaching g phase looks [] late are = omega arith
 past_detaching g phase looks (step ∷ steps) late are =
-    by step.phase (subst (λ p. 9 ≤ pass_of p) (sym are.0) late) (found_at g step step.phase looks step.store refl are.1 refl are.2) are.2.onward (λ h. past_detaching g step.phase_now step.looks_now steps h are.4)
+    by step.phase (subst (λ p. 9 ≤ pass_of p) (sym are.0) late) (found_at g step step.phase looks step.store refl are.1 refl are.2) are.2.onward
+    (λ h. past_detaching g step.phase_now step.looks_now steps h are.4)
   where
     by : (p : Phase) → 9 ≤ pass_of p → step.looks_now + looks_left p step.phase_now step.store_now ≤ looks + most_looks g p step.store → pass_of p + passes_on p ≤ pass_of step.phase_now
         → (9 ≤ pass_of step.phase_now → looks_after step.looks_now steps ≤ step.looks_now + looks_at_unlinking g steps + looks_in_turns steps)
-        → looks_after step.looks_now steps ≤ looks + elim p [ phase_of.Unlinking member weak ↦ most_looks g (phase_of.Unlinking member weak) step.store | _ ↦ looks_at_unlinking g steps ] + (elim p [ phase_of.Turn o ↦ one_of (entries_of step.store o) | phase_of.WeakCalling ↦ 1 | _ ↦ 0 ] + looks_in_turns steps)
+        → looks_after step.looks_now steps ≤ looks + elim p [
+          | phase_of.Unlinking member weak ↦ most_looks g (phase_of.Unlinking member weak) step.store
+          | _ ↦
+              looks_at_unlinking g steps
+        ] + (elim p [ phase_of.Turn o ↦ one_of (entries_of step.store o) | phase_of.WeakCalling ↦ 1 | _ ↦ 0 ] + looks_in_turns
+        steps)
     by phase_of.Start h l o rest = absurd (omega (arith, h))
     by (phase_of.Sizes zero_size one_size two_size frozen) h l o rest = absurd (omega (arith, h))
     by (phase_of.Telling n) h l o rest = absurd (omega (arith, h))
@@ -88,11 +97,16 @@ past_detaching g phase looks (step ∷ steps) late are =
     by phase_of.Split h l o rest = absurd (omega (arith, h))
     by (phase_of.Living n) h l o rest = absurd (omega (arith, h))
     by (phase_of.Detaching n) h l o rest = absurd (omega (arith, h))
-    by (phase_of.Unlinking member weak) h l o rest = omega (arith, after_unlinking g member weak step.phase_now step.looks_now step.store_now (looks + most_looks g (phase_of.Unlinking member weak) step.store) steps l (omega (arith, o)) are.3 are.4)
+    by (phase_of.Unlinking member weak) h l o rest = omega (
+      arith,
+      after_unlinking g member weak step.phase_now step.looks_now step.store_now
+          (looks + most_looks g (phase_of.Unlinking member weak) step.store) steps l (omega (arith, o)) are.3 are.4,
+    )
     by _ h l o rest = omega (arith, rest (omega (arith, h, o)), l)
 
 -- The second walk, after one of its steps.
-after_detaching : (g : ℕ) (next : Option ℕ) (phase_now : Phase) (looks : ℕ) (store : Store) (most : ℕ) (steps : List SteppedPhase) → looks + looks_left (phase_of.Detaching next) phase_now store ≤ most → 8 ≤ pass_of phase_now
+after_detaching : (g : ℕ) (next : Option ℕ) (phase_now : Phase) (looks : ℕ) (store : Store) (most : ℕ) (steps : List SteppedPhase)
+    → looks + looks_left (phase_of.Detaching next) phase_now store ≤ most → 8 ≤ pass_of phase_now
     → (¬ MayRun phase_now → FindsHeap store steps) → AreSteps g phase_now looks steps → looks_after looks steps ≤ most + looks_at_unlinking g steps + looks_in_turns steps
 after_detaching g next phase_now looks store most [] few late finds are = omega (arith, few)
 after_detaching g next phase_of.Start looks store most (step ∷ steps) few late finds are = absurd (omega (arith, late))
@@ -115,14 +129,25 @@ after_detaching g next (phase_of.Detaching later) looks store most (step ∷ ste
 after_detaching g next phase_now looks store most (step ∷ steps) few late finds are = omega (arith, few, past_detaching g phase_now looks (step ∷ steps) (omega (arith, late)) are)
 
 -- After the second reachability pass, both of them.
-past_split : (g : ℕ) (phase : Phase) (looks : ℕ) (steps : List SteppedPhase) → 7 ≤ pass_of phase → AreSteps g phase looks steps → looks_after looks steps ≤ looks + looks_at_detaching g steps + looks_at_unlinking g steps + looks_in_turns steps
+past_split : (g : ℕ) (phase : Phase) (looks : ℕ) (steps : List SteppedPhase) → 7 ≤ pass_of phase → AreSteps g phase looks steps → looks_after looks steps ≤
+    looks + looks_at_detaching g steps + looks_at_unlinking g steps + looks_in_turns steps
 past_split g phase looks [] late are = omega arith
 past_split g phase looks (step ∷ steps) late are =
-    by step.phase (subst (λ p. 7 ≤ pass_of p) (sym are.0) late) (found_at g step step.phase looks step.store refl are.1 refl are.2) are.2.onward (λ h. past_split g step.phase_now step.looks_now steps h are.4)
+    by step.phase (subst (λ p. 7 ≤ pass_of p) (sym are.0) late) (found_at g step step.phase looks step.store refl are.1 refl are.2) are.2.onward
+    (λ h. past_split g step.phase_now step.looks_now steps h are.4)
   where
     by : (p : Phase) → 7 ≤ pass_of p → step.looks_now + looks_left p step.phase_now step.store_now ≤ looks + most_looks g p step.store → pass_of p + passes_on p ≤ pass_of step.phase_now
         → (7 ≤ pass_of step.phase_now → looks_after step.looks_now steps ≤ step.looks_now + looks_at_detaching g steps + looks_at_unlinking g steps + looks_in_turns steps)
-        → looks_after step.looks_now steps ≤ looks + elim p [ phase_of.Detaching next ↦ most_looks g (phase_of.Detaching next) step.store | _ ↦ looks_at_detaching g steps ] + elim p [ phase_of.Unlinking member weak ↦ most_looks g (phase_of.Unlinking member weak) step.store | _ ↦ looks_at_unlinking g steps ] + (elim p [ phase_of.Turn o ↦ one_of (entries_of step.store o) | phase_of.WeakCalling ↦ 1 | _ ↦ 0 ] + looks_in_turns steps)
+        → looks_after step.looks_now steps ≤ looks + elim p [
+          | phase_of.Detaching next ↦ most_looks g (phase_of.Detaching next) step.store
+          | _ ↦
+              looks_at_detaching g steps
+        ] + elim p [
+          | phase_of.Unlinking member weak ↦ most_looks g (phase_of.Unlinking member weak) step.store
+          | _ ↦
+              looks_at_unlinking g steps
+        ] + (elim p [ phase_of.Turn o ↦ one_of (entries_of step.store o) | phase_of.WeakCalling ↦ 1 | _ ↦ 0 ] + looks_in_turns
+        steps)
     by phase_of.Start h l o rest = absurd (omega (arith, h))
     by (phase_of.Sizes zero_size one_size two_size frozen) h l o rest = absurd (omega (arith, h))
     by (phase_of.Telling n) h l o rest = absurd (omega (arith, h))
@@ -133,31 +158,54 @@ past_split g phase looks (step ∷ steps) late are =
     by phase_of.Finalizing h l o rest = absurd (omega (arith, h))
     by (phase_of.AfterFinalizing x) h l o rest = absurd (omega (arith, h))
     by phase_of.Split h l o rest = absurd (omega (arith, h))
-    by (phase_of.Unlinking member weak) h l o rest = omega (arith, after_unlinking g member weak step.phase_now step.looks_now step.store_now (looks + most_looks g (phase_of.Unlinking member weak) step.store) steps l (omega (arith, o)) are.3 are.4)
-    by (phase_of.Detaching next) h l o rest = omega (arith, after_detaching g next step.phase_now step.looks_now step.store_now (looks + most_looks g (phase_of.Detaching next) step.store) steps l (omega (arith, o)) are.3 are.4)
+    by (phase_of.Unlinking member weak) h l o rest = omega (
+      arith,
+      after_unlinking g member weak step.phase_now step.looks_now step.store_now
+          (looks + most_looks g (phase_of.Unlinking member weak) step.store) steps l (omega (arith, o)) are.3 are.4,
+    )
+    by (phase_of.Detaching next) h l o rest = omega (
+      arith,
+      after_detaching g next step.phase_now step.looks_now step.store_now
+          (looks + most_looks g (phase_of.Detaching next) step.store) steps l (omega (arith, o)) are.3 are.4,
+    )
     by _ h l o rest = omega (arith, rest (omega (arith, h, o)), l)
 
 -- After the first walk, also the second pass and callbacks.
-past_clearing : (g : ℕ) (phase : Phase) (looks : ℕ) (steps : List SteppedPhase) → 4 ≤ pass_of phase → AreSteps g phase looks steps → looks_after looks steps ≤ looks + looks_at_split g steps + looks_at_detaching g steps + looks_at_unlinking g steps + looks_in_turns steps
+past_clearing : (g : ℕ) (phase : Phase) (looks : ℕ) (steps : List SteppedPhase) → 4 ≤ pass_of phase → AreSteps g phase looks steps → looks_after looks steps ≤
+    looks + looks_at_split g steps + looks_at_detaching g steps + looks_at_unlinking g steps + looks_in_turns steps
 past_clearing g phase looks [] late are = omega arith
 past_clearing g phase looks (step ∷ steps) late are =
-    by step.phase (subst (λ p. 4 ≤ pass_of p) (sym are.0) late) (found_at g step step.phase looks step.store refl are.1 refl are.2) are.2.onward (λ h. past_clearing g step.phase_now step.looks_now steps h are.4)
+    by step.phase (subst (λ p. 4 ≤ pass_of p) (sym are.0) late) (found_at g step step.phase looks step.store refl are.1 refl are.2) are.2.onward
+    (λ h. past_clearing g step.phase_now step.looks_now steps h are.4)
   where
     by : (p : Phase) → 4 ≤ pass_of p → step.looks_now + looks_left p step.phase_now step.store_now ≤ looks + most_looks g p step.store → pass_of p + passes_on p ≤ pass_of step.phase_now
         → (4 ≤ pass_of step.phase_now → looks_after step.looks_now steps ≤ step.looks_now + looks_at_split g steps + looks_at_detaching g steps + looks_at_unlinking g steps + looks_in_turns steps)
-        → looks_after step.looks_now steps ≤ looks + elim p [ phase_of.Split ↦ most_looks g phase_of.Split step.store | _ ↦ looks_at_split g steps ] + elim p [ phase_of.Detaching next ↦ most_looks g (phase_of.Detaching next) step.store | _ ↦ looks_at_detaching g steps ] + elim p [ phase_of.Unlinking member weak ↦ most_looks g (phase_of.Unlinking member weak) step.store | _ ↦ looks_at_unlinking g steps ] + (elim p [ phase_of.Turn o ↦ one_of (entries_of step.store o) | phase_of.WeakCalling ↦ 1 | _ ↦ 0 ] + looks_in_turns steps)
+        → looks_after step.looks_now steps ≤ looks + elim p [ phase_of.Split ↦ most_looks g phase_of.Split step.store | _ ↦ looks_at_split g steps ] + elim p
+        [ phase_of.Detaching next ↦ most_looks g (phase_of.Detaching next) step.store | _ ↦ looks_at_detaching g steps ] + elim p
+        [ phase_of.Unlinking member weak ↦ most_looks g (phase_of.Unlinking member weak) step.store | _ ↦ looks_at_unlinking g steps ] +
+        (elim p [ phase_of.Turn o ↦ one_of (entries_of step.store o) | phase_of.WeakCalling ↦ 1 | _ ↦ 0 ] + looks_in_turns steps)
     by phase_of.Start h l o rest = absurd (omega (arith, h))
     by (phase_of.Sizes zero_size one_size two_size frozen) h l o rest = absurd (omega (arith, h))
     by (phase_of.Telling n) h l o rest = absurd (omega (arith, h))
     by (phase_of.WeakClearing m v) h l o rest = absurd (omega (arith, h))
-    by (phase_of.Unlinking member weak) h l o rest = omega (arith, after_unlinking g member weak step.phase_now step.looks_now step.store_now (looks + most_looks g (phase_of.Unlinking member weak) step.store) steps l (omega (arith, o)) are.3 are.4)
-    by (phase_of.Detaching next) h l o rest = omega (arith, after_detaching g next step.phase_now step.looks_now step.store_now (looks + most_looks g (phase_of.Detaching next) step.store) steps l (omega (arith, o)) are.3 are.4)
+    by (phase_of.Unlinking member weak) h l o rest = omega (
+      arith,
+      after_unlinking g member weak step.phase_now step.looks_now step.store_now
+          (looks + most_looks g (phase_of.Unlinking member weak) step.store) steps l (omega (arith, o)) are.3 are.4,
+    )
+    by (phase_of.Detaching next) h l o rest = omega (
+      arith,
+      after_detaching g next step.phase_now step.looks_now step.store_now
+          (looks + most_looks g (phase_of.Detaching next) step.store) steps l (omega (arith, o)) are.3 are.4,
+    )
     by phase_of.Split h l o rest = omega (arith, past_split g step.phase_now step.looks_now steps (omega (arith, o)) are.4, l)
     by _ h l o rest = omega (arith, rest (omega (arith, h, o)), l)
 
 -- The first walk, after one of its steps.
-after_clearing : (g : ℕ) (member weak : Option ℕ) (phase_now : Phase) (looks : ℕ) (store : Store) (most : ℕ) (steps : List SteppedPhase) → looks + looks_left (phase_of.WeakClearing member weak) phase_now store ≤ most → 3 ≤ pass_of phase_now
-    → (¬ MayRun phase_now → FindsHeap store steps) → AreSteps g phase_now looks steps → looks_after looks steps ≤ most + looks_at_split g steps + looks_at_detaching g steps + looks_at_unlinking g steps + looks_in_turns steps
+after_clearing : (g : ℕ) (member weak : Option ℕ) (phase_now : Phase) (looks : ℕ) (store : Store) (most : ℕ) (steps : List SteppedPhase)
+    → looks + looks_left (phase_of.WeakClearing member weak) phase_now store ≤ most → 3 ≤ pass_of phase_now
+    → (¬ MayRun phase_now → FindsHeap store steps) → AreSteps g phase_now looks steps → looks_after looks steps ≤ most + looks_at_split g steps +
+    looks_at_detaching g steps + looks_at_unlinking g steps + looks_in_turns steps
 after_clearing g member weak phase_now looks store most [] few late finds are = omega (arith, few)
 after_clearing g member weak phase_of.Start looks store most (step ∷ steps) few late finds are = absurd (omega (arith, late))
 after_clearing g member weak (phase_of.Sizes zero_size one_size two_size frozen) looks store most (step ∷ steps) few late finds are = absurd (omega (arith, late))
@@ -165,7 +213,8 @@ after_clearing g member weak (phase_of.Telling n) looks store most (step ∷ ste
 after_clearing g member weak (phase_of.WeakClearing later older) looks store most (step ∷ steps) few late finds are =
     let found = found_at g step (phase_of.WeakClearing later older) looks store are.0 are.1 (finds (λ runs. runs)) are.2 in
     let on = passed step (phase_of.WeakClearing later older) are.0 are.2.onward in
-    let later = after_clearing g later older step.phase_now step.looks_now step.store_now (looks + most_looks 0 (phase_of.WeakClearing later older) store) steps found (omega (arith, on)) are.3 are.4 in
+    let later = after_clearing g later older step.phase_now step.looks_now step.store_now (looks + most_looks 0 (phase_of.WeakClearing later older) store) steps
+    found (omega (arith, on)) are.3 are.4 in
     let same_split = ap {B = ℕ} (λ (p : Phase). elim p [ phase_of.Split ↦ most_looks g phase_of.Split step.store | _ ↦ looks_at_split g steps ]) are.0 in
     let same_detaching = ap {B = ℕ} (λ (p : Phase). elim p [ phase_of.Detaching next ↦ most_looks g (phase_of.Detaching next) step.store | _ ↦ looks_at_detaching g steps ]) are.0 in
     let same_unlinking = ap {B = ℕ} (λ (p : Phase). elim p [ phase_of.Unlinking member weak ↦ most_looks g (phase_of.Unlinking member weak) step.store | _ ↦ looks_at_unlinking g steps ]) are.0 in
@@ -173,19 +222,45 @@ after_clearing g member weak (phase_of.WeakClearing later older) looks store mos
 after_clearing g member weak phase_now looks store most (step ∷ steps) few late finds are = omega (arith, few, past_clearing g phase_now looks (step ∷ steps) (omega (arith, late)) are)
 
 -- After the start, also the first walk.
-past_start : (g : ℕ) (phase : Phase) (looks : ℕ) (steps : List SteppedPhase) → 1 ≤ pass_of phase → AreSteps g phase looks steps → looks_after looks steps ≤ looks + looks_at_clearing g steps + looks_at_split g steps + looks_at_detaching g steps + looks_at_unlinking g steps + looks_in_turns steps
+past_start : (g : ℕ) (phase : Phase) (looks : ℕ) (steps : List SteppedPhase) → 1 ≤ pass_of phase → AreSteps g phase looks steps → looks_after looks steps ≤
+    looks + looks_at_clearing g steps + looks_at_split g steps + looks_at_detaching g steps + looks_at_unlinking g steps + looks_in_turns steps
 past_start g phase looks [] late are = omega arith
 past_start g phase looks (step ∷ steps) late are =
-    by step.phase (subst (λ p. 1 ≤ pass_of p) (sym are.0) late) (found_at g step step.phase looks step.store refl are.1 refl are.2) are.2.onward (λ h. past_start g step.phase_now step.looks_now steps h are.4)
+    by step.phase (subst (λ p. 1 ≤ pass_of p) (sym are.0) late) (found_at g step step.phase looks step.store refl are.1 refl are.2) are.2.onward
+    (λ h. past_start g step.phase_now step.looks_now steps h are.4)
   where
     by : (p : Phase) → 1 ≤ pass_of p → step.looks_now + looks_left p step.phase_now step.store_now ≤ looks + most_looks g p step.store → pass_of p + passes_on p ≤ pass_of step.phase_now
-        → (1 ≤ pass_of step.phase_now → looks_after step.looks_now steps ≤ step.looks_now + looks_at_clearing g steps + looks_at_split g steps + looks_at_detaching g steps + looks_at_unlinking g steps + looks_in_turns steps)
-        → looks_after step.looks_now steps ≤ looks + elim p [ phase_of.WeakClearing member weak ↦ most_looks g (phase_of.WeakClearing member weak) step.store | _ ↦ looks_at_clearing g steps ] + elim p [ phase_of.Split ↦ most_looks g phase_of.Split step.store | _ ↦ looks_at_split g steps ] + elim p [ phase_of.Detaching next ↦ most_looks g (phase_of.Detaching next) step.store | _ ↦ looks_at_detaching g steps ] + elim p [ phase_of.Unlinking member weak ↦ most_looks g (phase_of.Unlinking member weak) step.store | _ ↦ looks_at_unlinking g steps ] + (elim p [ phase_of.Turn o ↦ one_of (entries_of step.store o) | phase_of.WeakCalling ↦ 1 | _ ↦ 0 ] + looks_in_turns steps)
+        → (1 ≤ pass_of step.phase_now → looks_after step.looks_now steps ≤ step.looks_now + looks_at_clearing g steps + looks_at_split g steps +
+        looks_at_detaching g steps + looks_at_unlinking g steps + looks_in_turns steps)
+        → looks_after step.looks_now steps ≤ looks + elim p [
+          | phase_of.WeakClearing member weak ↦ most_looks g (phase_of.WeakClearing member weak) step.store
+          | _ ↦ looks_at_clearing g steps
+        ] + elim p [ phase_of.Split ↦ most_looks g phase_of.Split step.store | _ ↦ looks_at_split g steps ] + elim p [
+          | phase_of.Detaching next ↦ most_looks g (phase_of.Detaching next) step.store
+          | _ ↦ looks_at_detaching g steps
+        ] + elim p [
+          | phase_of.Unlinking member
+              weak ↦ most_looks g (phase_of.Unlinking member weak) step.store
+          | _ ↦ looks_at_unlinking g steps
+        ] + (elim p
+        [ phase_of.Turn o ↦ one_of (entries_of step.store o) | phase_of.WeakCalling ↦ 1 | _ ↦ 0 ] + looks_in_turns steps)
     by phase_of.Start h l o rest = absurd (omega (arith, h))
-    by (phase_of.Unlinking member weak) h l o rest = omega (arith, after_unlinking g member weak step.phase_now step.looks_now step.store_now (looks + most_looks g (phase_of.Unlinking member weak) step.store) steps l (omega (arith, o)) are.3 are.4)
-    by (phase_of.Detaching next) h l o rest = omega (arith, after_detaching g next step.phase_now step.looks_now step.store_now (looks + most_looks g (phase_of.Detaching next) step.store) steps l (omega (arith, o)) are.3 are.4)
+    by (phase_of.Unlinking member weak) h l o rest = omega (
+      arith,
+      after_unlinking g member weak step.phase_now step.looks_now step.store_now
+          (looks + most_looks g (phase_of.Unlinking member weak) step.store) steps l (omega (arith, o)) are.3 are.4,
+    )
+    by (phase_of.Detaching next) h l o rest = omega (
+      arith,
+      after_detaching g next step.phase_now step.looks_now step.store_now
+          (looks + most_looks g (phase_of.Detaching next) step.store) steps l (omega (arith, o)) are.3 are.4,
+    )
     by phase_of.Split h l o rest = omega (arith, past_split g step.phase_now step.looks_now steps (omega (arith, o)) are.4, l)
-    by (phase_of.WeakClearing member weak) h l o rest = omega (arith, after_clearing g member weak step.phase_now step.looks_now step.store_now (looks + most_looks g (phase_of.WeakClearing member weak) step.store) steps l (omega (arith, o)) are.3 are.4)
+    by (phase_of.WeakClearing member weak) h l o rest = omega (
+      arith,
+      after_clearing g member weak step.phase_now step.looks_now step.store_now
+          (looks + most_looks g (phase_of.WeakClearing member weak) step.store) steps l (omega (arith, o)) are.3 are.4,
+    )
     by _ h l o rest = omega (arith, rest (omega (arith, h, o)), l)
 
 pub looks_bounded : LooksAreBounded
@@ -194,7 +269,33 @@ looks_bounded g phase looks (step ∷ steps) are =
     by step.phase (found_at g step step.phase looks step.store refl are.1 refl are.2) are.2.onward (λ h. past_start g phase looks (step ∷ steps) (subst (λ q. 1 ≤ pass_of q) are.0 h) are)
   where
     by : (p : Phase) → step.looks_now + looks_left p step.phase_now step.store_now ≤ looks + most_looks g p step.store → pass_of p + passes_on p ≤ pass_of step.phase_now
-        → (1 ≤ pass_of p → looks_after step.looks_now steps ≤ looks + elim p [ phase_of.WeakClearing member weak ↦ most_looks g (phase_of.WeakClearing member weak) step.store | _ ↦ looks_at_clearing g steps ] + elim p [ phase_of.Split ↦ most_looks g phase_of.Split step.store | _ ↦ looks_at_split g steps ] + elim p [ phase_of.Detaching next ↦ most_looks g (phase_of.Detaching next) step.store | _ ↦ looks_at_detaching g steps ] + elim p [ phase_of.Unlinking member weak ↦ most_looks g (phase_of.Unlinking member weak) step.store | _ ↦ looks_at_unlinking g steps ] + (elim p [ phase_of.Turn o ↦ one_of (entries_of step.store o) | phase_of.WeakCalling ↦ 1 | _ ↦ 0 ] + looks_in_turns steps))
-        → looks_after step.looks_now steps ≤ looks + elim p [ phase_of.Start ↦ most_looks g phase_of.Start step.store | _ ↦ looks_at_start g steps ] + elim p [ phase_of.WeakClearing member weak ↦ most_looks g (phase_of.WeakClearing member weak) step.store | _ ↦ looks_at_clearing g steps ] + elim p [ phase_of.Split ↦ most_looks g phase_of.Split step.store | _ ↦ looks_at_split g steps ] + elim p [ phase_of.Detaching next ↦ most_looks g (phase_of.Detaching next) step.store | _ ↦ looks_at_detaching g steps ] + elim p [ phase_of.Unlinking member weak ↦ most_looks g (phase_of.Unlinking member weak) step.store | _ ↦ looks_at_unlinking g steps ] + (elim p [ phase_of.Turn o ↦ one_of (entries_of step.store o) | phase_of.WeakCalling ↦ 1 | _ ↦ 0 ] + looks_in_turns steps)
+        → (1 ≤ pass_of p → looks_after step.looks_now steps ≤ looks + elim p [
+          | phase_of.WeakClearing member weak ↦ most_looks g
+              (phase_of.WeakClearing member weak) step.store
+          | _ ↦ looks_at_clearing g steps
+        ] + elim p [
+          | phase_of.Split ↦ most_looks g phase_of.Split step.store
+          | _ ↦ looks_at_split g steps
+        ] + elim p [
+          | phase_of.Detaching next ↦ most_looks g (phase_of.Detaching next) step.store
+          | _ ↦ looks_at_detaching g
+              steps
+        ] + elim p [ phase_of.Unlinking member weak ↦ most_looks g (phase_of.Unlinking member weak) step.store | _ ↦ looks_at_unlinking g steps ] +
+        (elim p [ phase_of.Turn o ↦ one_of (entries_of step.store o) | phase_of.WeakCalling ↦ 1 | _ ↦ 0 ] + looks_in_turns steps))
+        → looks_after step.looks_now steps ≤ looks + elim p [ phase_of.Start ↦ most_looks g phase_of.Start step.store | _ ↦ looks_at_start g steps ] + elim p
+        [ phase_of.WeakClearing member weak ↦ most_looks g (phase_of.WeakClearing member weak) step.store | _ ↦ looks_at_clearing g steps ] + elim p
+        [ phase_of.Split ↦ most_looks g phase_of.Split step.store | _ ↦ looks_at_split g steps ] + elim p [
+          | phase_of.Detaching next ↦ most_looks g
+              (phase_of.Detaching next) step.store
+          | _ ↦ looks_at_detaching g steps
+        ] + elim p [
+          | phase_of.Unlinking member weak ↦ most_looks g
+              (phase_of.Unlinking member weak) step.store
+          | _ ↦ looks_at_unlinking g steps
+        ] + (elim p [
+          | phase_of.Turn o ↦ one_of (entries_of step.store o)
+          | phase_of.WeakCalling ↦ 1
+          | _ ↦ 0
+        ] + looks_in_turns steps)
     by phase_of.Start l o rest = omega (arith, past_start g step.phase_now step.looks_now steps (omega (arith, o)) are.4, l)
     by _ l o rest = omega (arith, rest (omega arith))

@@ -35,9 +35,9 @@ use Rattle.cg_policy.specs.Policy.{Policy}
 use Rattle.cg_trial.specs.View.{view_of, Merged}
 use Rattle.cg_trial.specs.Split.{IsSameButPlaces}
 use Rattle.cg_trial.proofs.Lists.{ahead_is, once_before, occurs}
-use Rattle.cg_trial.proofs.Placed.{once_at, where_is, is_there}
+use Rattle.cg_trial.proofs.PlacesOfObjects.{once_at, where_is, is_there}
 use Rattle.cg_trial.proofs.Ends.{same_but_places}
-use Rattle.cg_trial.proofs.Views.{merged_view}
+use Rattle.cg_trial.proofs.EffectsOfCalls.{merged_view}
 use Rattle.cg_death.proofs.RowSplits.{all_in, row_of_one, head_in}
 use Rattle.cg_death.proofs.Clearing.{some_first}
 use Rattle.cg_collect.specs.declared.answer.CollectStep.TheVariants as answer_of
@@ -48,12 +48,12 @@ use Rattle.cg_collect.specs.Ready.{IsAt, IsApartUnseen, HasNoneBehind}
 use Rattle.cg_collect.specs.Answers.{CollectSteps}
 use Rattle.cg_collect.specs.Turns.{collection_at}
 use Rattle.cg_represents.proofs.Places.{place_at_is, place_is}
-use Rattle.cg_collect.proofs.Standing.{stands_at, place_there, live_there, stood_at, same_more, entries_on, outside_on, objects_on, list_length, map_alike}
-use Rattle.cg_collect.proofs.Telling.{from_ahead, from_first, at_first, split_at}
+use Rattle.cg_collect.proofs.PlacesOfObjects.{stands_at, place_there, live_there, stood_at, same_more, entries_on, outside_on, objects_on, list_length, map_alike}
+use Rattle.cg_collect.proofs.StartLines.{from_ahead, from_first, at_first, split_at}
 use Rattle.cg_collect.proofs.Stopping.{at_right, tells_line, tells_none}
 use Rattle.cg_collect.proofs.RowFilters.{rising-filter, filter_twice, newest_left, references_other, refers, flat_map_alike, filter-without, without_rows-nil}
 use Rattle.cg_collect.proofs.FinalRows.{AreAlive, lose_first, lose_members, waiting-rest, none_to_lose, same_without}
-use Rattle.cg_collect.proofs.Looking.{still_unsaved}
+use Rattle.cg_collect.proofs.FinalizerPhase.{still_unsaved}
 use Rattle.cg_collect.proofs.Worlds.{steps_at, only_tells, LeavesRest, pending_is, represents_on}
 
 module _ (script : Script) (facts : Facts) (store : Store) (policy : Policy) where
@@ -92,17 +92,21 @@ module _ (script : Script) (facts : Facts) (store : Store) (policy : Policy) whe
   turn-detached none first is =
       tells_none script facts (phase_of.Detaching None) (phase_of.Unlinking first None) store policy
       (λ asked w below s. record { represents = s.represents; numbers = s.numbers; running = s.running; top = s.top })
-      (λ asked. λ i. map Cleared (members_losing candidates (sym (ap (λ c. from_on c candidates) is ∙ from_first candidates) i) ((none_to_lose candidates store.rows none ∙ sym (without_rows-nil store.rows)) i)))
+      (λ asked. λ i. map Cleared (members_losing candidates (sym (ap (λ c. from_on c candidates) is ∙ from_first candidates) i)
+      ((none_to_lose candidates store.rows none ∙ sym (without_rows-nil store.rows)) i)))
 
 -- The newest weak reference to a member is cleared.
-module _ (store : Store) (rise : IsRising store.rows) (o : ℕ) (ws : List ℕ) (r : Row) (inside : Includes store.rows r) (passes : refers_to o r ≡ true) (is : weak_references_in store.rows o ≡ r.weak ∷ ws) where
+module _ (store : Store) (rise : IsRising store.rows) (o : ℕ) (ws : List ℕ) (r : Row) (inside : Includes store.rows r) (passes : refers_to o r ≡ true)
+    (is : weak_references_in store.rows o ≡ r.weak ∷ ws) where
   abbrev lost : Store
   lost = record store { rows = without_row r.weak store.rows }
 
-  pub turn-lost : (script : Script) (facts : Facts) (policy : Policy) (rest : List ℕ) → Includes (list_at store Cand) o → from_on (Some o) (list_at store Cand) ≡ o ∷ rest → ((q : ℕ) → Includes rest q → q ≢ o)
+  pub turn-lost : (script : Script) (facts : Facts) (policy : Policy) (rest : List ℕ) → Includes (list_at store Cand) o → from_on (Some o) (list_at store Cand)
+      ≡ o ∷ rest → ((q : ℕ) → Includes rest q → q ≢ o)
       → CollectSteps script (collection_at facts (phase_of.Detaching (Some o)) None) store policy (collection_at facts (phase_of.Detaching (Some o)) None) lost policy (answer_of.Emit (Cleared r.weak))
   turn-lost script facts policy rest member left others asked w below s =
-      only_tells script asked w below (cleared_lines store.rows (from_on (Some o) (list_at store Cand)) ++ member_lines store) (Cleared r.weak ∷ []) (collection_at facts (phase_of.Detaching (Some o)) None) lost policy
+      only_tells script asked w below (cleared_lines store.rows (from_on (Some o) (list_at store Cand)) ++ member_lines store) (Cleared r.weak ∷ [])
+      (collection_at facts (phase_of.Detaching (Some o)) None) lost policy
       (ap (λ l. cleared_lines store.rows l ++ member_lines store) left
       ∙ ap (λ l. (map Cleared l ++ cleared_lines store.rows rest) ++ member_lines store) is
       ∙ (λ i. Cleared r.weak ∷ ((map Cleared (sym (newest_left (refers_to o) store.rows rise ws r inside passes is) i) ++ rest_same i) ++ members_same i))
@@ -129,7 +133,8 @@ module _ (store : Store) (rise : IsRising store.rows) (o : ℕ) (ws : List ℕ) 
       lost_too = λ i. (there i || includes (list_at store Cand) r.weak) && (true_and (r.referent == o) (not r.waits) passes).1 i
 
       members_same : member_lines store ≡ member_lines lost
-      members_same = ap (λ rows. map Cleared (members_losing (list_at store Cand) (list_at store Cand) rows)) (sym (filter-without store.rows rise r inside (λ x. not (refers_to_any (list_at store Cand) x)) (ap not gone)))
+      members_same = ap (λ rows. map Cleared (members_losing (list_at store Cand) (list_at store Cand) rows))
+          (sym (filter-without store.rows rise r inside (λ x. not (refers_to_any (list_at store Cand) x)) (ap not gone)))
 
   pub apart_lost : IsApartUnseen store → IsApartUnseen lost
   apart_lost (apart, unseen) = (record { garbage = apart.garbage; back = apart.back; candidates = apart.candidates; seen = apart.seen; legacy = apart.legacy }, unseen)
@@ -142,7 +147,8 @@ module _ (store : Store) (rise : IsRising store.rows) (o : ℕ) (ws : List ℕ) 
   lost_refers = refers store.rows rise o r inside passes
 
 -- what is left of a walk at a member
-pub from_here : (store : Store) → IsListed store → (p : Place) (o : ℕ) → Includes (list_at store p) o → (rest : List ℕ) × (from_on (Some o) (list_at store p) ≡ o ∷ rest) × ((q : ℕ) → Includes rest q → q ≢ o)
+pub from_here : (store : Store) → IsListed store → (p : Place) (o : ℕ) → Includes (list_at store p) o → (rest : List ℕ) × (from_on (Some o) (list_at store p)
+    ≡ o ∷ rest) × ((q : ℕ) → Includes rest q → q ≢ o)
 from_here store listed p o m =
     let (front, back, parts) = split_at (list_at store p) o m in (
       back,
@@ -177,7 +183,8 @@ list-le store listed p = omega (arith, list_length store listed p, few (fin.entr
     few (e ∷ es) = go (is_at p (object_from store.rows e.0 e.1)) (few es)
       where
         go : (b : Bool) → length (serials (filter (is_at p) (map (λ (e : ℕ × Node). object_from store.rows e.0 e.1) es))) ≤ sum_by (λ (e : ℕ × Node). one e.1) es
-            → length (serials (cond b (object_from store.rows e.0 e.1 ∷ filter (is_at p) (map (λ (e : ℕ × Node). object_from store.rows e.0 e.1) es)) (filter (is_at p) (map (λ (e : ℕ × Node). object_from store.rows e.0 e.1) es)))) ≤ sum_by (λ (e : ℕ × Node). one e.1) (e ∷ es)
+            → length (serials (cond b (object_from store.rows e.0 e.1 ∷ filter (is_at p) (map (λ (e : ℕ × Node). object_from store.rows e.0 e.1) es))
+            (filter (is_at p) (map (λ (e : ℕ × Node). object_from store.rows e.0 e.1) es)))) ≤ sum_by (λ (e : ℕ × Node). one e.1) (e ∷ es)
         go true h = omega (arith, h, sum_by-cons (λ (e : ℕ × Node). one e.1) e es)
         go false h = omega (arith, h, sum_by-cons (λ (e : ℕ × Node). one e.1) e es)
 
@@ -203,13 +210,15 @@ module _ (store : Store) (listed : IsListed store) where
       known (Some n) e h = is_there store listed Cand o (subst IsSome (sym e) refl) (ap place_in e ∙ place_is n.place Cand h)
 
   -- a weak reference to a candidate, or one that is a candidate, is cleared
-  pub loses_it : (rows : List Row) (weak : ℕ) (n : Node) (o : ℕ) → fin.get store.nodes weak ≡ Some n → referent_in rows weak ≡ Some o → Includes (list_at store Cand) o ⊎ Includes (list_at store Cand) weak
+  pub loses_it : (rows : List Row) (weak : ℕ) (n : Node) (o : ℕ) → fin.get store.nodes weak ≡ Some n → referent_in rows weak ≡ Some o
+      → Includes (list_at store Cand) o ⊎ Includes (list_at store Cand) weak
       → loses_at_split (objects_of store) (object_from rows weak n) ≡ true
   loses_it rows weak n o got refers which =
       ap (λ (r : Option ℕ). unwrap_or (option_map (λ p. test (object_at (objects_of store) p) || is_at Cand (object_from rows weak n)) r) false) refers
       ∙ either which
       (λ m. ap (λ b. b || is_at Cand (object_from rows weak n)) (tested o m))
-      (λ m. ap (λ b. test (object_at (objects_of store) o) || b) (place_at_is n.place Cand (ap place_in (sym got) ∙ (where_is store listed Cand weak m).1)) ∙ or_true (test (object_at (objects_of store) o)))
+      (λ m. ap (λ b. test (object_at (objects_of store) o) || b) (place_at_is n.place Cand (ap place_in (sym got) ∙ (where_is store listed Cand weak m).1))
+      ∙ or_true (test (object_at (objects_of store) o)))
     where
       or_true : (b : Bool) → (b || true) ≡ true
       or_true true = refl
@@ -286,7 +295,8 @@ module _ (g : ℕ) (store half : Store) (listed : IsListed store) (root : IsLive
         go (inl cand) b c =
             let at : place_of store o ≡ Cand = place_is (place_of store o) Cand cand in
             let member : StandsAt store Cand o = stands_at store Cand o live at in
-            (where_is parted parted_listed Cand o (subst (λ l. Includes l o) (sym candidates_left) ((unreachable o).1 (record { member = member; no_path = λ path. dead ((reachable o).1 path) })))).1 ∙ sym at
+            (where_is parted parted_listed Cand o (subst (λ l. Includes l o) (sym candidates_left)
+            ((unreachable o).1 (record { member = member; no_path = λ path. dead ((reachable o).1 path) })))).1 ∙ sym at
         go (inr a) (inl back) c = absurd (subst (λ l. Includes l o) (ap (list_at store) (place_is (place_of store o) Back back) ∙ apart.0.back) there)
         go (inr a) (inr b) (inl old) =
             let at : place_of store o ≡ p = place_is (place_of store o) p old in
@@ -303,13 +313,15 @@ module _ (g : ℕ) (store half : Store) (listed : IsListed store) (root : IsLive
         each : (x : Object) → Includes (objects_of store) x → object_placed (place_of parted x.serial) x ≡ (if includes alive x.serial then object_placed p x else x)
         each x m = either (cases_of (includes alive x.serial))
             (λ yes'. ap (λ q. object_placed q x) (alive_at x.serial (Includes-of alive x.serial yes')) ∙ sym (ap (λ b. if b then object_placed p x else x) yes'))
-            (λ dead. ap (λ q. object_placed q x) (stays_at x.serial (live_there store x m) (λ k. let yes' : true ≡ false = sym (includes-of alive x.serial k) ∙ dead in cc) ∙ place_there store x m) ∙ sym (ap (λ b. if b then object_placed p x else x) dead))
+            (λ dead. ap (λ q. object_placed q x) (stays_at x.serial (live_there store x m) (λ k. let yes' : true ≡ false = sym (includes-of alive x.serial k)
+            ∙ dead in cc) ∙ place_there store x m) ∙ sym (ap (λ b. if b then object_placed p x else x) dead))
 
     -- what is partitioned
     pub apart_parted : IsApartUnseen parted
     apart_parted = (
       record {
-        garbage = (where_is parted parted_listed Untracked 1 (subst (λ l. Includes l 1) (sym (elsewhere Untracked (λ e. cc) (λ e. cc) (λ e. cc))) (is_there store listed Untracked 1 root apart.0.garbage))).1;
+        garbage = (where_is parted parted_listed Untracked 1 (subst (λ l. Includes l 1) (sym (elsewhere Untracked (λ e. cc) (λ e. cc) (λ e. cc)))
+            (is_there store listed Untracked 1 root apart.0.garbage))).1;
         back = view.emptied;
         candidates = still_unsaved store parted Cand (entries_on store parted same_parted 1) (λ q m. apart.0.candidates q (was_candidate q m));
         seen = still_unsaved store parted Seen (entries_on store parted same_parted 1) (λ q m. apart.0.seen q (subst (λ l. Includes l q) (elsewhere Seen (λ e. cc) (λ e. cc) (λ e. cc)) m));
@@ -355,9 +367,14 @@ module _ (g : ℕ) (store half : Store) (listed : IsListed store) (root : IsLive
 
         members_lose : AllLose (loses_at_split (objects_of parted)) (objects_of (record parted { rows = unreferred })) (members_losing final final unreferred) (objects_of told)
         members_lose =
-            subst (λ (rows : List Row). AllLose (loses_at_split (objects_of parted)) (objects_of (record parted { rows = unreferred })) (members_losing final final unreferred) (objects_of (record parted { rows = rows }))) same_end
+            subst (λ (rows : List Row). AllLose (loses_at_split (objects_of parted)) (objects_of (record parted { rows = unreferred }))
+            (members_losing final final unreferred) (objects_of (record parted { rows = rows }))) same_end
             (lose_members parted final (loses_at_split (objects_of parted)) (loses_it parted parted_listed) (loses_one parted parted_listed) final unreferred
-            (record { rise = rising-filter (λ r. not (refers_to_any final r)) parted.rows sound.rows.rise; live = λ r m. alive_rows.live r (Includes-filter_cases (λ x. not (refers_to_any final x)) parted.rows r m).0 })
+            (record {
+              rise = rising-filter (λ r. not (refers_to_any final r)) parted.rows sound.rows.rise;
+              live = λ r m. alive_rows.live r
+                  (Includes-filter_cases (λ x. not (refers_to_any final x)) parted.rows r m).0;
+            })
             (λ r m stays there.
             let kept = (Includes-filter_cases (λ x. not (refers_to_any final x)) parted.rows r m).1 in
             let gone : refers_to_any final r ≡ true = λ i. includes-of final r.referent there i && not (stays i) in
@@ -367,12 +384,14 @@ module _ (g : ℕ) (store half : Store) (listed : IsListed store) (root : IsLive
 
         lose : AllLose (loses_at_split (objects_of parted)) (objects_of parted) cleared (objects_of told)
         lose =
-            lose_first parted final (loses_at_split (objects_of parted)) (loses_it parted parted_listed) (loses_one parted parted_listed) final (λ o m. m) (once_at parted parted_listed Cand) parted.rows alive_rows
+            lose_first parted final (loses_at_split (objects_of parted)) (loses_it parted parted_listed) (loses_one parted parted_listed) final (λ o m. m)
+            (once_at parted parted_listed Cand) parted.rows alive_rows
             (members_losing final final unreferred) told.rows members_lose
 
         lines_are : (members : List ℕ) → cleared_lines parted.rows members ≡ map Cleared (flat_map (weak_references_in parted.rows) members)
         lines_are [] = refl
-        lines_are (o ∷ members) = ap (λ l. map Cleared (weak_references_in parted.rows o) ++ l) (lines_are members) ∙ sym (map-append Cleared (weak_references_in parted.rows o) (flat_map (weak_references_in parted.rows) members))
+        lines_are (o ∷ members) = ap (λ l. map Cleared (weak_references_in parted.rows o) ++ l) (lines_are members)
+            ∙ sym (map-append Cleared (weak_references_in parted.rows o) (flat_map (weak_references_in parted.rows) members))
 
         all_lines : cleared_lines parted.rows final ++ member_lines parted ≡ map Cleared cleared
         all_lines = ap (λ l. l ++ member_lines parted) (lines_are final) ∙ sym (map-append Cleared (flat_map (weak_references_in parted.rows) final) (members_losing final final unreferred))
@@ -388,9 +407,11 @@ module _ (g : ℕ) (store half : Store) (listed : IsListed store) (root : IsLive
         final_size : length (serials_at (objects_of told) Cand) ≡ number
         final_size = sym (size ∙ list_length told told_listed Cand)
 
-        pub turn-split : CollectSteps script (collection_at facts phase_of.Split None) store policy (record (collection_at facts (phase_of.Living first) None) { collected = facts.collected + number }) parted policy answer_of.Continue
+        pub turn-split : CollectSteps script (collection_at facts phase_of.Split None) store policy (record (collection_at facts (phase_of.Living first) None)
+            { collected = facts.collected + number }) parted policy answer_of.Continue
         turn-split =
-            steps_at script (collection_at facts phase_of.Split None) store policy (record (collection_at facts (phase_of.Living first) None) { collected = facts.collected + number }) parted policy answer_of.Continue
+            steps_at script (collection_at facts phase_of.Split None) store policy (record (collection_at facts (phase_of.Living first) None)
+            { collected = facts.collected + number }) parted policy answer_of.Continue
             (λ asked v below s.
             let a : machine.Collection = collection_of asked (collection_at facts phase_of.Split None) machine.Split in
             let b : machine.Collection = collection_of asked (record (collection_at facts phase_of.Turns None) { collected = facts.collected + number }) machine.Turns in

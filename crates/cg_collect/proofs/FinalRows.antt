@@ -15,11 +15,12 @@ use Rattle.cg_trial.proofs.Lists.{occurrences-cons, occurs}
 use Rattle.cg_death.proofs.RowSplits.{row_of_one, one_of_row, split_at, referent-is, left-in}
 use Rattle.cg_death.proofs.WeakObjects.{row_there}
 use Rattle.cg_collect.specs.Phases.{references_in, refers_to_any, without_referents, without_rows, members_losing, is_lost_with, without_rows_of}
-use Rattle.cg_collect.proofs.Standing.{node_of_live, node_there, object_there}
+use Rattle.cg_collect.proofs.PlacesOfObjects.{node_of_live, node_there, object_there}
 use Rattle.cg_collect.proofs.RowFilters.{rising-filter, filter_all, filter_same, filter_twice, flat_map_alike, filter_filter, eqb-sym, filter-newest, without_rows-newest, without_rows-nil, filter-without, objects_without, highest, newest_left, refers, row_listed}
 
 -- If no row refers to a member and no member has a referent, nothing is cleared.
-pub none_lost : (final : List ℕ) (rows : List Row) → IsRising rows → ((r : Row) → Includes rows r → r.waits ≡ false → ¬ Includes final r.referent) → ((o : ℕ) → Includes final o → referent_in rows o ≡ None)
+pub none_lost : (final : List ℕ) (rows : List Row) → IsRising rows → ((r : Row) → Includes rows r → r.waits ≡ false → ¬ Includes final r.referent)
+    → ((o : ℕ) → Includes final o → referent_in rows o ≡ None)
     → filter (λ r. not (is_lost_with final r)) rows ≡ rows
 none_lost final rows rise unreferred none = filter_all (λ r. not (is_lost_with final r)) rows each
   where
@@ -49,8 +50,10 @@ record IsGroup (final : List ℕ) (q : ℕ) (test : Row → Bool) (rows : List R
   all : (r : Row) → Includes rows r → refers_to q r ≡ true → Includes final q ⊎ Includes final r.weak → test r ≡ true
 
 module _ (store : Store) (final : List ℕ) (wanted : Object → Bool)
-    (wants : (rows : List Row) (weak : ℕ) (n : Node) (o : ℕ) → fin.get store.nodes weak ≡ Some n → referent_in rows weak ≡ Some o → Includes final o ⊎ Includes final weak → wanted (object_from rows weak n) ≡ true)
-    (wanted_is : (rows : List Row) (x : Object) → Includes (objects_of (record store { rows = rows })) x → wanted x ≡ true → (o : ℕ) × (x.referent ≡ Some o) × (Includes final o ⊎ Includes final x.serial)) where
+    (wants : (rows : List Row) (weak : ℕ) (n : Node) (o : ℕ) → fin.get store.nodes weak ≡ Some n → referent_in rows weak ≡ Some o → Includes final o
+    ⊎ Includes final weak → wanted (object_from rows weak n) ≡ true)
+    (wanted_is : (rows : List Row) (x : Object) → Includes (objects_of (record store { rows = rows })) x → wanted x ≡ true → (o : ℕ) × (x.referent ≡ Some o)
+    × (Includes final o ⊎ Includes final x.serial)) where
   abbrev pub at : List Row → Store
   at rows = record store { rows = rows }
 
@@ -61,7 +64,8 @@ module _ (store : Store) (final : List ℕ) (wanted : Object → Bool)
   Lose rows weaks after = AllLose wanted (objects_of (at rows)) weaks (objects_of (at after))
 
   -- The newest of a group may be cleared next.
-  may_lose : (q : ℕ) (test : Row → Bool) (rows : List Row) → IsGroup final q test rows → AreAlive store rows → (ws : List ℕ) (r : Row) → Includes rows r → test r ≡ true → newest_first test rows ≡ r.weak ∷ ws
+  may_lose : (q : ℕ) (test : Row → Bool) (rows : List Row) → IsGroup final q test rows → AreAlive store rows → (ws : List ℕ) (r : Row) → Includes rows r
+      → test r ≡ true → newest_first test rows ≡ r.weak ∷ ws
       → MayLoseNext wanted (objects_of (at rows)) r.weak
   may_lose q test rows group are ws r inside passes is =
       let (n, got) = node_of_live store r.weak (are.live r inside) in
@@ -101,7 +105,8 @@ module _ (store : Store) (final : List ℕ) (wanted : Object → Bool)
       (may_lose q test rows group are ws r inside passes here, subst (λ (os : List Object). AllLose wanted os (ws ++ more) (objects_of (at after))) (objects_without rows are.rise r inside store) rest)
 
   -- The weak references to members are cleared, member by member, and then others.
-  pub lose_first : (members : List ℕ) → ((o : ℕ) → Includes members o → Includes final o) → ((o : ℕ) → occurrences o members ≤ 1) → (rows : List Row) → AreAlive store rows → (more : List ℕ) (after : List Row)
+  pub lose_first : (members : List ℕ) → ((o : ℕ) → Includes members o → Includes final o) → ((o : ℕ) → occurrences o members ≤ 1) → (rows : List Row)
+      → AreAlive store rows → (more : List ℕ) (after : List Row)
       → Lose (without_referents members rows) more after → Lose rows (flat_map (weak_references_in rows) members ++ more) after
   lose_first [] within once rows are more after others = subst (λ (l : List Row). Lose l more after) (filter_all (λ r. not (refers_to_any [] r)) rows (λ r m. refl)) others
   lose_first (o ∷ members) within once rows are more after others =
@@ -207,7 +212,8 @@ module _ (store : Store) (final : List ℕ) (wanted : Object → Bool)
         (subst (λ (l : List Row). Lose left (more l) (lost_rows rows)) (sym left_is) (subst (λ (l : List Row). Lose left (more left) l) same_end others))
 
   -- If none has a referent, none is left.
-  lose_none : (rows : List Row) → AreAlive store rows → ((r : Row) → Includes rows r → r.waits ≡ false → ¬ Includes final r.referent) → ((o : ℕ) → Includes final o → referent_in rows o ≡ None) → Lose rows [] (lost_rows rows)
+  lose_none : (rows : List Row) → AreAlive store rows → ((r : Row) → Includes rows r → r.waits ≡ false → ¬ Includes final r.referent)
+      → ((o : ℕ) → Includes final o → referent_in rows o ≡ None) → Lose rows [] (lost_rows rows)
   lose_none rows are unreferred none = (none_left, ap (λ (l : List Row). objects_of (at l)) (none_lost final rows are.rise unreferred none))
     where
       no : (x : Object) → Includes (objects_of (at rows)) x → wanted x ≡ true → ⊥
@@ -226,7 +232,8 @@ module _ (store : Store) (final : List ℕ) (wanted : Object → Bool)
 
   -- the remaining members are cleared in order
   abbrev LoseInOrder : List ℕ → Type 0
-  LoseInOrder members = (rows : List Row) → AreAlive store rows → ((r : Row) → Includes rows r → r.waits ≡ false → ¬ Includes final r.referent) → ((o : ℕ) → Includes final o → Includes members o ⊎ (referent_in rows o ≡ None))
+  LoseInOrder members = (rows : List Row) → AreAlive store rows → ((r : Row) → Includes rows r → r.waits ≡ false → ¬ Includes final r.referent)
+      → ((o : ℕ) → Includes final o → Includes members o ⊎ (referent_in rows o ≡ None))
       → Lose rows (members_losing final members rows) (lost_rows rows)
 
   lose_next : (o : ℕ) (members : List ℕ) → LoseInOrder members → LoseInOrder (o ∷ members)
@@ -235,7 +242,8 @@ module _ (store : Store) (final : List ℕ) (wanted : Object → Bool)
       behind_o : (q : ℕ) → Includes final q → (o ≡ q) ⊎ Includes members q ⊎ (referent_in rows q ≡ None)
       behind_o q m = either (behind q m) (λ k. either k (λ e. inl e) (λ l. inr (inl l))) (λ none. inr (inr none))
 
-      known : (k : Option ℕ) → referent_in rows o ≡ k → Lose rows (among rows (referent_in rows o) ++ members_losing final members (without_rows (among rows (referent_in rows o)) rows)) (lost_rows rows)
+      known : (k : Option ℕ) → referent_in rows o ≡ k → Lose rows (among rows (referent_in rows o) ++ members_losing final members
+          (without_rows (among rows (referent_in rows o)) rows)) (lost_rows rows)
       known None e =
           subst (λ k. Lose rows (among rows k ++ members_losing final members (without_rows (among rows k) rows)) (lost_rows rows)) (sym e)
           (subst (λ (l : List Row). Lose rows (members_losing final members l) (lost_rows rows)) (sym (without_rows-nil rows))
@@ -245,7 +253,8 @@ module _ (store : Store) (final : List ℕ) (wanted : Object → Bool)
           (lose_same rows are unreferred o t e (members_losing final members)
           (others (left rows are unreferred o t e) (alive-filter store (λ r. not (refers_to t r && includes final r.weak)) rows are)
           (λ r inside. unreferred r (Includes-filter_cases (λ x. not (refers_to t x && includes final x.weak)) rows r inside).0)
-          (λ q m. either (behind_o q m) (λ same. inr (left_none rows are unreferred o t e q m (inl same))) (λ k. either k (λ l. inl l) (λ none. inr (left_none rows are unreferred o t e q m (inr none)))))))
+          (λ q m. either (behind_o q m) (λ same. inr (left_none rows are unreferred o t e q m (inl same)))
+          (λ k. either k (λ l. inl l) (λ none. inr (left_none rows are unreferred o t e q m (inr none)))))))
 
   -- Then members are cleared, for each all with the same referent.
   pub lose_members : (members : List ℕ) → LoseInOrder members
@@ -257,14 +266,16 @@ pub waiting-rest : (members : List ℕ) (rows : List Row) (o : ℕ) → waiting_
 waiting-rest members rows o =
     ap (λ (l : List Row). reverse (map (λ (r : Row). r.weak) l))
     (filter_twice (waits_with o) (λ r. not (is_lost_with members r)) rows
-    (λ r waits. let parts = true_and (r.referent == o) r.waits waits in ap not ((λ i. (includes members r.referent || includes members r.weak) && not (parts.1 i)) ∙ nothing (includes members r.referent || includes members r.weak))))
+    (λ r waits. let parts = true_and (r.referent == o) r.waits waits in ap not ((λ i. (includes members r.referent || includes members r.weak)
+    && not (parts.1 i)) ∙ nothing (includes members r.referent || includes members r.weak))))
   where
     nothing : (b : Bool) → (b && false) ≡ false
     nothing true = refl
     nothing false = refl
 
 -- no row refers to a member without weak references
-pub none_referring : (members : List ℕ) (rows : List Row) → ((o : ℕ) → Includes members o → weak_references_in rows o ≡ []) → (r : Row) → Includes rows r → r.waits ≡ false → ¬ Includes members r.referent
+pub none_referring : (members : List ℕ) (rows : List Row) → ((o : ℕ) → Includes members o → weak_references_in rows o ≡ []) → (r : Row) → Includes rows r
+    → r.waits ≡ false → ¬ Includes members r.referent
 none_referring members rows none r inside there m = absurd (subst (λ l. Includes l r.weak) (none r.referent m) (row_listed rows r inside there))
 
 pub none_to_lose : (members : List ℕ) (rows : List Row) → ((o : ℕ) → Includes members o → weak_references_in rows o ≡ []) → without_referents members rows ≡ rows
@@ -272,7 +283,8 @@ none_to_lose members rows none = filter_all (λ r. not (refers_to_any members r)
   where
     each : (r : Row) → Includes rows r → not (refers_to_any members r) ≡ true
     each r inside = either (cases_of (refers_to_any members r))
-        (λ yes'. let parts = true_and (includes members r.referent) (not r.waits) yes' in absurd (none_referring members rows none r inside (not-true r.waits parts.1) (Includes-of members r.referent parts.0)))
+        (λ yes'. let parts = true_and (includes members r.referent) (not r.waits) yes'
+        in absurd (none_referring members rows none r inside (not-true r.waits parts.1) (Includes-of members r.referent parts.0)))
         (λ no. ap not no)
 
 -- clearing one leaves the others

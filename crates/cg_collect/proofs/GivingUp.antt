@@ -36,9 +36,9 @@ use Rattle.cg_collect.specs.Answers.{CollectionShows, CollectAnswer, CollectStep
 use Rattle.cg_collect.specs.Turns.{pass_of, passes_on, ComesNearer, KeepsObjects, left_in_pass, to_clear, others_cleared}
 use Rattle.cg_collect.specs.Collections.{IsReadyForCollection, KeepsReady, CollectFalls, CollectionEndsWith, GivesUpNext, once_given_up, give_up_answer}
 use Rattle.cg_collect.specs.Stages.{detection_at, stage_at, MeetsStage}
-use Rattle.cg_collect.proofs.Staging.{TakesStep, leaves_stage}
-use Rattle.cg_collect.proofs.Keeping.{keeps-released}
-use Rattle.cg_collect.proofs.Looking.{still_unsaved}
+use Rattle.cg_collect.proofs.Stages.{TakesStep, leaves_stage}
+use Rattle.cg_collect.proofs.NothingIsMade.{keeps-released}
+use Rattle.cg_collect.proofs.FinalizerPhase.{still_unsaved}
 
 -- A release that neither died nor ended went on.
 pub goes_on_with : (c : Collection) (release : Release) (answer : DeathStep) → ((o : ℕ) → answer ≡ death_answer.Died o → ⊥) → (answer ≡ death_answer.Gone → ⊥)
@@ -58,7 +58,13 @@ record GivesUpAt (p : Phase) : Type 0 where
   stands : (pending : List ℕ) → machine_phase p pending ≡ Some (phase pending)
 
 gives_up_at : (p : Phase) → MayGiveUp p → GivesUpAt p
-gives_up_at (phase_of.AfterRelease weak) may = record { lines = λ script asked c store. refl; heap = λ store. refl; numbers = λ g n. refl; phase = λ pending. machine.AfterRelease weak (filter (λ q. not (q == weak)) pending); stands = λ pending. refl }
+gives_up_at (phase_of.AfterRelease weak) may = record {
+  lines = λ script asked c store. refl;
+  heap = λ store. refl;
+  numbers = λ g n. refl;
+  phase = λ pending. machine.AfterRelease weak (filter (λ q. not (q == weak)) pending);
+  stands = λ pending. refl;
+}
 gives_up_at phase_of.Finalizing may = record { lines = λ script asked c store. refl; heap = λ store. refl; numbers = λ g n. refl; phase = λ pending. machine.Finalizing; stands = λ pending. refl }
 gives_up_at (phase_of.Turn o) may = record { lines = λ script asked c store. refl; heap = λ store. refl; numbers = λ g n. refl; phase = λ pending. machine.Turn o; stands = λ pending. refl }
 gives_up_at (phase_of.AfterTurn o) may = record { lines = λ script asked c store. refl; heap = λ store. refl; numbers = λ g n. refl; phase = λ pending. machine.AfterTurn o; stands = λ pending. refl }
@@ -86,7 +92,8 @@ lists-released [] store = refl
 lists-released (o ∷ refs) store = refl
 
 -- The collection answers as the release does.
-module _ (script : Script) (asked : Bool) (c : Collection) (store now : Store) (policy : Policy) (w : World) (below : List Activity) (after : Release) (may : MayGiveUp c.phase) (lists : now.lists ≡ store.lists)
+module _ (script : Script) (asked : Bool) (c : Collection) (store now : Store) (policy : Policy) (w : World) (below : List Activity) (after : Release)
+    (may : MayGiveUp c.phase) (lists : now.lists ≡ store.lists)
     (numbers : policy.numbers ≡ w.numbers) (running : policy.running ≡ true) where
   at : GivesUpAt c.phase
   at = gives_up_at c.phase may
@@ -107,7 +114,8 @@ module _ (script : Script) (asked : Bool) (c : Collection) (store now : Store) (
   no_lines : [] ≡ lines_left script asked c c.phase store
   no_lines = sym (at.lines script asked c store)
 
-  answered : (a : DeathStep) → ReleaseAnswer script w under now (references_left after) a → CollectAnswer script asked w below (lines_left script asked c c.phase store) (once_given_up c after a) now policy (give_up_answer a)
+  answered : (a : DeathStep) → ReleaseAnswer script w under now (references_left after) a → CollectAnswer script asked w below
+      (lines_left script asked c c.phase store) (once_given_up c after a) now policy (give_up_answer a)
   answered death_answer.Continue r = record {
     events = [];
     after = r.goes.after;
@@ -141,7 +149,8 @@ may_give_up : (p : Phase) (r : Option Release) (release : Release) → r ≡ Som
 may_give_up p r release is may = subst (GivesUpIn p) is may
 
 -- Giving up a reference is a step of the machine.
-gives_up-steps : (script : Script) (policy : Policy) (c : Collection) (store : Store) (new : Collection) (now : Store) (answer : CollectStep) → GivesUpIn c.phase c.release → GivesUpNext c store new now answer → CollectSteps script c store policy new now policy answer
+gives_up-steps : (script : Script) (policy : Policy) (c : Collection) (store : Store) (new : Collection) (now : Store) (answer : CollectStep)
+    → GivesUpIn c.phase c.release → GivesUpNext c store new now answer → CollectSteps script c store policy new now policy answer
 gives_up-steps script policy c store new now answer gives g asked w below s =
     let may = may_give_up c.phase c.release g.before g.had gives in
     let at = gives_up_at c.phase may in
@@ -189,7 +198,10 @@ module _ (refs : List ℕ) (store : Store) where
   }
 
   others-unheld : (weak : ℕ) → OthersHaveCallbacks store weak → OthersHaveCallbacks let_off weak
-  others-unheld weak have u m differs = let has = have u m differs in (kinds-unheld refs store u Weak has.0, subst IsSome (sym (callback-at let_off u ∙ ap callback_in (entries_of-unheld u) ∙ sym (callback-at store u))) has.1)
+  others-unheld weak have u m differs = let has = have u m differs in (
+    kinds-unheld refs store u Weak has.0,
+    subst IsSome (sym (callback-at let_off u ∙ ap callback_in (entries_of-unheld u) ∙ sym (callback-at store u))) has.1,
+  )
 
   -- the phases that give something up are still ready
   ready-unheld : (g : ℕ) (p : Phase) → MayGiveUp p → IsReadyForCollectionAt store g p → IsReadyForCollectionAt let_off g p
@@ -308,7 +320,11 @@ record Unchanged (store now : Store) (p : Phase) : Type 0 where
 
 unchanged : (refs : List ℕ) (store now : Store) (p : Phase) → MayGiveUp p → now ≡ once_released refs store → Unchanged store now p
 unchanged [] store now p may is = subst (λ n. Unchanged store n p) (sym is) (record { ready = λ g r. r; few = λ n few. few; left = refl })
-unchanged (o ∷ refs) store now p may is = subst (λ n. Unchanged store n p) (sym is) (record { ready = λ g r. ready-unheld (o ∷ []) store g p may r; few = λ n few. few-unheld (o ∷ []) store n p may few; left = left-unheld (o ∷ []) store p may })
+unchanged (o ∷ refs) store now p may is = subst (λ n. Unchanged store n p) (sym is) (record {
+  ready = λ g r. ready-unheld (o ∷ []) store g p may r;
+  few = λ n few. few-unheld (o ∷ []) store n p may few;
+  left = left-unheld (o ∷ []) store p may;
+})
 
 -- a release that goes on had a reference
 gave_one : (refs rest : List ℕ) (now : Store) → release_answer refs now ≡ death_answer.Continue → rest ≡ drop 1 refs → length rest < length refs
@@ -324,12 +340,35 @@ module _ (c : Collection) (store : Store) (new : Collection) (now : Store) (answ
 
   -- the heap is ready for the next step
   gives_up-ready : (script : Script) → IsReadyForCollection script c store → KeepsReady script new now answer
-  gives_up-ready script ready = subst (λ (n : Collection). KeepsReady script n now answer) (sym g.collection) (subst (KeepsReady script (once_given_up c g.after (release_answer (references_left g.before) now)) now) (sym g.told) (known (release_answer (references_left g.before) now)))
+  gives_up-ready script ready = subst (λ (n : Collection). KeepsReady script n now answer) (sym g.collection)
+      (subst (KeepsReady script (once_given_up c g.after (release_answer (references_left g.before) now)) now) (sym g.told)
+      (known (release_answer (references_left g.before) now)))
     where
       known : (a : DeathStep) → KeepsReady script (once_given_up c g.after a) now (give_up_answer a)
-      known death_answer.Continue = record { generation = ready.generation; phase = same.ready c.generation ready.phase; walk = (lasts_at c.phase may).walk (profile_of script.items) now; collected = same.few c.collected ready.collected; gives_up = may }
-      known (death_answer.Emit event) = record { generation = ready.generation; phase = same.ready c.generation ready.phase; walk = (lasts_at c.phase may).walk (profile_of script.items) now; collected = same.few c.collected ready.collected; gives_up = may }
-      known (death_answer.Frame spec) = record { generation = ready.generation; phase = same.ready c.generation ready.phase; walk = (lasts_at c.phase may).walk (profile_of script.items) now; collected = same.few c.collected ready.collected; gives_up = may }
+      known death_answer.Continue = record {
+        generation = ready.generation;
+        phase = same.ready c.generation ready.phase;
+        walk = (lasts_at c.phase may).walk
+            (profile_of script.items) now;
+        collected = same.few c.collected ready.collected;
+        gives_up = may;
+      }
+      known (death_answer.Emit event) = record {
+        generation = ready.generation;
+        phase = same.ready c.generation ready.phase;
+        walk = (lasts_at c.phase may).walk
+            (profile_of script.items) now;
+        collected = same.few c.collected ready.collected;
+        gives_up = may;
+      }
+      known (death_answer.Frame spec) = record {
+        generation = ready.generation;
+        phase = same.ready c.generation ready.phase;
+        walk = (lasts_at c.phase may).walk
+            (profile_of script.items) now;
+        collected = same.few c.collected ready.collected;
+        gives_up = may;
+      }
       known (death_answer.Died o) = (
         record {
           runs = (lasts_at c.phase may).runs;
@@ -340,11 +379,19 @@ module _ (c : Collection) (store : Store) (new : Collection) (now : Store) (answ
         },
         refl,
       )
-      known death_answer.Gone = record { generation = ready.generation; phase = same.ready c.generation ready.phase; walk = (lasts_at c.phase may).walk (profile_of script.items) now; collected = same.few c.collected ready.collected; gives_up = tt }
+      known death_answer.Gone = record {
+        generation = ready.generation;
+        phase = same.ready c.generation ready.phase;
+        walk = (lasts_at c.phase may).walk
+            (profile_of script.items) now;
+        collected = same.few c.collected ready.collected;
+        gives_up = tt;
+      }
 
   -- generation, phase and the last pass stay
   gives_up-stays : (new.generation ≡ c.generation) × (new.phase ≡ c.phase) × (new.detected ≡ c.detected)
-  gives_up-stays = subst (λ (n : Collection). (n.generation ≡ c.generation) × (n.phase ≡ c.phase) × (n.detected ≡ c.detected)) (sym g.collection) (known (release_answer (references_left g.before) now))
+  gives_up-stays = subst (λ (n : Collection). (n.generation ≡ c.generation) × (n.phase ≡ c.phase) × (n.detected ≡ c.detected)) (sym g.collection)
+      (known (release_answer (references_left g.before) now))
     where
       known : (a : DeathStep) → ((once_given_up c g.after a).generation ≡ c.generation) × ((once_given_up c g.after a).phase ≡ c.phase) × ((once_given_up c g.after a).detected ≡ c.detected)
       known death_answer.Continue = (refl, refl, refl)
@@ -356,7 +403,8 @@ module _ (c : Collection) (store : Store) (new : Collection) (now : Store) (answ
   gives_up-falls : answer ≡ answer_of.Continue → CollectFalls c store new now
   gives_up-falls went =
       subst (λ (n : Collection). CollectFalls c store n now) (sym g.collection)
-      (subst (λ (r : Option Release). ComesNearer store c.phase r now (once_given_up c g.after (release_answer (references_left g.before) now)).phase (once_given_up c g.after (release_answer (references_left g.before) now)).release) (sym g.had)
+      (subst (λ (r : Option Release). ComesNearer store c.phase r now (once_given_up c g.after (release_answer (references_left g.before) now)).phase
+      (once_given_up c g.after (release_answer (references_left g.before) now)).release) (sym g.had)
       (known (release_answer (references_left g.before) now) refl (sym g.told ∙ went)))
     where
       known : (a : DeathStep) → release_answer (references_left g.before) now ≡ a → give_up_answer a ≡ answer_of.Continue

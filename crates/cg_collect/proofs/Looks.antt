@@ -10,7 +10,7 @@ use Rattle.cg_machine.specs.Collect.{merged_place}
 use Rattle.cg_trial.specs.Split.{entry_number_at}
 use Rattle.cg_collect.specs.Starting.{MergesYounger}
 use Rattle.cg_collect.specs.Looks.{one_of, collected_from, entry_number_from}
-use Rattle.cg_collect.proofs.Standing.{map_alike, objects_on, place_there}
+use Rattle.cg_collect.proofs.PlacesOfObjects.{map_alike, objects_on, place_there}
 
 pub one_there : (es front : List Entry) (e : Entry) → es ≡ front ++ e ∷ [] → one_of es ≡ 1
 one_there es [] e is = ap one_of is
@@ -29,8 +29,14 @@ module _ (g : ℕ) where
   counted_before (x ∷ objects) = go (is_at (Gen g) (moved_by x)) (counted_before objects)
     where
       go : (b : Bool) → entries_among (objects_at (map moved_by objects) (Gen g)) ≡ entries_among (collected_from g objects)
-          → entries_among (cond b (moved_by x ∷ objects_at (map moved_by objects) (Gen g)) (objects_at (map moved_by objects) (Gen g))) ≡ entries_among (cond b (x ∷ collected_from g objects) (collected_from g objects))
-      go true h = omega (arith, h, sum_by-cons {X = Object} (λ y. length y.entries) (moved_by x) (objects_at (map moved_by objects) (Gen g)), sum_by-cons {X = Object} (λ y. length y.entries) x (collected_from g objects))
+          → entries_among (cond b (moved_by x ∷ objects_at (map moved_by objects) (Gen g)) (objects_at (map moved_by objects) (Gen g)))
+          ≡ entries_among (cond b (x ∷ collected_from g objects) (collected_from g objects))
+      go true h = omega (
+        arith,
+        h,
+        sum_by-cons {X = Object} (λ y. length y.entries) (moved_by x) (objects_at (map moved_by objects) (Gen g)),
+        sum_by-cons {X = Object} (λ y. length y.entries) x (collected_from g objects),
+      )
       go false h = h
 
 pub entries-merged : (g : ℕ) (old new : Store) → MergesYounger g old new → entry_number_at new (Gen g) ≡ entry_number_from old g

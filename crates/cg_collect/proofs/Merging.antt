@@ -14,7 +14,7 @@ use Rattle.cg_machine.specs.Collect.{merged_place, older}
 use Rattle.cg_heap.specs.Calls.{merged, place_merged}
 use Rattle.cg_trial.specs.Split.{IsSameButPlaces, IsSameNode}
 use Rattle.cg_collect.specs.Starting.{MergesYounger, GetOlder}
-use Rattle.cg_collect.proofs.Standing.{same_itself, same_more}
+use Rattle.cg_collect.proofs.PlacesOfObjects.{same_itself, same_more}
 
 -- where an object is after a generation moved to another
 abbrev went_to : ℕ → ℕ → Place → Place

@@ -23,8 +23,8 @@ use Rattle.cg_trial.specs.View.{view_of, Moved, head_of, targets}
 use Rattle.cg_trial.specs.Split.{IsSameButPlaces}
 use Rattle.cg_trial.proofs.Lists.{occurs, ahead, ahead_is, IsAt, head_is, once_before, without-absent, without-append, without-cons_yes, sum_by-without}
 use Rattle.cg_trial.proofs.Ends.{same_but_places}
-use Rattle.cg_trial.proofs.Placed.{once_at, next_is, where_is}
-use Rattle.cg_trial.proofs.Views.{moved_view}
+use Rattle.cg_trial.proofs.PlacesOfObjects.{once_at, next_is, where_is}
+use Rattle.cg_trial.proofs.EffectsOfCalls.{moved_view}
 
 -- a list without a serial that it contains once
 pub one-shorter : (o : ℕ) (xs : List ℕ) → occurrences o xs ≡ 1 → length (without_serial o xs) + 1 ≡ length xs
@@ -66,7 +66,8 @@ pub walk_first : (store : Store) (p : Place) (cursor : Option ℕ) → cursor �
 walk_first store p cursor is = record { parts = refl; at = is }
 
 -- the walk passes the object
-pub walk_passes : (xs : List ℕ) (o : ℕ) (next : Option ℕ) (front back : List ℕ) (at : IsAt xs (Some o) front back) → ((a b : List ℕ) → xs ≡ a ++ o ∷ b → next ≡ head_of b) → (rest : List ℕ) × (back ≡ o ∷ rest) × IsAt xs next (front ++ o ∷ []) rest
+pub walk_passes : (xs : List ℕ) (o : ℕ) (next : Option ℕ) (front back : List ℕ) (at : IsAt xs (Some o) front back) → ((a b : List ℕ) → xs ≡ a ++ o ∷ b → next
+    ≡ head_of b) → (rest : List ℕ) × (back ≡ o ∷ rest) × IsAt xs next (front ++ o ∷ []) rest
 walk_passes xs o next front back at comes =
     let s = standing_at xs o front back at in (s.rest, s.ahead, record { parts = s.here ∙ sym (append_assoc front (o ∷ []) s.rest); at = comes front s.rest s.here })
 
@@ -131,7 +132,8 @@ module _ (store : Store) (listed : IsListed store) where
         )
 
 -- what an entry refers to lives
-pub entry_live : (store : Store) → ((s : ℕ) → 0 < inner store s → IsLive store s) → (o i : ℕ) (e : Entry) → slice_get (entries_of store o) i ≡ Some e → (s : ℕ) → Includes (entry_references e) s → IsLive store s
+pub entry_live : (store : Store) → ((s : ℕ) → 0 < inner store s → IsLive store s) → (o i : ℕ) (e : Entry) → slice_get (entries_of store o) i ≡ Some e → (s : ℕ)
+    → Includes (entry_references e) s → IsLive store s
 entry_live store live o i e at s h = let some = occurs (entry_references e) s h in let all = entry_holds store o i e at s in live s (omega (arith, some, all))
 
 pub value_lives : (store : Store) → ((s : ℕ) → 0 < inner store s → IsLive store s) → (o i : ℕ) (e : Entry) → slice_get (entries_of store o) i ≡ Some e → IsLiveValue store e.val

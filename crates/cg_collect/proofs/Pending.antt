@@ -35,7 +35,7 @@ use Rattle.cg_represents.proofs.Lists.{occurrences-cons}
 use Rattle.cg_represents.proofs.Representing.{in_one}
 use Rattle.cg_policy.specs.Policy.{Policy}
 use Rattle.cg_trial.proofs.Lists.{Includes-without, absent, length-without, without-absent, without-cons_yes, without-cons_no}
-use Rattle.cg_trial.proofs.Placed.{where_is}
+use Rattle.cg_trial.proofs.PlacesOfObjects.{where_is}
 use Rattle.cg_death.specs.declared.release.Release.{Release}
 use Rattle.cg_death.specs.Activities.{references_left}
 use Rattle.cg_death.proofs.Clearing.{none_first}
@@ -47,10 +47,10 @@ use Rattle.cg_collect.specs.Phases.{collection_of}
 use Rattle.cg_collect.specs.Ready.{IsApartUnseen, HaveCallbacks, OthersHaveCallbacks}
 use Rattle.cg_collect.specs.Answers.{CollectSteps}
 use Rattle.cg_collect.specs.Turns.{collection_at}
-use Rattle.cg_collect.proofs.Standing.{entries_on}
+use Rattle.cg_collect.proofs.PlacesOfObjects.{entries_on}
 use Rattle.cg_collect.proofs.Moving.{moved_same, moved_not, moved_from, value_lives}
 use Rattle.cg_collect.proofs.Worlds.{steps_at, with_same_rows, represents_on, represents_same, represents_giving_up}
-use Rattle.cg_collect.proofs.Looking.{still_unsaved}
+use Rattle.cg_collect.proofs.FinalizerPhase.{still_unsaved}
 
 -- a list without a serial, by the machine's test
 pub without_serial-is : (o : ℕ) (xs : List ℕ) → without_serial o xs ≡ filter (λ q. not (q == o)) xs
@@ -171,7 +171,8 @@ module _ (store : Store) (weak : ℕ) (listed : IsListed store) (live : IsLive s
 module _ (script : Script) (facts : Facts) (store : Store) (policy : Policy) where
   -- the first waiting one is called back
   pub turn-called : (weak : ℕ) → slice_get (list_at store Pend) 0 ≡ Some weak → (spec : FrameSpec)
-      → spec ≡ (let f = unwrap_or (callback_of (objects_of store) weak) 0 in record { sort = Callback; proc = unwrap_or (option_and_then (λ x. x.class) (object_at (objects_of store) f)) 0; subject = weak; func = Some f })
+      → spec ≡ (let f = unwrap_or (callback_of (objects_of store) weak) 0
+      in record { sort = Callback; proc = unwrap_or (option_and_then (λ x. x.class) (object_at (objects_of store) f)) 0; subject = weak; func = Some f })
       → CollectSteps script (collection_at facts phase_of.WeakCalling None) store policy (collection_at facts (phase_of.AfterCallback weak) None) store policy (answer_of.Frame spec)
   turn-called weak first spec is =
       steps_at script (collection_at facts phase_of.WeakCalling None) store policy (collection_at facts (phase_of.AfterCallback weak) None) store policy (answer_of.Frame spec)
@@ -182,16 +183,20 @@ module _ (script : Script) (facts : Facts) (store : Store) (policy : Policy) whe
       let before : World = with_stack (Collecting (c (machine.AfterCallback weak (drop 1 pending))) ∷ below) v in
       let same : objects_of store ≡ v.objects = s.shows.represents.objects in
       let parts : pending ≡ weak ∷ drop 1 pending = first_and_rest pending weak first in
-      let spec_is : spec ≡ (let f = unwrap_or (callback_of v.objects weak) 0 in record { sort = Callback; proc = unwrap_or (option_and_then (λ x. x.class) (object_at v.objects f)) 0; subject = weak; func = Some f }) =
-      is ∙ ap (λ (os : List Object). let f = unwrap_or (callback_of os weak) 0 in record { sort = Callback; proc = unwrap_or (option_and_then (λ x. x.class) (object_at os f)) 0; subject = weak; func = Some f }) same in
-      let goes : start_frame script spec before ≡ calls_back script (c (machine.WeakCalling pending)) pending below w = ap (λ (x : FrameSpec). start_frame script x before) spec_is ∙ ap (λ p. calls_back script (c (machine.WeakCalling pending)) p below w) (sym parts) in (
+      let spec_is : spec ≡ (let f = unwrap_or (callback_of v.objects weak) 0
+      in record { sort = Callback; proc = unwrap_or (option_and_then (λ x. x.class) (object_at v.objects f)) 0; subject = weak; func = Some f }) =
+      is ∙ ap (λ (os : List Object). let f = unwrap_or (callback_of os weak) 0
+      in record { sort = Callback; proc = unwrap_or (option_and_then (λ x. x.class) (object_at os f)) 0; subject = weak; func = Some f }) same in
+      let goes : start_frame script spec before ≡ calls_back script (c (machine.WeakCalling pending)) pending below w =
+      ap (λ (x : FrameSpec). start_frame script x before) spec_is ∙ ap (λ p. calls_back script (c (machine.WeakCalling pending)) p below w) (sym parts) in (
         refl,
         refl,
         record {
           before = before;
           goes = in_one script w (start_frame script spec before).0 (start_frame script spec before).1 s.running (ap (λ (t : Transition). t.0) goes, ap (λ (t : Transition). t.1) goes);
           shows = record {
-            represents = represents_same store v below (c (machine.WeakCalling pending)) (c (machine.AfterCallback weak (drop 1 pending))) s.shows.represents s.alone parts (λ q. ap (occurrences q) parts);
+            represents = represents_same store v below (c (machine.WeakCalling pending)) (c (machine.AfterCallback weak (drop 1 pending))) s.shows.represents
+                s.alone parts (λ q. ap (occurrences q) parts);
             numbers = s.shows.numbers;
             running = s.shows.running;
             top = refl;
@@ -200,7 +205,8 @@ module _ (script : Script) (facts : Facts) (store : Store) (policy : Policy) whe
         },
       ))
 
-  pub turn-all_called : slice_get (list_at store Pend) 0 ≡ None → CollectSteps script (collection_at facts phase_of.WeakCalling None) store policy (collection_at facts phase_of.Finalizing None) store policy answer_of.Continue
+  pub turn-all_called : slice_get (list_at store Pend) 0 ≡ None → CollectSteps script (collection_at facts phase_of.WeakCalling None) store policy
+      (collection_at facts phase_of.Finalizing None) store policy answer_of.Continue
   turn-all_called none =
       steps_at script (collection_at facts phase_of.WeakCalling None) store policy (collection_at facts phase_of.Finalizing None) store policy answer_of.Continue
       (λ asked v below s.
@@ -245,7 +251,8 @@ module _ (script : Script) (facts : Facts) (store : Store) (policy : Policy) whe
         goes = in_one script w [] after s.running (refl, refl);
         lines = refl;
         shows = record {
-          represents = represents_giving_up store store v below (c (machine.AfterCallback weak rest)) (c (machine.AfterRelease weak rest)) s.shows.represents s.alone (weak ∷ []) v.objects s.shows.represents.objects
+          represents = represents_giving_up store store v below (c (machine.AfterCallback weak rest)) (c (machine.AfterRelease weak rest)) s.shows.represents
+              s.alone (weak ∷ []) v.objects s.shows.represents.objects
               (with_same_rows store store refl refl refl) (inr parts) (λ q. omega (arith, occurrences-cons q weak rest, occurrences-cons q weak []));
           numbers = s.shows.numbers;
           running = s.shows.running;
@@ -256,9 +263,11 @@ module _ (script : Script) (facts : Facts) (store : Store) (policy : Policy) whe
 
   -- one freed by giving it up is counted
   pub turn-died : (weak : ℕ) → IsListed store → ¬ IsLive store weak
-      → CollectSteps script (collection_at facts (phase_of.AfterRelease weak) None) store policy (record (collection_at facts phase_of.WeakCalling None) { collected = facts.collected + 1 }) store policy answer_of.Continue
+      → CollectSteps script (collection_at facts (phase_of.AfterRelease weak) None) store policy (record (collection_at facts phase_of.WeakCalling None)
+      { collected = facts.collected + 1 }) store policy answer_of.Continue
   turn-died weak listed dead =
-      steps_at script (collection_at facts (phase_of.AfterRelease weak) None) store policy (record (collection_at facts phase_of.WeakCalling None) { collected = facts.collected + 1 }) store policy answer_of.Continue
+      steps_at script (collection_at facts (phase_of.AfterRelease weak) None) store policy (record (collection_at facts phase_of.WeakCalling None)
+      { collected = facts.collected + 1 }) store policy answer_of.Continue
       (λ asked v below s.
       let pending : List ℕ = list_at store Pend in
       let others : List ℕ = filter (λ q. not (q == weak)) pending in
@@ -269,7 +278,11 @@ module _ (script : Script) (facts : Facts) (store : Store) (policy : Policy) whe
       let gone : is_in_map v.objects weak ≡ false = ap (λ (os : List Object). is_in_map os weak) (sym s.shows.represents.objects) ∙ in_map store weak ∙ dead_none (fin.get store.nodes weak) dead in
       let all : others ≡ pending = others_are_all store listed weak dead in
       let goes : ([], after) ≡ after_release c weak others below w =
-      ap (λ b. if b then ([], Rattle.cg_machine.specs.Collect.collection_at c (machine.WeakCalling others) below (with_change (object_placed (Gen (older c.generation))) weak w)) else ([], after)) (sym gone) in
+      ap (λ b. if b then (
+        [],
+        Rattle.cg_machine.specs.Collect.collection_at c (machine.WeakCalling others) below
+            (with_change (object_placed (Gen (older c.generation))) weak w),
+      ) else ([], after)) (sym gone) in
       record {
         events = [];
         after = after;
@@ -289,7 +302,8 @@ module _ (script : Script) (facts : Facts) (store : Store) (policy : Policy) whe
     abbrev aged : Store
     aged = moved weak (Gen (older g)) store
 
-    pub turn-aged : facts.generation ≡ g → CollectSteps script (collection_at facts (phase_of.AfterRelease weak) None) store policy (collection_at facts phase_of.WeakCalling None) aged policy answer_of.Continue
+    pub turn-aged : facts.generation ≡ g → CollectSteps script (collection_at facts (phase_of.AfterRelease weak) None) store policy
+        (collection_at facts phase_of.WeakCalling None) aged policy answer_of.Continue
     turn-aged generation =
         steps_at script (collection_at facts (phase_of.AfterRelease weak) None) store policy (collection_at facts phase_of.WeakCalling None) aged policy answer_of.Continue
         (λ asked v below s.
@@ -303,7 +317,11 @@ module _ (script : Script) (facts : Facts) (store : Store) (policy : Policy) whe
         let there : is_in_map v.objects weak ≡ true = ap (λ (os : List Object). is_in_map os weak) (sym same) ∙ in_map store weak ∙ live_some (fin.get store.nodes weak) live in
         let all : list_at aged Pend ≡ others = others_wait store weak listed live g small in
         let goes : ([], after) ≡ after_release (c (machine.AfterRelease weak others)) weak others below w =
-        ap (λ b. if b then ([], after) else ([], Rattle.cg_machine.specs.Collect.collection_at (record (c (machine.AfterRelease weak others)) { collected = facts.collected + 1 }) (machine.WeakCalling others) below w)) (sym there) in
+        ap (λ b. if b then ([], after) else (
+          [],
+          Rattle.cg_machine.specs.Collect.collection_at (record (c (machine.AfterRelease weak others))
+              { collected = facts.collected + 1 }) (machine.WeakCalling others) below w,
+        )) (sym there) in
         record {
           events = [];
           after = after;
@@ -311,7 +329,8 @@ module _ (script : Script) (facts : Facts) (store : Store) (policy : Policy) whe
           lines = refl;
           shows = record {
             represents = represents_on store aged v below (c (machine.AfterRelease weak others)) (c (machine.WeakCalling others)) s.shows.represents s.alone objects
-                (objects-changed store weak (with_place (Gen (older g))) (object_placed (Gen (older g))) (λ k n. refl) ∙ ap (change (object_placed (Gen (older g))) weak) same ∙ ap (λ k. change (object_placed (Gen (older k))) weak v.objects) (sym generation))
+                (objects-changed store weak (with_place (Gen (older g))) (object_placed (Gen (older g))) (λ k n. refl)
+                ∙ ap (change (object_placed (Gen (older g))) weak) same ∙ ap (λ k. change (object_placed (Gen (older k))) weak v.objects) (sym generation))
                 (with_same_rows store aged refl refl refl) all (λ q. omega (arith, outside-moved weak (Gen (older g)) store q));
             numbers = s.shows.numbers;
             running = s.shows.running;

@@ -40,7 +40,8 @@ pub filter_twice : (p test : Row → Bool) (rows : List Row) → ((r : Row) → 
 filter_twice p test [] keeps = refl
 filter_twice p test (r ∷ rows) keeps = go (test r) refl (p r) refl (filter_twice p test rows keeps)
   where
-    go : (b : Bool) → test r ≡ b → (c : Bool) → p r ≡ c → filter p (filter test rows) ≡ filter p rows → filter p (cond b (r ∷ filter test rows) (filter test rows)) ≡ cond (p r) (r ∷ filter p rows) (filter p rows)
+    go : (b : Bool) → test r ≡ b → (c : Bool) → p r ≡ c → filter p (filter test rows) ≡ filter p rows
+        → filter p (cond b (r ∷ filter test rows) (filter test rows)) ≡ cond (p r) (r ∷ filter p rows) (filter p rows)
     go true kept c passes rest = ap (λ l. cond (p r) (r ∷ l) l) rest
     go false gone true passes rest = absurd (let e : true ≡ false = sym (keeps r passes) ∙ gone in cc)
     go false gone false passes rest = rest ∙ sym (ap (λ c. cond c (r ∷ filter p rows) (filter p rows)) passes)
@@ -54,7 +55,8 @@ pub filter_filter : (f g : Row → Bool) (rows : List Row) → filter f (filter 
 filter_filter f g [] = refl
 filter_filter f g (r ∷ rows) = go (g r) (filter_filter f g rows)
   where
-    go : (b : Bool) → filter f (filter g rows) ≡ filter (λ x. g x && f x) rows → filter f (cond b (r ∷ filter g rows) (filter g rows)) ≡ cond (b && f r) (r ∷ filter (λ x. g x && f x) rows) (filter (λ x. g x && f x) rows)
+    go : (b : Bool) → filter f (filter g rows) ≡ filter (λ x. g x && f x) rows → filter f (cond b (r ∷ filter g rows) (filter g rows))
+        ≡ cond (b && f r) (r ∷ filter (λ x. g x && f x) rows) (filter (λ x. g x && f x) rows)
     go true e = λ i. cond (f r) (r ∷ e i) (e i)
     go false e = e
 
@@ -94,7 +96,8 @@ filter-newest test among (r ∷ rows) = go (test r) refl (includes among r.weak)
         ∙ (λ i. rest i ++ cond (is i) (r.weak ∷ []) [])
         ∙ last c is
       where
-        last : (d : Bool) → includes among r.weak ≡ d → newest_first (λ x. test x && includes among x.weak) rows ++ cond d (r.weak ∷ []) [] ≡ newest_first (λ x. test x && includes among x.weak) (r ∷ rows)
+        last : (d : Bool) → includes among r.weak ≡ d → newest_first (λ x. test x && includes among x.weak) rows ++ cond d (r.weak ∷ []) []
+            ≡ newest_first (λ x. test x && includes among x.weak) (r ∷ rows)
         last true e = sym (newest_first-pass (λ x. test x && includes among x.weak) [] r rows (λ i. passes i && e i))
         last false e = append_none (newest_first (λ x. test x && includes among x.weak) rows) ∙ sym (newest_first-skip (λ x. test x && includes among x.weak) [] r rows (λ i. passes i && e i))
     go false fails c is rest =

@@ -19,7 +19,8 @@ use Rattle.cg_collect.specs.Phases.{from_on, references_in, to_look_at}
 -- the tail of a list from a member after others
 pub from_on-past : (front back : List ℕ) (o : ℕ) → ((x : ℕ) → Includes front x → x ≢ o) → from_on (Some o) (front ++ o ∷ back) ≡ o ∷ back
 from_on-past [] back o other = ap (λ b. if b then o ∷ back else from_on (Some o) back) (eq-eqb o o refl)
-from_on-past (x ∷ front) back o other = ap (λ b. if b then x ∷ (front ++ o ∷ back) else from_on (Some o) (front ++ o ∷ back)) (ne_eqb x o (other x (inl refl))) ∙ from_on-past front back o (λ y m. other y (inr m))
+from_on-past (x ∷ front) back o other = ap (λ b. if b then x ∷ (front ++ o ∷ back) else from_on (Some o) (front ++ o ∷ back)) (ne_eqb x o (other x (inl refl)))
+    ∙ from_on-past front back o (λ y m. other y (inr m))
 
 -- starting with the first, it is the whole list
 pub from_on-first : (xs : List ℕ) (c : Option ℕ) → c ≡ slice_get xs 0 → from_on c xs ≡ xs
@@ -51,7 +52,8 @@ head_highest test rows rise w first x m =
     let named = row_of_one test rows w (head_in (newest_first test rows) w first) in
     let s = split_at rows named.0 rise named.1 in
     let parts : newest_first test rows ≡ newest_first test s.back ++ named.0.weak ∷ newest_first test s.front = ap (newest_first test) s.is ∙ newest_first-pass test s.front named.0 s.back named.2 in
-    let empty : newest_first test s.back ≡ [] = nothing (newest_first test s.back) (newest_first test s.front) named.0.weak w (sym (ap (λ l. slice_get l 0) parts) ∙ first) (λ y k. above named.0 s y k) named.3 in
+    let empty : newest_first test s.back ≡ [] = nothing (newest_first test s.back) (newest_first test s.front) named.0.weak w
+    (sym (ap (λ l. slice_get l 0) parts) ∙ first) (λ y k. above named.0 s y k) named.3 in
     either (subst (λ l. Includes l x) (parts ∙ ap (λ l. l ++ named.0.weak ∷ newest_first test s.front) empty) m)
     (λ e. omega (arith, e, named.3))
     (λ k. let low = below named.0 s x k in omega (arith, low, named.3))
@@ -79,7 +81,8 @@ listed-referent rows o w refers = let found = row_there rows w o refers in subst
 -- they are no more than the rows
 pub references-le : (rows : List Row) (o : ℕ) → length (weak_references_in rows o) ≤ length rows
 references-le rows o =
-    let few : length (weak_references_in rows o) ≡ length (filter (refers_to o) rows) = length-reverse (map (λ (r : Row). r.weak) (filter (refers_to o) rows)) ∙ length-map (filter (refers_to o) rows) (λ (r : Row). r.weak) in
+    let few : length (weak_references_in rows o) ≡ length (filter (refers_to o) rows) = length-reverse (map (λ (r : Row). r.weak) (filter (refers_to o) rows))
+    ∙ length-map (filter (refers_to o) rows) (λ (r : Row). r.weak) in
     omega (arith, few, length-filter (refers_to o) rows, count_by-le-length (refers_to o) rows)
 
 -- The walk is at the weak reference of a row.
@@ -117,7 +120,8 @@ module _ (store : Store) (ok : AreRows store) (r : Row) (inside : Includes store
   next_is =
       ap (option_and_then (λ o. find (λ w. nat_lt w r.weak) (weak_references_in store.rows o))) refers
       ∙ ap (find (λ w. nat_lt w r.weak)) (all_are ∙ sym (append_assoc newer (r.weak ∷ []) older_ones))
-      ∙ find-past r.weak (newer ++ r.weak ∷ []) older_ones (λ x m. either (Includes-append_cases newer (r.weak ∷ []) x m) (λ k. let high = newer_above x k in omega (arith, high)) (λ k. either k (λ e. omega (arith, e)) (λ n. absurd n)))
+      ∙ find-past r.weak (newer ++ r.weak ∷ []) older_ones (λ x m. either (Includes-append_cases newer (r.weak ∷ []) x m) (λ k. let high = newer_above x k
+      in omega (arith, high)) (λ k. either k (λ e. omega (arith, e)) (λ n. absurd n)))
       ∙ find-first r.weak older_ones older_below
 
   -- in a heap whose rows still have the older ones, these come next

@@ -31,10 +31,10 @@ use Rattle.cg_trial.specs.Split.{IsSameButPlaces}
 use Rattle.cg_trial.proofs.Worlds.{counts_alike}
 use Rattle.cg_collect.specs.Starting.{IsLedByLegacy, has_tracked}
 use Rattle.cg_represents.proofs.Places.{place_at_is, place_differs, place_is}
-use Rattle.cg_collect.proofs.Standing.{map_alike, place_there, entries_there, code_there, lives_at, stands_at, stood_at, edge_at, edge_back, entries_on, code_on, objects_on, list_length}
-use Rattle.cg_collect.proofs.Aside.{legacy_alike}
+use Rattle.cg_collect.proofs.PlacesOfObjects.{map_alike, place_there, entries_there, code_there, lives_at, stands_at, stood_at, edge_at, edge_back, entries_on, code_on, objects_on, list_length}
+use Rattle.cg_collect.proofs.Uncollectable.{legacy_alike}
 use Rattle.cg_collect.proofs.Untracked.{trackable, any_alike, has_tracked_alike}
-use Rattle.cg_collect.proofs.Traces.{Trace, at_or_not, s3, same13, same14, same15, same16, candidate_on, candidate_back, unmoved, unmoved3, unmoved4, survivor_test, dict_untracked, dict_stays, tuple_untracked, split_alike, tuple_or}
+use Rattle.cg_collect.proofs.PlacesInStart.{Trace, at_or_not, s3, same13, same14, same15, same16, candidate_on, candidate_back, unmoved, unmoved3, unmoved4, survivor_test, dict_untracked, dict_stays, tuple_untracked, split_alike, tuple_or}
 
 -- one of some objects may be tracked
 abbrev may : List Object → ℕ → Bool
@@ -42,7 +42,8 @@ may objects o = unwrap_or (option_map may_be_tracked (object_at objects o)) fals
 
 -- as the nodes have it
 may-node : (code : KindCode) (place : Place) (x : Object) → x.code ≡ code → x.place ≡ place → may_be_tracked x ≡ code_may_be_tracked code place
-may-node Tuple place x e f = ap (λ c. if elim c [ ListKind ↦ false | Tuple ↦ true | Dict ↦ false | Inst ↦ false | Func ↦ false | Weak ↦ false ] then is_tracked x else true) e ∙ ap (λ p. not (same_place p Untracked)) f
+may-node Tuple place x e f = ap (λ c. if elim c [ ListKind ↦ false | Tuple ↦ true | Dict ↦ false | Inst ↦ false | Func ↦ false | Weak ↦ false ]
+    then is_tracked x else true) e ∙ ap (λ p. not (same_place p Untracked)) f
 may-node ListKind place x e f = ap (λ c. if elim c [ ListKind ↦ false | Tuple ↦ true | Dict ↦ false | Inst ↦ false | Func ↦ false | Weak ↦ false ] then is_tracked x else true) e
 may-node Dict place x e f = ap (λ c. if elim c [ ListKind ↦ false | Tuple ↦ true | Dict ↦ false | Inst ↦ false | Func ↦ false | Weak ↦ false ] then is_tracked x else true) e
 may-node Inst place x e f = ap (λ c. if elim c [ ListKind ↦ false | Tuple ↦ true | Dict ↦ false | Inst ↦ false | Func ↦ false | Weak ↦ false ] then is_tracked x else true) e
@@ -57,7 +58,8 @@ may-store store p = ap (λ x. unwrap_or (option_map may_be_tracked x) false) (ob
     known (Some n) = may-node n.code n.place (object_from store.rows p n) refl refl
 
 -- maps that leave the same tracked
-may-map : (f h : Object → Object) (xs : List Object) → ((x : Object) → Includes xs x → ((f x).serial ≡ x.serial) × ((h x).serial ≡ x.serial) × (may_be_tracked (f x) ≡ may_be_tracked (h x))) → (p : ℕ) → may (map f xs) p ≡ may (map h xs) p
+may-map : (f h : Object → Object) (xs : List Object) → ((x : Object) → Includes xs x → ((f x).serial ≡ x.serial) × ((h x).serial ≡ x.serial)
+    × (may_be_tracked (f x) ≡ may_be_tracked (h x))) → (p : ℕ) → may (map f xs) p ≡ may (map h xs) p
 may-map f h [] same p = refl
 may-map f h (x ∷ xs) same p =
     let here = same x (inl refl) in
@@ -227,14 +229,16 @@ module _ (script : Script) (g : ℕ) (s0 s1 s2 s4 s5 s6 : Store) (t : Trace scri
     aside_led o (first held inside) = first (legacy_alike script s1 s5 same5 o ∙ held) (stands o inside)
     aside_led o (next {o = q} path edge inside) =
         let at = candidate q (Reach-inside path) in
-        next (aside_led q path) (edge_at s5 Cand q o (lives_at s5 q Cand at (λ e. cc)) at (subst (λ es. Includes (references es) o) (sym (entries_on s1 s5 same5 q)) (edge_back s1 (Gen g) q o edge))) (stands o inside)
+        next (aside_led q path) (edge_at s5 Cand q o (lives_at s5 q Cand at (λ e. cc)) at (subst (λ es. Includes (references es) o)
+        (sym (entries_on s1 s5 same5 q)) (edge_back s1 (Gen g) q o edge))) (stands o inside)
 
     led_aside : (o : ℕ) → IsLedByLegacy script s5 o → IsSetAside script merged_world (Gen g) o
     led_aside o (first held inside) = first (sym (legacy_alike script s1 s5 same5 o) ∙ held) (garbage_at o (stood_at s5 Cand o inside).1)
     led_aside o (next {o = q} path edge inside) =
         let k = garbage_at q (stood_at s5 Cand q (Reach-inside path)).1 in
         let was = stood_at s1 (Gen g) q ((garbage q).1 k).member in
-        next (led_aside q path) (edge_at s1 (Gen g) q o was.0 was.1 (subst (λ es. Includes (references es) o) (entries_on s1 s5 same5 q) (edge_back s5 Cand q o edge))) (garbage_at o (stood_at s5 Cand o inside).1)
+        next (led_aside q path) (edge_at s1 (Gen g) q o was.0 was.1 (subst (λ es. Includes (references es) o) (entries_on s1 s5 same5 q)
+        (edge_back s5 Cand q o edge))) (garbage_at o (stood_at s5 Cand o inside).1)
 
     tuple_pass : IsTuplePass merged_world g chosen
     tuple_pass = record {
@@ -242,7 +246,8 @@ module _ (script : Script) (g : ℕ) (s0 s1 s2 s4 s5 s6 : Store) (t : Trace scri
           let (there, at) = here_at x m in
           let tests = true_and (is_tuple x) (has_none_tracked objects x) e in
           let second = t.splits.kept x.serial ((survives x.serial).1 s) in
-          let none : has_tracked s2 x.serial ≡ false = has_tracked_alike s1 s2 t.splits.same (split_alike script g s0 s1 s2 s4 s5 s6 t) x.serial ∙ none_from (has_tracked s1 x.serial) (sym (none_before x there) ∙ tests.1) in
+          let none : has_tracked s2 x.serial ≡ false = has_tracked_alike s1 s2 t.splits.same (split_alike script g s0 s1 s2 s4 s5 s6 t) x.serial
+          ∙ none_from (has_tracked s1 x.serial) (sym (none_before x there) ∙ tests.1) in
           place_at_is (place_of middle x.serial) Untracked
           (t.untracks.tuples.at_least x.serial second (subst (HasCode s2 x.serial) (tuple_code x tests.0) (code_on s1 s2 t.splits.same x.serial x.code (code_there s1 x there))) none);
       at_most = λ x m e.
@@ -254,7 +259,8 @@ module _ (script : Script) (g : ℕ) (s0 s1 s2 s4 s5 s6 : Store) (t : Trace scri
           (λ off. let k : Cand ≡ Untracked = sym off.0 ∙ sym s ∙ third in cc)))
           (λ went. (
             either (t.splits.either_way x.serial at) (λ kept. (survives x.serial).0 kept.1) (λ off. absurd (let k : Cand ≡ Gen g = sym off.0 ∙ went.stood in cc)),
-            (λ i. is_tuple-of x (one_code s2 x.serial x.code Tuple (code_on s1 s2 t.splits.same x.serial x.code (code_there s1 x there)) went.of_kind) i && (none_untrack x there ∙ ap not went.none_tracked) i),
+            (λ i. is_tuple-of x (one_code s2 x.serial x.code Tuple (code_on s1 s2 t.splits.same x.serial x.code (code_there s1 x there)) went.of_kind) i
+                && (none_untrack x there ∙ ap not went.none_tracked) i),
           ));
     }
 

@@ -15,19 +15,20 @@ use Rattle.cg_heap.specs.Calls.{IsListed}
 use Rattle.cg_trial.specs.Split.{entry_number_at}
 use Rattle.cg_trial.proofs.Lists.{occurs_in, none_or_some}
 use Rattle.cg_trial.proofs.Objects.{entries_there}
-use Rattle.cg_trial.proofs.Placed.{once_at, where_is, is_there}
+use Rattle.cg_trial.proofs.PlacesOfObjects.{once_at, where_is, is_there}
 use Rattle.cg_collect.specs.Ready.{IsEmptyAt}
 use Rattle.cg_collect.specs.Starting.{Untracks}
 use Rattle.cg_collect.specs.Looks.{entries_listed}
-use Rattle.cg_collect.proofs.Standing.{entries_on, live_back, nobody_at, stood_at}
-use Rattle.cg_collect.proofs.Sums.{sum_alike, sum-inside}
-use Rattle.cg_collect.proofs.Traces.{Trace, at_or_not, same16, candidate_back}
+use Rattle.cg_collect.proofs.PlacesOfObjects.{entries_on, live_back, nobody_at, stood_at}
+use Rattle.cg_collect.proofs.WorkLeft.{sum_alike, sum-inside}
+use Rattle.cg_collect.proofs.PlacesInStart.{Trace, at_or_not, same16, candidate_back}
 
 -- A pass that untracks adds no entries to its generation.
 pub untracked_fewer : (g : ℕ) (kind : KindCode) (old new : Store) → IsListed old → IsListed new → Untracks g kind old new → entries_listed new (Gen g) ≤ entries_listed old (Gen g)
 untracked_fewer g kind old new listed listed_new untracks =
     let f : ℕ → ℕ = λ q. length (entries_of old q) in
-    let own : entries_listed new (Gen g) ≡ sum_by f (list_at new (Gen g)) = sum_alike (λ q. length (entries_of new q)) f (list_at new (Gen g)) (λ q m. ap length (entries_on old new untracks.same q)) in
+    let own : entries_listed new (Gen g) ≡ sum_by f (list_at new (Gen g)) = sum_alike (λ q. length (entries_of new q)) f (list_at new (Gen g))
+    (λ q m. ap length (entries_on old new untracks.same q)) in
     omega (arith, own, sum-inside f (list_at new (Gen g)) (list_at old (Gen g)) (once_at new listed_new (Gen g)) (once_at old listed (Gen g)) was_there)
   where
     was_there : (o : ℕ) → Includes (list_at new (Gen g)) o → Includes (list_at old (Gen g)) o
@@ -36,7 +37,8 @@ untracked_fewer g kind old new listed listed_new untracks =
         is_there old listed (Gen g) o (live_back old new untracks.same o at.0)
         (either (untracks.at_most o) (λ stays. sym stays ∙ at.1) (λ went. absurd (let e : Untracked ≡ Gen g = sym went.stands ∙ at.1 in cc)))
 
-module _ (script : Script) (g : ℕ) (s0 s1 s2 s4 s5 s6 : Store) (t : Trace script g s0 s1 s2 s4 s5 s6) (few : g ≤ 2) (listed1 : IsListed s1) (listed2 : IsListed s2) (listed5 : IsListed s5) (listed6 : IsListed s6) (empty : IsEmptyAt s5 Legacy) where
+module _ (script : Script) (g : ℕ) (s0 s1 s2 s4 s5 s6 : Store) (t : Trace script g s0 s1 s2 s4 s5 s6) (few : g ≤ 2) (listed1 : IsListed s1)
+    (listed2 : IsListed s2) (listed5 : IsListed s5) (listed6 : IsListed s6) (empty : IsEmptyAt s5 Legacy) where
   survived : (o : ℕ) → Includes (list_at s2 (Gen g)) o → Includes (list_at s1 (Gen g)) o
   survived o m =
       let at = where_is s2 listed2 (Gen g) o m in
@@ -75,7 +77,8 @@ module _ (script : Script) (g : ℕ) (s0 s1 s2 s4 s5 s6 : Store) (t : Trace scri
   start_entries =
       let f : ℕ → ℕ = λ q. length (entries_of s1 q) in
       let second : entries_listed s2 (Gen g) ≡ sum_by f (list_at s2 (Gen g)) = sum_alike (λ q. length (entries_of s2 q)) f (list_at s2 (Gen g)) (λ q m. ap length (entries_on s1 s2 t.splits.same q)) in
-      let last : entries_listed s6 Legacy ≡ sum_by f (list_at s6 Legacy) = sum_alike (λ q. length (entries_of s6 q)) f (list_at s6 Legacy) (λ q m. ap length (entries_on s1 s6 (same16 script g s0 s1 s2 s4 s5 s6 t) q)) in
+      let last : entries_listed s6 Legacy ≡ sum_by f (list_at s6 Legacy) = sum_alike (λ q. length (entries_of s6 q)) f (list_at s6 Legacy)
+      (λ q m. ap length (entries_on s1 s6 (same16 script g s0 s1 s2 s4 s5 s6 t) q)) in
       let all : sum_by f (list_at s1 (Gen g)) ≡ entry_number_at s1 (Gen g) = entries_there s1 listed1 (Gen g) few in
       omega (
         arith,

@@ -32,9 +32,9 @@ use Rattle.cg_policy.specs.Flagset.{bits_of}
 use Rattle.cg_trial.specs.View.{view_of, Merged}
 use Rattle.cg_trial.specs.Split.{IsSameButPlaces}
 use Rattle.cg_trial.proofs.Lists.{IsAt as Walked, ahead_is}
-use Rattle.cg_trial.proofs.Placed.{once_at, where_is, is_there}
+use Rattle.cg_trial.proofs.PlacesOfObjects.{once_at, where_is, is_there}
 use Rattle.cg_trial.proofs.Ends.{same_but_places}
-use Rattle.cg_trial.proofs.Views.{merged_view}
+use Rattle.cg_trial.proofs.EffectsOfCalls.{merged_view}
 use Rattle.cg_collect.specs.declared.answer.CollectStep.TheVariants as answer_of
 use Rattle.cg_collect.specs.declared.collection.Facts.{Facts}
 use Rattle.cg_collect.specs.declared.phase.Phase.{Phase}
@@ -45,10 +45,10 @@ use Rattle.cg_collect.specs.Saving.{with_saved, kept_aside}
 use Rattle.cg_collect.specs.Answers.{CollectionShows, CollectSteps}
 use Rattle.cg_collect.specs.Turns.{collection_at, list_around}
 use Rattle.cg_represents.proofs.Places.{place_at_is, place_is}
-use Rattle.cg_collect.proofs.Standing.{node_of_live, node_there, place_there, live_there, object_there, once_among, same_times, list_has, outside_on}
+use Rattle.cg_collect.proofs.PlacesOfObjects.{node_of_live, node_there, place_there, live_there, object_there, once_among, same_times, list_has, outside_on}
 use Rattle.cg_collect.proofs.Moving.{walk_passes, comes_next}
-use Rattle.cg_collect.proofs.Telling.{from_ahead, split_at, at_first}
-use Rattle.cg_collect.proofs.Saved.{occurrences-filter, objects-all_saved, saved-alike, saved-rewritten}
+use Rattle.cg_collect.proofs.StartLines.{from_ahead, split_at, at_first}
+use Rattle.cg_collect.proofs.SavedObjects.{occurrences-filter, objects-all_saved, saved-alike, saved-rewritten}
 use Rattle.cg_collect.proofs.Worlds.{steps_at, only_tells, none_below, LeavesRest, with_same_rows}
 
 -- The next of a walk over the list of a place.
@@ -78,7 +78,8 @@ module _ (store : Store) (listed : IsListed store) (p : Place) (o : ℕ) (here :
       go : (cursor : Option ℕ) (rest : List ℕ) → Walked xs cursor (parts.0 ++ o ∷ []) rest → IsAt cursor xs
       go None rest at = tt
       go (Some q) [] at = absurd (let e : Some q ≡ None = at.at in cc)
-      go (Some q) (y ∷ rest) at = let same : q ≡ y = let e : Some q ≡ Some y = at.at in cc in subst (λ l. Includes l q) (sym at.parts) (Includes-append_right (parts.0 ++ o ∷ []) (y ∷ rest) q (inl (sym same)))
+      go (Some q) (y ∷ rest) at = let same : q ≡ y = let e : Some q ≡ Some y = at.at in cc in subst (λ l. Includes l q) (sym at.parts)
+          (Includes-append_right (parts.0 ++ o ∷ []) (y ∷ rest) q (inl (sym same)))
 
   pub around_shorter : length (from_on after (list_around store after)) + 1 ≡ length (from_on (Some o) (list_around store (Some o)))
   around_shorter =
@@ -96,7 +97,8 @@ at_right None front back h = tt
 at_right (Some o) front back h = Includes-append_right front back o h
 
 -- Calls that print at most one line of the machine's last step.
-module _ (script : Script) (facts : Facts) (a b : Phase) (store : Store) (policy : Policy) (shows : (asked : Bool) (w : World) (below : List Activity) → CollectionShows asked (collection_at facts a None) store policy w below → CollectionShows asked (collection_at facts b None) store policy w below) where
+module _ (script : Script) (facts : Facts) (a b : Phase) (store : Store) (policy : Policy) (shows : (asked : Bool) (w : World) (below : List Activity)
+    → CollectionShows asked (collection_at facts a None) store policy w below → CollectionShows asked (collection_at facts b None) store policy w below) where
   pub tells_line : (event : Event) → ((asked : Bool) → lines_left script asked (collection_at facts a None) a store ≡ event ∷ lines_left script asked (collection_at facts b None) b store)
       → CollectSteps script (collection_at facts a None) store policy (collection_at facts b None) store policy (answer_of.Emit event)
   tells_line event lines asked w below s =
@@ -113,12 +115,14 @@ module _ (script : Script) (facts : Facts) (store : Store) (policy : Policy) whe
   old_ones = list_at store (Gen (older facts.generation))
 
   pub turn-uncollectable : (first : Option ℕ) (o : ℕ) (after : Option ℕ) (number : ℕ) → from_on (Some o) old_ones ≡ o ∷ from_on after old_ones
-      → CollectSteps script (collection_at facts (phase_of.Uncollectable first (Some o) number) None) store policy (collection_at facts (phase_of.Uncollectable first after number) None) store policy (answer_of.Emit (GcUncollectable o))
+      → CollectSteps script (collection_at facts (phase_of.Uncollectable first (Some o) number) None) store policy
+      (collection_at facts (phase_of.Uncollectable first after number) None) store policy (answer_of.Emit (GcUncollectable o))
   turn-uncollectable first o after number left =
       tells_line script facts (phase_of.Uncollectable first (Some o) number) (phase_of.Uncollectable first after number) store policy
       (λ asked w below s. record { represents = s.represents; numbers = s.numbers; running = s.running; top = s.top })
       (GcUncollectable o)
-      (λ asked. ap (λ l. map GcUncollectable l ++ saved_lines script (bits_of facts.flags) store (from_on first old_ones) ++ stop_lines asked (collection_at facts (phase_of.Uncollectable first (Some o) number) None) number) left)
+      (λ asked. ap (λ l. map GcUncollectable l ++ saved_lines script (bits_of facts.flags) store (from_on first old_ones)
+      ++ stop_lines asked (collection_at facts (phase_of.Uncollectable first (Some o) number) None) number) left)
 
   pub turn-all_told : (first : Option ℕ) (number : ℕ)
       → CollectSteps script (collection_at facts (phase_of.Uncollectable first None number) None) store policy (collection_at facts (phase_of.Saved first number) None) store policy answer_of.Continue
@@ -129,10 +133,14 @@ module _ (script : Script) (facts : Facts) (store : Store) (policy : Policy) whe
 
   lines_after : (asked : Bool) (o : ℕ) (after : Option ℕ) (number : ℕ) (b : Bool) → from_on (Some o) old_ones ≡ o ∷ from_on after old_ones → is_saved_at script (bits_of facts.flags) store o ≡ b
       → lines_left script asked (collection_at facts (phase_of.Saved (Some o) number) None) (phase_of.Saved (Some o) number) store
-      ≡ map GcSaved (cond b (o ∷ filter (is_saved_at script (bits_of facts.flags) store) (from_on after old_ones)) (filter (is_saved_at script (bits_of facts.flags) store) (from_on after old_ones))) ++ stop_lines asked (collection_at facts (phase_of.Saved after number) None) number
+      ≡ map GcSaved (cond b (o ∷ filter (is_saved_at script (bits_of facts.flags) store) (from_on after old_ones))
+      (filter (is_saved_at script (bits_of facts.flags) store) (from_on after old_ones))) ++ stop_lines asked (collection_at facts
+      (phase_of.Saved after number) None) number
   lines_after asked o after number b left test =
       ap (λ l. saved_lines script (bits_of facts.flags) store l ++ stop_lines asked (collection_at facts (phase_of.Saved after number) None) number) left
-      ∙ ap (λ c. map GcSaved (cond c (o ∷ filter (is_saved_at script (bits_of facts.flags) store) (from_on after old_ones)) (filter (is_saved_at script (bits_of facts.flags) store) (from_on after old_ones))) ++ stop_lines asked (collection_at facts (phase_of.Saved after number) None) number) test
+      ∙ ap (λ c. map GcSaved (cond c (o ∷ filter (is_saved_at script (bits_of facts.flags) store) (from_on after old_ones))
+      (filter (is_saved_at script (bits_of facts.flags) store) (from_on after old_ones))) ++ stop_lines asked (collection_at facts
+      (phase_of.Saved after number) None) number) test
 
   pub turn-saved_told : (o : ℕ) (after : Option ℕ) (number : ℕ) → from_on (Some o) old_ones ≡ o ∷ from_on after old_ones → is_saved_at script (bits_of facts.flags) store o ≡ true
       → CollectSteps script (collection_at facts (phase_of.Saved (Some o) number) None) store policy (collection_at facts (phase_of.Saved after number) None) store policy (answer_of.Emit (GcSaved o))
@@ -157,7 +165,8 @@ module _ (script : Script) (facts : Facts) (store : Store) (policy : Policy) whe
       (λ asked. refl)
 
   pub turn-stopped : (number : ℕ)
-      → CollectSteps script (collection_at facts (phase_of.Stopping number) None) store policy (collection_at facts (phase_of.Over number) None) store policy (answer_of.Emit (GcStop facts.generation facts.collected number))
+      → CollectSteps script (collection_at facts (phase_of.Stopping number) None) store policy (collection_at facts (phase_of.Over number) None) store policy
+      (answer_of.Emit (GcStop facts.generation facts.collected number))
   turn-stopped number =
       tells_line script facts (phase_of.Stopping number) (phase_of.Over number) store policy
       (λ asked w below s. record { represents = s.represents; numbers = s.numbers; running = s.running; top = s.top })
@@ -165,7 +174,8 @@ module _ (script : Script) (facts : Facts) (store : Store) (policy : Policy) whe
       (λ asked. refl)
 
 -- The collection leaves the stack.
-pub represents_over : (old new : Store) (v : World) (below : List Activity) (a : machine.Collection) → Represents old (with_stack (Collecting a ∷ below) v) → count_by is_collection below ≡ 0 → (objects : List Object) → objects_of new ≡ objects → LeavesRest old new
+pub represents_over : (old new : Store) (v : World) (below : List Activity) (a : machine.Collection) → Represents old (with_stack (Collecting a ∷ below) v)
+    → count_by is_collection below ≡ 0 → (objects : List Object) → objects_of new ≡ objects → LeavesRest old new
     → ((s : ℕ) → outside_of new s + occurrences s (collect_holds a.phase) ≡ outside_of old s) → Represents new (with_stack below (with_objects objects v))
 represents_over old new v below a r alone objects are rest held =
     represents new (with_stack below (with_objects objects v))
@@ -205,7 +215,9 @@ module _ (script : Script) (store : Store) (listed : IsListed store) (c : machin
       let (n, got) = node_of_live store o live in
       let x : Object = object_from store.rows o n in
       let place : is_at Legacy x ≡ true = place_at_is n.place Legacy (sym (ap place_in got) ∙ at) in
-      let its : (has_flag c.flags save_all || is_some (legacy_of script x)) ≡ true = sym (ap (λ y. has_flag c.flags save_all || is_some (option_and_then (legacy_of script) y)) (object-at store o ∙ ap (option_map (object_from store.rows o)) got)) ∙ test in
+      let its : (has_flag c.flags save_all || is_some (legacy_of script x)) ≡ true =
+      sym (ap (λ y. has_flag c.flags save_all || is_some (option_and_then (legacy_of script) y)) (object-at store o
+      ∙ ap (option_map (object_from store.rows o)) got)) ∙ test in
       Includes-map (λ (y : Object). y.serial) (filter (is_saved script c) (objects_of store)) x
       (Includes-filter (is_saved script c) (objects_of store) x (λ i. place i && its i) (object_there store o n got))
 
@@ -243,7 +255,8 @@ module _ (script : Script) (facts : Facts) (store : Store) (root : IsLive store 
 
   objects-ended : objects_of ended ≡ map (λ x. if is_at Legacy x then object_placed p x else x) (all_saved (kept_aside script flags store) (objects_of store))
   objects-ended =
-      objects-mapped kept (λ s n. place_merged Legacy p n) (λ x. if is_at Legacy x then object_placed p x else x) (λ s n. ap (λ b. object_from kept.rows s (if b then with_place p n else n)) (legacy_number n.place) ∙ one (same_place n.place Legacy) s n)
+      objects-mapped kept (λ s n. place_merged Legacy p n) (λ x. if is_at Legacy x then object_placed p x else x)
+      (λ s n. ap (λ b. object_from kept.rows s (if b then with_place p n else n)) (legacy_number n.place) ∙ one (same_place n.place Legacy) s n)
       ∙ ap (map (λ x. if is_at Legacy x then object_placed p x else x)) (objects-all_saved (kept_aside script flags store) store root)
     where
       one : (b : Bool) (s : ℕ) (n : Node) → object_from kept.rows s (if b then with_place p n else n) ≡ (if b then object_placed p (object_from kept.rows s n) else object_from kept.rows s n)
@@ -298,24 +311,28 @@ module _ (script : Script) (facts : Facts) (store : Store) (root : IsLive store 
       -- the lines, in the order in which they are printed
       abbrev all_lines : Bool → Bool → List Event
       all_lines asked told =
-          lines_if told (map GcUncollectable aside) ++ map GcSaved (kept_aside script flags store) ++ GcStop facts.generation facts.collected (length aside) ∷ lines_if asked (Collected (facts.collected + length aside) ∷ [])
+          lines_if told (map GcUncollectable aside) ++ map GcSaved (kept_aside script flags store) ++ GcStop facts.generation facts.collected (length aside)
+          ∷ lines_if asked (Collected (facts.collected + length aside) ∷ [])
 
       pending_kept : list_at store Pend ≡ [] → list_at ended Pend ≡ []
       pending_kept none = view.others Pend (λ e. cc) (λ e. cc) ∙ none
 
-      saved_part : (asked : Bool) → saved_lines script flags ended (from_on first (list_at ended p)) ++ stop_lines asked (collection_at facts (phase_of.Saved first number) None) number ≡ all_lines asked false
+      saved_part : (asked : Bool) → saved_lines script flags ended (from_on first (list_at ended p))
+          ++ stop_lines asked (collection_at facts (phase_of.Saved first number) None) number ≡ all_lines asked false
       saved_part asked =
           (λ i. map GcSaved (filter_alike (is_saved_at script flags ended) (is_saved_at script flags store) (from_aside first is i) saved-ended i)
           ++ GcStop facts.generation facts.collected (size i) ∷ lines_if asked (Collected (facts.collected + size i) ∷ []))
 
-      told_part : (asked : Bool) → map GcUncollectable (from_on first (list_at ended p)) ++ saved_lines script flags ended (from_on first (list_at ended p)) ++ stop_lines asked (collection_at facts (phase_of.Uncollectable first first number) None) number ≡ all_lines asked true
+      told_part : (asked : Bool) → map GcUncollectable (from_on first (list_at ended p)) ++ saved_lines script flags ended (from_on first (list_at ended p))
+          ++ stop_lines asked (collection_at facts (phase_of.Uncollectable first first number) None) number ≡ all_lines asked true
       told_part asked =
           (λ i. map GcUncollectable (from_aside first is i) ++ map GcSaved (filter_alike (is_saved_at script flags ended) (is_saved_at script flags store) (from_aside first is i) saved-ended i)
           ++ GcStop facts.generation facts.collected (size i) ∷ lines_if asked (Collected (facts.collected + size i) ∷ []))
 
       ends : (phase : Phase) (told : Bool) → has_flag flags uncollectable ≡ told
           → ((asked : Bool) → all_lines asked told ≡ lines_left script asked (collection_at facts phase None) phase ended)
-          → ((asked : Bool) (w : World) (below : List Activity) → Represents ended w → policy.numbers ≡ w.numbers → w.stack ≡ below → CollectionShows asked (collection_at facts phase None) ended idle w below)
+          → ((asked : Bool) (w : World) (below : List Activity) → Represents ended w → policy.numbers ≡ w.numbers → w.stack ≡ below
+          → CollectionShows asked (collection_at facts phase None) ended idle w below)
           → CollectSteps script (collection_at facts phase_of.Ending None) store policy (collection_at facts phase None) ended idle answer_of.Continue
       ends phase told flag lines shows =
           steps_at script (collection_at facts phase_of.Ending None) store policy (collection_at facts phase None) ended idle answer_of.Continue

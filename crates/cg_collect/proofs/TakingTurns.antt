@@ -16,7 +16,7 @@ use Rattle.cg_collect.specs.declared.phase.Turn.{Turn}
 use Rattle.cg_collect.specs.Ready.{IsReadyForCollectionAt, HasItsWalk, HasFewCollected, MayGiveUp, GivesUpIn, RunsFrame, SparesGarbageList}
 use Rattle.cg_collect.specs.Answers.{CollectSteps}
 use Rattle.cg_collect.specs.Turns.{collection_at, Advances, StaysReady, ComesNearer, HandsOutIn, KeepsObjects, TakesTurn}
-use Rattle.cg_collect.proofs.Keeping.{keeps_all}
+use Rattle.cg_collect.proofs.NothingIsMade.{keeps_all}
 use Rattle.cg_collect.proofs.Worlds.{turn_steps}
 
 -- a turn at a phase equal to this one, or that leaves this heap or this policy
@@ -42,7 +42,8 @@ leads_to {release = release} {answer = answer} is same = is ∙ ap (λ (p : Phas
 module _ {script : Script} {facts : Facts} {phase : Phase} {old : Store} {was : Policy} {new : Store} {now : Policy} {turn : Turn} {next : Phase} where
   -- a turn that counts nothing
   taken : (release : Option Release) (answer : CollectStep) → turn ≡ record { phase = next; release = release; collected = 0; answer = answer }
-      → CollectSteps script (collection_at facts phase None) old was (collection_at facts next release) new now answer → StaysReady new facts.generation next answer → HasItsWalk (profile_of script.items) new next
+      → CollectSteps script (collection_at facts phase None) old was (collection_at facts next release) new now answer → StaysReady new facts.generation next
+      answer → HasItsWalk (profile_of script.items) new next
       → (answer ≡ answer_of.Continue → ComesNearer old phase None new next release) → GivesUpIn next release → HandsOutIn facts phase answer next release
       → ((n : ℕ) → HasFewCollected n phase old → HasFewCollected n next new) → Advances phase next → KeepsObjects old new
       → TakesTurn script facts phase old was new now turn
@@ -60,13 +61,15 @@ module _ {script : Script} {facts : Facts} {phase : Phase} {old : Store} {was : 
       })
 
   pub goes_on : turn ≡ record { phase = next; release = None; collected = 0; answer = answer_of.Continue }
-      → CollectSteps script (collection_at facts phase None) old was (collection_at facts next None) new now answer_of.Continue → StaysReady new facts.generation next answer_of.Continue → HasItsWalk (profile_of script.items) new next
+      → CollectSteps script (collection_at facts phase None) old was (collection_at facts next None) new now answer_of.Continue
+      → StaysReady new facts.generation next answer_of.Continue → HasItsWalk (profile_of script.items) new next
       → ComesNearer old phase None new next None → ((n : ℕ) → HasFewCollected n phase old → HasFewCollected n next new) → Advances phase next → KeepsObjects old new
       → TakesTurn script facts phase old was new now turn
   goes_on is steps ready walk nearer few onward keeps = taken None answer_of.Continue is steps ready walk (λ went. nearer) tt tt few onward keeps
 
   pub tells : {event : Event} → turn ≡ record { phase = next; release = None; collected = 0; answer = answer_of.Emit event }
-      → CollectSteps script (collection_at facts phase None) old was (collection_at facts next None) new now (answer_of.Emit event) → StaysReady new facts.generation next (answer_of.Emit event) → HasItsWalk (profile_of script.items) new next
+      → CollectSteps script (collection_at facts phase None) old was (collection_at facts next None) new now (answer_of.Emit event)
+      → StaysReady new facts.generation next (answer_of.Emit event) → HasItsWalk (profile_of script.items) new next
       → ((n : ℕ) → HasFewCollected n phase old → HasFewCollected n next new) → Advances phase next → KeepsObjects old new
       → TakesTurn script facts phase old was new now turn
   tells {event = event} is steps ready walk few onward keeps = taken None (answer_of.Emit event) is steps ready walk (λ went. absurd (cc)) tt tt few onward keeps
@@ -78,13 +81,19 @@ module _ {script : Script} {facts : Facts} {phase : Phase} {old : Store} {was : 
   runs {frame = frame} is steps walk in_frame spares few onward keeps = taken None (answer_of.Frame frame) is steps tt walk (λ went. absurd (cc)) tt (in_frame, spares) few onward keeps
 
   pub gives_up : {release : Release} → turn ≡ record { phase = next; release = Some release; collected = 0; answer = answer_of.Continue }
-      → CollectSteps script (collection_at facts phase None) old was (collection_at facts next (Some release)) new now answer_of.Continue → StaysReady new facts.generation next answer_of.Continue → HasItsWalk (profile_of script.items) new next
+      → CollectSteps script (collection_at facts phase None) old was (collection_at facts next (Some release)) new now answer_of.Continue
+      → StaysReady new facts.generation next answer_of.Continue → HasItsWalk (profile_of script.items) new next
       → ComesNearer old phase None new next (Some release) → MayGiveUp next → ((n : ℕ) → HasFewCollected n phase old → HasFewCollected n next new) → Advances phase next → KeepsObjects old new
       → TakesTurn script facts phase old was new now turn
   gives_up {release = release} is steps ready walk nearer may few onward keeps = taken (Some release) answer_of.Continue is steps ready walk (λ went. nearer) may tt few onward keeps
 
 -- a finished collection says so
-pub ends : {script : Script} {facts : Facts} {store : Store} {policy : Policy} {number : ℕ} {turn : Turn} → turn ≡ record { phase = phase_of.Over number; release = None; collected = 0; answer = answer_of.Finished facts.collected number }
+pub ends : {script : Script} {facts : Facts} {store : Store} {policy : Policy} {number : ℕ} {turn : Turn} → turn ≡ record {
+  phase = phase_of.Over number;
+  release = None;
+  collected = 0;
+  answer = answer_of.Finished facts.collected number;
+}
     → TakesTurn script facts (phase_of.Over number) store policy store policy turn
 ends {facts = facts} {store = store} {number = number} is =
     taken None (answer_of.Finished facts.collected number) is

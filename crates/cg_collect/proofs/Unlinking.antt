@@ -19,7 +19,7 @@ use Rattle.cg_machine.specs.declared.event.Event.TheVariants.{Cleared}
 use Rattle.cg_represents.specs.Represents.{Represents}
 use Rattle.cg_represents.proofs.Places.{place_is, place_at_is}
 use Rattle.cg_policy.specs.Policy.{Policy}
-use Rattle.cg_trial.proofs.Placed.{where_is, is_there}
+use Rattle.cg_trial.proofs.PlacesOfObjects.{where_is, is_there}
 use Rattle.cg_death.proofs.RowSplits.{head_in, split_at, referent-without}
 use Rattle.cg_death.proofs.WeakObjects.{row_there}
 use Rattle.cg_collect.specs.declared.answer.CollectStep.TheVariants as answer_of
@@ -31,7 +31,7 @@ use Rattle.cg_collect.specs.Answers.{CollectSteps}
 use Rattle.cg_collect.specs.Turns.{collection_at, left_to_walk}
 use Rattle.cg_collect.proofs.RowWalks.{older_ones, older_below, looks_here, looks_on, looks_on_without, next_older, older_refers, referent-listed, listed-referent, references-le}
 use Rattle.cg_collect.proofs.WalkTurns.{looks_all, less}
-use Rattle.cg_collect.proofs.Telling.{from_first, at_first}
+use Rattle.cg_collect.proofs.StartLines.{from_first, at_first}
 use Rattle.cg_collect.proofs.Stopping.{tells_none, next_from, next_at}
 use Rattle.cg_collect.proofs.Worlds.{only_tells}
 use Rattle.cg_collect.proofs.RowFilters.{without_rows-cons, without_rows-nil, referent_left, referent_gone, unreferred_left}
@@ -42,7 +42,8 @@ pub apart_rows : (store : Store) (rows : List Row) → IsApartUnseen store → I
 apart_rows store rows (apart, unseen) = (record { garbage = apart.garbage; back = apart.back; candidates = apart.candidates; seen = apart.seen; legacy = apart.legacy }, unseen)
 
 -- The walk begins at the first member.
-pub unlink_begins : (store : Store) → ((o : ℕ) → Includes (list_at store Cand) o → weak_references_in store.rows o ≡ []) → (first : Option ℕ) → first ≡ slice_get (list_at store Cand) 0 → IsMemberWalk store first None
+pub unlink_begins : (store : Store) → ((o : ℕ) → Includes (list_at store Cand) o → weak_references_in store.rows o ≡ []) → (first : Option ℕ) → first
+    ≡ slice_get (list_at store Cand) 0 → IsMemberWalk store first None
 unlink_begins store none first is = record {
   member_at = subst (λ n. IsAt n (list_at store Cand)) (sym is) (at_first (list_at store Cand));
   weak_live = λ v e. absurd (cc);
@@ -88,7 +89,8 @@ module _ (store : Store) (ok : AreRows store) (r : Row) (inside : Includes store
 
   pub unlink_falls : (left_to_walk member (next_older_in store.rows r.weak) store) + 0 < (left_to_walk member (Some r.weak) store) + 0
   unlink_falls =
-      fewer (length (from_on member (list_at store Cand)) * (length store.rows + 1)) (length (to_look_at store (next_older_in store.rows r.weak))) (length (to_look_at store (Some r.weak))) unlink_shorter
+      fewer (length (from_on member (list_at store Cand)) * (length store.rows + 1)) (length (to_look_at store (next_older_in store.rows r.weak)))
+      (length (to_look_at store (Some r.weak))) unlink_shorter
     where
       fewer : (a b c : ℕ) → b < c → (a + b) + 0 < (a + c) + 0
       fewer a b c h = omega (arith, h)
@@ -108,7 +110,8 @@ module _ (store : Store) (ok : AreRows store) (r : Row) (inside : Includes store
     }
 
     pub turn-skipped : (script : Script) (facts : Facts) (policy : Policy)
-        → CollectSteps script (collection_at facts (phase_of.Unlinking member (Some r.weak)) None) store policy (collection_at facts (phase_of.Unlinking member (next_older_in store.rows r.weak)) None) store policy answer_of.Continue
+        → CollectSteps script (collection_at facts (phase_of.Unlinking member (Some r.weak)) None) store policy
+        (collection_at facts (phase_of.Unlinking member (next_older_in store.rows r.weak)) None) store policy answer_of.Continue
     turn-skipped script facts policy =
         tells_none script facts (phase_of.Unlinking member (Some r.weak)) (phase_of.Unlinking member (next_older_in store.rows r.weak)) store policy
         (λ asked w below s. record { represents = s.represents; numbers = s.numbers; running = s.running; top = s.top })
@@ -147,9 +150,11 @@ module _ (store : Store) (ok : AreRows store) (r : Row) (inside : Includes store
               ∙ ap (λ b. if b then None else referent_in store.rows q) (ne_eqb q r.weak differs)
 
       pub turn-unlinked : (script : Script) (facts : Facts) (policy : Policy)
-          → CollectSteps script (collection_at facts (phase_of.Unlinking member (Some r.weak)) None) store policy (collection_at facts (phase_of.Unlinking member (next_older_in store.rows r.weak)) None) lost policy (answer_of.Emit (Cleared r.weak))
+          → CollectSteps script (collection_at facts (phase_of.Unlinking member (Some r.weak)) None) store policy
+          (collection_at facts (phase_of.Unlinking member (next_older_in store.rows r.weak)) None) lost policy (answer_of.Emit (Cleared r.weak))
       turn-unlinked script facts policy asked w below s =
-          only_tells script asked w below (map Cleared (lines_of (filter (includes final) (to_look_at store (Some r.weak))) store.rows)) (Cleared r.weak ∷ []) (collection_at facts (phase_of.Unlinking member (next_older_in store.rows r.weak)) None) lost policy
+          only_tells script asked w below (map Cleared (lines_of (filter (includes final) (to_look_at store (Some r.weak))) store.rows)) (Cleared r.weak ∷ [])
+          (collection_at facts (phase_of.Unlinking member (next_older_in store.rows r.weak)) None) lost policy
           (ap (λ ws. map Cleared (lines_of ws store.rows)) among
           ∙ ap (λ rows. map Cleared (r.weak ∷ (rest ++ members_losing final (from_on member final) rows))) (sym (without_rows-cons r.weak rest store.rows))
           ∙ ap (λ ws. Cleared r.weak ∷ map Cleared (lines_of ws lost.rows)) (ap (filter (includes final)) (sym (looks_on_without store ok r inside stays lost refl rise))))
@@ -173,17 +178,21 @@ module _ (store : Store) (ok : AreRows store) (r : Row) (inside : Includes store
 -- What follows when a weak reference is passed, and when it is cleared.
 pub record Skips (store : Store) (member : Option ℕ) (weak : ℕ) : Type 0 where
   pub steps : (script : Script) (facts : Facts) (policy : Policy)
-      → CollectSteps script (collection_at facts (phase_of.Unlinking member (Some weak)) None) store policy (collection_at facts (phase_of.Unlinking member (next_older_in store.rows weak)) None) store policy answer_of.Continue
+      → CollectSteps script (collection_at facts (phase_of.Unlinking member (Some weak)) None) store policy
+      (collection_at facts (phase_of.Unlinking member (next_older_in store.rows weak)) None) store policy answer_of.Continue
   pub goes_on : IsMemberWalk store member (next_older_in store.rows weak)
   pub falls : (left_to_walk member (next_older_in store.rows weak) store) + 0 < (left_to_walk member (Some weak) store) + 0
   pub shorter : length (to_look_at store (next_older_in store.rows weak)) < length (to_look_at store (Some weak))
 
 pub record Unlinks (store : Store) (member : Option ℕ) (weak : ℕ) : Type 0 where
   pub steps : IsRising (without_row weak store.rows) → (script : Script) (facts : Facts) (policy : Policy)
-      → CollectSteps script (collection_at facts (phase_of.Unlinking member (Some weak)) None) store policy (collection_at facts (phase_of.Unlinking member (next_older_in store.rows weak)) None) (record store { rows = without_row weak store.rows }) policy (answer_of.Emit (Cleared weak))
+      → CollectSteps script (collection_at facts (phase_of.Unlinking member (Some weak)) None) store policy
+      (collection_at facts (phase_of.Unlinking member (next_older_in store.rows weak)) None) (record store { rows = without_row weak store.rows }) policy
+      (answer_of.Emit (Cleared weak))
   pub goes_on : IsRising (without_row weak store.rows) → IsMemberWalk (record store { rows = without_row weak store.rows }) member (next_older_in store.rows weak)
 
-by_row : (store : Store) (member : Option ℕ) (weak : ℕ) (P : ℕ → Type 0) → IsMemberWalk store member (Some weak) → ((r : Row) → Includes store.rows r → r.waits ≡ false → r.weak ≡ weak → P r.weak) → P weak
+by_row : (store : Store) (member : Option ℕ) (weak : ℕ) (P : ℕ → Type 0) → IsMemberWalk store member (Some weak) → ((r : Row) → Includes store.rows r → r.waits
+    ≡ false → r.weak ≡ weak → P r.weak) → P weak
 by_row store member weak P walk each =
     let (o, refers_o) = walk.weak_live weak refl in
     let (r, inside, passes, same) = row_there store.rows weak o refers_o in
@@ -215,7 +224,8 @@ unlinks store ok member weak walk is_one =
 
 -- The next member is visited.
 module _ (store : Store) (listed : IsListed store) (ok : AreRows store) (object : ℕ) (walk : IsMemberWalk store (Some object) None) (next weak : Option ℕ)
-    (next_is : next ≡ following object (list_at store (place_of store object))) (weak_is : weak ≡ option_and_then (λ o. slice_get (weak_references_in store.rows o) 0) (referent_in store.rows object)) where
+    (next_is : next ≡ following object (list_at store (place_of store object))) (weak_is : weak
+    ≡ option_and_then (λ o. slice_get (weak_references_in store.rows o) 0) (referent_in store.rows object)) where
   abbrev members : List ℕ
   members = list_at store Cand
 
@@ -278,4 +288,7 @@ turn-all_unlinked store rise walk script facts policy =
     (λ asked. refl)
   where
     all_lost : without_rows_of (list_at store Cand) store ≡ store
-    all_lost = λ i. record store { rows = none_lost (list_at store Cand) store.rows rise (none_referring (list_at store Cand) store.rows walk.unreferred) (λ o m. either (walk.none_missed o m) (λ k. absurd k) (λ k. either k (λ l. absurd l) (λ none. none))) i }
+    all_lost = λ i. record store {
+      rows = none_lost (list_at store Cand) store.rows rise (none_referring (list_at store Cand) store.rows walk.unreferred)
+          (λ o m. either (walk.none_missed o m) (λ k. absurd k) (λ k. either k (λ l. absurd l) (λ none. none))) i;
+    }

@@ -17,7 +17,7 @@ use Rattle.cg_collect.specs.Phases.{from_on, cleared_lines, members_losing, with
 use Rattle.cg_collect.specs.Ready.{IsWalk}
 use Rattle.cg_collect.specs.Answers.{CollectSteps}
 use Rattle.cg_collect.specs.Turns.{collection_at}
-use Rattle.cg_collect.proofs.Standing.{node_there}
+use Rattle.cg_collect.proofs.PlacesOfObjects.{node_there}
 use Rattle.cg_collect.proofs.Stopping.{tells_none}
 use Rattle.cg_collect.proofs.Walking.{loses_some}
 

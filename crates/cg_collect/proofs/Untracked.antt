@@ -27,10 +27,10 @@ use Rattle.cg_trial.specs.View.{targets}
 use Rattle.cg_trial.specs.Split.{IsSameButPlaces, IsSameNode}
 use Rattle.cg_trial.proofs.Lists.{IsAt, ahead, ahead_is}
 use Rattle.cg_kind.proofs.References.{references-append, references_in_turn}
-use Rattle.cg_trial.proofs.Placed.{is_there}
+use Rattle.cg_trial.proofs.PlacesOfObjects.{is_there}
 use Rattle.cg_collect.specs.Starting.{StaysAt, Untracks, WasUntracked, UntracksOne, has_tracked}
 use Rattle.cg_collect.specs.Looks.{entries_listed}
-use Rattle.cg_collect.proofs.Standing.{same_itself, same_more, code_on, code_back, entries_on, lives_at}
+use Rattle.cg_collect.proofs.PlacesOfObjects.{same_itself, same_more, code_on, code_back, entries_on, lives_at}
 use Rattle.cg_collect.proofs.Moving.{walk_at, walk_over, walk_first, walk_passes, comes_next, live_where, left_is, moved_same, moved_there, moved_not, moved_once, walk_leaves}
 
 -- whether an object may be tracked
@@ -88,7 +88,8 @@ code_alike Inst p q h = refl
 code_alike Func p q h = refl
 code_alike Weak p q h = refl
 
-node_alike : (a b : Option Node) → IsSameNode a b → (same_place (place_in b) Untracked ≡ same_place (place_in a) Untracked) ⊎ ((n : Node) → a ≡ Some n → n.code ≢ Tuple) → node_may_be_tracked b ≡ node_may_be_tracked a
+node_alike : (a b : Option Node) → IsSameNode a b → (same_place (place_in b) Untracked ≡ same_place (place_in a) Untracked)
+    ⊎ ((n : Node) → a ≡ Some n → n.code ≢ Tuple) → node_may_be_tracked b ≡ node_may_be_tracked a
 node_alike None None same h = refl
 node_alike None (Some m) same h = absurd same
 node_alike (Some n) None same h = absurd same
@@ -96,7 +97,8 @@ node_alike (Some n) (Some m) same h =
     ap (λ c. code_may_be_tracked c m.place) (ap (λ (x : Node). x.code) same)
     ∙ code_alike n.code n.place m.place (either h (λ e. inl e) (λ other. inr (other n refl)))
 
-pub trackable_alike : (a b : Store) → IsSameButPlaces a b → (p : ℕ) → (same_place (place_of b p) Untracked ≡ same_place (place_of a p) Untracked) ⊎ ((n : Node) → fin.get a.nodes p ≡ Some n → n.code ≢ Tuple) → trackable b p ≡ trackable a p
+pub trackable_alike : (a b : Store) → IsSameButPlaces a b → (p : ℕ) → (same_place (place_of b p) Untracked ≡ same_place (place_of a p) Untracked)
+    ⊎ ((n : Node) → fin.get a.nodes p ≡ Some n → n.code ≢ Tuple) → trackable b p ≡ trackable a p
 trackable_alike a b same p h = node_alike (fin.get a.nodes p) (fin.get b.nodes p) (same.nodes p) h
 
 pub has_tracked_alike : (a b : Store) → IsSameButPlaces a b → ((p : ℕ) → trackable b p ≡ trackable a p) → (o : ℕ) → has_tracked b o ≡ has_tracked a o
@@ -122,17 +124,20 @@ value_any store (Ref p) = or_none (trackable store p)
     or_none false = refl
 
 some_more : (store : Store) (o i : ℕ) (e : Entry) → slice_get (entries_of store o) i ≡ Some e
-    → list_any (trackable store) (references (take (i + 1) (entries_of store o))) ≡ ((list_any (trackable store) (references (take i (entries_of store o))) || may_be_tracked store e.val) || may_be_tracked store e.key)
+    → list_any (trackable store) (references (take (i + 1) (entries_of store o))) ≡ ((list_any (trackable store) (references (take i (entries_of store o)))
+    || may_be_tracked store e.val) || may_be_tracked store e.key)
 some_more store o i e at =
     let es = entries_of store o in
     ap (list_any (trackable store)) (references_in_turn es i e at)
     ∙ list_any-append (trackable store) (references (take i es) ++ targets e.val) (targets e.key)
-    ∙ (λ j. (list_any-append (trackable store) (references (take i es)) (targets e.val) ∙ (λ k. list_any (trackable store) (references (take i es)) || value_any store e.val k)) j || value_any store e.key j)
+    ∙ (λ j. (list_any-append (trackable store) (references (take i es)) (targets e.val) ∙ (λ k. list_any (trackable store) (references (take i es))
+    || value_any store e.val k)) j || value_any store e.key j)
 
 pub none_first : (store : Store) (o : ℕ) → NoneSoFar store o 0
 none_first store o = record { none = refl }
 
-pub none_more : (store : Store) (o i : ℕ) (e : Entry) → NoneSoFar store o i → slice_get (entries_of store o) i ≡ Some e → may_be_tracked store e.val ≡ false → may_be_tracked store e.key ≡ false → NoneSoFar store o (i + 1)
+pub none_more : (store : Store) (o i : ℕ) (e : Entry) → NoneSoFar store o i → slice_get (entries_of store o) i ≡ Some e → may_be_tracked store e.val ≡ false
+    → may_be_tracked store e.key ≡ false → NoneSoFar store o (i + 1)
 none_more store o i e so at val key = record { none = some_more store o i e at ∙ (λ j. (so.none j || val j) || key j) }
 
 pub none_at_all : (store : Store) (o i : ℕ) → NoneSoFar store o i → i ≡ length (entries_of store o) → false ≡ has_tracked store o
@@ -194,7 +199,8 @@ pub record UntrackingLooked (g : ℕ) (kind : KindCode) (old now : Store) (curso
   pub walk : Untracking g kind old now cursor
   pub looked : looks + sum_by (λ q. length (entries_of old q)) walk.back ≤ most
 
-pub untracking_looked : (g : ℕ) (kind : KindCode) (store : Store) (cursor : Option ℕ) (looks : ℕ) → cursor ≡ slice_get (list_at store (Gen g)) 0 → UntrackingLooked g kind store store cursor (looks + entries_listed store (Gen g)) looks
+pub untracking_looked : (g : ℕ) (kind : KindCode) (store : Store) (cursor : Option ℕ) (looks : ℕ) → cursor ≡ slice_get (list_at store (Gen g)) 0
+    → UntrackingLooked g kind store store cursor (looks + entries_listed store (Gen g)) looks
 unfolding untracking_first
 untracking_looked g kind store cursor looks is =
     let walk = untracking_first g kind store cursor is in
@@ -282,7 +288,8 @@ module _ (g : ℕ) (kind : KindCode) (old now : Store) (cursor : Option ℕ) (o 
         back = passes.0;
         at = passes.2;
         same = so.same;
-        passed = λ q h. either (Includes-append_cases so.front (o ∷ []) q h) (so.passed q) (λ k. either k (λ e. subst (λ x. ¬ (HasCode old x kind × (has_tracked old x ≡ false))) e could_not) (λ no. absurd no));
+        passed = λ q h. either (Includes-append_cases so.front (o ∷ []) q h) (so.passed q)
+            (λ k. either k (λ e. subst (λ x. ¬ (HasCode old x kind × (has_tracked old x ≡ false))) e could_not) (λ no. absurd no));
         others = so.others;
       }
 
@@ -299,7 +306,8 @@ module _ (g : ℕ) (kind : KindCode) (old now : Store) (cursor : Option ℕ) (o 
     untracking_more new (inr (e, not_one)) = subst (λ (s : Store). Untracking g kind old s then) (sym e) (untracking_passes not_one)
 
     -- for it, the pass looks at its entries
-    pub untracking_looks : (new : Store) (most looks looks_now : ℕ) → UntracksOne o kind now new → looks + sum_by (λ q. length (entries_of old q)) so.back ≤ most → looks_now ≤ looks + length (entries_of now o) → UntrackingLooked g kind old new then most looks_now
+    pub untracking_looks : (new : Store) (most looks looks_now : ℕ) → UntracksOne o kind now new → looks + sum_by (λ q. length (entries_of old q)) so.back ≤
+        most → looks_now ≤ looks + length (entries_of now o) → UntrackingLooked g kind old new then most looks_now
     unfolding untracking_one untracking_passes
     untracking_looks new most looks looks_now (inl (e, of_kind, none)) few more =
         let rest = leaves of_kind none in
@@ -320,7 +328,8 @@ pub untracking_done : (g : ℕ) (kind : KindCode) (old now : Store) (cursor : Op
 untracking_done g kind old now cursor listed so is = record {
   same = so.same;
   at_least = λ o at of_kind none. either (so.others o)
-      (λ s. absurd (so.passed o (subst (λ l. Includes l o) (walk_over (list_at now (Gen g)) cursor so.front so.back so.at is) (is_there now listed (Gen g) o (lives_at now o (Gen g) (s ∙ at) (λ e. cc)) (s ∙ at))) (of_kind, none)))
+      (λ s. absurd (so.passed o (subst (λ l. Includes l o) (walk_over (list_at now (Gen g)) cursor so.front so.back so.at is)
+      (is_there now listed (Gen g) o (lives_at now o (Gen g) (s ∙ at) (λ e. cc)) (s ∙ at))) (of_kind, none)))
       (λ went. went.stands);
   at_most = so.others;
 }

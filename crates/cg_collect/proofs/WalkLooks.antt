@@ -31,7 +31,8 @@ pub phase_is : (turn told : Turn) → turn ≡ told → turn.phase ≡ told.phas
 phase_is turn told is = ap (λ (t : Turn). t.phase) is
 
 -- a walk looks and goes on, or is over
-pub walk_on : (phase next now : Phase) (new : Store) (looks before few most : ℕ) → now ≡ next → looks ≤ before + few → few + looks_left phase next new ≤ most → looks + looks_left phase now new ≤ before + most
+pub walk_on : (phase next now : Phase) (new : Store) (looks before few most : ℕ) → now ≡ next → looks ≤ before + few → few + looks_left phase next new ≤ most
+    → looks + looks_left phase now new ≤ before + most
 walk_on phase next now new looks before few most is here less = left_at phase next now new looks (before + most) is (sum_up looks before few (looks_left phase next new) most here less)
   where
     sum_up : (looks before few left most : ℕ) → looks ≤ before + few → few + left ≤ most → looks + left ≤ before + most
@@ -56,7 +57,8 @@ filter-fewer p t (r ∷ rows) = go (t r) (filter-fewer p t rows)
     more true xs ys h = omega (arith, h)
     more false xs ys h = h
 
-    go : (b : Bool) → length (filter p (filter t rows)) ≤ length (filter p rows) → length (filter p (cond b (r ∷ filter t rows) (filter t rows))) ≤ length (cond (p r) (r ∷ filter p rows) (filter p rows))
+    go : (b : Bool) → length (filter p (filter t rows)) ≤ length (filter p rows) → length (filter p (cond b (r ∷ filter t rows) (filter t rows))) ≤ length
+        (cond (p r) (r ∷ filter p rows) (filter p rows))
     go true h = both (p r) (filter p (filter t rows)) (filter p rows) h
     go false h = more (p r) (filter p (filter t rows)) (filter p rows) h
 
@@ -71,7 +73,8 @@ sum_le f g (x ∷ xs) each = omega (arith, each x, sum_le f g xs each, sum_by-co
 module _ (store : Store) (rise : IsRising store.rows) (r : Row) (inside : Includes store.rows r) (new : Store) (rows : new.rows ≡ without_row r.weak store.rows) where
   pub fewer_to : (o : ℕ) → length (weak_references_in new.rows o) ≤ length (weak_references_in store.rows o)
   fewer_to o =
-      let now : length (weak_references_in new.rows o) ≡ length (filter (refers_to o) (without_row r.weak store.rows)) = newest-length (refers_to o) new.rows ∙ ap (λ l. length (filter (refers_to o) l)) rows in
+      let now : length (weak_references_in new.rows o) ≡ length (filter (refers_to o) (without_row r.weak store.rows)) = newest-length (refers_to o) new.rows
+      ∙ ap (λ l. length (filter (refers_to o) l)) rows in
       let was = newest-length (refers_to o) store.rows in
       let few = filter-fewer (refers_to o) (λ x. not (x.weak == r.weak)) store.rows in
       omega (arith, now, was, few)
@@ -114,7 +117,8 @@ by_row store weak o refers P each =
     subst P same (each r inside (not-true r.waits (true_and (r.referent == o) (not r.waits) passes).1))
 
 -- A walk goes on after a weak reference that was cleared, and after one that was not.
-pub clearing_lost : (store : Store) → AreRows store → (weak o : ℕ) → referent_in store.rows weak ≡ Some o → (new : Store) → new.rows ≡ without_row weak store.rows → list_at new Cand ≡ list_at store Cand → IsRising new.rows
+pub clearing_lost : (store : Store) → AreRows store → (weak o : ℕ) → referent_in store.rows weak ≡ Some o → (new : Store) → new.rows
+    ≡ without_row weak store.rows → list_at new Cand ≡ list_at store Cand → IsRising new.rows
     → (member : Option ℕ) → 4 + most_looks 0 (phase_of.WeakClearing member (next_older_in store.rows weak)) new ≤ most_looks 0 (phase_of.WeakClearing member (Some weak)) store
 clearing_lost store ok weak o refers new rows same rise member =
     by_row store weak o refers
@@ -123,14 +127,18 @@ clearing_lost store ok weak o refers new rows same rise member =
     let less : length (to_look_at new (next_older_in store.rows r.weak)) ≡ length (older_ones store ok r inside stays) = ap length (looks_on_without store ok r inside stays new gone rise) in
     let here : length (to_look_at store (Some r.weak)) ≡ length (r.weak ∷ older_ones store ok r inside stays) = ap length (looks_here store ok r inside stays) in
     let shorter : length (to_look_at new (next_older_in store.rows r.weak)) < length (to_look_at store (Some r.weak)) = omega (arith, less, here) in
-    by_four (sum_by (met_for_condemned new) (from_on member (list_at new Cand))) (length (to_look_at new (next_older_in store.rows r.weak))) (sum_by (met_for_condemned store) (from_on member (list_at store Cand))) (length (to_look_at store (Some r.weak)))
+    by_four (sum_by (met_for_condemned new) (from_on member (list_at new Cand))) (length (to_look_at new (next_older_in store.rows r.weak)))
+    (sum_by (met_for_condemned store) (from_on member (list_at store Cand))) (length (to_look_at store (Some r.weak)))
     (sum_condemned store ok.rise r inside new gone member same) shorter) rows
 
 pub clearing_passed : (store : Store) (weak : ℕ) (older member : Option ℕ) → length (to_look_at store older) < length (to_look_at store (Some weak))
     → 4 + most_looks 0 (phase_of.WeakClearing member older) store ≤ most_looks 0 (phase_of.WeakClearing member (Some weak)) store
-clearing_passed store weak older member shorter = by_four (sum_by (met_for_condemned store) (from_on member (list_at store Cand))) (length (to_look_at store older)) (sum_by (met_for_condemned store) (from_on member (list_at store Cand))) (length (to_look_at store (Some weak))) (not_more (sum_by (met_for_condemned store) (from_on member (list_at store Cand)))) shorter
+clearing_passed store weak older member shorter = by_four (sum_by (met_for_condemned store) (from_on member (list_at store Cand)))
+    (length (to_look_at store older)) (sum_by (met_for_condemned store) (from_on member (list_at store Cand))) (length (to_look_at store (Some weak)))
+    (not_more (sum_by (met_for_condemned store) (from_on member (list_at store Cand)))) shorter
 
-pub unlinking_lost : (store : Store) → AreRows store → (weak o : ℕ) → referent_in store.rows weak ≡ Some o → (new : Store) → new.rows ≡ without_row weak store.rows → list_at new Cand ≡ list_at store Cand → IsRising new.rows
+pub unlinking_lost : (store : Store) → AreRows store → (weak o : ℕ) → referent_in store.rows weak ≡ Some o → (new : Store) → new.rows
+    ≡ without_row weak store.rows → list_at new Cand ≡ list_at store Cand → IsRising new.rows
     → (member : Option ℕ) → 2 + most_looks 0 (phase_of.Unlinking member (next_older_in store.rows weak)) new ≤ most_looks 0 (phase_of.Unlinking member (Some weak)) store
 unlinking_lost store ok weak o refers new rows same rise member =
     by_row store weak o refers
@@ -139,12 +147,15 @@ unlinking_lost store ok weak o refers new rows same rise member =
     let less : length (to_look_at new (next_older_in store.rows r.weak)) ≡ length (older_ones store ok r inside stays) = ap length (looks_on_without store ok r inside stays new gone rise) in
     let here : length (to_look_at store (Some r.weak)) ≡ length (r.weak ∷ older_ones store ok r inside stays) = ap length (looks_here store ok r inside stays) in
     let shorter : length (to_look_at new (next_older_in store.rows r.weak)) < length (to_look_at store (Some r.weak)) = omega (arith, less, here) in
-    by_two (sum_by (met_for_member new) (from_on member (list_at new Cand))) (length (to_look_at new (next_older_in store.rows r.weak))) (sum_by (met_for_member store) (from_on member (list_at store Cand))) (length (to_look_at store (Some r.weak)))
+    by_two (sum_by (met_for_member new) (from_on member (list_at new Cand))) (length (to_look_at new (next_older_in store.rows r.weak)))
+    (sum_by (met_for_member store) (from_on member (list_at store Cand))) (length (to_look_at store (Some r.weak)))
     (sum_members store ok.rise r inside new gone member same) shorter) rows
 
 pub unlinking_passed : (store : Store) (weak : ℕ) (older member : Option ℕ) → length (to_look_at store older) < length (to_look_at store (Some weak))
     → 2 + most_looks 0 (phase_of.Unlinking member older) store ≤ most_looks 0 (phase_of.Unlinking member (Some weak)) store
-unlinking_passed store weak older member shorter = by_two (sum_by (met_for_member store) (from_on member (list_at store Cand))) (length (to_look_at store older)) (sum_by (met_for_member store) (from_on member (list_at store Cand))) (length (to_look_at store (Some weak))) (not_more (sum_by (met_for_member store) (from_on member (list_at store Cand)))) shorter
+unlinking_passed store weak older member shorter = by_two (sum_by (met_for_member store) (from_on member (list_at store Cand)))
+    (length (to_look_at store older)) (sum_by (met_for_member store) (from_on member (list_at store Cand))) (length (to_look_at store (Some weak)))
+    (not_more (sum_by (met_for_member store) (from_on member (list_at store Cand)))) shorter
 
 pub clearing_next : (profile : ℕ) (store : Store) (object : ℕ) (next weak : Option ℕ) → from_on (Some object) (list_at store Cand) ≡ object ∷ from_on next (list_at store Cand)
     → to_look_at store weak ≡ weak_references_in store.rows (looked_at_for profile store object)
@@ -159,7 +170,8 @@ clearing_next profile store object next weak ahead looks =
     next_four : (a b c : ℕ) → a + b + 1 ≤ c → 4 + 4 * (a + b) ≤ 4 * (c + 0)
     next_four a b c h = omega (arith, h)
 
-    few : (b : Bool) → length (weak_references_in store.rows (if b then unwrap_or (referent_in store.rows object) object else object)) ≤ length (weak_references_in store.rows object) + length (beside store object)
+    few : (b : Bool) → length (weak_references_in store.rows (if b then unwrap_or (referent_in store.rows object) object else object)) ≤ length
+        (weak_references_in store.rows object) + length (beside store object)
     few true = known (referent_in store.rows object)
       where
         known : (k : Option ℕ) → length (weak_references_in store.rows (unwrap_or k object)) ≤ length (weak_references_in store.rows object) + length (references_in store.rows k)
@@ -188,7 +200,8 @@ detaching_next store object next ahead =
     omega (arith, whole, parts)
 
 -- The newest weak reference to a member is cleared.
-pub detaching_lost : (store : Store) (rise : IsRising store.rows) (object : ℕ) (r : Row) (inside : Includes store.rows r) (rest older : List ℕ) → from_on (Some object) (list_at store Cand) ≡ object ∷ rest
+pub detaching_lost : (store : Store) (rise : IsRising store.rows) (object : ℕ) (r : Row) (inside : Includes store.rows r) (rest older : List ℕ)
+    → from_on (Some object) (list_at store Cand) ≡ object ∷ rest
     → weak_references_in store.rows object ≡ r.weak ∷ older → weak_references_in (without_row r.weak store.rows) object ≡ older
     → 1 + most_looks 0 (phase_of.Detaching (Some object)) (record store { rows = without_row r.weak store.rows }) ≤ most_looks 0 (phase_of.Detaching (Some object)) store
 detaching_lost store rise object r inside rest older ahead first left =

@@ -29,7 +29,7 @@ use Rattle.cg_represents.proofs.Representing.{in_one}
 use Rattle.cg_policy.specs.Policy.{Policy}
 use Rattle.cg_trial.specs.View.{head_of}
 use Rattle.cg_trial.proofs.Lists.{occurs, once_before}
-use Rattle.cg_trial.proofs.Placed.{once_at}
+use Rattle.cg_trial.proofs.PlacesOfObjects.{once_at}
 use Rattle.cg_death.proofs.Clearing.{none_first}
 use Rattle.cg_death.proofs.RowSplits.{head_in}
 use Rattle.cg_collect.specs.declared.answer.CollectStep.TheVariants as answer_of
@@ -39,7 +39,7 @@ use Rattle.cg_collect.specs.Phases.{collection_of, from_on, references_in, to_lo
 use Rattle.cg_collect.specs.Ready.{IsAt, IsWalk, RefersPlainly, loses_alone, loses_at, looked_at_for}
 use Rattle.cg_collect.specs.Answers.{CollectSteps}
 use Rattle.cg_collect.specs.Turns.{collection_at}
-use Rattle.cg_collect.proofs.Standing.{node_there, code_there, list_length}
+use Rattle.cg_collect.proofs.PlacesOfObjects.{node_there, code_there, list_length}
 use Rattle.cg_collect.proofs.Moving.{comes_next}
 use Rattle.cg_collect.proofs.Worlds.{steps_at, only_tells, represents_same}
 use Rattle.cg_collect.proofs.RowWalks.{from_on-past, from_on-first, head_highest, referent-listed, listed-referent, references-le}
@@ -171,7 +171,8 @@ module _ (profile : ℕ) (store : Store) (listed : IsListed store) (ok : AreRows
           either_way true = known (referent_in store.rows object) refl
           either_way false = refl
 
-  pub next_falls : (length (from_on next (list_at store Cand)) * (length store.rows + 1) + length (to_look_at store weak)) + 0 < (length (from_on (Some object) (list_at store Cand)) * (length store.rows + 1) + 0) + 0
+  pub next_falls : (length (from_on next (list_at store Cand)) * (length store.rows + 1) + length (to_look_at store weak)) + 0 <
+      (length (from_on (Some object) (list_at store Cand)) * (length store.rows + 1) + 0) + 0
   next_falls =
       let longer : length (from_on (Some object) (list_at store Cand)) ≡ length (object ∷ here.back) = ap length from_object in
       let shorter : length (from_on next (list_at store Cand)) ≡ length here.back = ap length from_later in
@@ -207,7 +208,9 @@ module _ (profile : ℕ) (store : Store) (walk : IsWalk profile store None None)
       missed : loses_in_weak_phase profile w.objects x ≡ true → ⊥
       missed loses = either (walk.none_missed x there (ap (λ (os : List Object). loses_in_weak_phase profile os x) same ∙ loses) plain) (λ k. k) (λ k. either k (λ a. a.ahead) (λ b. b.2))
 
-  pub turn-all_cleared : (script : Script) → profile_of script.items ≡ profile → (facts : Facts) (policy : Policy) (member : Option ℕ) → CollectSteps script (collection_at facts (phase_of.WeakClearing member None) None) store policy (collection_at facts phase_of.WeakCalling None) store policy answer_of.Continue
+  pub turn-all_cleared : (script : Script) → profile_of script.items ≡ profile → (facts : Facts) (policy : Policy) (member : Option ℕ)
+      → CollectSteps script (collection_at facts (phase_of.WeakClearing member None) None) store policy (collection_at facts phase_of.WeakCalling None) store
+      policy answer_of.Continue
   turn-all_cleared script in_profile facts policy member =
       steps_at script (collection_at facts (phase_of.WeakClearing member None) None) store policy (collection_at facts phase_of.WeakCalling None) store policy answer_of.Continue
       (λ asked v below s.
@@ -218,7 +221,11 @@ module _ (profile : ℕ) (store : Store) (walk : IsWalk profile store None None)
       record {
         events = [];
         after = after;
-        goes = in_one script w [] after s.running (inr (subst (λ p. NoneLeft (loses_in_weak_phase p w.objects) w.objects) (sym in_profile) (none_left w s.orderly s.shows.represents.objects), (refl, refl)));
+        goes = in_one script w [] after s.running (inr (
+          subst (λ p. NoneLeft (loses_in_weak_phase p w.objects) w.objects) (sym in_profile)
+              (none_left w s.orderly s.shows.represents.objects),
+          (refl, refl),
+        ));
         lines = refl;
         shows = record {
           represents = represents_same store v below (c (machine.WeakClearing pending)) (c (machine.WeakCalling pending)) s.shows.represents s.alone refl (λ q. refl);

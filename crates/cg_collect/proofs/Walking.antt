@@ -16,12 +16,12 @@ use Rattle.cg_heap.specs.Calls.{IsListed}
 use Rattle.cg_heap.specs.Weak.{AreRows}
 use Rattle.cg_machine.specs.Weak.{MayLoseNext, callback_in, callback_of}
 use Rattle.cg_machine.specs.Collect.{is_condemned, is_condemned_in, is_lost_early, loses_in_weak_phase}
-use Rattle.cg_trial.proofs.Placed.{is_there}
+use Rattle.cg_trial.proofs.PlacesOfObjects.{is_there}
 use Rattle.cg_death.proofs.RowSplits.{split_at, referent-without}
 use Rattle.cg_collect.specs.Phases.{from_on}
 use Rattle.cg_collect.specs.Ready.{ComesByItself, IsAt, IsEmptyAt, IsWalk, loses_at, to_look_at}
 use Rattle.cg_represents.proofs.Places.{place_is}
-use Rattle.cg_collect.proofs.Standing.{lives_at, node_of_live, node_there, place_there, object_there}
+use Rattle.cg_collect.proofs.PlacesOfObjects.{lives_at, node_of_live, node_there, place_there, object_there}
 use Rattle.cg_collect.proofs.RowWalks.{from_on-first, refers, older_ones, older_below, looks_here, looks_on, looks_on_without, next_older, next_highest, older_refers, older_all}
 
 -- whether an object is condemned, by its place in the heap
@@ -44,7 +44,8 @@ abbrev pub is_lost_early_at : ℕ → Store → ℕ → Bool
 is_lost_early_at profile store weak = not (profile == 2) || is_some (callback_of (objects_of store) weak)
 
 pub loses-at : (profile : ℕ) (store : Store) (weak : ℕ) → IsLive store weak
-    → loses_at profile store weak ≡ (is_lost_early_at profile store weak && unwrap_or (option_map (λ o. is_condemned_in (objects_of store) o || is_condemned_in (objects_of store) weak) (referent_in store.rows weak)) false)
+    → loses_at profile store weak ≡ (is_lost_early_at profile store weak
+    && unwrap_or (option_map (λ o. is_condemned_in (objects_of store) o || is_condemned_in (objects_of store) weak) (referent_in store.rows weak)) false)
 loses-at profile store weak live =
     let (n, got, at) = object_of_live store weak live in
     ap (λ x. unwrap_or (option_map (loses_in_weak_phase profile (objects_of store)) x) false) at
@@ -78,10 +79,12 @@ loses_none profile objects x e = ap (λ r. is_lost_early profile x && unwrap_or 
     nothing false = refl
 
 -- the referent of one that is cleared
-pub loses_some : (profile : ℕ) (objects : List Object) (x : Object) → loses_in_weak_phase profile objects x ≡ true → (o : ℕ) × (x.referent ≡ Some o) × ((is_condemned_in objects o || is_condemned x) ≡ true)
+pub loses_some : (profile : ℕ) (objects : List Object) (x : Object) → loses_in_weak_phase profile objects x ≡ true → (o : ℕ) × (x.referent ≡ Some o)
+    × ((is_condemned_in objects o || is_condemned x) ≡ true)
 loses_some profile objects x e = known x.referent refl (true_and (is_lost_early profile x) (unwrap_or (option_map (λ o. is_condemned_in objects o || is_condemned x) x.referent) false) e).1
   where
-    known : (r : Option ℕ) → x.referent ≡ r → unwrap_or (option_map (λ o. is_condemned_in objects o || is_condemned x) r) false ≡ true → (o : ℕ) × (x.referent ≡ Some o) × ((is_condemned_in objects o || is_condemned x) ≡ true)
+    known : (r : Option ℕ) → x.referent ≡ r → unwrap_or (option_map (λ o. is_condemned_in objects o || is_condemned x) r) false ≡ true → (o : ℕ)
+        × (x.referent ≡ Some o) × ((is_condemned_in objects o || is_condemned x) ≡ true)
     known None is h = absurd (let f : false ≡ true = h in cc)
     known (Some o) is h = (o, is, h)
 
@@ -130,7 +133,8 @@ walk_begins profile store listed unseen none_pending = record {
         })))
 
 -- the one that may be cleared next
-pub may_lose : (profile : ℕ) (store : Store) (weak : ℕ) (member : Option ℕ) → IsWalk profile store member (Some weak) → IsLive store weak → loses_at profile store weak ≡ true → MayLoseNext (loses_in_weak_phase profile (objects_of store)) (objects_of store) weak
+pub may_lose : (profile : ℕ) (store : Store) (weak : ℕ) (member : Option ℕ) → IsWalk profile store member (Some weak) → IsLive store weak
+    → loses_at profile store weak ≡ true → MayLoseNext (loses_in_weak_phase profile (objects_of store)) (objects_of store) weak
 may_lose profile store weak member walk live loses =
     let (n, got, at) = object_of_live store weak live in
     record {
@@ -150,7 +154,8 @@ pub record IsLost (store new : Store) (v : ℕ) : Type 0 where
   pub codes : (o : ℕ) → HasCode store o Weak → HasCode new o Weak
   pub pending : (u : ℕ) → Includes (list_at new Pend) u → Includes (list_at store Pend) u ⊎ (v ≡ u)
 
-pub changed_objects : (f : Object → Object) → ((x : Object) → (f x).referent ≡ None) → (v : ℕ) (objects : List Object) (x : Object) → Includes (change f v objects) x → (x.referent ≡ None) ⊎ (Includes objects x × (x.serial ≢ v))
+pub changed_objects : (f : Object → Object) → ((x : Object) → (f x).referent ≡ None) → (v : ℕ) (objects : List Object) (x : Object)
+    → Includes (change f v objects) x → (x.referent ≡ None) ⊎ (Includes objects x × (x.serial ≢ v))
 changed_objects f none v objects x m = let (y, member, is) = Includes-map_cases (λ y. if y.serial == v then f y else y) objects x m in go y member is (cases_of (y.serial == v))
   where
     go : (y : Object) → Includes objects y → (if y.serial == v then f y else y) ≡ x → (y.serial == v ≡ true) ⊎ (y.serial == v ≡ false) → (x.referent ≡ None) ⊎ (Includes objects x × (x.serial ≢ v))
@@ -160,7 +165,8 @@ changed_objects f none v objects x m = let (y, member, is) = Includes-map_cases 
         inr (subst (Includes objects) same member, λ k. let t : y.serial == v ≡ true = eq-eqb y.serial v (ap (λ (z : Object). z.serial) same ∙ k) in let f : true ≡ false = sym t ∙ e in absurd (cc))
 
 -- The walk at the weak reference of a row goes on to the next older one.
-module _ (profile : ℕ) (store : Store) (ok : AreRows store) (r : Row) (inside : Includes store.rows r) (stays : r.waits ≡ false) (member : Option ℕ) (walk : IsWalk profile store member (Some r.weak)) where
+module _ (profile : ℕ) (store : Store) (ok : AreRows store) (r : Row) (inside : Includes store.rows r) (stays : r.waits ≡ false) (member : Option ℕ)
+    (walk : IsWalk profile store member (Some r.weak)) where
   abbrev next : Option ℕ
   next = next_older_in store.rows r.weak
 
@@ -208,15 +214,25 @@ module _ (profile : ℕ) (store : Store) (ok : AreRows store) (r : Row) (inside 
         (λ none. let f : false ≡ true = sym (loses_none profile (objects_of new) x none) ∙ loses in absurd (cc))
         (λ was. either (walk.none_missed x was.0 (sym (loses-same profile (objects_of store) (objects_of new) x lost.condemned) ∙ loses) (λ o e has. plain o e (lost.codes o has)))
         (λ k. inl (subst (λ l. Includes l x.serial) (sym (looks_on_without store ok r inside stays new lost.rows rise)) (still_looked x.serial was.1 k)))
-        (λ k. inr (either k (λ a. inl (record { ahead = subst (λ l. Includes (from_on member l) x.serial) (sym lost.candidates) a.ahead; apart = λ q is. lost.condemned q ∙ a.apart q is })) (λ b. inr (b.0, b.1, subst (λ l. Includes (from_on member l) b.0) (sym lost.candidates) b.2)))));
+        (λ k. inr (either k (λ a. inl (record {
+          ahead = subst (λ l. Includes (from_on member l) x.serial) (sym lost.candidates) a.ahead;
+          apart = λ q is. lost.condemned q ∙ a.apart q is;
+        })) (λ b. inr (
+          b.0,
+          b.1,
+          subst (λ l. Includes (from_on member l) b.0) (sym lost.candidates)
+              b.2,
+        )))));
     none_newer = λ w e x m loses same. either (lost.objects x m)
         (λ none. let f : false ≡ true = sym (loses_none profile (objects_of new) x none) ∙ loses in absurd (cc))
         (λ was.
         let in_older = next_older store ok r inside stays w e in
         let refers_same : x.referent ≡ Some r.referent = same ∙ kept w (differs w in_older) ∙ older_refers store ok r inside stays w in_older in
-        let no_later = walk.none_newer r.weak refl x was.0 (sym (loses-same profile (objects_of store) (objects_of new) x lost.condemned) ∙ loses) (refers_same ∙ sym (refers store ok r inside stays)) in
+        let no_later = walk.none_newer r.weak refl x was.0 (sym (loses-same profile (objects_of store) (objects_of new) x lost.condemned) ∙ loses) (refers_same
+        ∙ sym (refers store ok r inside stays)) in
         next_highest store ok r inside stays w e x.serial (older_all store ok r inside stays x.serial (of_row x was.0 ∙ refers_same) (below x.serial no_later was.1)));
-    waiting = λ u m. either (lost.pending u m) (λ k. without u ∙ by_test (u == r.weak) u (walk.waiting u k)) (λ e. without u ∙ ap (λ b. if b then None else referent_in store.rows u) (eq-eqb u r.weak (sym e)));
+    waiting = λ u m. either (lost.pending u m) (λ k. without u ∙ by_test (u == r.weak) u (walk.waiting u k)) (λ e. without u
+        ∙ ap (λ b. if b then None else referent_in store.rows u) (eq-eqb u r.weak (sym e)));
   }
     where
       without : (u : ℕ) → referent_in new.rows u ≡ (if u == r.weak then None else referent_in store.rows u)

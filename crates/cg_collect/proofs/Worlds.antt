@@ -30,7 +30,8 @@ use Rattle.cg_collect.specs.Answers.{CollectionStands, CollectionShows, WentOn, 
 use Rattle.cg_collect.specs.Turns.{collection_at, TurnSteps}
 
 -- a world is that world with its own stack
-pub spelled : (asked : Bool) (c : Collection) (store : Store) (policy : Policy) (w : World) (below : List Activity) → CollectionStands asked c store policy w below → CollectionStands asked c store policy (with_stack (on_stack asked c store ++ below) w) below
+pub spelled : (asked : Bool) (c : Collection) (store : Store) (policy : Policy) (w : World) (below : List Activity) → CollectionStands asked c store policy w
+    below → CollectionStands asked c store policy (with_stack (on_stack asked c store ++ below) w) below
 spelled asked c store policy w below s = subst (λ st. CollectionStands asked c store policy (with_stack st w) below) s.shows.top s
 
 -- an answer for each world is one for those with an explicit stack
@@ -43,13 +44,15 @@ steps_at script old store policy new now policy_now answer each asked w below s 
     (each asked w below (spelled asked old store policy w below s))
 
 -- A turn that counts no object: the collection keeps its facts.
-pub turn_steps : (script : Script) (facts : Facts) (phase : Phase) (store : Store) (policy : Policy) (now : Store) (policy_now : Policy) (turn : Turn) (next : Phase) (release : Option Release) (answer : CollectStep)
+pub turn_steps : (script : Script) (facts : Facts) (phase : Phase) (store : Store) (policy : Policy) (now : Store) (policy_now : Policy) (turn : Turn)
+    (next : Phase) (release : Option Release) (answer : CollectStep)
     → turn ≡ record { phase = next; release = release; collected = 0; answer = answer }
     → CollectSteps script (collection_at facts phase None) store policy (collection_at facts next release) now policy_now answer
     → TurnSteps script facts phase store policy now policy_now turn
 turn_steps script facts phase store policy now policy_now turn next release answer is steps =
     subst (λ (t : Turn). TurnSteps script facts phase store policy now policy_now t) (sym is)
-    (subst (λ n. CollectSteps script (collection_at facts phase None) store policy (record (collection_at facts next release) { collected = n }) now policy_now answer) (sym (add-zero facts.collected)) steps)
+    (subst (λ n. CollectSteps script (collection_at facts phase None) store policy (record (collection_at facts next release) { collected = n }) now policy_now
+    answer) (sym (add-zero facts.collected)) steps)
 
 -- no step of the machine
 pub stays : (script : Script) (w : World) → Goes script w [] w
@@ -97,7 +100,8 @@ module _ (old new : Store) (v : World) (below : List Activity) (a b : machine.Co
   pub pending_is : CollectionWaits a.phase (list_at old Pend)
   pending_is = r.collection a (inl refl)
 
-  matches_on : (objects : List Object) → objects_of new ≡ objects → LeavesRest old new → CollectionWaits b.phase (list_at new Pend) → Matches new (with_stack (Collecting b ∷ below) (with_objects objects v))
+  matches_on : (objects : List Object) → objects_of new ≡ objects → LeavesRest old new → CollectionWaits b.phase (list_at new Pend)
+      → Matches new (with_stack (Collecting b ∷ below) (with_objects objects v))
   matches_on objects are rest waits = record {
     objects = are;
     next_serial = r.next_serial ∙ ap (λ n. n + 1) (sym rest.last);

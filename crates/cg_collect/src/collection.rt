@@ -37,9 +37,11 @@ use cg_policy::{Flagset, Policy};
 use cg_script::Script;
 use std::sync::ledger::Ledger;
 
-/// A collection of a generation, step by step. (Developer guide, "garbage collector design"; PEP 442.)
+/// A collection of a generation, step by step. (Developer guide, "garbage collector design"; PEP
+/// 442.)
 ///
-/// It runs no command: it answers frames and deaths for the caller to run, and is resumed after them.
+/// It runs no command: it answers frames and deaths for the caller to run, and is resumed after
+/// them.
 #[derive(Drop)]
 pub struct Collection {
     generation: u8,
@@ -69,9 +71,14 @@ impl Collection {
         requires bounded { AreSmall policy.old.numbers }
         requires clear { IsClear heap.old }
         ensures heap { heap.new ≡ heap.old }
-        ensures policy { policy.new ≡ record { numbers = begun generation policy.old.numbers; running = true } }
-        ensures begins { (asked : Bool) (w : World) → Represents heap.old w → policy.old.numbers ≡ w.numbers
-            → CollectionShows asked result heap.new policy.new (push (new_collection generation asked w) w) w.stack }
+        ensures policy { policy.new ≡ record {
+          numbers = begun generation policy.old.numbers;
+          running = true;
+        } }
+        ensures begins { (asked : Bool) (w : World) → Represents heap.old w → policy.old.numbers
+            ≡ w.numbers
+            → CollectionShows asked result heap.new policy.new
+            (push (new_collection generation asked w) w) w.stack }
         ensures ready { (script : AnyScript) → IsReadyForCollection script result heap.new }
         ensures stage { stage_of result ≡ stage.BeforeFirst }
     {
@@ -123,13 +130,17 @@ impl Collection {
         requires held { HasHolds heap.old (held_by self.old) }
         requires ready { IsReadyForCollection script.now self.old heap.old }
         requires bounded { AreSmall policy.old.numbers }
-        ensures steps { CollectSteps script.now self.old heap.old policy.old self.new heap.new policy.new result }
+        ensures steps { CollectSteps script.now self.old heap.old policy.old self.new heap.new
+            policy.new result }
         ensures ready { KeepsReady script.now self.new heap.new result }
-        ensures falls { result ≡ answer_of.Continue → CollectFalls self.old heap.old self.new heap.new }
+        ensures falls { result ≡ answer_of.Continue → CollectFalls self.old heap.old self.new
+            heap.new }
         ensures died { DiesUnheld result heap.new }
 
-        // At its end it prints two numbers, the collected and the uncollectable objects, and answers both.
-        ensures stops { (set_aside : ℕ) → self.old.phase ≡ phase_of.Stopping set_aside → self.old.release ≡ None
+        // At its end it prints two numbers, the collected and the uncollectable objects, and
+        // answers both.
+        ensures stops { (set_aside : ℕ) → self.old.phase ≡ phase_of.Stopping set_aside
+            → self.old.release ≡ None
             → StopsWith self.old self.new result set_aside }
         ensures ends { CollectionEndsWith self.old result }
 
@@ -139,10 +150,12 @@ impl Collection {
         ensures detected { self.new.detected ≡ detection_at self.old.phase }
         ensures stage { LeavesStage self.old.phase (stage_of self.new) }
         ensures meets { MeetsStage self.old.phase (stage_of self.new) self.new.phase }
-        ensures onward { pass_of self.old.phase + passes_on self.old.phase ≤ pass_of self.new.phase }
+        ensures onward { pass_of self.old.phase + passes_on self.old.phase ≤ pass_of
+            self.new.phase }
         ensures objects { MakesNone heap.old heap.new }
         ensures names { KeepsNames heap.old heap.new }
-        ensures looks { steps.new + looks_left self.old.phase self.new.phase heap.new ≤ steps.old + most_looks self.old.generation self.old.phase heap.old }
+        ensures looks { steps.new + looks_left self.old.phase self.new.phase heap.new ≤ steps.old +
+            most_looks self.old.generation self.old.phase heap.old }
     {
         // A phase whose step makes one gives nothing up.
         self.detected = self.phase.detection();
@@ -159,8 +172,10 @@ impl Collection {
     /// Gives up the next reference, if there is one to give up.
     fn give_up<B: Kind>(&mut self, heap: &mut Heap<B>) -> Option<CollectStep>
         requires { HasHolds heap.old (given_up_by self.old.release) }
-        ensures none { IfNone result ((self.new ≡ self.old) × (heap.new ≡ heap.old) × (self.old.release ≡ None)) }
-        ensures some { IfSome result (λ answer. GivesUpNext self.old heap.old self.new heap.new answer) }
+        ensures none { IfNone result ((self.new ≡ self.old) × (heap.new ≡ heap.old)
+            × (self.old.release ≡ None)) }
+        ensures some { IfSome result (λ answer. GivesUpNext self.old heap.old self.new heap.new
+            answer) }
     {
         let answer = match &mut self.release {
             Some(release) => release.step(heap),
@@ -190,9 +205,12 @@ impl Collection {
         requires few { HasFewHolds heap.old }
         requires held { HasHolds heap.old (own_holds_at self.now.phase) }
         requires bounded { AreSmall policy.old.numbers }
-        ensures takes { TakesTurn script.now (facts_of self.now) self.now.phase heap.old policy.old heap.new policy.new result }
-        ensures stops { (set_aside : ℕ) → self.now.phase ≡ phase_of.Stopping set_aside → result ≡ stop_turn (facts_of self.now) set_aside }
-        ensures looks { steps.new + looks_left self.now.phase result.phase heap.new ≤ steps.old + most_looks self.now.generation self.now.phase heap.old }
+        ensures takes { TakesTurn script.now (facts_of self.now) self.now.phase heap.old policy.old
+            heap.new policy.new result }
+        ensures stops { (set_aside : ℕ) → self.now.phase ≡ phase_of.Stopping set_aside → result
+            ≡ stop_turn (facts_of self.now) set_aside }
+        ensures looks { steps.new + looks_left self.now.phase result.phase heap.new ≤ steps.old +
+            most_looks self.now.generation self.now.phase heap.old }
         ensures apart { self.now.phase ≡ phase_of.Start → detection_at result.phase ≡ None }
     {
         let facts = Facts {

@@ -1,5 +1,5 @@
-//! The second reachability pass: what finalizers resurrected is alive; the rest is the final set. (PEP 442, "disposal of
-//! cyclic isolates".)
+//! The second reachability pass: what finalizers resurrected is alive; the rest is the final set.
+//! (PEP 442, "disposal of cyclic isolates".)
 ghost use Rattle.std.specs.Prelude.{◌≡◌, ◌+◌, ◌≤◌, Some, None, true, slice_get, option_and_then};
 ghost use Rattle.cg_value.specs.declared.Place.TheVariants as place_of;
 ghost use Rattle.cg_graph.specs.Object.{same_place};
@@ -23,11 +23,13 @@ use cg_trial::split;
 use cg_value::Place;
 use std::sync::ledger::Ledger;
 
-/// Survivors move to the older generation. The rest is the final set; its size is added to the collected number.
+/// Survivors move to the older generation. The rest is the final set; its size is added to the
+/// collected number.
 pub fn detect<B: Kind, L: Ledger>(facts: Facts, heap: &mut Heap<B>, steps: &mut Steps<L>) -> Turn
     requires generation { facts.generation ≤ 2 }
     requires ready { IsReadyForCollectionAt heap.old facts.generation phase_of.Split }
-    ensures takes { (script : AnyScript) (policy : Standing) → TakesTurn script facts phase_of.Split heap.old policy heap.new policy result }
+    ensures takes { (script : AnyScript) (policy : Standing) → TakesTurn script facts phase_of.Split
+        heap.old policy heap.new policy result }
     ensures looks { steps.new ≤ steps.old + most_looks facts.generation phase_of.Split heap.old }
 {
     heap.sound();
@@ -47,7 +49,8 @@ pub fn detect<B: Kind, L: Ledger>(facts: Facts, heap: &mut Heap<B>, steps: &mut 
 pub fn tell_living<B: Kind>(facts: Facts, heap: &Heap<B>, next: Option<u64>) -> Turn
     requires generation { facts.generation ≤ 2 }
     requires ready { IsReadyForCollectionAt heap.now facts.generation (phase_of.Living next) }
-    ensures { (script : AnyScript) (policy : Standing) → TakesTurn script facts (phase_of.Living next) heap.now policy heap.now policy result }
+    ensures { (script : AnyScript) (policy : Standing) → TakesTurn script facts
+        (phase_of.Living next) heap.now policy heap.now policy result }
 {
     heap.sound();
     match next {
@@ -56,17 +59,19 @@ pub fn tell_living<B: Kind>(facts: Facts, heap: &Heap<B>, next: Option<u64>) -> 
     }
 }
 
-/// Clears the newest weak reference to a member of the final set, without callback; if none is left, goes to the next
-/// member. After the last member, the members that are weak references are cleared. If no weak reference has a referent,
-/// the turns of the members follow at once.
+/// Clears the newest weak reference to a member of the final set, without callback; if none is
+/// left, goes to the next member. After the last member, the members that are weak references are
+/// cleared. If no weak reference has a referent, the turns of the members follow at once.
 pub fn detach_one<B: Kind, L: Ledger>(
     heap: &mut Heap<B>,
     next: Option<u64>,
     steps: &mut Steps<L>,
 ) -> Turn
     requires ready { IsReadyForCollectionAt heap.old 0 (phase_of.Detaching next) }
-    ensures takes { (script : AnyScript) (facts : AnyFacts) (policy : Standing) → TakesTurn script facts (phase_of.Detaching next) heap.old policy heap.new policy result }
-    ensures looks { steps.new + looks_left (phase_of.Detaching next) result.phase heap.new ≤ steps.old + most_looks 0 (phase_of.Detaching next) heap.old }
+    ensures takes { (script : AnyScript) (facts : AnyFacts) (policy : Standing)
+        → TakesTurn script facts (phase_of.Detaching next) heap.old policy heap.new policy result }
+    ensures looks { steps.new + looks_left (phase_of.Detaching next) result.phase heap.new ≤
+        steps.old + most_looks 0 (phase_of.Detaching next) heap.old }
 {
     heap.sound();
     if heap.is_unreferred() {
@@ -89,8 +94,8 @@ pub fn detach_one<B: Kind, L: Ledger>(
 
 /// Visits the next weak reference of the walk, or the next member of the final set.
 ///
-/// For each member with a referent it visits all weak references to that referent, newest first, and clears the members
-/// among them. So it walks each list once.
+/// For each member with a referent it visits all weak references to that referent, newest first,
+/// and clears the members among them. So it walks each list once.
 pub fn unlink_one<B: Kind, L: Ledger>(
     heap: &mut Heap<B>,
     member: Option<u64>,
@@ -98,8 +103,11 @@ pub fn unlink_one<B: Kind, L: Ledger>(
     steps: &mut Steps<L>,
 ) -> Turn
     requires ready { IsReadyForCollectionAt heap.old 0 (phase_of.Unlinking member weak) }
-    ensures takes { (script : AnyScript) (facts : AnyFacts) (policy : Standing) → TakesTurn script facts (phase_of.Unlinking member weak) heap.old policy heap.new policy result }
-    ensures looks { steps.new + looks_left (phase_of.Unlinking member weak) result.phase heap.new ≤ steps.old + most_looks 0 (phase_of.Unlinking member weak) heap.old }
+    ensures takes { (script : AnyScript) (facts : AnyFacts) (policy : Standing)
+        → TakesTurn script facts (phase_of.Unlinking member weak) heap.old policy heap.new policy
+        result }
+    ensures looks { steps.new + looks_left (phase_of.Unlinking member weak) result.phase heap.new ≤
+        steps.old + most_looks 0 (phase_of.Unlinking member weak) heap.old }
 {
     match weak {
         Some(weak) => look_at(heap, member, weak, steps),
@@ -115,8 +123,11 @@ fn look_at<B: Kind, L: Ledger>(
     steps: &mut Steps<L>,
 ) -> Turn
     requires ready { IsReadyForCollectionAt heap.old 0 (phase_of.Unlinking member (Some weak)) }
-    ensures takes { (script : AnyScript) (facts : AnyFacts) (policy : Standing) → TakesTurn script facts (phase_of.Unlinking member (Some weak)) heap.old policy heap.new policy result }
-    ensures looks { steps.new + looks_left (phase_of.Unlinking member (Some weak)) result.phase heap.new ≤ steps.old + most_looks 0 (phase_of.Unlinking member (Some weak)) heap.old }
+    ensures takes { (script : AnyScript) (facts : AnyFacts) (policy : Standing)
+        → TakesTurn script facts (phase_of.Unlinking member (Some weak)) heap.old policy heap.new
+        policy result }
+    ensures looks { steps.new + looks_left (phase_of.Unlinking member (Some weak)) result.phase
+        heap.new ≤ steps.old + most_looks 0 (phase_of.Unlinking member (Some weak)) heap.old }
 {
     heap.sound();
     let phase = Phase::Unlinking {
@@ -143,15 +154,19 @@ fn is_member<B: Kind>(heap: &Heap<B>, object: u64) -> bool
     }
 }
 
-/// Visits the weak references to the next member's referent; after the last member, the turns follow.
+/// Visits the weak references to the next member's referent; after the last member, the turns
+/// follow.
 fn next_member<B: Kind, L: Ledger>(
     heap: &mut Heap<B>,
     member: Option<u64>,
     steps: &mut Steps<L>,
 ) -> Turn
     requires ready { IsReadyForCollectionAt heap.old 0 (phase_of.Unlinking member None) }
-    ensures takes { (script : AnyScript) (facts : AnyFacts) (policy : Standing) → TakesTurn script facts (phase_of.Unlinking member None) heap.old policy heap.new policy result }
-    ensures looks { steps.new + looks_left (phase_of.Unlinking member None) result.phase heap.new ≤ steps.old + most_looks 0 (phase_of.Unlinking member None) heap.old }
+    ensures takes { (script : AnyScript) (facts : AnyFacts) (policy : Standing)
+        → TakesTurn script facts (phase_of.Unlinking member None) heap.old policy heap.new policy
+        result }
+    ensures looks { steps.new + looks_left (phase_of.Unlinking member None) result.phase heap.new ≤
+        steps.old + most_looks 0 (phase_of.Unlinking member None) heap.old }
 {
     heap.sound();
     match member {
@@ -170,7 +185,8 @@ fn newest_beside<B: Kind, L: Ledger>(
     steps: &mut Steps<L>,
 ) -> Option<u64>
     requires { IsLive heap.now object }
-    ensures newest { result ≡ option_and_then (λ o. slice_get (weak_references_in heap.now.rows o) 0) (referent_in heap.now.rows object) }
+    ensures newest { result ≡ option_and_then (λ o. slice_get (weak_references_in heap.now.rows o)
+        0) (referent_in heap.now.rows object) }
     ensures looks { steps.new ≤ steps.old + 2 }
 {
     heap.sound();

@@ -23,12 +23,13 @@ use cg_policy::{Flagset, Policy};
 use cg_script::Script;
 use cg_value::Place;
 
-/// Saves the uncollectable objects that are to be saved, and moves all to the older generation. The collection
-/// no longer counts as running.
+/// Saves the uncollectable objects that are to be saved, and moves all to the older generation. The
+/// collection no longer counts as running.
 pub fn end<B: Kind>(facts: Facts, heap: &mut Heap<B>, policy: &mut Policy, script: &Script) -> Turn
     requires generation { facts.generation ≤ 2 }
     requires ready { IsReadyForCollectionAt heap.old facts.generation phase_of.Ending }
-    ensures { TakesTurn script.now facts phase_of.Ending heap.old policy.old heap.new policy.new result }
+    ensures { TakesTurn script.now facts phase_of.Ending heap.old policy.old heap.new policy.new
+        result }
 {
     heap.sound();
     let number = heap.size(Place::Legacy);
@@ -55,7 +56,8 @@ pub fn end<B: Kind>(facts: Facts, heap: &mut Heap<B>, policy: &mut Policy, scrip
 /// Saves the uncollectable objects that are to be saved.
 fn save_legacy<B: Kind>(facts: Facts, heap: &mut Heap<B>, script: &Script)
     requires { IsReadyForCollectionAt heap.old facts.generation phase_of.Ending }
-    ensures { heap.new ≡ with_saved (kept_aside script.now (bits_of facts.flags) heap.old) heap.old }
+    ensures { heap.new ≡ with_saved (kept_aside script.now (bits_of facts.flags) heap.old)
+        heap.old }
 {
     heap.sound();
     let mut next = heap.first(Place::Legacy);
@@ -87,8 +89,10 @@ pub fn tell_uncollectable<B: Kind>(
     number: u64,
 ) -> Turn
     requires generation { facts.generation ≤ 2 }
-    requires ready { IsReadyForCollectionAt heap.now facts.generation (phase_of.Uncollectable first next number) }
-    ensures { (script : AnyScript) (policy : Standing) → TakesTurn script facts (phase_of.Uncollectable first next number) heap.now policy heap.now policy result }
+    requires ready { IsReadyForCollectionAt heap.now facts.generation (phase_of.Uncollectable first
+        next number) }
+    ensures { (script : AnyScript) (policy : Standing) → TakesTurn script facts
+        (phase_of.Uncollectable first next number) heap.now policy heap.now policy result }
 {
     heap.sound();
     match next {
@@ -117,7 +121,8 @@ pub fn tell_saved<B: Kind>(
 ) -> Turn
     requires generation { facts.generation ≤ 2 }
     requires ready { IsReadyForCollectionAt heap.now facts.generation (phase_of.Saved next number) }
-    ensures { (policy : Standing) → TakesTurn script.now facts (phase_of.Saved next number) heap.now policy heap.now policy result }
+    ensures { (policy : Standing) → TakesTurn script.now facts (phase_of.Saved next number) heap.now
+        policy heap.now policy result }
 {
     let Some(object) = next else {
         return Turn::to(Phase::Stopping(number));
@@ -136,7 +141,8 @@ pub fn tell_saved<B: Kind>(
 
 /// Prints the end, with both numbers.
 pub fn tell_end(facts: Facts, number: u64) -> Turn
-    ensures takes { (script : AnyScript) (store : Store) (policy : Standing) → TakesTurn script facts (phase_of.Stopping number) store policy store policy result }
+    ensures takes { (script : AnyScript) (store : Store) (policy : Standing)
+        → TakesTurn script facts (phase_of.Stopping number) store policy store policy result }
     ensures stops { result ≡ stop_turn facts number }
 {
     let event = Event::GcStop {

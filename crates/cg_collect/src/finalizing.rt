@@ -1,5 +1,5 @@
-//! The finalizer phase: visits the condemned objects, and runs the finalizers that have not run. (PEP 442: a
-//! finalizer is called once.)
+//! The finalizer phase: visits the condemned objects, and runs the finalizers that have not run.
+//! (PEP 442: a finalizer is called once.)
 ghost use Rattle.std.specs.Prelude.{◌≡◌, ◌∷◌, [], Some, None, slice_get};
 ghost use Rattle.cg_script.specs.declared.Script.{Script as AnyScript};
 ghost use Rattle.cg_policy.specs.Policy.{Policy as Standing};
@@ -23,12 +23,13 @@ use cg_machine::FrameSort;
 use cg_script::Script;
 use cg_value::Place;
 
-/// Visits a condemned object, if one is left; afterwards all are condemned again, and the second reachability pass
-/// follows.
+/// Visits a condemned object, if one is left; afterwards all are condemned again, and the second
+/// reachability pass follows.
 pub fn look_at_one<B: Kind>(heap: &mut Heap<B>, script: &Script) -> Turn
     requires ready { IsReadyForCollectionAt heap.old 0 phase_of.Finalizing }
     requires few { HasFewHolds heap.old }
-    ensures { (facts : AnyFacts) (policy : Standing) → TakesTurn script.now facts phase_of.Finalizing heap.old policy heap.new policy result }
+    ensures { (facts : AnyFacts) (policy : Standing) → TakesTurn script.now facts
+        phase_of.Finalizing heap.old policy heap.new policy result }
 {
     heap.sound();
     let mut near = Near::default();
@@ -46,7 +47,8 @@ fn look_at<B: Kind>(heap: &mut Heap<B>, script: &Script, object: u64, near: Near
     requires ready { IsReadyForCollectionAt heap.old 0 phase_of.Finalizing }
     requires few { HasFewHolds heap.old }
     requires first { slice_get (list_at heap.old place_of.Cand) 0 ≡ Some object }
-    ensures { (facts : AnyFacts) (policy : Standing) → TakesTurn script.now facts phase_of.Finalizing heap.old policy heap.new policy result }
+    ensures { (facts : AnyFacts) (policy : Standing) → TakesTurn script.now facts
+        phase_of.Finalizing heap.old policy heap.new policy result }
 {
     heap.sound();
     match finalizer_to_run(heap, script, object) {
@@ -62,12 +64,18 @@ fn look_at<B: Kind>(heap: &mut Heap<B>, script: &Script, object: u64, near: Near
 fn run<B: Kind>(heap: &mut Heap<B>, object: u64, proc: u32) -> Turn
     requires live { IsLive heap.old object }
     requires few { HasFewHolds heap.old }
-    ensures heap { heap.new ≡ held (object ∷ []) (with_node marked object (moved object place_of.Seen heap.old)) }
+    ensures heap { heap.new
+        ≡ held (object ∷ []) (with_node marked object (moved object place_of.Seen heap.old)) }
     ensures turn { result ≡ record {
       phase = phase_of.AfterFinalizing object;
       release = None;
       collected = 0;
-      answer = answer_of.Frame (record { sort = sort_of.Del; proc = proc; subject = object; func = None });
+      answer = answer_of.Frame (record {
+        sort = sort_of.Del;
+        proc = proc;
+        subject = object;
+        func = None;
+      });
     } }
 {
     heap.move_to(object, Place::Seen);
@@ -79,8 +87,10 @@ fn run<B: Kind>(heap: &mut Heap<B>, object: u64, proc: u32) -> Turn
 
 /// After the frame of a finalizer: gives up the object.
 pub fn after_finalizer(object: u64) -> Turn
-    ensures { (script : AnyScript) (facts : AnyFacts) (store : Store) (policy : Standing) → IsReadyForCollectionAt store facts.generation (phase_of.AfterFinalizing object)
-        → TakesTurn script facts (phase_of.AfterFinalizing object) store policy store policy result }
+    ensures { (script : AnyScript) (facts : AnyFacts) (store : Store) (policy : Standing)
+        → IsReadyForCollectionAt store facts.generation (phase_of.AfterFinalizing object)
+        → TakesTurn script facts (phase_of.AfterFinalizing object) store policy store policy
+        result }
 {
     Turn::gives_up(Release::of(object), Phase::Finalizing)
 }

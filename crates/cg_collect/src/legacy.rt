@@ -1,5 +1,5 @@
-//! Sets aside unreachable objects whose class has a legacy finalizer, and what is reachable from them. (`gc` manual,
-//! `gc.garbage`; PEP 442, "legacy finalizers".)
+//! Sets aside unreachable objects whose class has a legacy finalizer, and what is reachable from
+//! them. (`gc` manual, `gc.garbage`; PEP 442, "legacy finalizers".)
 ghost use Rattle.std.specs.Prelude.{◌≡◌, ◌+◌, ◌≤◌, length};
 ghost use Rattle.cg_graph.specs.Value.{references};
 ghost use Rattle.cg_graph.specs.Store.{IsLive, entries_of};
@@ -50,8 +50,8 @@ fn set_finalized_aside<B: Kind>(heap: &mut Heap<B>, script: &Script)
     heap.sound();
 }
 
-/// Sets aside what is reachable from them: each object found goes to the end of the list, and is visited in
-/// turn.
+/// Sets aside what is reachable from them: each object found goes to the end of the list, and is
+/// visited in turn.
 fn close<B: Kind, L: Ledger>(heap: &mut Heap<B>, steps: &mut Steps<L>)
     ensures closes { Closes heap.old heap.new }
     ensures looks { steps.new ≤ steps.old + entries_listed heap.new Place.Legacy }

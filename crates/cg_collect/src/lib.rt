@@ -1,9 +1,11 @@
 //! Collections: a collection of a generation, step by step.
 //!
-//! The layer above relies on one contract: in every world of the machine that heap and policy represent, a step of a
-//! collection does what the machine does, and answers what comes next: a line, a frame, or an object's death.
+//! The layer above relies on one contract: in every world of the machine that heap and policy
+//! represent, a step of a collection does what the machine does, and answers what comes next: a
+//! line, a frame, or an object's death.
 //!
-//! - `answer`: what a step answers; `phase`: the phases; `stage`: before, at or after each reachability pass.
+//! - `answer`: what a step answers; `phase`: the phases; `stage`: before, at or after each
+//!   reachability pass.
 //! - `collection`: a collection, and its steps.
 //! - `start`: all before the weak phase; `untracking` and `legacy`, parts of it.
 //! - `weak`: the weak phase; `finalizing`: the finalizer phase.

@@ -34,11 +34,12 @@ use crate::stage::Detection;
 use cg_death::Release;
 use cg_machine::{Event, FrameSpec};
 
-/// The next phase. (PEP 442, "Disposal of cyclic isolates"; developer guide, "Destroying unreachable objects".)
+/// The next phase. (PEP 442, "Disposal of cyclic isolates"; developer guide, "Destroying
+/// unreachable objects".)
 ///
-/// A step of the machine may print several lines. It is done at once, and the following calls print its other lines:
-/// `Sizes` and `Telling` after the start, `Living`, `Detaching` and `Unlinking` after the second reachability pass,
-/// `Uncollectable`, `Saved` and `Stopping` after the end.
+/// A step of the machine may print several lines. It is done at once, and the following calls print
+/// its other lines: `Sizes` and `Telling` after the start, `Living`, `Detaching` and `Unlinking`
+/// after the second reachability pass, `Uncollectable`, `Saved` and `Stopping` after the end.
 #[derive(Clone, Copy, Debug, PartialEq, Eq, Drop)]
 pub enum Phase {
     /// Everything before the weak phase.
@@ -52,8 +53,8 @@ pub enum Phase {
     },
     /// Prints condemned objects, starting with this one.
     Telling(Option<u64>),
-    /// Clears weak references to and of condemned objects. `member` is the next condemned object, and `weak` the next
-    /// weak reference of the list being walked, newest first.
+    /// Clears weak references to and of condemned objects. `member` is the next condemned object,
+    /// and `weak` the next weak reference of the list being walked, newest first.
     WeakClearing {
         member: Option<u64>,
         weak: Option<u64>,
@@ -74,8 +75,8 @@ pub enum Phase {
     Living(Option<u64>),
     /// Clears weak references to members of the final set, starting with this member.
     Detaching(Option<u64>),
-    /// Clears members of the final set that are weak references. `member` is the next member, and `weak` the next
-    /// weak reference of the list being walked, newest first.
+    /// Clears members of the final set that are weak references. `member` is the next member, and
+    /// `weak` the next weak reference of the list being walked, newest first.
     Unlinking {
         member: Option<u64>,
         weak: Option<u64>,
@@ -132,7 +133,12 @@ pub struct Turn {
 impl Turn {
     /// A turn that gives this answer, and goes on with a phase.
     pub fn answers(phase: Phase, answer: CollectStep) -> Turn
-        ensures { result ≡ record { phase = phase; release = None; collected = 0; answer = answer } }
+        ensures { result ≡ record {
+          phase = phase;
+          release = None;
+          collected = 0;
+          answer = answer;
+        } }
     {
         Turn {
             phase,
@@ -144,28 +150,48 @@ impl Turn {
 
     /// The collection goes on with a phase.
     pub fn to(phase: Phase) -> Turn
-        ensures { result ≡ record { phase = phase; release = None; collected = 0; answer = answer_of.Continue } }
+        ensures { result ≡ record {
+          phase = phase;
+          release = None;
+          collected = 0;
+          answer = answer_of.Continue;
+        } }
     {
         Turn::answers(phase, CollectStep::Continue)
     }
 
     /// A line is to be printed, and the collection goes on with a phase.
     pub fn tells(event: Event, phase: Phase) -> Turn
-        ensures { result ≡ record { phase = phase; release = None; collected = 0; answer = answer_of.Emit event } }
+        ensures { result ≡ record {
+          phase = phase;
+          release = None;
+          collected = 0;
+          answer = answer_of.Emit event;
+        } }
     {
         Turn::answers(phase, CollectStep::Emit(event))
     }
 
     /// A frame is to run, and the collection goes on with a phase.
     pub fn runs(frame: FrameSpec, phase: Phase) -> Turn
-        ensures { result ≡ record { phase = phase; release = None; collected = 0; answer = answer_of.Frame frame } }
+        ensures { result ≡ record {
+          phase = phase;
+          release = None;
+          collected = 0;
+          answer = answer_of.Frame frame;
+        } }
     {
         Turn::answers(phase, CollectStep::Frame(frame))
     }
 
     /// Gives up the references of an entry; then the collection goes on with a phase.
     pub fn gives_up(release: Release, phase: Phase) -> Turn
-        ensures { result ≡ record { phase = phase; release = Some release; collected = 0; answer = answer_of.Continue } }
+        ensures { result ≡ record {
+          phase = phase;
+          release = Some release;
+          collected = 0;
+          answer = answer_of.Continue;
+        } }
     {
         Turn {
             phase,

@@ -1,6 +1,7 @@
 //! Before, at or after each of a collection's two reachability passes.
 
-/// Before, at or after each reachability pass. A collection meets each of the first four once, between two steps.
+/// Before, at or after each reachability pass. A collection meets each of the first four once,
+/// between two steps.
 #[derive(Clone, Copy, Debug, PartialEq, Eq, Drop)]
 pub enum Stage {
     /// It has begun, and its next step makes the first pass.

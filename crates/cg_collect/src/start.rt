@@ -1,4 +1,5 @@
-//! Everything before the weak phase: trial subtraction, the survivors, and the uncollectable objects.
+//! Everything before the weak phase: trial subtraction, the survivors, and the uncollectable
+//! objects.
 ghost use Rattle.std.specs.Prelude.{◌≡◌, ◌+◌, ◌<◌, ◌≤◌, Some, None, unwrap_or, if◌then◌else◌};
 ghost use Rattle.cg_script.specs.declared.Script.{Script as AnyScript};
 ghost use Rattle.cg_machine.specs.Collect.{has_flag, stats};
@@ -29,8 +30,9 @@ use cg_trial::split;
 use cg_value::Place;
 use std::sync::ledger::Ledger;
 
-/// The start: merges the younger generations into this one. Its unreachable objects become the candidates, except for the
-/// uncollectable ones. The survivors are untracked or move to the older generation.
+/// The start: merges the younger generations into this one. Its unreachable objects become the
+/// candidates, except for the uncollectable ones. The survivors are untracked or move to the older
+/// generation.
 pub fn start<B: Kind, L: Ledger>(
     facts: Facts,
     heap: &mut Heap<B>,
@@ -42,7 +44,8 @@ pub fn start<B: Kind, L: Ledger>(
     requires ready { IsReadyForCollectionAt heap.old facts.generation phase_of.Start }
     requires few { HasFewHolds heap.old }
     requires bounded { AreSmall policy.old.numbers }
-    ensures takes { TakesTurn script.now facts phase_of.Start heap.old policy.old heap.new policy.new result }
+    ensures takes { TakesTurn script.now facts phase_of.Start heap.old policy.old heap.new
+        policy.new result }
     ensures looks { steps.new ≤ steps.old + most_looks facts.generation phase_of.Start heap.old }
     ensures apart { detection_at result.phase ≡ None }
 {
@@ -67,7 +70,8 @@ pub fn start<B: Kind, L: Ledger>(
 
 /// With STATS, the sizes of the generations before they are merged.
 fn first_phase<B: Kind>(facts: Facts, heap: &Heap<B>) -> Option<Phase>
-    ensures { result ≡ (if has_flag (bits_of facts.flags) stats then Some (told_sizes heap.now) else None) }
+    ensures { result ≡ (if has_flag (bits_of facts.flags) stats then Some (told_sizes heap.now) else
+        None) }
 {
     if facts.flags.contains(Flagset::STATS) {
         Some(Phase::Sizes {
@@ -147,8 +151,10 @@ pub fn tell_sizes<B: Kind>(
     frozen: u64,
 ) -> Turn
     requires generation { facts.generation ≤ 2 }
-    requires ready { IsReadyForCollectionAt heap.now facts.generation (phase_of.Sizes zero one two frozen) }
-    ensures { (script : AnyScript) (policy : Standing) → TakesTurn script facts (phase_of.Sizes zero one two frozen) heap.now policy heap.now policy result }
+    requires ready { IsReadyForCollectionAt heap.now facts.generation (phase_of.Sizes zero one two
+        frozen) }
+    ensures { (script : AnyScript) (policy : Standing) → TakesTurn script facts
+        (phase_of.Sizes zero one two frozen) heap.now policy heap.now policy result }
 {
     heap.sound();
     let event = Event::Gens {
@@ -163,7 +169,8 @@ pub fn tell_sizes<B: Kind>(
 /// Prints the next condemned object.
 pub fn tell_condemned<B: Kind>(heap: &Heap<B>, next: Option<u64>) -> Turn
     requires ready { IsReadyForCollectionAt heap.now 0 (phase_of.Telling next) }
-    ensures { (script : AnyScript) (facts : AnyFacts) (policy : Standing) → TakesTurn script facts (phase_of.Telling next) heap.now policy heap.now policy result }
+    ensures { (script : AnyScript) (facts : AnyFacts) (policy : Standing) → TakesTurn script facts
+        (phase_of.Telling next) heap.now policy heap.now policy result }
 {
     heap.sound();
     match next {

@@ -1,5 +1,5 @@
-//! The clearing: each member of the final set has a turn. (Developer guide, "destroying unreachable objects". That it is
-//! emptied entry by entry is ours.)
+//! The clearing: each member of the final set has a turn. (Developer guide, "destroying unreachable
+//! objects". That it is emptied entry by entry is ours.)
 ghost use Rattle.std.specs.Prelude.{◌≡◌, ◌+◌, ◌<◌, ◌≤◌, Some, slice_get};
 ghost use Rattle.cg_value.specs.declared.Place.TheVariants as place_of;
 ghost use Rattle.cg_script.specs.declared.Script.{Script as AnyScript};
@@ -28,7 +28,8 @@ pub fn take_turn<B: Kind>(facts: Facts, heap: &mut Heap<B>) -> Turn
     requires generation { facts.generation ≤ 2 }
     requires ready { IsReadyForCollectionAt heap.old facts.generation phase_of.Turns }
     requires few { HasFewHolds heap.old }
-    ensures { (script : AnyScript) (policy : Standing) → TakesTurn script facts phase_of.Turns heap.old policy heap.new policy result }
+    ensures { (script : AnyScript) (policy : Standing) → TakesTurn script facts phase_of.Turns
+        heap.old policy heap.new policy result }
 {
     heap.sound();
     match heap.first(Place::Cand) {
@@ -43,7 +44,8 @@ fn begin_turn<B: Kind>(facts: Facts, heap: &mut Heap<B>, object: u64) -> Turn
     requires ready { IsReadyForCollectionAt heap.old facts.generation phase_of.Turns }
     requires few { HasFewHolds heap.old }
     requires first { slice_get (list_at heap.old place_of.Cand) 0 ≡ Some object }
-    ensures { (script : AnyScript) (policy : Standing) → TakesTurn script facts phase_of.Turns heap.old policy heap.new policy result }
+    ensures { (script : AnyScript) (policy : Standing) → TakesTurn script facts phase_of.Turns
+        heap.old policy heap.new policy result }
 {
     heap.sound();
     if facts.flags.intersects(Flagset::SAVEALL) {
@@ -69,7 +71,8 @@ pub fn empty_one<B: Kind, L: Ledger>(heap: &mut Heap<B>, object: u64, steps: &mu
     requires ready { IsReadyForCollectionAt heap.old 0 (phase_of.Turn object) }
     requires few { HasFewHolds heap.old }
     requires held { 0 < outside_of heap.old object }
-    ensures takes { (script : AnyScript) (facts : AnyFacts) (policy : Standing) → TakesTurn script facts (phase_of.Turn object) heap.old policy heap.new policy result }
+    ensures takes { (script : AnyScript) (facts : AnyFacts) (policy : Standing)
+        → TakesTurn script facts (phase_of.Turn object) heap.old policy heap.new policy result }
     ensures looks { steps.new ≤ steps.old + most_looks 0 (phase_of.Turn object) heap.old }
 {
     heap.sound();
@@ -83,7 +86,8 @@ pub fn empty_one<B: Kind, L: Ledger>(heap: &mut Heap<B>, object: u64, steps: &mu
 pub fn after_turn<B: Kind>(facts: Facts, heap: &mut Heap<B>, object: u64) -> Turn
     requires generation { facts.generation ≤ 2 }
     requires ready { IsReadyForCollectionAt heap.old facts.generation (phase_of.AfterTurn object) }
-    ensures { (script : AnyScript) (policy : Standing) → TakesTurn script facts (phase_of.AfterTurn object) heap.old policy heap.new policy result }
+    ensures { (script : AnyScript) (policy : Standing) → TakesTurn script facts
+        (phase_of.AfterTurn object) heap.old policy heap.new policy result }
 {
     heap.sound();
     if !heap.has(object) {

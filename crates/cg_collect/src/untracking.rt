@@ -1,4 +1,5 @@
-//! The survivors that become untracked. (Developer guide, "optimization: delay tracking containers".)
+//! The survivors that become untracked. (Developer guide, "optimization: delay tracking
+//! containers".)
 ghost use Rattle.std.specs.Prelude.{◌≡◌, ◌+◌, ◌*◌, ◌≤◌, length};
 ghost use Rattle.cg_value.specs.declared.KindCode.TheVariants as kind_of;
 ghost use Rattle.cg_value.specs.declared.Place.TheVariants.{Gen};
@@ -13,8 +14,8 @@ use cg_kind::Kind;
 use cg_value::{KindCode, Place, Val};
 use std::sync::ledger::Ledger;
 
-/// Untracks the surviving tuples without an item that may be tracked, and then, in a collection of 2, the dictionaries
-/// without a key or value that may be.
+/// Untracks the surviving tuples without an item that may be tracked, and then, in a collection of
+/// 2, the dictionaries without a key or value that may be.
 pub fn untrack<B: Kind, L: Ledger>(heap: &mut Heap<B>, generation: u8, steps: &mut Steps<L>)
     requires { generation ≤ 2 }
     ensures untracks { UntracksSurvivors generation heap.old heap.new }

@@ -1,5 +1,5 @@
-//! The weak phase: clears weak references to and of condemned objects, and calls the callbacks of those that are not
-//! condemned. (PEP 442; `weakref` manual.)
+//! The weak phase: clears weak references to and of condemned objects, and calls the callbacks of
+//! those that are not condemned. (PEP 442; `weakref` manual.)
 ghost use Rattle.std.specs.Prelude.{◌≡◌, ◌+◌, ◌≤◌, ◌∷◌, [], ◌==◌, ◌||◌, not, Some, None, IsSome, true, false, is_some, slice_get, unwrap_or, option_and_then, if◌then◌else◌};
 ghost use Rattle.cg_value.specs.declared.Place.TheVariants as place_of;
 ghost use Rattle.cg_script.specs.declared.Script.{Script as AnyScript};
@@ -33,9 +33,10 @@ use std::sync::ledger::Ledger;
 
 /// Visits the next weak reference of the walk, or the next condemned object.
 ///
-/// For each condemned object all weak references to it are looked at, from the newest on; for a weak reference that is
-/// condemned and is to lose a referent that is not, all to its referent. So each list is walked once or twice, and callbacks
-/// come in the order of the condemned objects, as in CPython.
+/// For each condemned object all weak references to it are looked at, from the newest on; for a
+/// weak reference that is condemned and is to lose a referent that is not, all to its referent. So
+/// each list is walked once or twice, and callbacks come in the order of the condemned objects, as
+/// in CPython.
 pub fn clear_one<B: Kind, L: Ledger>(
     heap: &mut Heap<B>,
     profile: u8,
@@ -46,8 +47,11 @@ pub fn clear_one<B: Kind, L: Ledger>(
     requires ready { IsReadyForCollectionAt heap.old 0 (phase_of.WeakClearing member weak) }
     requires walk { IsWalk profile heap.old member weak }
     requires few { HasFewHolds heap.old }
-    ensures takes { (script : AnyScript) → profile_of script.items ≡ profile → (facts : AnyFacts) (policy : Standing) → TakesTurn script facts (phase_of.WeakClearing member weak) heap.old policy heap.new policy result }
-    ensures looks { steps.new + looks_left (phase_of.WeakClearing member weak) result.phase heap.new ≤ steps.old + most_looks 0 (phase_of.WeakClearing member weak) heap.old }
+    ensures takes { (script : AnyScript) → profile_of script.items ≡ profile
+        → (facts : AnyFacts) (policy : Standing) → TakesTurn script facts
+        (phase_of.WeakClearing member weak) heap.old policy heap.new policy result }
+    ensures looks { steps.new + looks_left (phase_of.WeakClearing member weak) result.phase heap.new
+        ≤ steps.old + most_looks 0 (phase_of.WeakClearing member weak) heap.old }
 {
     match weak {
         Some(weak) => look_at(heap, profile, member, weak, steps),
@@ -66,8 +70,11 @@ fn look_at<B: Kind, L: Ledger>(
     requires ready { IsReadyForCollectionAt heap.old 0 (phase_of.WeakClearing member (Some weak)) }
     requires walk { IsWalk profile heap.old member (Some weak) }
     requires few { HasFewHolds heap.old }
-    ensures takes { (script : AnyScript) → profile_of script.items ≡ profile → (facts : AnyFacts) (policy : Standing) → TakesTurn script facts (phase_of.WeakClearing member (Some weak)) heap.old policy heap.new policy result }
-    ensures looks { steps.new + looks_left (phase_of.WeakClearing member (Some weak)) result.phase heap.new ≤ steps.old + most_looks 0 (phase_of.WeakClearing member (Some weak)) heap.old }
+    ensures takes { (script : AnyScript) → profile_of script.items ≡ profile
+        → (facts : AnyFacts) (policy : Standing) → TakesTurn script facts
+        (phase_of.WeakClearing member (Some weak)) heap.old policy heap.new policy result }
+    ensures looks { steps.new + looks_left (phase_of.WeakClearing member (Some weak)) result.phase
+        heap.new ≤ steps.old + most_looks 0 (phase_of.WeakClearing member (Some weak)) heap.old }
 {
     heap.sound();
     let phase = Phase::WeakClearing {
@@ -99,8 +106,8 @@ fn loses<B: Kind, L: Ledger>(heap: &Heap<B>, profile: u8, weak: u64, steps: &mut
     }
 }
 
-/// Whether a weak reference is cleared before the finalizers run. In profile 2, one without a callback keeps its referent
-/// for them.
+/// Whether a weak reference is cleared before the finalizers run. In profile 2, one without a
+/// callback keeps its referent for them.
 fn is_lost_early<B: Kind, L: Ledger>(
     heap: &Heap<B>,
     profile: u8,
@@ -108,7 +115,8 @@ fn is_lost_early<B: Kind, L: Ledger>(
     steps: &mut Steps<L>,
 ) -> bool
     requires { IsLive heap.now weak }
-    ensures early { result ≡ not (profile == 2) || is_some (callback_of (objects_of heap.now) weak) }
+    ensures early { result ≡ not (profile == 2)
+        || is_some (callback_of (objects_of heap.now) weak) }
     ensures looks { steps.new ≤ steps.old + 1 }
 {
     profile != 2 || callback_looking(heap, weak, steps).is_some()
@@ -148,7 +156,8 @@ fn lose<B: Kind, L: Ledger>(heap: &mut Heap<B>, weak: u64, steps: &mut Steps<L>)
     requires live { IsLive heap.old weak }
     requires refers { IsSome (referent_in heap.old.rows weak) }
     ensures heap { heap.new ≡ (if waits (objects_of heap.old) weak
-        then moved weak place_of.Pend (held (weak ∷ []) (cleared_weak weak false heap.old)) else cleared_weak weak false heap.old) }
+        then moved weak place_of.Pend (held (weak ∷ []) (cleared_weak weak false heap.old)) else
+        cleared_weak weak false heap.old) }
     ensures looks { steps.new ≤ steps.old + 1 }
 {
     let waits = waits(heap, weak, steps);
@@ -168,8 +177,8 @@ fn waits<B: Kind, L: Ledger>(heap: &Heap<B>, weak: u64, steps: &mut Steps<L>) ->
     !is_condemned(heap, weak) && callback_looking(heap, weak, steps).is_some()
 }
 
-/// Visits the weak references to the next condemned object, or those to its referent; after the last, the callbacks
-/// follow. They follow at once if no weak reference has a referent.
+/// Visits the weak references to the next condemned object, or those to its referent; after the
+/// last, the callbacks follow. They follow at once if no weak reference has a referent.
 fn next_member<B: Kind, L: Ledger>(
     heap: &mut Heap<B>,
     profile: u8,
@@ -178,8 +187,11 @@ fn next_member<B: Kind, L: Ledger>(
 ) -> Turn
     requires ready { IsReadyForCollectionAt heap.old 0 (phase_of.WeakClearing member None) }
     requires walk { IsWalk profile heap.old member None }
-    ensures takes { (script : AnyScript) → profile_of script.items ≡ profile → (facts : AnyFacts) (policy : Standing) → TakesTurn script facts (phase_of.WeakClearing member None) heap.old policy heap.new policy result }
-    ensures looks { steps.new + looks_left (phase_of.WeakClearing member None) result.phase heap.new ≤ steps.old + most_looks 0 (phase_of.WeakClearing member None) heap.old }
+    ensures takes { (script : AnyScript) → profile_of script.items ≡ profile
+        → (facts : AnyFacts) (policy : Standing) → TakesTurn script facts
+        (phase_of.WeakClearing member None) heap.old policy heap.new policy result }
+    ensures looks { steps.new + looks_left (phase_of.WeakClearing member None) result.phase heap.new
+        ≤ steps.old + most_looks 0 (phase_of.WeakClearing member None) heap.old }
 {
     heap.sound();
     if heap.is_unreferred() {
@@ -194,7 +206,8 @@ fn next_member<B: Kind, L: Ledger>(
     }
 }
 
-/// The newest weak reference to the referent of a condemned one that is to lose it by itself, or else to a condemned object.
+/// The newest weak reference to the referent of a condemned one that is to lose it by itself, or
+/// else to a condemned object.
 fn first_to_look_at<B: Kind, L: Ledger>(
     heap: &Heap<B>,
     profile: u8,
@@ -202,7 +215,8 @@ fn first_to_look_at<B: Kind, L: Ledger>(
     steps: &mut Steps<L>,
 ) -> Option<u64>
     requires { IsLive heap.now object }
-    ensures first { result ≡ slice_get (weak_references_in heap.now.rows (looked_at_for profile heap.now object)) 0 }
+    ensures first { result
+        ≡ slice_get (weak_references_in heap.now.rows (looked_at_for profile heap.now object)) 0 }
     ensures looks { steps.new ≤ steps.old + 4 }
 {
     heap.sound();
@@ -214,7 +228,8 @@ fn first_to_look_at<B: Kind, L: Ledger>(
     }
 }
 
-/// Whether a weak reference is to lose this referent of its own by itself: the referent is not condemned.
+/// Whether a weak reference is to lose this referent of its own by itself: the referent is not
+/// condemned.
 fn loses_alone<B: Kind, L: Ledger>(
     heap: &Heap<B>,
     profile: u8,
@@ -234,7 +249,8 @@ fn loses_alone<B: Kind, L: Ledger>(
 /// The first of those that wait has its callback called; when none is left, the finalizers follow.
 pub fn call_one<B: Kind, L: Ledger>(heap: &mut Heap<B>, steps: &mut Steps<L>) -> Turn
     requires ready { IsReadyForCollectionAt heap.old 0 phase_of.WeakCalling }
-    ensures takes { (script : AnyScript) (facts : AnyFacts) (policy : Standing) → TakesTurn script facts phase_of.WeakCalling heap.old policy heap.new policy result }
+    ensures takes { (script : AnyScript) (facts : AnyFacts) (policy : Standing)
+        → TakesTurn script facts phase_of.WeakCalling heap.old policy heap.new policy result }
     ensures looks { steps.new ≤ steps.old + most_looks 0 phase_of.WeakCalling heap.old }
 {
     heap.sound();
@@ -255,12 +271,13 @@ fn frame_of_callback<B: Kind, L: Ledger>(
 ) -> FrameSpec
     requires live { IsLive heap.now weak }
     requires callback { IsSome (callback_of (objects_of heap.now) weak) }
-    ensures frame { let f = unwrap_or (callback_of (objects_of heap.now) weak) 0 in result ≡ record {
-      sort = sort_of.Callback;
-      proc = unwrap_or (option_and_then (λ x. x.class) (object_at (objects_of heap.now) f)) 0;
-      subject = weak;
-      func = Some f;
-    } }
+    ensures frame { let f = unwrap_or (callback_of (objects_of heap.now) weak) 0 in result
+        ≡ record {
+          sort = sort_of.Callback;
+          proc = unwrap_or (option_and_then (λ x. x.class) (object_at (objects_of heap.now) f)) 0;
+          subject = weak;
+          func = Some f;
+        } }
     ensures looks { steps.new ≤ steps.old + 1 }
 {
     heap.sound();
@@ -270,7 +287,8 @@ fn frame_of_callback<B: Kind, L: Ledger>(
 
 /// After the frame of a callback: gives up the weak reference.
 pub fn after_callback(weak: u64) -> Turn
-    ensures { (script : AnyScript) (facts : AnyFacts) (store : Store) (policy : Standing) → IsReadyForCollectionAt store facts.generation (phase_of.AfterCallback weak)
+    ensures { (script : AnyScript) (facts : AnyFacts) (store : Store) (policy : Standing)
+        → IsReadyForCollectionAt store facts.generation (phase_of.AfterCallback weak)
         → TakesTurn script facts (phase_of.AfterCallback weak) store policy store policy result }
 {
     Turn::gives_up(Release::of(weak), Phase::AfterRelease(weak))
@@ -280,7 +298,8 @@ pub fn after_callback(weak: u64) -> Turn
 pub fn after_release<B: Kind>(facts: Facts, heap: &mut Heap<B>, weak: u64) -> Turn
     requires generation { facts.generation ≤ 2 }
     requires ready { IsReadyForCollectionAt heap.old facts.generation (phase_of.AfterRelease weak) }
-    ensures { (script : AnyScript) (policy : Standing) → TakesTurn script facts (phase_of.AfterRelease weak) heap.old policy heap.new policy result }
+    ensures { (script : AnyScript) (policy : Standing) → TakesTurn script facts
+        (phase_of.AfterRelease weak) heap.old policy heap.new policy result }
 {
     heap.sound();
     if heap.has(weak) {

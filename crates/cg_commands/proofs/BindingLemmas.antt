@@ -21,9 +21,9 @@ use Rattle.cg_commands.specs.declared.done.Done.TheVariants.{Changed}
 use Rattle.cg_commands.specs.declared.done.Refusal.TheVariants.{NoName}
 use Rattle.cg_commands.specs.declared.locals.Locals.{Locals}
 use Rattle.cg_commands.specs.Answers.{PerformsOnHeap}
-use Rattle.cg_commands.proofs.Bridges.{gives_up, renamed, held-none}
+use Rattle.cg_commands.proofs.ChangesOfHeaps.{gives_up, renamed, held-none}
 use Rattle.cg_commands.proofs.Reading.{reads-name}
-use Rattle.cg_commands.proofs.Chains.{next, refused}
+use Rattle.cg_commands.proofs.FirstRefusal.{next, refused}
 
 module _ (store : Store) (sound : IsSound store) (locals : Option Locals) (name : ℕ) (was : Option Val) (at : slice_get store.names name ≡ Some was) where
   -- a name gives up its old value
@@ -33,20 +33,25 @@ module _ (store : Store) (sound : IsSound store) (locals : Option Locals) (name 
   pub was_live : (s : ℕ) → 0 < occurrences s (references_of_value was) → IsLive store s
   was_live s there = sound.live s (omega (arith, there, name_holds store name was at s))
 
-  pub binds-performs : (v : Val) (e : Entry) (new : Store) → new ≡ held (references_of_value was) (named name (Some v) store) → entry_references e ≡ references_of_value was → PerformsOnHeap store locals (λ w. binds w name v) new (Ok (Changed None e))
+  pub binds-performs : (v : Val) (e : Entry) (new : Store) → new ≡ held (references_of_value was) (named name (Some v) store) → entry_references e
+      ≡ references_of_value was → PerformsOnHeap store locals (λ w. binds w name v) new (Ok (Changed None e))
   binds-performs v e new is entry w s =
       gives_up _ None e false (references_of_value was) (named name (Some v) store) (bound w name (Some v)) store new
       (ap (λ rs. Ok (Changes false [] rs (bound w name (Some v)))) (given-up_by w s.represents)) entry is (renamed store w s.represents name (Some v)) was_live
 
 -- a bound name is unbound
-pub unbinds-performs : (store : Store) → IsSound store → (locals : Option Locals) (name : ℕ) (v : Val) → slice_get store.names name ≡ Some (Some v) → (e : Entry) (new : Store) → new ≡ held (references_of_value (Some v)) (named name None store) → entry_references e ≡ references_of_value (Some v) → PerformsOnHeap store locals (λ w. effect w (command.Del name)) new (Ok (Changed None e))
+pub unbinds-performs : (store : Store) → IsSound store → (locals : Option Locals) (name : ℕ) (v : Val) → slice_get store.names name ≡ Some (Some v)
+    → (e : Entry) (new : Store) → new ≡ held (references_of_value (Some v)) (named name None store) → entry_references e ≡ references_of_value (Some v)
+    → PerformsOnHeap store locals (λ w. effect w (command.Del name)) new (Ok (Changed None e))
 unbinds-performs store sound locals name v at e new is entry w s =
     next (value w (operand.Name name)) v _ store new (Ok (Changed None e)) (ap (λ x. ok_or x no_name) (reads-name store locals name (Some v) at w s))
     (gives_up _ None e false (references_of_value (Some v)) (named name None store) (bound w name None) store new
-    (ap (λ rs. Ok (Changes false [] rs (bound w name None))) (given-up_by store sound locals name (Some v) at w s.represents)) entry is (renamed store w s.represents name None) (was_live store sound locals name (Some v) at))
+    (ap (λ rs. Ok (Changes false [] rs (bound w name None))) (given-up_by store sound locals name (Some v) at w s.represents)) entry is
+    (renamed store w s.represents name None) (was_live store sound locals name (Some v) at))
 
 -- an unbound one is not
-pub unbinds-refused : (store : Store) (locals : Option Locals) (name : ℕ) → slice_get store.names name ≡ Some None → (new : Store) → new ≡ held (references_of_value None) (named name None store) → PerformsOnHeap store locals (λ w. effect w (command.Del name)) new (Err NoName)
+pub unbinds-refused : (store : Store) (locals : Option Locals) (name : ℕ) → slice_get store.names name ≡ Some None → (new : Store) → new
+    ≡ held (references_of_value None) (named name None store) → PerformsOnHeap store locals (λ w. effect w (command.Del name)) new (Err NoName)
 unbinds-refused store locals name at new is w s =
     let rest = refused NoName (value w (operand.Name name)) _ store (ap (λ x. ok_or x no_name) (reads-name store locals name None at w s)) in
     (rest.0, is ∙ unchanged)

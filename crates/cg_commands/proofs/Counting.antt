@@ -23,7 +23,7 @@ use Rattle.cg_commands.specs.Attempts.{Attempts, counted}
 use Rattle.cg_commands.specs.Growth.{makes_object}
 use Rattle.cg_commands.specs.Inspections.{Inspects}
 use Rattle.cg_commands.specs.Stands.{HeapAndLocalsStandFor}
-use Rattle.cg_commands.proofs.Growing.{of_effect, made_makes, nothing_made, made_in_room, grows_within}
+use Rattle.cg_commands.proofs.GrowthOfHeaps.{of_effect, made_makes, nothing_made, made_in_room, grows_within}
 
 abbrev StaysCounted : World → Effect → Type 0
 StaysCounted w (Changes wants_memory lines given_up after) = policy_of after ≡ policy_of w
@@ -76,7 +76,8 @@ effect_counts w command made = absurd (let no : false ≡ true = made in cc)
 
 -- so a change of the heap alone is the effect
 module _ (w : World) (command : Command) (old new : Store) where
-  stays_after : IsForObjects command → makes_object command ≡ false → (answer : Result Done Refusal) → AnswersOnHeap answer (effect w command) old new → policy_of w ≡ policy_after answer (effect w command) (policy_of w)
+  stays_after : IsForObjects command → makes_object command ≡ false → (answer : Result Done Refusal) → AnswersOnHeap answer (effect w command) old new
+      → policy_of w ≡ policy_after answer (effect w command) (policy_of w)
   stays_after own none (Ok (done.Changed line e)) h =
       let stays = of_effect (StaysCounted w) (effect w command) _ h.is (effect_stays w command own none) in
       sym stays ∙ ap (λ r. policy_after (Ok (done.Changed line e)) r (policy_of w)) (sym h.is)
@@ -89,7 +90,8 @@ module _ (w : World) (command : Command) (old new : Store) where
   stays_after own none (Ok (done.Tells lines)) (inr h, same) = ap (λ r. policy_after (Ok (done.Tells lines)) r (policy_of w)) (sym h.is)
   stays_after own none (Err refusal) h = refl
 
-  counted_after : makes_object command ≡ true → (answer : Result Done Refusal) → AnswersOnHeap answer (effect w command) old new → counted answer (policy_of w) ≡ policy_after answer (effect w command) (policy_of w)
+  counted_after : makes_object command ≡ true → (answer : Result Done Refusal) → AnswersOnHeap answer (effect w command) old new → counted answer (policy_of w)
+      ≡ policy_after answer (effect w command) (policy_of w)
   counted_after made (Ok (done.Changed line e)) h =
       let counts = of_effect (CountsOne w) (effect w command) _ h.is (effect_counts w command made) in
       sym counts ∙ ap (λ r. policy_after (Ok (done.Changed line e)) r (policy_of w)) (sym h.is)
@@ -103,7 +105,8 @@ module _ (w : World) (command : Command) (old new : Store) where
   counted_after made (Err refusal) h = refl
 
 -- A command that makes no object leaves the policy, even if its answer depends on the policy.
-plain : (old : Store) (was : Policy) (locals : Option Locals) (room : Bool) (given command : Command) → given ≡ command → IsForObjects command → makes_object command ≡ false → (new : Store) (answer : Result Done Refusal)
+plain : (old : Store) (was : Policy) (locals : Option Locals) (room : Bool) (given command : Command) → given ≡ command → IsForObjects command
+    → makes_object command ≡ false → (new : Store) (answer : Result Done Refusal)
     → ((w : World) → HeapAndLocalsStandFor old locals w → was ≡ policy_of w → AnswersOnHeap answer (effect w command) old new) → Attempts old was locals room given new was answer
 plain old was locals room given command is own none new answer does = subst (λ c. Attempts old was locals room c new was answer) (sym is) (record {
   performs = λ w stands policy. record {
@@ -115,12 +118,14 @@ plain old was locals room given command is own none new answer does = subst (λ 
 })
 
 -- an inspection, which depends on whether a collection is under way
-pub inspects : (store : Store) (was : Policy) (locals : Option Locals) (room : Bool) (given command : Command) → given ≡ command → IsForObjects command → makes_object command ≡ false → (answer : Result Done Refusal)
+pub inspects : (store : Store) (was : Policy) (locals : Option Locals) (room : Bool) (given command : Command) → given ≡ command → IsForObjects command
+    → makes_object command ≡ false → (answer : Result Done Refusal)
     → Inspects store was.running locals (λ w. effect w command) answer → Attempts store was locals room given store was answer
 inspects store was locals room given command is own none answer does =
     plain store was locals room given command is own none store answer (λ w stands policy. does w stands (ap (λ (p : Policy). p.running) (sym policy)))
 
-module _ (old : Store) (was : Policy) (locals : Option Locals) (room : Bool) (given command : Command) (is : given ≡ command) (own : IsForObjects command) (new : Store) (answer : Result Done Refusal) (does : PerformsOnHeap old locals (λ w. effect w command) new answer) where
+module _ (old : Store) (was : Policy) (locals : Option Locals) (room : Bool) (given command : Command) (is : given ≡ command) (own : IsForObjects command)
+    (new : Store) (answer : Result Done Refusal) (does : PerformsOnHeap old locals (λ w. effect w command) new answer) where
   -- a command that makes no object and leaves the policy
   pub plainly : makes_object command ≡ false → Attempts old was locals room given new was answer
   plainly none = plain old was locals room given command is own none new answer (λ w stands policy. does w stands)

@@ -30,7 +30,7 @@ use Rattle.cg_commands.specs.Refusals.{number_of}
 use Rattle.cg_commands.specs.Objects.{RefersTo, HasNoObject, test_of, refusal_of, bare}
 use Rattle.cg_commands.proofs.Reading.{test-bare, object-other}
 use Rattle.cg_commands.specs.Answers.{PerformsOnHeap, HasChanged}
-use Rattle.cg_commands.proofs.Bridges.{gives_up, gives_nothing, refilled}
+use Rattle.cg_commands.proofs.ChangesOfHeaps.{gives_up, gives_nothing, refilled}
 use Rattle.cg_commands.proofs.Limits.{room, one_fits}
 use Rattle.cg_commands.proofs.KeyLemmas.{entry_somewhere}
 
@@ -119,16 +119,19 @@ module _ (store : Store) (sound : IsSound store) (locals : Option Locals) (test 
   entries-here = ap (λ (x : Option Node). elim x [ None ↦ [] | Some n ↦ n.entries ]) there.found
 
   -- an item is appended
-  pub appends : {X : Type 0} (u : X) (val : Val) (e : Entry) (new : Store) → new ≡ rewritten o (entries_of store o ++ item val ∷ []) store → entry_references e ≡ [] → ((Ok u ≡ Err fault.EntryLimit) ↔ (4000000 ≤ entry_number store))
+  pub appends : {X : Type 0} (u : X) (val : Val) (e : Entry) (new : Store) → new ≡ rewritten o (entries_of store o ++ item val ∷ []) store → entry_references e
+      ≡ [] → ((Ok u ≡ Err fault.EntryLimit) ↔ (4000000 ≤ entry_number store))
       → PerformsOnHeap store locals (λ w. has_room w 1 >>= (λ _. Ok (Changes true [] [] (with_change (with_entries (there.node.entries ++ item val ∷ [])) o w)))) new (Ok (Changed None e))
   unfolding ◌>>=◌
   appends u val e new is none limit w s =
       gives_nothing _ None e true (with_change (with_entries (there.node.entries ++ item val ∷ [])) o w) store new
       (ap (λ q. q >>= (λ _. Ok (Changes true [] [] (with_change (with_entries (there.node.entries ++ item val ∷ [])) o w)))) (room store w s.represents 1 (one_fits store u limit))) none
-      (subst (λ st. Represents st (with_change (with_entries (there.node.entries ++ item val ∷ [])) o w)) (sym (is ∙ ap (λ es. rewritten o (es ++ item val ∷ []) store) entries-here)) (refilled store w s.represents o (there.node.entries ++ item val ∷ [])))
+      (subst (λ st. Represents st (with_change (with_entries (there.node.entries ++ item val ∷ [])) o w))
+      (sym (is ∙ ap (λ es. rewritten o (es ++ item val ∷ []) store) entries-here)) (refilled store w s.represents o (there.node.entries ++ item val ∷ [])))
 
   -- an entry is removed
-  pub takes : (i : ℕ) (e : Entry) (es : List Entry) (new : Store) → slice_get (entries_of store o) i ≡ Some e → new ≡ held (entry_references e) (rewritten o (remove (entries_of store o) i) store) → es ≡ remove there.node.entries i
+  pub takes : (i : ℕ) (e : Entry) (es : List Entry) (new : Store) → slice_get (entries_of store o) i ≡ Some e → new ≡ held (entry_references e)
+      (rewritten o (remove (entries_of store o) i) store) → es ≡ remove there.node.entries i
       → PerformsOnHeap store locals (λ w. sets_entries w (object_from store.rows o there.node) es (entry_references e)) new (Ok (Changed None e))
   takes i e es new at is gone w s =
       gives_up _ None e false (entry_references e) (rewritten o es store) (with_change (with_entries es) o w) store new refl refl
@@ -149,7 +152,8 @@ module _ (store : Store) (sound : IsSound store) (locals : Option Locals) (test 
       (λ q some. lives_on store (rewritten o es store) (kinds-rewritten o es store) q (sound.live q (omega (arith, some, entry_holds store o i e here q))))
 
   -- the same, where another entry with its references is given up
-  pub takes_references : (key : Val) (e given : Entry) (new : Store) → Some e ≡ entry_at (entries_of store o) key → new ≡ held (entry_references e) (rewritten o (without_key (entries_of store o) key) store) → entry_references given ≡ entry_references e
+  pub takes_references : (key : Val) (e given : Entry) (new : Store) → Some e ≡ entry_at (entries_of store o) key → new ≡ held (entry_references e)
+      (rewritten o (without_key (entries_of store o) key) store) → entry_references given ≡ entry_references e
       → PerformsOnHeap store locals (λ w. sets_entries w (object_from store.rows o there.node) (without_key there.node.entries key) (entry_references e)) new (Ok (Changed None given))
   takes_references key e given new at is same =
       λ w s.
@@ -218,7 +222,8 @@ refers_by_code store what is v o refers has = record {
   passes = test-bare what (object_from store.rows o has.0) ∙ passes_by_code what is has.0.code has.2 o;
 }
 
-pub other_by_code : (store : Store) (what : Wanted) → IsKeyedTest what → (v : Val) (o : ℕ) → v ≡ val.Ref o → IsLive store o → ¬ (HasCode store o (kind_of what)) → HasNoObject store (test_of what) (number_of (refusal_of what)) v (refusal_of what)
+pub other_by_code : (store : Store) (what : Wanted) → IsKeyedTest what → (v : Val) (o : ℕ) → v ≡ val.Ref o → IsLive store o → ¬ (HasCode store o (kind_of what))
+    → HasNoObject store (test_of what) (number_of (refusal_of what)) v (refusal_of what)
 other_by_code store what is v o refers live differs =
     subst (λ v. HasNoObject store (test_of what) (number_of (refusal_of what)) v (refusal_of what)) (sym refers) (known (fin.get store.nodes o) refl live)
   where

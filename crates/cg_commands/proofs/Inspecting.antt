@@ -23,8 +23,8 @@ use Rattle.cg_commands.specs.Objects.{RefersTo, HasNoObject}
 use Rattle.cg_commands.specs.Answers.{AnswersOnHeap, WantsMemory}
 use Rattle.cg_commands.specs.Reasons.{reason_lines}
 use Rattle.cg_commands.specs.Inspections.{Inspects, IsInspected, IsNotInspected, inspected}
-use Rattle.cg_commands.proofs.Chains.{declines_then, refused}
-use Rattle.cg_commands.proofs.Bridges.{released-none}
+use Rattle.cg_commands.proofs.FirstRefusal.{declines_then, refused}
+use Rattle.cg_commands.proofs.ChangesOfHeaps.{released-none}
 use Rattle.cg_commands.proofs.Reading.{object-found}
 
 -- checks in order, in two parts
@@ -53,7 +53,8 @@ module _ (store : Store) (running : Bool) (locals : Option Locals) (operand : Op
     no_object refusal is w s same = subst (Declines refusal) (sym (after_value w s)) (declines_then refusal (object w any_object wrong_kind v) _ (is w s.represents))
 
     module _ (o : ℕ) (there : RefersTo store any_object v o) where
-      after_object : (w : World) → HeapAndLocalsStandFor store locals w → (same : is_collecting w ≡ running) → inspected w operand ≡ (unless (not running) in_collection >>= (λ _. Ok (object_from store.rows o there.node)))
+      after_object : (w : World) → HeapAndLocalsStandFor store locals w → (same : is_collecting w ≡ running) → inspected w operand
+          ≡ (unless (not running) in_collection >>= (λ _. Ok (object_from store.rows o there.node)))
       unfolding ◌>>=◌
       after_object w s same =
           after_value w s
@@ -100,11 +101,13 @@ module _ (store : Store) (running : Bool) (locals : Option Locals) (operand : Op
       after_inspected w s same = sym (in_parts w) ∙ ap (λ q. q >>= k w) (there.is w s same)
 
       -- a list
-      pub lists_lines : (lines : List Event) → ((w : World) → HeapAndLocalsStandFor store locals w → k w (object_from store.rows o there.node) ≡ Ok (Changes true lines [] w)) → Inspects store running locals whole (Ok (Tells lines))
+      pub lists_lines : (lines : List Event) → ((w : World) → HeapAndLocalsStandFor store locals w → k w (object_from store.rows o there.node)
+          ≡ Ok (Changes true lines [] w)) → Inspects store running locals whole (Ok (Tells lines))
       lists_lines lines does w s same = (inl (record { wants_memory = true; after = w; is = after_inspected w s same ∙ does w s; represents = released-none store w s.represents }), refl)
 
       -- a reason
-      pub tells_reason : ((w : World) → k w (object_from store.rows o there.node) ≡ Ok (Explains o)) → (reason : Why) → IsReason store o reason → (lines : List Event) → lines ≡ reason_lines reason → Inspects store running locals whole (Ok (Tells lines))
+      pub tells_reason : ((w : World) → k w (object_from store.rows o there.node) ≡ Ok (Explains o)) → (reason : Why) → IsReason store o reason
+          → (lines : List Event) → lines ≡ reason_lines reason → Inspects store running locals whole (Ok (Tells lines))
       tells_reason does reason is_reason lines tells w s same = (inr (record { object = o; is = after_inspected w s same ∙ does w; reason = reason; is_reason = is_reason; tells = tells }), refl)
 
       -- memory was refused
@@ -116,5 +119,6 @@ pub lists_memory : (w : World) (line : ℕ → Event) (objects : List ℕ) → W
 lists_memory w line objects = inl (record { lines = map line objects ++ Listed (length objects) ∷ []; given_up = []; after = w; is = refl })
 
 -- whose lines are these.
-pub lists_these : (w : World) (line : ℕ → Event) (objects told : List ℕ) → told ≡ objects → (lines : List Event) → lines ≡ map line told ++ Listed (length told) ∷ [] → lists w line objects ≡ Ok (Changes true lines [] w)
+pub lists_these : (w : World) (line : ℕ → Event) (objects told : List ℕ) → told ≡ objects → (lines : List Event) → lines ≡ map line told ++ Listed (length told)
+    ∷ [] → lists w line objects ≡ Ok (Changes true lines [] w)
 lists_these w line objects told same lines is = ap (λ os. lists w line os) (sym same) ∙ ap (λ ls. Ok (Changes true ls [] w)) (sym is)

@@ -20,6 +20,7 @@ pub value_somewhere : (es : List Entry) (key v : Val) → value_at es key ≡ So
 value_somewhere [] key v at = absurd (cc)
 value_somewhere (x ∷ es) key v at = by (same_value x.key key) at (value_somewhere es key v)
   where
-    by : (b : Bool) → cond b (Some x.val) (value_at es key) ≡ Some v → (value_at es key ≡ Some v → (i : ℕ) × ((e : Entry) × ((slice_get es i ≡ Some e) × (e.val ≡ v)))) → (i : ℕ) × ((e : Entry) × ((slice_get (x ∷ es) i ≡ Some e) × (e.val ≡ v)))
+    by : (b : Bool) → cond b (Some x.val) (value_at es key) ≡ Some v → (value_at es key ≡ Some v → (i : ℕ)
+        × ((e : Entry) × ((slice_get es i ≡ Some e) × (e.val ≡ v)))) → (i : ℕ) × ((e : Entry) × ((slice_get (x ∷ es) i ≡ Some e) × (e.val ≡ v)))
     by true h again = (0, (x, (refl, some_value x.val v h)))
     by false h again = let (i, (e, (there, is))) = again h in (suc i, (e, (there, is)))

@@ -1,12 +1,12 @@
 mod KeyLemmas
 mod Chains
 mod Reading
-pub mod Bridges
+pub mod ChangesOfHeaps
 mod BindingLemmas
 mod Steps
 mod QueryLemmas
 mod Inspecting
-pub mod Explaining
+pub mod WhyLemmas
 mod LookupLemmas
 pub mod Limits
 mod EntryLemmas
@@ -15,7 +15,7 @@ mod TextLemmas
 mod PartLemmas
 mod NewObjects
 mod MakeLemmas
-pub mod Growing
+pub mod GrowthOfHeaps
 mod Replacing
 mod Sizing
 mod Counting

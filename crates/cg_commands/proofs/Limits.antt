@@ -33,11 +33,13 @@ module _ (rows : List Row) (F : Object → ℕ) (f : Node → ℕ) (same : (s : 
       ∙ (λ i. same e.0 e.1 i + sum-others es i)
       ∙ go (e.0 == 1)
     where
-      go : (b : Bool) → (if b then 0 else f e.1) + sum_by (λ (e : ℕ × Node). f e.1) (filter (λ e. not (e.0 == 1)) es) ≡ sum_by (λ (e : ℕ × Node). f e.1) (cond (not b) (e ∷ filter (λ e. not (e.0 == 1)) es) (filter (λ e. not (e.0 == 1)) es))
+      go : (b : Bool) → (if b then 0 else f e.1) + sum_by (λ (e : ℕ × Node). f e.1) (filter (λ e. not (e.0 == 1)) es) ≡ sum_by (λ (e : ℕ × Node). f e.1)
+          (cond (not b) (e ∷ filter (λ e. not (e.0 == 1)) es) (filter (λ e. not (e.0 == 1)) es))
       go true = omega arith
       go false = sym (sum_by-cons {X = ℕ × Node} (λ e. f e.1) e (filter (λ e. not (e.0 == 1)) es))
 
-others-total : (store : Store) (w : World) → Represents store w → (F : Object → ℕ) (f : Node → ℕ) → ((s : ℕ) (n : Node) → F (object_from store.rows s n) ≡ (if s == 1 then 0 else f n)) → sum_by F w.objects ≡ total f (fin.remove store.nodes 1)
+others-total : (store : Store) (w : World) → Represents store w → (F : Object → ℕ) (f : Node → ℕ) → ((s : ℕ) (n : Node) → F (object_from store.rows s n)
+    ≡ (if s == 1 then 0 else f n)) → sum_by F w.objects ≡ total f (fin.remove store.nodes 1)
 others-total store w r F f same =
     ap (λ os. sum_by F os) (sym r.objects)
     ∙ sum-others store.rows F f same (fin.entries store.nodes)
@@ -50,7 +52,8 @@ one_or_none false = refl
 pub live-number : (store : Store) (w : World) → Represents store w → IsSound store → live w ≡ object_number store
 live-number store w r sound =
     let here : part one (fin.get store.nodes 1) ≡ 1 = ap (part one) sound.root.1 in
-    let all : sum_by (λ (x : Object). cond (not (x.serial == 1)) 1 0) w.objects ≡ total one (fin.remove store.nodes 1) = others-total store w r (λ x. cond (not (x.serial == 1)) 1 0) one (λ s n. one_or_none (s == 1)) in
+    let all : sum_by (λ (x : Object). cond (not (x.serial == 1)) 1 0) w.objects ≡ total one (fin.remove store.nodes 1) =
+    others-total store w r (λ x. cond (not (x.serial == 1)) 1 0) one (λ s n. one_or_none (s == 1)) in
     let rest = total-remove one store.nodes 1 in
     all ∙ omega (arith, here, rest)
 
@@ -89,7 +92,9 @@ one_fits store x limit = known (leb_tells 4000000 (entry_number store))
     known (inr h) = omega (arith, h.1)
 
 -- It refused it.
-pub fault-refused : {X : Type 0} (store : Store) (locals : Option Locals) (f : HeapFault) (lines : List Event) (given : List ℕ) (after : World → World) (refused_here : Result X HeapFault) → refused_here ≡ Err f → ((refused_here ≡ Err fault.EntryLimit) ↔ (4000000 ≤ entry_number store)) → refused_here ≢ Err fault.ObjectLimit
+pub fault-refused : {X : Type 0} (store : Store) (locals : Option Locals) (f : HeapFault) (lines : List Event) (given : List ℕ) (after : World → World)
+    (refused_here : Result X HeapFault) → refused_here ≡ Err f → ((refused_here ≡ Err fault.EntryLimit) ↔ (4000000 ≤ entry_number store))
+    → refused_here ≢ Err fault.ObjectLimit
     → (new : Store) → new ≡ store → PerformsOnHeap store locals (λ w. has_room w 1 >>= (λ _. Ok (Changes true lines given (after w)))) new (Err (refusal_by f))
 unfolding ◌>>=◌
 fault-refused store locals fault.ObjectLimit lines given after r is limit objects new same = absurd (objects is)

@@ -16,5 +16,7 @@ pub deref-live : (store : Store) → IsSound store → (weak o : ℕ) → Some o
 deref-live store sound weak o is s e = let same : o ≡ s = cc in subst (λ q. IsLive store q) same (refers_live store sound.rows weak o (sym is)).1
 
 -- the value that a name gets
-pub bound-referent : (store new : Store) (locals : Option Locals) (name : ℕ) (referent found : Option ℕ) (answer : Result Done Refusal) → found ≡ referent → PerformsOnHeap store locals (λ w. binds w name (elim found [ None ↦ val.None | Some o ↦ val.Ref o ])) new answer → PerformsOnHeap store locals (λ w. binds w name (elim referent [ None ↦ val.None | Some o ↦ val.Ref o ])) new answer
+pub bound-referent : (store new : Store) (locals : Option Locals) (name : ℕ) (referent found : Option ℕ) (answer : Result Done Refusal) → found ≡ referent
+    → PerformsOnHeap store locals (λ w. binds w name (elim found [ None ↦ val.None | Some o ↦ val.Ref o ])) new answer → PerformsOnHeap store locals
+    (λ w. binds w name (elim referent [ None ↦ val.None | Some o ↦ val.Ref o ])) new answer
 bound-referent store new locals name referent found answer is done = subst (λ r. PerformsOnHeap store locals (λ w. binds w name (elim r [ None ↦ val.None | Some o ↦ val.Ref o ])) new answer) is done

@@ -28,7 +28,7 @@ use Rattle.cg_commands.specs.declared.done.Done.TheVariants.{Changed}
 use Rattle.cg_commands.specs.declared.locals.Locals.{Locals}
 use Rattle.cg_commands.specs.Refusals.{refusal_by}
 use Rattle.cg_commands.specs.Answers.{PerformsOnHeap}
-use Rattle.cg_commands.proofs.Bridges.{gives_up, renamed}
+use Rattle.cg_commands.proofs.ChangesOfHeaps.{gives_up, renamed}
 use Rattle.cg_commands.proofs.BindingLemmas.{given-up_by, was_live}
 use Rattle.cg_commands.proofs.Limits.{room, no_room, live-number}
 use Rattle.cg_commands.proofs.NewObjects.{represents-new}
@@ -68,7 +68,9 @@ module _ (store : Store) (sound : IsSound store) (locals : Option Locals) (name 
   made_total holds = let low : outside_total store < 2147483646 = holds in omega (arith, total-made code class parts store, low)
 
   abbrev effect_with : World → Result (Unit {0}) ℕ → Result (Unit {0}) ℕ → Result Effect ℕ
-  effect_with w first second = first >>= (λ _. second >>= (λ _. Ok (Changes true (Made code w.next_serial ∷ []) (given_up_by w name) (bound (with_new w code class parts referent) name (Some (val.Ref w.next_serial))))))
+  effect_with w first second =
+      first >>= (λ _. second >>= (λ _. Ok (Changes true (Made code w.next_serial ∷ []) (given_up_by w name) (bound (with_new w code class parts referent) name
+      (Some (val.Ref w.next_serial))))))
 
   abbrev checked : World → Result Effect ℕ
   checked w = Ok (Changes true (Made code w.next_serial ∷ []) (given_up_by w name) (bound (with_new w code class parts referent) name (Some (val.Ref w.next_serial))))
@@ -77,16 +79,20 @@ module _ (store : Store) (sound : IsSound store) (locals : Option Locals) (name 
   unfolding ◌>>=◌
   fits objects entries w r = λ i. effect_with w (few store w r sound objects i) (room store w r (length parts) entries i)
 
-  pub makes-performs : (n : ℕ) → n ≡ serial → (was : Option Val) → slice_get store.names name ≡ Some was → (e : Entry) → entry_references e ≡ references_of_value was → (mid new : Store) → mid ≡ made_store → new ≡ held (references_of_value was) (named name (Some (val.Ref n)) (unheld (n ∷ []) mid))
+  pub makes-performs : (n : ℕ) → n ≡ serial → (was : Option Val) → slice_get store.names name ≡ Some was → (e : Entry) → entry_references e
+      ≡ references_of_value was → (mid new : Store) → mid ≡ made_store → new ≡ held (references_of_value was)
+      (named name (Some (val.Ref n)) (unheld (n ∷ []) mid))
       → ((Ok n ≡ Err fault.ObjectLimit) ↔ (1000000 ≤ object_number store)) → ((Ok n ≡ Err fault.EntryLimit) ↔ ((object_number store < 1000000) × (4000000 < entry_number store + length parts)))
       → PerformsOnHeap store locals (λ w. makes w name code class parts referent) new (Ok (Changed (Some (Made code n)) e))
   makes-performs n same was at e entry mid new is now objects entries w s =
-      gives_up _ (Some (Made code n)) e true (references_of_value was) (named name (Some (val.Ref n)) (unheld (n ∷ []) mid)) (bound (with_new w code class parts referent) name (Some (val.Ref n))) store new
+      gives_up _ (Some (Made code n)) e true (references_of_value was) (named name (Some (val.Ref n)) (unheld (n ∷ []) mid))
+      (bound (with_new w code class parts referent) name (Some (val.Ref n))) store new
       (fits few_objects few_entries w s.represents
       ∙ (λ i. Ok (Changes true (Made code (next i) ∷ []) (given-up_by store sound locals name was at w s.represents i) (bound (with_new w code class parts referent) name (Some (val.Ref (next i)))))))
       entry now
       (renamed (unheld (n ∷ []) mid) (with_new w code class parts referent)
-      (subst (λ st. Represents st (with_new w code class parts referent)) (sym (λ i. unheld (same i ∷ []) (is i))) (represents-new store w s.represents sound code class parts referent)) name (Some (val.Ref n)))
+      (subst (λ st. Represents st (with_new w code class parts referent)) (sym (λ i. unheld (same i ∷ []) (is i))) (represents-new store w s.represents sound
+      code class parts referent)) name (Some (val.Ref n)))
       (λ q some. subst (λ st. IsLive st q) (sym (λ i. named name (Some (val.Ref n)) (unheld (same i ∷ []) (is i))))
       (lives_on made_store (unheld (serial ∷ []) made_store) (kinds-unheld (serial ∷ []) made_store) q
       (lives_on store (made code class parts store) (kinds-made code class parts store sound.below) q (was_live store sound locals name was at q some))))
@@ -104,11 +110,13 @@ module _ (store : Store) (sound : IsSound store) (locals : Option Locals) (name 
       few_entries : entry_number store + length parts ≤ 4000000
       few_entries = known (leb_tells (entry_number store + length parts) 4000000)
         where
-          known : {b : Bool} → ((b ≡ true) × (entry_number store + length parts ≤ 4000000)) ⊎ ((b ≡ false) × (4000000 < entry_number store + length parts)) → entry_number store + length parts ≤ 4000000
+          known : {b : Bool} → ((b ≡ true) × (entry_number store + length parts ≤ 4000000)) ⊎ ((b ≡ false) × (4000000 < entry_number store + length parts))
+              → entry_number store + length parts ≤ 4000000
           known (inl h) = h.1
           known (inr h) = let no' = entries.1 (few_objects, h.1) in absurd (cc)
 
-  pub makes-refused : {X : Type 0} (f : HeapFault) (r : Result X HeapFault) → r ≡ Err f → ((r ≡ Err fault.ObjectLimit) ↔ (1000000 ≤ object_number store)) → ((r ≡ Err fault.EntryLimit) ↔ ((object_number store < 1000000) × (4000000 < entry_number store + length parts)))
+  pub makes-refused : {X : Type 0} (f : HeapFault) (r : Result X HeapFault) → r ≡ Err f → ((r ≡ Err fault.ObjectLimit) ↔ (1000000 ≤ object_number store))
+      → ((r ≡ Err fault.EntryLimit) ↔ ((object_number store < 1000000) × (4000000 < entry_number store + length parts)))
       → (new : Store) → new ≡ store → PerformsOnHeap store locals (λ w. makes w name code class parts referent) new (Err (refusal_by f))
   unfolding ◌>>=◌
   makes-refused fault.ObjectLimit r is objects entries new same = λ w s.
@@ -136,7 +144,8 @@ module _ (store : Store) (sound : IsSound store) (locals : Option Locals) (name 
       few_entries : entry_number store + length parts ≤ 4000000
       few_entries = known (leb_tells (entry_number store + length parts) 4000000)
         where
-          known : {b : Bool} → ((b ≡ true) × (entry_number store + length parts ≤ 4000000)) ⊎ ((b ≡ false) × (4000000 < entry_number store + length parts)) → entry_number store + length parts ≤ 4000000
+          known : {b : Bool} → ((b ≡ true) × (entry_number store + length parts ≤ 4000000)) ⊎ ((b ≡ false) × (4000000 < entry_number store + length parts))
+              → entry_number store + length parts ≤ 4000000
           known (inl h) = h.1
           known (inr h) = let no' = sym is ∙ entries.1 (few_objects, h.1) in absurd (cc)
 

@@ -77,11 +77,13 @@ module _ (store : Store) (w : World) (r : Represents store w) (sound : IsSound s
 
     own : (x : Option ℕ) → referent_in (with_new_row s x store.rows) s ≡ x
     own None = ap (option_map (λ r. r.referent)) (find-fresh s store.rows below_rows)
-    own (Some t) = ap (option_map (λ r. r.referent)) (find-last (λ r. (r.weak == s) && not r.waits) store.rows (new_row s t) (ap (λ b. b && true) (eq-eqb s s refl)) (find-fresh s store.rows below_rows))
+    own (Some t) = ap (option_map (λ r. r.referent)) (find-last (λ r. (r.weak == s) && not r.waits) store.rows (new_row s t)
+        (ap (λ b. b && true) (eq-eqb s s refl)) (find-fresh s store.rows below_rows))
 
     others : (x : Option ℕ) (q : ℕ) → q < s → referent_in (with_new_row s x store.rows) q ≡ referent_in store.rows q
     others None q low = refl
-    others (Some t) q low = ap (option_map (λ r. r.referent)) (find-keeps (λ r. (r.weak == q) && not r.waits) store.rows (new_row s t) (ap (λ b. b && true) (ne_eqb s q (λ e. absurd (omega (arith, low, e))))))
+    others (Some t) q low = ap (option_map (λ r. r.referent)) (find-keeps (λ r. (r.weak == q) && not r.waits) store.rows (new_row s t)
+        (ap (λ b. b && true) (ne_eqb s q (λ e. absurd (omega (arith, low, e))))))
 
     waits-kept : (x : Option ℕ) (o : ℕ) → waiting_in (with_new_row s x store.rows) o ≡ waiting_in store.rows o
     waits-kept None o = refl
@@ -89,18 +91,36 @@ module _ (store : Store) (w : World) (r : Represents store w) (sound : IsSound s
 
     waiting-old : (x : Option ℕ) (row : Row) → Includes (with_new_row s x store.rows) row → row.waits ≡ true → Includes store.rows row
     waiting-old None row m waits = m
-    waiting-old (Some t) row m waits = either (Includes-append_cases store.rows (new_row s t ∷ []) row m) (λ h. h) (λ h. either h (λ e. let same : false ≡ row.waits = ap (λ (r : Row). r.waits) e in cc) (λ k. absurd k))
+    waiting-old (Some t) row m waits = either (Includes-append_cases store.rows (new_row s t ∷ []) row m) (λ h. h)
+        (λ h. either h (λ e. let same : false ≡ row.waits = ap (λ (r : Row). r.waits) e in cc) (λ k. absurd k))
 
-    same-rows : (es : List (ℕ × Node)) → ((q : ℕ) → IsSome (fin.find nat_cmp q es) → q < s) → map (λ (e : ℕ × Node). object_from rows e.0 e.1) es ≡ map (λ (e : ℕ × Node). object_from store.rows e.0 e.1) es
+    same-rows : (es : List (ℕ × Node)) → ((q : ℕ) → IsSome (fin.find nat_cmp q es) → q < s) → map (λ (e : ℕ × Node). object_from rows e.0 e.1) es
+        ≡ map (λ (e : ℕ × Node). object_from store.rows e.0 e.1) es
     same-rows [] below = refl
     same-rows (e ∷ es) below =
         let first : e.0 < s = below e.0 (subst (λ b. IsSome (cond b (Some e.1) (fin.find nat_cmp e.0 es))) (sym (unsigned_tied e.0 e.0 ∙ eq-eqb e.0 e.0 refl)) refl) in
-        (λ i. record { serial = e.0; code = e.1.code; class = e.1.class; entries = e.1.entries; place = e.1.place; finalized = e.1.finalized; referent = others referent e.0 first i } ∷ same-rows es (λ q h. below q (later q h)) i)
+        (λ i. record {
+          serial = e.0;
+          code = e.1.code;
+          class = e.1.class;
+          entries = e.1.entries;
+          place = e.1.place;
+          finalized = e.1.finalized;
+          referent = others referent e.0 first i;
+        } ∷ same-rows es (λ q h. below q (later q h)) i)
       where
         later : (q : ℕ) → IsSome (fin.find nat_cmp q es) → IsSome (fin.find nat_cmp q (e ∷ es))
         later q h = elim (eq_by_cmp nat_cmp q e.0) as (λ b. IsSome (cond b (Some e.1) (fin.find nat_cmp q es))) [ true ↦ refl | false ↦ h ]
 
-    object-new : object_from rows s (new_node code class parts) ≡ record { serial = w.next_serial; code = code; class = class; entries = parts; place = first_place code; finalized = false; referent = referent }
+    object-new : object_from rows s (new_node code class parts) ≡ record {
+      serial = w.next_serial;
+      code = code;
+      class = class;
+      entries = parts;
+      place = first_place code;
+      finalized = false;
+      referent = referent;
+    }
     object-new i = record { serial = sym r.next_serial i; code = code; class = class; entries = parts; place = first_place code; finalized = false; referent = own referent i }
 
     objects-after : objects_of after ≡ (with_new w code class parts referent).objects

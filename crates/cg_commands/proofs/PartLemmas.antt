@@ -23,7 +23,7 @@ use Rattle.cg_commands.specs.Refusals.{Declines}
 use Rattle.cg_commands.specs.Stands.{Reads, IsRefused}
 use Rattle.cg_commands.specs.Objects.{RefersTo, HasNoObject}
 use Rattle.cg_commands.specs.Parts.{Gathers, IsCallback}
-use Rattle.cg_commands.proofs.Chains.{declines_then}
+use Rattle.cg_commands.proofs.FirstRefusal.{declines_then}
 use Rattle.cg_commands.proofs.Reading.{object-found}
 
 -- the values of two lists of operands
@@ -45,7 +45,9 @@ values-append w (x ∷ xs) ys = first (values-append w xs ys) (value w x)
     second v (Ok vs) q = third v vs q
     second v (Err e) q = refl
 
-    first : values w (xs ++ ys) ≡ (values w xs >>= (λ vs. values w ys >>= (λ us. Ok (vs ++ us)))) → (r : Result Val ℕ) → (r >>= (λ v. values w (xs ++ ys) >>= (λ vs. Ok (v ∷ vs)))) ≡ ((r >>= (λ v. values w xs >>= (λ vs. Ok (v ∷ vs)))) >>= (λ vs. values w ys >>= (λ us. Ok (vs ++ us))))
+    first : values w (xs ++ ys) ≡ (values w xs >>= (λ vs. values w ys >>= (λ us. Ok (vs ++ us)))) → (r : Result Val ℕ)
+        → (r >>= (λ v. values w (xs ++ ys) >>= (λ vs. Ok (v ∷ vs))))
+        ≡ ((r >>= (λ v. values w xs >>= (λ vs. Ok (v ∷ vs)))) >>= (λ vs. values w ys >>= (λ us. Ok (vs ++ us))))
     first rest (Ok v) = ap (λ q. q >>= (λ vs. Ok (v ∷ vs))) rest ∙ second v (values w xs) (values w ys)
     first rest (Err e) = refl
 
@@ -57,7 +59,8 @@ module _ (store : Store) (locals : Option Locals) where
   map-item [] v = refl
   map-item (u ∷ vs) v = ap (λ l. item u ∷ l) (map-item vs v)
 
-  pub gathers-more : (ops : List Operand) (parts : List Entry) → Gathers store locals ops parts → (op : Operand) (v : Val) → Reads store locals (λ w. value w op) v → IsLiveValue store v → Gathers store locals (ops ++ op ∷ []) (parts ++ item v ∷ [])
+  pub gathers-more : (ops : List Operand) (parts : List Entry) → Gathers store locals ops parts → (op : Operand) (v : Val)
+      → Reads store locals (λ w. value w op) v → IsLiveValue store v → Gathers store locals (ops ++ op ∷ []) (parts ++ item v ∷ [])
   unfolding ◌>>=◌
   gathers-more ops parts g op v reads live = record {
     vals = g.vals ++ v ∷ [];
@@ -69,14 +72,16 @@ module _ (store : Store) (locals : Option Locals) where
     live = λ s some. lives s (push-item s parts v) some;
   }
     where
-      lives : (s : ℕ) → occurrences s (references (parts ++ item v ∷ [])) ≡ occurrences s (references parts) + occurrences s (references_of_value (Some v)) → 0 < occurrences s (references (parts ++ item v ∷ [])) → IsLive store s
+      lives : (s : ℕ) → occurrences s (references (parts ++ item v ∷ [])) ≡ occurrences s (references parts) + occurrences s (references_of_value (Some v))
+          → 0 < occurrences s (references (parts ++ item v ∷ [])) → IsLive store s
       lives s split some = elim (cases_eq (occurrences s (references parts)) 0) [
         | inl none ↦ live s (refs-are v s (omega (arith, split, some, none)))
         | inr there ↦ g.live s (omega (arith, there))
       ]
 
   -- the first operand without a value is refused
-  pub gathers-stop : (front : List Operand) (parts : List Entry) → Gathers store locals front parts → (op : Operand) (rest ops : List Operand) → ops ≡ front ++ op ∷ rest → (r : Refusal) → IsRefused store locals (λ w. value w op) r → IsRefused store locals (λ w. values w ops) r
+  pub gathers-stop : (front : List Operand) (parts : List Entry) → Gathers store locals front parts → (op : Operand) (rest ops : List Operand) → ops ≡ front
+      ++ op ∷ rest → (r : Refusal) → IsRefused store locals (λ w. value w op) r → IsRefused store locals (λ w. values w ops) r
   unfolding ◌>>=◌
   gathers-stop front parts g op rest ops is r refuses w s =
       subst (λ q. Declines r q)
@@ -89,7 +94,8 @@ module _ (store : Store) (locals : Option Locals) where
   callback-is w (val.Str n) other = refl
   callback-is w (val.Ref o) other = refl
 
-  pub callback-function : (v : Val) (o : ℕ) → RefersTo store is_function v o → (v ≡ val.None → ⊥) → IsLiveValue store v → (parts : List Entry) → parts ≡ [] ++ item v ∷ [] → IsCallback store locals v parts
+  pub callback-function : (v : Val) (o : ℕ) → RefersTo store is_function v o → (v ≡ val.None → ⊥) → IsLiveValue store v → (parts : List Entry) → parts ≡ []
+      ++ item v ∷ [] → IsCallback store locals v parts
   unfolding ◌>>=◌
   callback-function v o there other live parts is = subst (λ ps. IsCallback store locals v ps) (sym is) (record {
     vals = v ∷ [];

@@ -37,7 +37,7 @@ use Rattle.cg_commands.specs.declared.locals.Locals.{Locals}
 use Rattle.cg_commands.specs.Refusals.{refusal_by}
 use Rattle.cg_commands.specs.Objects.{RefersTo}
 use Rattle.cg_commands.specs.Answers.{PerformsOnHeap}
-use Rattle.cg_commands.proofs.Bridges.{gives_up, released, refilled, tracked, change-alike}
+use Rattle.cg_commands.proofs.ChangesOfHeaps.{gives_up, released, refilled, tracked, change-alike}
 use Rattle.cg_commands.proofs.Reading.{object-at_node}
 use Rattle.cg_commands.proofs.Limits.{room, fault-refused}
 
@@ -52,7 +52,8 @@ index_is (pos n) len i h = known (nat_lt n len) (leb_tells (suc n) len) h
     known false t h = cc
 
 -- the items of a list have no keys
-pub item_alone : (store : Store) → IsSound store → (o : ℕ) (n : Node) → fin.get store.nodes o ≡ Some n → n.code ≡ kind.List → (i : ℕ) (e : Entry) → i < length n.entries → get_or n.entries i e ≡ e → entry_references e ≡ references_of_value (Some e.val)
+pub item_alone : (store : Store) → IsSound store → (o : ℕ) (n : Node) → fin.get store.nodes o ≡ Some n → n.code ≡ kind.List → (i : ℕ) (e : Entry)
+    → i < length n.entries → get_or n.entries i e ≡ e → entry_references e ≡ references_of_value (Some e.val)
 item_alone store sound o n found list i e within at =
     let well : IsWellMade n = subst IsWellMadeAt found (sound.well o) in
     let none : (get_or n.entries i e).key ≡ val.None = well.items list i e within in
@@ -70,7 +71,8 @@ module _ (store : Store) (sound : IsSound store) (locals : Option Locals) (test 
   code-is = ap (λ (x : Option Node). elim x [ None ↦ kind.List | Some n ↦ n.code ]) there.found
 
   -- the item at an index of a list is replaced
-  pub sets : there.node.code ≡ kind.List → (z : ℤ) (i : ℕ) (e : Entry) (value : Val) (was : Option Val) (e' : Entry) (new : Store) → z ≡ pos i → i < length (entries_of store o) → slice_get (entries_of store o) i ≡ Some e
+  pub sets : there.node.code ≡ kind.List → (z : ℤ) (i : ℕ) (e : Entry) (value : Val) (was : Option Val) (e' : Entry) (new : Store) → z ≡ pos i
+      → i < length (entries_of store o) → slice_get (entries_of store o) i ≡ Some e
       → new ≡ tracked_if (becomes_tracked store o (val.Int z) value) o (with_put store o (val.Int z) value) → was ≡ value_in store o (val.Int z) → entry_references e' ≡ references_of_value was
       → PerformsOnHeap store locals (λ w. sets_entries w x (set there.node.entries i (item value)) (entry_references e)) new (Ok (Changed None e'))
   sets list z i e value was e' new at within here is told refs w s =
@@ -78,7 +80,8 @@ module _ (store : Store) (sound : IsSound store) (locals : Option Locals) (test 
       (refs ∙ ap references_of_value (told ∙ found_value) ∙ sym alone)
       (is ∙ untouched ∙ (λ j. held (references_of_value (found_value j)) (rewritten o (after j) store)) ∙ ap (λ rs. held rs (rewritten o (set there.node.entries i (item value)) store)) (sym alone))
       (refilled store w s.represents o (set there.node.entries i (item value)))
-      (λ q some. lives_on store (rewritten o (set there.node.entries i (item value)) store) (kinds-rewritten o (set there.node.entries i (item value)) store) q (sound.live q (omega (arith, some, entry_holds store o i e here q))))
+      (λ q some. lives_on store (rewritten o (set there.node.entries i (item value)) store) (kinds-rewritten o (set there.node.entries i (item value)) store) q
+      (sound.live q (omega (arith, some, entry_holds store o i e here q))))
     where
       within_node : i < length there.node.entries
       within_node = subst (λ (es : List Entry). i < length es) entries-here within
@@ -124,7 +127,8 @@ value_at-le : (s : ℕ) (es : List Entry) (key : Val) → occurrences s (referen
 value_at-le s [] key = omega arith
 value_at-le s (e ∷ es) key = go (value_at-le s es key) (same_value e.key key)
   where
-    go : occurrences s (references_of_value (value_at es key)) ≤ occurrences s (references es) → (b : Bool) → occurrences s (references_of_value (if b then Some e.val else value_at es key)) ≤ occurrences s (references (e ∷ es))
+    go : occurrences s (references_of_value (value_at es key)) ≤ occurrences s (references es) → (b : Bool)
+        → occurrences s (references_of_value (if b then Some e.val else value_at es key)) ≤ occurrences s (references (e ∷ es))
     go rest true = omega (arith, occurrences-append s (entry_references e) (references es), occurrences-append s (option_to_list (reference_in e.val)) (option_to_list (reference_in e.key)))
     go rest false = omega (arith, occurrences-append s (entry_references e) (references es), rest)
 
@@ -152,7 +156,8 @@ may-track store w r (val.Ref s) =
     known None = refl
     known (Some n) = by_code n.code n.place
 
-module _ (store : Store) (sound : IsSound store) (locals : Option Locals) (test : Object → Bool) (v : Val) (o : ℕ) (there : RefersTo store test v o) (keyed : IsKeyed there.node.code) (key value : Val) where
+module _ (store : Store) (sound : IsSound store) (locals : Option Locals) (test : Object → Bool) (v : Val) (o : ℕ) (there : RefersTo store test v o)
+    (keyed : IsKeyed there.node.code) (key value : Val) where
   abbrev n : Node
   n = there.node
 
@@ -179,7 +184,10 @@ module _ (store : Store) (sound : IsSound store) (locals : Option Locals) (test 
   puts_with old w = (if is_some old then Ok tt else has_room w 1) >>= (λ _. Ok (Changes (is_none old) [] (references_of_value old) (changed_world w)))
 
   -- refused for room or memory, if the key is new
-  pub puts-refused : {X : Type 0} (f : HeapFault) (r : Result X HeapFault) → r ≡ Err f → ((r ≡ Err fault.EntryLimit) ↔ ((value_in store o key ≡ None) × (4000000 ≤ entry_number store))) → r ≢ Err fault.ObjectLimit → (IsSome (value_in store o key) → IsOk r) → (new : Store) → new ≡ store → PerformsOnHeap store locals (λ w. puts w (object_from store.rows o n) key value) new (Err (refusal_by f))
+  pub puts-refused : {X : Type 0} (f : HeapFault) (r : Result X HeapFault) → r ≡ Err f
+      → ((r ≡ Err fault.EntryLimit) ↔ ((value_in store o key ≡ None) × (4000000 ≤ entry_number store))) → r ≢ Err fault.ObjectLimit
+      → (IsSome (value_in store o key) → IsOk r) → (new : Store) → new ≡ store → PerformsOnHeap store locals (λ w. puts w (object_from store.rows o n) key
+      value) new (Err (refusal_by f))
   puts-refused f r is limit objects present new same = subst (λ old. PerformsOnHeap store locals (λ w. puts_with old w) new (Err (refusal_by f))) (sym none ∙ under)
       (fault-refused store locals f [] [] changed_world r is (λ h. (limit.0 h).1, λ h. limit.1 (none, h)) objects new same)
     where
@@ -248,9 +256,12 @@ module _ (store : Store) (sound : IsSound store) (locals : Option Locals) (test 
     change-twice f g same [] = refl
     change-twice f g same (y ∷ ys) = (λ j. one (y.serial == o) refl j ∷ change-twice f g same ys j)
       where
-        one : (b : Bool) → (y.serial == o) ≡ b → (if (if (y.serial == o) then g y else y).serial == o then f (if (y.serial == o) then g y else y) else (if (y.serial == o) then g y else y)) ≡ (if (y.serial == o) then f (g y) else y)
-        one true is = (λ j. if (if is j then g y else y).serial == o then f (if is j then g y else y) else (if is j then g y else y)) ∙ ap (λ b. if b then f (g y) else g y) (ap (λ k. k == o) (same y) ∙ is) ∙ sym (ap (λ b. if b then f (g y) else y) is)
-        one false is = (λ j. if (if is j then g y else y).serial == o then f (if is j then g y else y) else (if is j then g y else y)) ∙ ap (λ b. if b then f y else y) is ∙ sym (ap (λ b. if b then f (g y) else y) is)
+        one : (b : Bool) → (y.serial == o) ≡ b → (if (if (y.serial == o) then g y else y).serial == o then f (if (y.serial == o) then g y else y)
+            else (if (y.serial == o) then g y else y)) ≡ (if (y.serial == o) then f (g y) else y)
+        one true is = (λ j. if (if is j then g y else y).serial == o then f (if is j then g y else y) else (if is j then g y else y))
+            ∙ ap (λ b. if b then f (g y) else g y) (ap (λ k. k == o) (same y) ∙ is) ∙ sym (ap (λ b. if b then f (g y) else y) is)
+        one false is = (λ j. if (if is j then g y else y).serial == o then f (if is j then g y else y) else (if is j then g y else y))
+            ∙ ap (λ b. if b then f y else y) is ∙ sym (ap (λ b. if b then f (g y) else y) is)
 
     abbrev tracks : Bool → Object → Object
     tracks b y = if b then object_with_place (Gen 0) y else y
@@ -285,7 +296,8 @@ module _ (store : Store) (sound : IsSound store) (locals : Option Locals) (test 
 
         untracked : place_of (held refs filled) o ≡ Untracked
         untracked =
-            ap place_in (get-mapped (λ s n. more (occurrences s refs) n) filled.nodes o ∙ ap (option_map (more (occurrences o refs))) (get-changed_same (node_with_entries es) o store.nodes o refl ∙ ap (option_map (node_with_entries es)) there.found))
+            ap place_in (get-mapped (λ s n. more (occurrences s refs) n) filled.nodes o ∙ ap (option_map (more (occurrences o refs)))
+            (get-changed_same (node_with_entries es) o store.nodes o refl ∙ ap (option_map (node_with_entries es)) there.found))
             ∙ untracked_place n.place (place n.code was)
     moved-if false is = subst (λ os. Represents (held refs filled) (record before { objects = os })) (sym (change-none before.objects)) first
 
@@ -294,7 +306,9 @@ module _ (store : Store) (sound : IsSound store) (locals : Option Locals) (test 
     world-is =
         change-twice (tracks now) (with_entries es) (λ y. refl) w.objects
         ∙ subst (λ os. change (λ y. tracks now (with_entries es y)) o os ≡ change (λ y. tracked_by w key value (with_entries es y)) o os) r.objects
-        (change-alike store o n (λ m. put_at now m) (λ m. put_at (becomes w m) m) (λ y. tracks now (with_entries es y)) (λ y. tracked_by w key value (with_entries es y)) (λ s m. placed now s m) (λ s m. placed (becomes w m) s m) there.found (ap (λ b. put_at b n) (sym (becomes-told w r))))
+        (change-alike store o n (λ m. put_at now m) (λ m. put_at (becomes w m) m) (λ y. tracks now (with_entries es y))
+        (λ y. tracked_by w key value (with_entries es y)) (λ s m. placed now s m) (λ s m. placed (becomes w m) s m) there.found
+        (ap (λ b. put_at b n) (sym (becomes-told w r))))
       where
         put_at : Bool → Node → Node
         put_at b m = if b then with_place (Gen 0) (node_with_entries es m) else node_with_entries es m
@@ -308,8 +322,10 @@ module _ (store : Store) (sound : IsSound store) (locals : Option Locals) (test 
         subst (λ st. Represents st (push (Releasing refs) (changed_world w))) (sym (is ∙ ap (λ l. tracked_if now o (held refs (rewritten o l store))) after))
         (subst (λ os. Represents (tracked_if now o (held refs filled)) (record (push (Releasing refs) w) { objects = os })) world-is (moved-if now refl))
 
-  pub puts-performs : (was : Option Val) (e : Entry) (new : Store) → new ≡ tracked_if (becomes_tracked store o key value) o (with_put store o key value) → was ≡ value_in store o key → entry_references e ≡ references_of_value was
-      → ((Ok was ≡ Err fault.EntryLimit) ↔ ((value_in store o key ≡ None) × (4000000 ≤ entry_number store))) → PerformsOnHeap store locals (λ w. puts w (object_from store.rows o n) key value) new (Ok (Changed None e))
+  pub puts-performs : (was : Option Val) (e : Entry) (new : Store) → new ≡ tracked_if (becomes_tracked store o key value) o (with_put store o key value) → was
+      ≡ value_in store o key → entry_references e ≡ references_of_value was
+      → ((Ok was ≡ Err fault.EntryLimit) ↔ ((value_in store o key ≡ None) × (4000000 ≤ entry_number store))) → PerformsOnHeap store locals
+      (λ w. puts w (object_from store.rows o n) key value) new (Ok (Changed None e))
   unfolding ◌>>=◌
   puts-performs was e new is told refs_are limit w s =
       record {

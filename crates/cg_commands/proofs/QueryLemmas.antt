@@ -18,7 +18,7 @@ use Rattle.cg_commands.specs.declared.locals.Locals.{Locals}
 use Rattle.cg_commands.specs.Stands.{HeapAndLocalsStandFor}
 use Rattle.cg_commands.specs.Objects.{Tells}
 use Rattle.cg_commands.specs.Answers.{PerformsOnHeap}
-use Rattle.cg_commands.proofs.Bridges.{gives_nothing}
+use Rattle.cg_commands.proofs.ChangesOfHeaps.{gives_nothing}
 
 module _ (store : Store) (locals : Option Locals) where
   pub prints-performs : (line : Event) (done : Done) → done ≡ Changed (Some line) (item val.None) → PerformsOnHeap store locals (λ w. prints w line) store (Ok done)
@@ -26,14 +26,18 @@ module _ (store : Store) (locals : Option Locals) where
       (λ w s. gives_nothing (prints w line) (Some line) (item val.None) false w store store refl refl s.represents)
 
   -- a line known from the world
-  pub prints-known : (line : World → Event) (here : Event) → ((w : World) → HeapAndLocalsStandFor store locals w → line w ≡ here) → (done : Done) → done ≡ Changed (Some here) (item val.None) → PerformsOnHeap store locals (λ w. prints w (line w)) store (Ok done)
+  pub prints-known : (line : World → Event) (here : Event) → ((w : World) → HeapAndLocalsStandFor store locals w → line w ≡ here) → (done : Done) → done
+      ≡ Changed (Some here) (item val.None) → PerformsOnHeap store locals (λ w. prints w (line w)) store (Ok done)
   prints-known line here told done is = subst (λ d. PerformsOnHeap store locals (λ w. prints w (line w)) store (Ok d)) (sym is)
       (λ w s. gives_nothing (prints w (line w)) (Some here) (item val.None) false w store store (ap (prints w) (told w s)) refl s.represents)
 
-  pub prints-count : (o n : ℕ) → n ≡ count_of store o → (done : Done) → done ≡ Changed (Some (RefCount n)) (item val.None) → PerformsOnHeap store locals (λ w. prints w (RefCount (in_degree w o))) store (Ok done)
+  pub prints-count : (o n : ℕ) → n ≡ count_of store o → (done : Done) → done ≡ Changed (Some (RefCount n)) (item val.None) → PerformsOnHeap store locals
+      (λ w. prints w (RefCount (in_degree w o))) store (Ok done)
   prints-count o n is = prints-known (λ w. RefCount (in_degree w o)) (RefCount n) (λ w s. ap RefCount (sym (is ∙ count-in_degree store w s.represents o)))
 
-  pub prints-told : (line : Bool → Event) (question : Object → Bool) (v : Val) (b : Bool) → Tells store question v b → (done : Done) → done ≡ Changed (Some (line b)) (item val.None) → PerformsOnHeap store locals (λ w. prints w (line (elim (object_of w v) [ None ↦ false | Some x ↦ question x ]))) store (Ok done)
+  pub prints-told : (line : Bool → Event) (question : Object → Bool) (v : Val) (b : Bool) → Tells store question v b → (done : Done) → done
+      ≡ Changed (Some (line b)) (item val.None) → PerformsOnHeap store locals
+      (λ w. prints w (line (elim (object_of w v) [ None ↦ false | Some x ↦ question x ]))) store (Ok done)
   prints-told line question v b told = prints-known (λ w. line (elim (object_of w v) [ None ↦ false | Some x ↦ question x ])) (line b) (λ w s. ap line (told w s.represents))
 
   pub calls-performs : (f : ℕ) → PerformsOnHeap store locals (λ w. Ok (CallsEffect f)) store (Ok (Calls f))
@@ -43,7 +47,8 @@ module _ (store : Store) (locals : Option Locals) where
   pub quits-performs : (v : Val) → v ≡ val.None → PerformsOnHeap store locals (λ w. Ok (elim v [ val.None ↦ QuitsEffect | _ ↦ Changes false [] [] w ])) store (Ok Quits)
   quits-performs v is w s = (ap (λ x. Ok (elim x [ val.None ↦ QuitsEffect | _ ↦ Changes false [] [] w ])) is, refl)
 
-  pub stays-performs : (v : Val) → (v ≡ val.None → ⊥) → (done : Done) → done ≡ Changed None (item val.None) → PerformsOnHeap store locals (λ w. Ok (elim v [ val.None ↦ QuitsEffect | _ ↦ Changes false [] [] w ])) store (Ok done)
+  pub stays-performs : (v : Val) → (v ≡ val.None → ⊥) → (done : Done) → done ≡ Changed None (item val.None) → PerformsOnHeap store locals
+      (λ w. Ok (elim v [ val.None ↦ QuitsEffect | _ ↦ Changes false [] [] w ])) store (Ok done)
   stays-performs v other done is = subst (λ d. PerformsOnHeap store locals (λ w. Ok (elim v [ val.None ↦ QuitsEffect | _ ↦ Changes false [] [] w ])) store (Ok d)) (sym is) (stays v other)
     where
       stays : (v : Val) → (v ≡ val.None → ⊥) → PerformsOnHeap store locals (λ w. Ok (elim v [ val.None ↦ QuitsEffect | _ ↦ Changes false [] [] w ])) store (Ok (Changed None (item val.None)))

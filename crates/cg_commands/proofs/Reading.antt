@@ -46,7 +46,8 @@ entries-in_world store w r o = ap (λ x. unwrap_or (option_map (λ x. x.entries)
     known (Some n) = refl
 
 -- questions about the top frame are questions about its locals
-of_locals : {X : Type 0} (g : FrameSort → ℕ → Option ℕ → Option X) (f : Option Frame) (locals : Option Locals) → option_map locals_of f ≡ locals → option_and_then (λ f. g f.sort f.subject f.function) f ≡ option_and_then (λ l. g l.sort l.subject l.func) locals
+of_locals : {X : Type 0} (g : FrameSort → ℕ → Option ℕ → Option X) (f : Option Frame) (locals : Option Locals) → option_map locals_of f ≡ locals
+    → option_and_then (λ f. g f.sort f.subject f.function) f ≡ option_and_then (λ l. g l.sort l.subject l.func) locals
 of_locals {X} g f locals is = known f ∙ ap (option_and_then (λ l. g l.sort l.subject l.func)) is
   where
     known : (f : Option Frame) → option_and_then (λ f. g f.sort f.subject f.function) f ≡ option_and_then (λ l. g l.sort l.subject l.func) (option_map locals_of f)
@@ -59,18 +60,21 @@ reads-self store locals w s = ap (option_map val.Ref) (of_locals (λ sort subjec
 pub reads-weak : (store : Store) (locals : Option Locals) → ReadsValue store locals operand.WeakLocal (option_map val.Ref (option_and_then (λ l. weak_in l.sort l.subject) locals))
 reads-weak store locals w s = ap (option_map val.Ref) (of_locals (λ sort subject f. weak_in sort subject) (frame_on w.stack) locals s.locals_are)
 
-pub reads-cell : (store : Store) (locals : Option Locals) (i : ℕ) (word : Operand) (v : Option Val) → word ≡ operand.Cell i → v ≡ option_and_then (λ l. option_and_then (λ f. option_map (λ e. e.val) (slice_get (entries_of store f) i)) l.func) locals → ReadsValue store locals word v
+pub reads-cell : (store : Store) (locals : Option Locals) (i : ℕ) (word : Operand) (v : Option Val) → word ≡ operand.Cell i → v
+    ≡ option_and_then (λ l. option_and_then (λ f. option_map (λ e. e.val) (slice_get (entries_of store f) i)) l.func) locals → ReadsValue store locals word v
 reads-cell store locals i word v is told w s =
     ap (value_of w) is
     ∙ of_locals (λ sort subject f. option_and_then (λ o. option_map (λ e. e.val) (slice_get (entries_in_world w.objects o) i)) f) (frame_on w.stack) locals s.locals_are
     ∙ each locals
     ∙ sym told
   where
-    cell : (f : Option ℕ) → option_and_then (λ o. option_map (λ e. e.val) (slice_get (entries_in_world w.objects o) i)) f ≡ option_and_then (λ o. option_map (λ e. e.val) (slice_get (entries_of store o) i)) f
+    cell : (f : Option ℕ) → option_and_then (λ o. option_map (λ e. e.val) (slice_get (entries_in_world w.objects o) i)) f
+        ≡ option_and_then (λ o. option_map (λ e. e.val) (slice_get (entries_of store o) i)) f
     cell None = refl
     cell (Some f) = ap (λ es. option_map (λ e. e.val) (slice_get es i)) (entries-in_world store w s.represents f)
 
-    each : (l : Option Locals) → option_and_then (λ (l : Locals). option_and_then (λ o. option_map (λ e. e.val) (slice_get (entries_in_world w.objects o) i)) l.func) l ≡ option_and_then (λ (l : Locals). option_and_then (λ f. option_map (λ e. e.val) (slice_get (entries_of store f) i)) l.func) l
+    each : (l : Option Locals) → option_and_then (λ (l : Locals). option_and_then (λ o. option_map (λ e. e.val) (slice_get (entries_in_world w.objects o) i))
+        l.func) l ≡ option_and_then (λ (l : Locals). option_and_then (λ f. option_map (λ e. e.val) (slice_get (entries_of store f) i)) l.func) l
     each None = refl
     each (Some l) = cell l.func
 
@@ -98,7 +102,8 @@ live-value_at store sound o key found at =
     subst (IsLiveValue store) is (live-value_in store sound o i e there)
 
 -- the object that a value refers to, in the world
-pub object-found : (store : Store) (w : World) → Represents store w → (test : Object → Bool) (k : ℕ) (v : Val) (o : ℕ) (there : RefersTo store test v o) → object w test k v ≡ Ok (object_from store.rows o there.node)
+pub object-found : (store : Store) (w : World) → Represents store w → (test : Object → Bool) (k : ℕ) (v : Val) (o : ℕ) (there : RefersTo store test v o)
+    → object w test k v ≡ Ok (object_from store.rows o there.node)
 unfolding ◌>>=◌
 object-found store w r test k v o there =
     ap (λ v. object w test k v) there.refers
@@ -125,7 +130,8 @@ no_reference (val.Ref o) none = absurd (none o refl)
 
 pub object-none : (store : Store) (kind : Wanted) (v : Val) → ((o : ℕ) → v ≡ val.Ref o → ⊥) → HasNoObject store (test_of kind) (number_of (refusal_of kind)) v (refusal_of kind)
 unfolding ◌>>=◌
-object-none store kind v none w r = declined kind _ (ap (λ x. ok_or (option_and_then (object_at w.objects) x) (number_of (refusal_of kind)) >>= tested (test_of kind) (number_of (refusal_of kind))) (no_reference v none))
+object-none store kind v none w r = declined kind _ (ap (λ x. ok_or (option_and_then (object_at w.objects) x) (number_of (refusal_of kind)) >>= tested
+    (test_of kind) (number_of (refusal_of kind))) (no_reference v none))
 
 -- the tests use only the kind and the serial
 pub test-bare : (kind : Wanted) (x : Object) → test_of kind x ≡ test_of kind (bare x.code x.serial)
@@ -140,7 +146,8 @@ test-bare wanted.Referable x = refl
 test-bare wanted.Weak x = refl
 
 -- a live object passes, or not
-pub object-admitted : (store : Store) (kind : Wanted) (o : ℕ) (code : KindCode) → IsLive store o → IfSome (fin.get store.nodes o) (λ n. code ≡ n.code) → test_of kind (bare code o) ≡ true → RefersTo store (test_of kind) (val.Ref o) o
+pub object-admitted : (store : Store) (kind : Wanted) (o : ℕ) (code : KindCode) → IsLive store o → IfSome (fin.get store.nodes o) (λ n. code ≡ n.code)
+    → test_of kind (bare code o) ≡ true → RefersTo store (test_of kind) (val.Ref o) o
 object-admitted store kind o code live told passes = known (fin.get store.nodes o) refl live told
   where
     known : (x : Option Node) → fin.get store.nodes o ≡ x → IsSome x → IfSome x (λ n. code ≡ n.code) → RefersTo store (test_of kind) (val.Ref o) o
@@ -152,15 +159,18 @@ object-admitted store kind o code live told passes = known (fin.get store.nodes 
       passes = test-bare kind (object_from store.rows o n) ∙ ap (λ c. test_of kind (bare c o)) (sym told) ∙ passes;
     }
 
-pub object-other : (store : Store) (kind : Wanted) (o : ℕ) (code : KindCode) → IsLive store o → IfSome (fin.get store.nodes o) (λ n. code ≡ n.code) → test_of kind (bare code o) ≡ false → HasNoObject store (test_of kind) (number_of (refusal_of kind)) (val.Ref o) (refusal_of kind)
+pub object-other : (store : Store) (kind : Wanted) (o : ℕ) (code : KindCode) → IsLive store o → IfSome (fin.get store.nodes o) (λ n. code ≡ n.code)
+    → test_of kind (bare code o) ≡ false → HasNoObject store (test_of kind) (number_of (refusal_of kind)) (val.Ref o) (refusal_of kind)
 unfolding ◌>>=◌
 object-other store kind o code live told fails w r = declined kind _ (known (fin.get store.nodes o) refl live told)
   where
-    known : (x : Option Node) → fin.get store.nodes o ≡ x → IsSome x → IfSome x (λ n. code ≡ n.code) → object w (test_of kind) (number_of (refusal_of kind)) (val.Ref o) ≡ Err (number_of (refusal_of kind))
+    known : (x : Option Node) → fin.get store.nodes o ≡ x → IsSome x → IfSome x (λ n. code ≡ n.code) → object w (test_of kind) (number_of (refusal_of kind))
+        (val.Ref o) ≡ Err (number_of (refusal_of kind))
     known None at live told = absurd (cc)
     known (Some n) at live told =
         ap (λ x. ok_or x (number_of (refusal_of kind)) >>= tested (test_of kind) (number_of (refusal_of kind))) (object-at_node store w r o ∙ ap (option_map (object_from store.rows o)) at)
-        ∙ ap (λ b. if b then Ok (object_from store.rows o n) else Err (number_of (refusal_of kind))) (test-bare kind (object_from store.rows o n) ∙ ap (λ c. test_of kind (bare c o)) (sym told) ∙ fails)
+        ∙ ap (λ b. if b then Ok (object_from store.rows o n) else Err (number_of (refusal_of kind))) (test-bare kind (object_from store.rows o n)
+        ∙ ap (λ c. test_of kind (bare c o)) (sym told) ∙ fails)
 
 -- what a value refers to lives
 pub refers_live : (store : Store) (test : Object → Bool) (v : Val) (o : ℕ) → RefersTo store test v o → IsLive store o

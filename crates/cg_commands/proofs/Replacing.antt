@@ -96,7 +96,8 @@ module _ (store : Store) where
         ∙ known (fin.get store.nodes q) (listed.placed q)
         ∙ sym (get-mapped (λ s n. with_place (frozen n.place) n) store.nodes q))
       where
-        known : (x : Option Node) → ((n : Node) → x ≡ Some n → place_number n.place < 10) → option_map (place_merged (Gen 2) Frozen) (option_map (place_merged (Gen 1) Frozen) (option_map (place_merged (Gen 0) Frozen) x)) ≡ option_map (λ n. with_place (frozen n.place) n) x
+        known : (x : Option Node) → ((n : Node) → x ≡ Some n → place_number n.place < 10) → option_map (place_merged (Gen 2) Frozen)
+            (option_map (place_merged (Gen 1) Frozen) (option_map (place_merged (Gen 0) Frozen) x)) ≡ option_map (λ n. with_place (frozen n.place) n) x
         known None placed = refl
         known (Some n) placed = ap Some (iced_at n.place n (placed n refl))
 

@@ -32,10 +32,13 @@ module _ (store : Store) (locals : Option Locals) (test : Object → Bool) (v : 
   pub entries-here : entries_of store o ≡ there.node.entries
   entries-here = ap entries_in there.found
 
-  pub reads-index : (index arg : ℤ) → arg ≡ index → (i : ℕ) → valid_index arg (length (entries_of store o)) ≡ Some i → Reads store locals (λ w. ok_or (valid_index index (length there.node.entries)) no_index) i
-  reads-index index arg same i at w s = ap (λ z. ok_or (valid_index z (length there.node.entries)) no_index) (sym same) ∙ ap (λ es. ok_or (valid_index arg (length es)) no_index) (sym entries-here) ∙ ap (λ x. ok_or x no_index) at
+  pub reads-index : (index arg : ℤ) → arg ≡ index → (i : ℕ) → valid_index arg (length (entries_of store o)) ≡ Some i
+      → Reads store locals (λ w. ok_or (valid_index index (length there.node.entries)) no_index) i
+  reads-index index arg same i at w s = ap (λ z. ok_or (valid_index z (length there.node.entries)) no_index) (sym same)
+      ∙ ap (λ es. ok_or (valid_index arg (length es)) no_index) (sym entries-here) ∙ ap (λ x. ok_or x no_index) at
 
-  pub no-index : (index arg : ℤ) → arg ≡ index → (r : Refusal) → r ≡ NoIndex → valid_index arg (length (entries_of store o)) ≡ None → IsRefused store locals (λ w. ok_or (valid_index index (length there.node.entries)) no_index) r
+  pub no-index : (index arg : ℤ) → arg ≡ index → (r : Refusal) → r ≡ NoIndex → valid_index arg (length (entries_of store o)) ≡ None
+      → IsRefused store locals (λ w. ok_or (valid_index index (length there.node.entries)) no_index) r
   no-index index arg same r is at w s = subst (λ q. Declines q (ok_or (valid_index index (length there.node.entries)) no_index)) (sym is)
       (ap (λ z. ok_or (valid_index z (length there.node.entries)) no_index) (sym same) ∙ ap (λ es. ok_or (valid_index arg (length es)) no_index) (sym entries-here) ∙ ap (λ x. ok_or x no_index) at)
 
@@ -60,12 +63,14 @@ module _ (store : Store) (locals : Option Locals) (test : Object → Bool) (v : 
 pub reads-key : (store : Store) (locals : Option Locals) (v : Val) (b : Bool) → IsKey store v b → b ≡ true → Reads store locals (λ w. unless (is_hashable w v) unhashable) tt
 reads-key store locals v b is yes' w s = ap (λ x. unless x unhashable) (is w s.represents ∙ yes')
 
-pub no-key : (store : Store) (test : Object → Bool) (k : ℕ) (v : Val) (o : ℕ) → RefersTo store test v o → (key : Val) (b : Bool) → IsKey store key b → b ≡ false → (w : World) → Represents store w → (object w test k v >>= (λ x. unless (is_hashable w key) unhashable)) ≡ Err unhashable
+pub no-key : (store : Store) (test : Object → Bool) (k : ℕ) (v : Val) (o : ℕ) → RefersTo store test v o → (key : Val) (b : Bool) → IsKey store key b → b ≡ false
+    → (w : World) → Represents store w → (object w test k v >>= (λ x. unless (is_hashable w key) unhashable)) ≡ Err unhashable
 unfolding ◌>>=◌
 no-key store test k v o there key b is no' w r = ap (λ q. q >>= (λ x. unless (is_hashable w key) unhashable)) (object-found store w r test k v o there) ∙ ap (λ x. unless x unhashable) (is w r ∙ no')
 
 -- a question about an object
-pub tells-object : (store : Store) (question : Object → Bool) (o : ℕ) (b : Bool) → IsLive store o → IfSome (fin.get store.nodes o) (λ n. b ≡ question (object_from store.rows o n)) → Tells store question (val.Ref o) b
+pub tells-object : (store : Store) (question : Object → Bool) (o : ℕ) (b : Bool) → IsLive store o → IfSome (fin.get store.nodes o)
+    (λ n. b ≡ question (object_from store.rows o n)) → Tells store question (val.Ref o) b
 tells-object store question o b live told w r =
     ap (λ x. elim x [ None ↦ false | Some x ↦ question x ]) (object-at_node store w r o)
     ∙ known (fin.get store.nodes o) live told
@@ -77,7 +82,8 @@ tells-object store question o b live told w r =
 pub tells-none : (store : Store) (question : Object → Bool) (v : Val) → ((o : ℕ) → v ≡ val.Ref o → ⊥) → Tells store question v false
 tells-none store question v none w r = ap (λ x. elim (option_and_then (object_at w.objects) x) [ None ↦ false | Some x ↦ question x ]) (no_reference v none)
 
-pub key-object : (store : Store) (o : ℕ) (code : KindCode) (b : Bool) → IsLive store o → IfSome (fin.get store.nodes o) (λ n. code ≡ n.code) → b ≡ test_of wanted.Referable (bare code o) → IsKey store (val.Ref o) b
+pub key-object : (store : Store) (o : ℕ) (code : KindCode) (b : Bool) → IsLive store o → IfSome (fin.get store.nodes o) (λ n. code ≡ n.code) → b
+    ≡ test_of wanted.Referable (bare code o) → IsKey store (val.Ref o) b
 key-object store o code b live told is w r =
     ap (λ x. elim x [ None ↦ true | Some x ↦ test_of wanted.Referable x ]) (object-at_node store w r o)
     ∙ known (fin.get store.nodes o) live told
@@ -90,7 +96,8 @@ pub key-none : (store : Store) (v : Val) → ((o : ℕ) → v ≡ val.Ref o → 
 key-none store v none w r = ap (λ x. elim (option_and_then (object_at w.objects) x) [ None ↦ true | Some x ↦ test_of wanted.Referable x ]) (no_reference v none)
 
 -- whether it is tracked
-pub tracked_told : (store : Store) (o : ℕ) (p : Place) (b : Bool) → p ≡ place_of store o → b ≡ same_place p Untracked → IfSome (fin.get store.nodes o) (λ n. not b ≡ is_tracked (object_from store.rows o n))
+pub tracked_told : (store : Store) (o : ℕ) (p : Place) (b : Bool) → p ≡ place_of store o → b ≡ same_place p Untracked → IfSome (fin.get store.nodes o)
+    (λ n. not b ≡ is_tracked (object_from store.rows o n))
 tracked_told store o p b told is = known (fin.get store.nodes o) told
   where
     known : (n : Option Node) → p ≡ place_in n → IfSome n (λ n. not b ≡ is_tracked (object_from store.rows o n))

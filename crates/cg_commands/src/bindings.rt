@@ -29,7 +29,8 @@ pub(crate) fn bind<B: Kind>(
     requires known { All (λ n. n < length heap.old.names) (name ∷ operand_texts operand.now) }
     requires locals { LocalsLive heap.old locals.now }
     requires few { HasFewHolds heap.old }
-    ensures { PerformsOnHeap heap.old locals.now (λ w. effect w (command.Bind name operand.now)) heap.new (gives result) }
+    ensures { PerformsOnHeap heap.old locals.now (λ w. effect w (command.Bind name operand.now))
+        heap.new (gives result) }
 {
     let val = value(heap, locals, operand)?;
     bind_to(heap, locals, name, val)
@@ -44,7 +45,8 @@ pub(crate) fn unbind<B: Kind>(
 ) -> Result<Entry, Refusal>
     requires known { All (λ n. n < length heap.old.names) (name ∷ []) }
     requires few { HasFewHolds heap.old }
-    ensures { PerformsOnHeap heap.old locals.now (λ w. effect w (command.Del name)) heap.new (gives result) }
+    ensures { PerformsOnHeap heap.old locals.now (λ w. effect w (command.Del name)) heap.new
+        (gives result) }
 {
     heap.sound();
     match heap.unbind(name) {

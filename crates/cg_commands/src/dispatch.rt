@@ -29,8 +29,8 @@ use cg_script::Command;
 use cg_value::Entry;
 use std::alloc::Global;
 
-/// Does a command that changes names or entries and prints no line, as `perform` does the others. It answers the entry to
-/// give up, which is small to move; most commands are of this sort.
+/// Does a command that changes names or entries and prints no line, as `perform` does the others.
+/// It answers the entry to give up, which is small to move; most commands are of this sort.
 #[inline(always)]
 pub fn change<B: Kind>(
     heap: &mut Heap<B>,
@@ -41,7 +41,8 @@ pub fn change<B: Kind>(
     requires locals { LocalsLive heap.old locals.now }
     requires few { HasFewHolds heap.old }
     requires changes { only_changes command.now ≡ true }
-    ensures { (policy : AnyPolicy) → Attempts heap.old policy locals.now false command.now heap.new policy (gives result) }
+    ensures { (policy : AnyPolicy) → Attempts heap.old policy locals.now false command.now heap.new
+        policy (gives result) }
 {
     match command {
         Command::Bind { name, value } => bind(heap, locals, *name, value),
@@ -75,19 +76,22 @@ pub fn change<B: Kind>(
     }
 }
 
-/// Does any other command: what the machine's definition of effects says, in every world that the heap, the policy and the
-/// locals stand for. `locals` are those of the frame on top, if one is. The policy counts an object that is made. `room` says
-/// whether there is room for one more object: where there is none, the heap has no more objects after it than before.
+/// Does any other command: what the machine's definition of effects says, in every world that the
+/// heap, the policy and the locals stand for. `locals` are those of the frame on top, if one is.
+/// The policy counts an object that is made. `room` says whether there is room for one more object:
+/// where there is none, the heap has no more objects after it than before.
 ///
-/// A refusal changes nothing. `OutOfMemory` only if the effect may allocate and no other refusal applies. A command of the
-/// collector allocates nothing, gives up nothing, and changes only places and numbers, or nothing if it asks for a
-/// collection. The lines are allocated from `alloc`.
+/// A refusal changes nothing. `OutOfMemory` only if the effect may allocate and no other refusal
+/// applies. A command of the collector allocates nothing, gives up nothing, and changes only places
+/// and numbers, or nothing if it asks for a collection. The lines are allocated from `alloc`.
 ///
-/// The command is one of a script that some bytes spell, the objects among the locals live, and fewer than 2^63 objects
-/// have been made. Where no collection is running, nothing stands in the places that collections use.
+/// The command is one of a script that some bytes spell, the objects among the locals live, and
+/// fewer than 2^63 objects have been made. Where no collection is running, nothing stands in the
+/// places that collections use.
 ///
-/// Each command has a call of its own that is not inlined; those that make something, or are for the collector, share one
-/// call. Otherwise this function's frame would have the locals of all commands, and clear them each time.
+/// Each command has a call of its own that is not inlined; those that make something, or are for
+/// the collector, share one call. Otherwise this function's frame would have the locals of all
+/// commands, and clear them each time.
 #[inline(always)]
 pub fn perform<B: Kind>(
     alloc: Global,
@@ -194,7 +198,8 @@ fn control<B: Kind>(
 ) -> Result<Done, Refusal>
     requires idle { policy.old.running ≡ false → IsIdle heap.old }
     requires control { IsControl command.now }
-    ensures { (locals : Option AnyLocals) (room : Bool) → Attempts heap.old policy.old locals room command.now heap.new policy.new result }
+    ensures { (locals : Option AnyLocals) (room : Bool) → Attempts heap.old policy.old locals room
+        command.now heap.new policy.new result }
 {
     match command {
         Command::Collect { generation } => collect(number(generation)),

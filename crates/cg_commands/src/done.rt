@@ -13,16 +13,16 @@ use cg_value::{Entry, Val};
 /// What a command did, and what follows.
 #[derive(Debug, Drop)]
 pub enum Done {
-    /// It made its change, and perhaps prints a line. The references of the entry are outside holds to give up next: the
-    /// one in the value, then the one in the key.
+    /// It made its change, and perhaps prints a line. The references of the entry are outside holds
+    /// to give up next: the one in the value, then the one in the key.
     Changed {
         line: Option<Event>,
         given_up: Entry,
     },
     /// A frame of this function's procedure is to start. The function is not held from outside yet.
     Calls(u64),
-    /// It asks for a collection of this generation, 0 to 2. Nothing has changed. If a collection is under way, none
-    /// starts; the machine's step then prints its own line.
+    /// It asks for a collection of this generation, 0 to 2. Nothing has changed. If a collection is
+    /// under way, none starts; the machine's step then prints its own line.
     Collects(u8),
     /// The top frame is to end, or the script.
     Quits,
@@ -57,7 +57,8 @@ pub enum Refusal {
     ObjectLimit,
     /// The entries would pass 4,000,000.
     EntryLimit,
-    /// A collection is under way, and the command would report objects that it may be about to free.
+    /// A collection is under way, and the command would report objects that it may be about to
+    /// free.
     InCollection,
 }
 

@@ -29,9 +29,11 @@ pub(crate) fn append<B: Kind>(
     list: &Operand,
     operand: &Operand,
 ) -> Result<Entry, Refusal>
-    requires known { All (λ n. n < length heap.old.names) (operand_texts list.now ++ operand_texts operand.now) }
+    requires known { All (λ n. n < length heap.old.names) (operand_texts list.now
+        ++ operand_texts operand.now) }
     requires locals { LocalsLive heap.old locals.now }
-    ensures { PerformsOnHeap heap.old locals.now (λ w. effect w (command.Append list.now operand.now)) heap.new (gives result) }
+    ensures { PerformsOnHeap heap.old locals.now
+        (λ w. effect w (command.Append list.now operand.now)) heap.new (gives result) }
 {
     let mut near = Near::default();
     let list = value_near(heap, locals, list, &mut near)?;
@@ -54,10 +56,12 @@ pub(crate) fn set_item<B: Kind>(
     index: i64,
     operand: &Operand,
 ) -> Result<Entry, Refusal>
-    requires known { All (λ n. n < length heap.old.names) (operand_texts list.now ++ operand_texts operand.now) }
+    requires known { All (λ n. n < length heap.old.names) (operand_texts list.now
+        ++ operand_texts operand.now) }
     requires locals { LocalsLive heap.old locals.now }
     requires few { HasFewHolds heap.old }
-    ensures { PerformsOnHeap heap.old locals.now (λ w. effect w (command.SetItem list.now index operand.now)) heap.new (gives result) }
+    ensures { PerformsOnHeap heap.old locals.now
+        (λ w. effect w (command.SetItem list.now index operand.now)) heap.new (gives result) }
 {
     let mut near = Near::default();
     let list = value_near(heap, locals, list, &mut near)?;
@@ -85,7 +89,8 @@ pub(crate) fn del_item<B: Kind>(
     requires known { All (λ n. n < length heap.old.names) (operand_texts list.now) }
     requires locals { LocalsLive heap.old locals.now }
     requires few { HasFewHolds heap.old }
-    ensures { PerformsOnHeap heap.old locals.now (λ w. effect w (command.DelItem list.now index)) heap.new (gives result) }
+    ensures { PerformsOnHeap heap.old locals.now (λ w. effect w (command.DelItem list.now index))
+        heap.new (gives result) }
 {
     let mut near = Near::default();
     let list = value_near(heap, locals, list, &mut near)?;
@@ -110,7 +115,8 @@ pub(crate) fn put<B: Kind>(
         (operand_texts dict.now ++ operand_texts key.now ++ operand_texts operand.now) }
     requires locals { LocalsLive heap.old locals.now }
     requires few { HasFewHolds heap.old }
-    ensures { PerformsOnHeap heap.old locals.now (λ w. effect w (command.Put dict.now key.now operand.now)) heap.new (gives result) }
+    ensures { PerformsOnHeap heap.old locals.now
+        (λ w. effect w (command.Put dict.now key.now operand.now)) heap.new (gives result) }
 {
     let mut near = Near::default();
     let dict = value_near(heap, locals, dict, &mut near)?;
@@ -135,10 +141,12 @@ pub(crate) fn remove<B: Kind>(
     dict: &Operand,
     key: &Operand,
 ) -> Result<Entry, Refusal>
-    requires known { All (λ n. n < length heap.old.names) (operand_texts dict.now ++ operand_texts key.now) }
+    requires known { All (λ n. n < length heap.old.names) (operand_texts dict.now
+        ++ operand_texts key.now) }
     requires locals { LocalsLive heap.old locals.now }
     requires few { HasFewHolds heap.old }
-    ensures { PerformsOnHeap heap.old locals.now (λ w. effect w (command.Remove dict.now key.now)) heap.new (gives result) }
+    ensures { PerformsOnHeap heap.old locals.now (λ w. effect w (command.Remove dict.now key.now))
+        heap.new (gives result) }
 {
     let mut near = Near::default();
     let dict = value_near(heap, locals, dict, &mut near)?;
@@ -162,10 +170,12 @@ pub(crate) fn set_attr<B: Kind>(
     attr: u32,
     operand: &Operand,
 ) -> Result<Entry, Refusal>
-    requires known { All (λ n. n < length heap.old.names) (operand_texts instance.now ++ attr ∷ operand_texts operand.now) }
+    requires known { All (λ n. n < length heap.old.names) (operand_texts instance.now ++ attr
+        ∷ operand_texts operand.now) }
     requires locals { LocalsLive heap.old locals.now }
     requires few { HasFewHolds heap.old }
-    ensures { PerformsOnHeap heap.old locals.now (λ w. effect w (command.SetAttr instance.now attr operand.now)) heap.new (gives result) }
+    ensures { PerformsOnHeap heap.old locals.now
+        (λ w. effect w (command.SetAttr instance.now attr operand.now)) heap.new (gives result) }
 {
     let mut near = Near::default();
     let instance = value_near(heap, locals, instance, &mut near)?;
@@ -189,10 +199,12 @@ pub(crate) fn del_attr<B: Kind>(
     instance: &Operand,
     attr: u32,
 ) -> Result<Entry, Refusal>
-    requires known { All (λ n. n < length heap.old.names) (operand_texts instance.now ++ attr ∷ []) }
+    requires known { All (λ n. n < length heap.old.names) (operand_texts instance.now ++ attr
+        ∷ []) }
     requires locals { LocalsLive heap.old locals.now }
     requires few { HasFewHolds heap.old }
-    ensures { PerformsOnHeap heap.old locals.now (λ w. effect w (command.DelAttr instance.now attr)) heap.new (gives result) }
+    ensures { PerformsOnHeap heap.old locals.now (λ w. effect w (command.DelAttr instance.now attr))
+        heap.new (gives result) }
 {
     let mut near = Near::default();
     let instance = value_near(heap, locals, instance, &mut near)?;

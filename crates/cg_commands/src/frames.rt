@@ -25,7 +25,8 @@ pub(crate) fn call<B: Kind>(
 ) -> Result<Done, Refusal>
     requires known { All (λ n. n < length heap.now.names) (operand_texts operand.now) }
     requires locals { LocalsLive heap.now locals.now }
-    ensures { PerformsOnHeap heap.now locals.now (λ w. effect w (command.Call operand.now)) heap.now result }
+    ensures { PerformsOnHeap heap.now locals.now (λ w. effect w (command.Call operand.now)) heap.now
+        result }
 {
     let mut near = Near::default();
     let val = value_near(heap, locals, operand, &mut near)?;
@@ -42,7 +43,8 @@ pub(crate) fn quit<B: Kind>(
 ) -> Result<Done, Refusal>
     requires known { All (λ n. n < length heap.now.names) (operand_texts operand.now) }
     requires locals { LocalsLive heap.now locals.now }
-    ensures { PerformsOnHeap heap.now locals.now (λ w. effect w (command.Quit operand.now)) heap.now result }
+    ensures { PerformsOnHeap heap.now locals.now (λ w. effect w (command.Quit operand.now)) heap.now
+        result }
 {
     let val = value(heap, locals, operand)?;
     match val {

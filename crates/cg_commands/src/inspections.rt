@@ -1,5 +1,5 @@
-//! Inspections of objects that print several lines and change nothing: what an object refers to, what refers to it, and why
-//! it is alive. Each is refused while a collection is under way.
+//! Inspections of objects that print several lines and change nothing: what an object refers to,
+//! what refers to it, and why it is alive. Each is refused while a collection is under way.
 ghost use Rattle.std.specs.Prelude.{◌≡◌, ◌<◌, ◌++◌, ◌∷◌, [], false, IfOk, IfErr, filter, length, map};
 ghost use Rattle.std.specs.List.{All};
 ghost use Rattle.cg_script.specs.Texts.{operand_texts};
@@ -40,7 +40,8 @@ pub(crate) fn referents<B: Kind>(
     requires known { All (λ n. n < length heap.now.names) (operand_texts operand.now) }
     requires locals { LocalsLive heap.now locals.now }
     requires idle { running ≡ false → IsIdle heap.now }
-    ensures { Inspects heap.now running locals.now (λ w. effect w (command.Referents operand.now)) result }
+    ensures { Inspects heap.now running locals.now (λ w. effect w (command.Referents operand.now))
+        result }
 {
     let target = inspected(heap, running, locals, operand)?;
     let Ok(objects) = referents_of::<B, Brand>(alloc, heap, target, Blank::new(1)) else {
@@ -64,7 +65,8 @@ pub(crate) fn referrers<B: Kind>(
     requires known { All (λ n. n < length heap.now.names) (operand_texts operand.now) }
     requires locals { LocalsLive heap.now locals.now }
     requires idle { running ≡ false → IsIdle heap.now }
-    ensures { Inspects heap.now running locals.now (λ w. effect w (command.Referrers operand.now)) result }
+    ensures { Inspects heap.now running locals.now (λ w. effect w (command.Referrers operand.now))
+        result }
 {
     let target = inspected(heap, running, locals, operand)?;
     let Ok(objects) = referrers_of::<B, Brand>(alloc, heap, target, Blank::new(1)) else {
@@ -128,7 +130,8 @@ fn referrers_of<B: Kind, L: Ledger>(
     requires parts { blank.parts ≡ L.parts }
     requires some { 0 < blank.parts }
     requires idle { IsIdle heap.now }
-    ensures { IfOk result (λ listed. listed.items ≡ serials (filter (refers_to object) (objects_of heap.now))) }
+    ensures { IfOk result (λ listed. listed.items
+        ≡ serials (filter (refers_to object) (objects_of heap.now))) }
 {
     let mut steps = Steps::<L>::new(blank);
     cg_inspect::referrers(alloc, heap, object, &mut steps)
@@ -192,7 +195,8 @@ impl Listed {
 
 /// A line for each object, then their number.
 fn listing(alloc: Global, objects: &[u64], listed: Listed) -> Result<Lines, AllocError>
-    ensures { IfOk result (λ lines. lines ≡ map (line_of listed) objects.now ++ event.Listed (length objects.now) ∷ []) }
+    ensures { IfOk result (λ lines. lines ≡ map (line_of listed) objects.now
+        ++ event.Listed (length objects.now) ∷ []) }
 {
     let mut events = Vec::with_capacity(alloc, objects.len() + 1)?;
     'objects: for object in objects.iter() {

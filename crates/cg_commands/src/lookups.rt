@@ -36,7 +36,8 @@ pub(crate) fn item<B: Kind>(
     requires known { All (λ n. n < length heap.old.names) (name ∷ operand_texts list.now) }
     requires locals { LocalsLive heap.old locals.now }
     requires few { HasFewHolds heap.old }
-    ensures { PerformsOnHeap heap.old locals.now (λ w. effect w (command.Item name list.now index)) heap.new (gives result) }
+    ensures { PerformsOnHeap heap.old locals.now (λ w. effect w (command.Item name list.now index))
+        heap.new (gives result) }
 {
     let mut near = Near::default();
     let val = value_near(heap, locals, list, &mut near)?;
@@ -56,10 +57,12 @@ pub(crate) fn get<B: Kind>(
     dict: &Operand,
     key: &Operand,
 ) -> Result<Entry, Refusal>
-    requires known { All (λ n. n < length heap.old.names) (name ∷ (operand_texts dict.now ++ operand_texts key.now)) }
+    requires known { All (λ n. n < length heap.old.names) (name
+        ∷ (operand_texts dict.now ++ operand_texts key.now)) }
     requires locals { LocalsLive heap.old locals.now }
     requires few { HasFewHolds heap.old }
-    ensures { PerformsOnHeap heap.old locals.now (λ w. effect w (command.Get name dict.now key.now)) heap.new (gives result) }
+    ensures { PerformsOnHeap heap.old locals.now (λ w. effect w (command.Get name dict.now key.now))
+        heap.new (gives result) }
 {
     let mut near = Near::default();
     let val = value_near(heap, locals, dict, &mut near)?;
@@ -83,10 +86,12 @@ pub(crate) fn attr<B: Kind>(
     instance: &Operand,
     attr: u32,
 ) -> Result<Entry, Refusal>
-    requires known { All (λ n. n < length heap.old.names) (name ∷ (operand_texts instance.now ++ attr ∷ [])) }
+    requires known { All (λ n. n < length heap.old.names) (name ∷ (operand_texts instance.now
+        ++ attr ∷ [])) }
     requires locals { LocalsLive heap.old locals.now }
     requires few { HasFewHolds heap.old }
-    ensures { PerformsOnHeap heap.old locals.now (λ w. effect w (command.Attr name instance.now attr)) heap.new (gives result) }
+    ensures { PerformsOnHeap heap.old locals.now
+        (λ w. effect w (command.Attr name instance.now attr)) heap.new (gives result) }
 {
     let mut near = Near::default();
     let val = value_near(heap, locals, instance, &mut near)?;
@@ -99,7 +104,8 @@ pub(crate) fn attr<B: Kind>(
     }
 }
 
-/// `x = deref w`: binds the name to the referent, or to none if there is none or the callback waits.
+/// `x = deref w`: binds the name to the referent, or to none if there is none or the callback
+/// waits.
 #[tactic(auto, using(crate::proofs::Reading::refers_live))]
 #[inline(never)]
 pub(crate) fn deref<B: Kind>(
@@ -111,7 +117,8 @@ pub(crate) fn deref<B: Kind>(
     requires known { All (λ n. n < length heap.old.names) (name ∷ operand_texts weak.now) }
     requires locals { LocalsLive heap.old locals.now }
     requires few { HasFewHolds heap.old }
-    ensures { PerformsOnHeap heap.old locals.now (λ w. effect w (command.Deref name weak.now)) heap.new (gives result) }
+    ensures { PerformsOnHeap heap.old locals.now (λ w. effect w (command.Deref name weak.now))
+        heap.new (gives result) }
 {
     let mut near = Near::default();
     let val = value_near(heap, locals, weak, &mut near)?;
@@ -134,9 +141,11 @@ struct Found {
 #[inline(always)]
 fn entry_in<B: Kind>(heap: &Heap<B>, target: u64, near: Near, index: i64) -> Result<Found, Refusal>
     requires { IsLive heap.now target }
-    ensures ok { IfOk result (λ f. valid_index index (length (entries_of heap.now target)) ≡ Some f.at) }
+    ensures ok { IfOk result (λ f. valid_index index (length (entries_of heap.now target))
+        ≡ Some f.at) }
     ensures entry { IfOk result (λ f. slice_get (entries_of heap.now target) f.at ≡ Some f.entry) }
-    ensures none { IfErr result (λ r. valid_index index (length (entries_of heap.now target)) ≡ None) }
+    ensures none { IfErr result (λ r. valid_index index (length (entries_of heap.now target))
+        ≡ None) }
     ensures err { IfErr result (λ r. r ≡ refusal.NoIndex) }
 {
     if index < 0 {
@@ -158,9 +167,11 @@ pub(crate) fn index_in<B: Kind>(
     index: i64,
 ) -> Result<usize, Refusal>
     requires { IsLive heap.now target }
-    ensures ok { IfOk result (λ i. valid_index index (length (entries_of heap.now target)) ≡ Some i) }
+    ensures ok { IfOk result (λ i. valid_index index (length (entries_of heap.now target))
+        ≡ Some i) }
     ensures below { IfOk result (λ i. i < length (entries_of heap.now target)) }
-    ensures none { IfErr result (λ r. valid_index index (length (entries_of heap.now target)) ≡ None) }
+    ensures none { IfErr result (λ r. valid_index index (length (entries_of heap.now target))
+        ≡ None) }
     ensures err { IfErr result (λ r. r ≡ refusal.NoIndex) }
 {
     if index < 0 {
@@ -174,8 +185,8 @@ pub(crate) fn index_in<B: Kind>(
     }
 }
 
-/// The object that a value refers to, if the key is allowed. With a bad key, a value that is no dictionary is
-/// refused first.
+/// The object that a value refers to, if the key is allowed. With a bad key, a value that is no
+/// dictionary is refused first.
 #[inline(always)]
 pub(crate) fn target_under_key<B: Kind>(heap: &Heap<B>, val: Val, key: Val) -> Result<u64, Refusal>
     requires val { IsLiveValue heap.now val }

@@ -57,7 +57,8 @@ pub(crate) fn make_list<B: Kind>(
     requires locals { LocalsLive heap.old locals.now }
     requires few { HasFewHolds heap.old }
     requires last { heap.old.last < 9223372036854775808 }
-    ensures performs { PerformsOnHeap heap.old locals.now (λ w. effect w (command.MakeList name items.now)) heap.new result }
+    ensures performs { PerformsOnHeap heap.old locals.now
+        (λ w. effect w (command.MakeList name items.now)) heap.new result }
     ensures room { OnOk result (room ≡ true) }
 {
     make_sequence(heap, locals, name, KindCode::List, items, room)
@@ -76,7 +77,8 @@ pub(crate) fn make_tuple<B: Kind>(
     requires locals { LocalsLive heap.old locals.now }
     requires few { HasFewHolds heap.old }
     requires last { heap.old.last < 9223372036854775808 }
-    ensures performs { PerformsOnHeap heap.old locals.now (λ w. effect w (command.MakeTuple name items.now)) heap.new result }
+    ensures performs { PerformsOnHeap heap.old locals.now
+        (λ w. effect w (command.MakeTuple name items.now)) heap.new result }
     ensures room { OnOk result (room ≡ true) }
 {
     make_sequence(heap, locals, name, KindCode::Tuple, items, room)
@@ -99,7 +101,8 @@ fn make_sequence<B: Kind>(
     requires locals { LocalsLive heap.old locals.now }
     requires few { HasFewHolds heap.old }
     requires last { heap.old.last < 9223372036854775808 }
-    ensures performs { PerformsOnHeap heap.old locals.now (λ w. makes_of w name code None items.now) heap.new result }
+    ensures performs { PerformsOnHeap heap.old locals.now (λ w. makes_of w name code None items.now)
+        heap.new result }
     ensures room { OnOk result (room ≡ true) }
 {
     if items.len() <= FEW {
@@ -129,7 +132,8 @@ fn make_of<B: Kind, const N: usize>(
     requires locals { LocalsLive heap.old locals.now }
     requires few { HasFewHolds heap.old }
     requires last { heap.old.last < 9223372036854775808 }
-    ensures performs { PerformsOnHeap heap.old locals.now (λ w. makes_of w name code class items.now) heap.new result }
+    ensures performs { PerformsOnHeap heap.old locals.now (λ w. makes_of w name code class
+        items.now) heap.new result }
     ensures room { OnOk result (room ≡ true) }
 {
     let parts = gather::<B, N>(heap, locals, items)?;
@@ -152,7 +156,8 @@ pub(crate) fn make_dict<B: Kind>(
     requires known { All (λ n. n < length heap.old.names) (name ∷ []) }
     requires few { HasFewHolds heap.old }
     requires last { heap.old.last < 9223372036854775808 }
-    ensures performs { PerformsOnHeap heap.old locals.now (λ w. effect w (command.MakeDict name)) heap.new result }
+    ensures performs { PerformsOnHeap heap.old locals.now (λ w. effect w (command.MakeDict name))
+        heap.new result }
     ensures room { OnOk result (room ≡ true) }
 {
     let object = NewObject {
@@ -175,7 +180,8 @@ pub(crate) fn make_instance<B: Kind>(
     requires known { All (λ n. n < length heap.old.names) (name ∷ []) }
     requires few { HasFewHolds heap.old }
     requires last { heap.old.last < 9223372036854775808 }
-    ensures performs { PerformsOnHeap heap.old locals.now (λ w. effect w (command.MakeInst name class)) heap.new result }
+    ensures performs { PerformsOnHeap heap.old locals.now
+        (λ w. effect w (command.MakeInst name class)) heap.new result }
     ensures room { OnOk result (room ≡ true) }
 {
     let object = NewObject {
@@ -200,7 +206,8 @@ pub(crate) fn make_function<B: Kind>(
     requires locals { LocalsLive heap.old locals.now }
     requires few { HasFewHolds heap.old }
     requires last { heap.old.last < 9223372036854775808 }
-    ensures performs { PerformsOnHeap heap.old locals.now (λ w. effect w (command.MakeFunc name proc cells.now)) heap.new result }
+    ensures performs { PerformsOnHeap heap.old locals.now
+        (λ w. effect w (command.MakeFunc name proc cells.now)) heap.new result }
     ensures room { OnOk result (room ≡ true) }
 {
     make_of::<B, 8>(heap, locals, name, KindCode::Func, Some(proc), cells, room)
@@ -222,7 +229,8 @@ pub(crate) fn make_weak<B: Kind>(
     requires locals { LocalsLive heap.old locals.now }
     requires few { HasFewHolds heap.old }
     requires last { heap.old.last < 9223372036854775808 }
-    ensures performs { PerformsOnHeap heap.old locals.now (λ w. effect w (command.MakeRef name target.now callback.now)) heap.new result }
+    ensures performs { PerformsOnHeap heap.old locals.now
+        (λ w. effect w (command.MakeRef name target.now callback.now)) heap.new result }
     ensures room { OnOk result (room ≡ true) }
 {
     let val = value(heap, locals, target)?;
@@ -254,7 +262,8 @@ fn make_bound<B: Kind>(
     requires few { HasFewHolds heap.old }
     requires last { heap.old.last < 9223372036854775808 }
     ensures performs { (locals : Option AnyLocals) →
-        PerformsOnHeap heap.old locals (λ w. makes w name object.code object.class parts.now object.referent) heap.new result }
+        PerformsOnHeap heap.old locals (λ w. makes w name object.code object.class parts.now
+        object.referent) heap.new result }
     ensures room { OnOk result (room ≡ true) }
 {
     heap.sound();
@@ -273,8 +282,8 @@ fn make_bound<B: Kind>(
     }
 }
 
-/// Makes an object as the heap does, if there is room for one more. If not, memory is refused, unless the heap has another
-/// refusal.
+/// Makes an object as the heap does, if there is room for one more. If not, memory is refused,
+/// unless the heap has another refusal.
 fn make_where_room<B: Kind>(
     heap: &mut Heap<B>,
     object: NewObject,
@@ -290,11 +299,14 @@ fn make_where_room<B: Kind>(
     requires last { heap.old.last < 9223372036854775808 }
     ensures serial { IfOk result (λ s. s ≡ heap.old.last + 1) }
     ensures ok { OnOk result (heap.new ≡
-        attached (heap.old.last + 1) object.referent (made object.code object.class parts.now heap.old)) }
+        attached (heap.old.last + 1) object.referent (made object.code object.class parts.now
+        heap.old)) }
     ensures room { OnOk result (room ≡ true) }
-    ensures object_limit { (result ≡ Err fault.ObjectLimit) ↔ (MOST_OBJECTS ≤ object_number heap.old) }
+    ensures object_limit { (result ≡ Err fault.ObjectLimit) ↔ (MOST_OBJECTS ≤ object_number
+        heap.old) }
     ensures entry_limit { (result ≡ Err fault.EntryLimit)
-        ↔ ((object_number heap.old < MOST_OBJECTS) × (MOST_ENTRIES < entry_number heap.old + length parts.now)) }
+        ↔ ((object_number heap.old < MOST_OBJECTS)
+        × (MOST_ENTRIES < entry_number heap.old + length parts.now)) }
     ensures err { OnErr result (heap.new ≡ heap.old) }
 {
     if room {
@@ -308,7 +320,8 @@ fn make_where_room<B: Kind>(
 fn fault_without_room<B: Kind>(heap: &Heap<B>, parts: usize) -> HeapFault
     ensures object_limit { (result ≡ fault.ObjectLimit) ↔ (MOST_OBJECTS ≤ object_number heap.now) }
     ensures entry_limit { (result ≡ fault.EntryLimit)
-        ↔ ((object_number heap.now < MOST_OBJECTS) × (MOST_ENTRIES < entry_number heap.now + parts)) }
+        ↔ ((object_number heap.now < MOST_OBJECTS)
+        × (MOST_ENTRIES < entry_number heap.now + parts)) }
 {
     heap.sound();
     if heap.live() >= MOST_OBJECTS {
@@ -320,7 +333,8 @@ fn fault_without_room<B: Kind>(heap: &Heap<B>, parts: usize) -> HeapFault
     }
 }
 
-/// Binds a name to a new object: the name then holds it instead of the caller. Answers the old value.
+/// Binds a name to a new object: the name then holds it instead of the caller. Answers the old
+/// value.
 fn bind_new<B: Kind>(heap: &mut Heap<B>, name: u32, serial: u64) -> Option<Val>
     requires name { name < length heap.old.names }
     requires held { 0 < outside_of heap.old serial }

@@ -107,7 +107,8 @@ pub(crate) fn value<B: Kind>(
     requires locals { LocalsLive heap.now locals.now }
     ensures ok { IfOk result (λ v. Reads heap.now locals.now (λ w. machine.value w operand.now) v) }
     ensures live { IfOk result (λ v. IsLiveValue heap.now v) }
-    ensures err { IfErr result (λ r. IsRefused heap.now locals.now (λ w. machine.value w operand.now) r) }
+    ensures err { IfErr result (λ r. IsRefused heap.now locals.now
+        (λ w. machine.value w operand.now) r) }
 {
     let mut near = Near::default();
     value_located(heap, locals, operand, &mut near)
@@ -125,7 +126,8 @@ pub(crate) fn value_located<B: Kind>(
     requires locals { LocalsLive heap.now locals.now }
     ensures ok { IfOk result (λ v. Reads heap.now locals.now (λ w. machine.value w operand.now) v) }
     ensures live { IfOk result (λ v. IsLiveValue heap.now v) }
-    ensures err { IfErr result (λ r. IsRefused heap.now locals.now (λ w. machine.value w operand.now) r) }
+    ensures err { IfErr result (λ r. IsRefused heap.now locals.now
+        (λ w. machine.value w operand.now) r) }
 {
     match operand {
         Operand::Name(_) => value_near(heap, locals, operand, near),
@@ -148,7 +150,8 @@ pub(crate) fn value_near<B: Kind>(
     requires locals { LocalsLive heap.now locals.now }
     ensures ok { IfOk result (λ v. Reads heap.now locals.now (λ w. machine.value w operand.now) v) }
     ensures live { IfOk result (λ v. IsLiveValue heap.now v) }
-    ensures err { IfErr result (λ r. IsRefused heap.now locals.now (λ w. machine.value w operand.now) r) }
+    ensures err { IfErr result (λ r. IsRefused heap.now locals.now
+        (λ w. machine.value w operand.now) r) }
 {
     match operand {
         Operand::Name(name) => {
@@ -167,8 +170,9 @@ pub(crate) fn value_near<B: Kind>(
 
 /// The value of an operand other than a name, if it has one.
 ///
-/// Tests one sort after the other, the most frequent first: a single `match` would compile to a jump table. The calls are
-/// separate functions, since a function clears the space for results in memory when it begins.
+/// Tests one sort after the other, the most frequent first: a single `match` would compile to a
+/// jump table. The calls are separate functions, since a function clears the space for results in
+/// memory when it begins.
 #[inline(always)]
 fn number_or_other<B: Kind>(
     heap: &Heap<B>,
@@ -235,7 +239,8 @@ fn value_of<B: Kind>(heap: &Heap<B>, locals: &Option<Locals>, operand: &Operand)
 
 /// The object whose finalizer or legacy finalizer runs.
 fn finalized_in(locals: &Option<Locals>) -> Option<Val>
-    ensures { result ≡ option_map val_of.Ref (option_and_then (λ l. machine.self_in l.sort l.subject) locals.now) }
+    ensures { result ≡ option_map val_of.Ref
+        (option_and_then (λ l. machine.self_in l.sort l.subject) locals.now) }
 {
     let Some(frame) = locals else { return None };
     match frame.sort {
@@ -246,7 +251,8 @@ fn finalized_in(locals: &Option<Locals>) -> Option<Val>
 
 /// The weak reference whose callback runs.
 fn weak_in(locals: &Option<Locals>) -> Option<Val>
-    ensures { result ≡ option_map val_of.Ref (option_and_then (λ l. machine.weak_in l.sort l.subject) locals.now) }
+    ensures { result ≡ option_map val_of.Ref
+        (option_and_then (λ l. machine.weak_in l.sort l.subject) locals.now) }
 {
     let Some(frame) = locals else { return None };
     match frame.sort {
@@ -273,11 +279,13 @@ fn cell_in<B: Kind>(heap: &Heap<B>, locals: &Option<Locals>, i: u8) -> Option<Va
     }
 }
 
-/// The object of any kind that a value refers to. A value without one is refused as an object of another kind than this.
+/// The object of any kind that a value refers to. A value without one is refused as an object of
+/// another kind than this.
 #[inline(always)]
 pub(crate) fn reference(val: Val, wanted: Wanted) -> Result<u64, Refusal>
     ensures ok { IfOk result (λ o. val ≡ val_of.Ref o) }
-    ensures err { IfErr result (λ r. (store : AnyStore) → HasNoObject store (test_of wanted) (number_of (refusal_of wanted)) val r) }
+    ensures err { IfErr result (λ r. (store : AnyStore) → HasNoObject store (test_of wanted)
+        (number_of (refusal_of wanted)) val r) }
 {
     match val {
         Val::Ref(object) => Ok(object),
@@ -290,13 +298,15 @@ pub(crate) fn reference(val: Val, wanted: Wanted) -> Result<u64, Refusal>
 pub(crate) fn object<B: Kind>(heap: &Heap<B>, val: Val, wanted: Wanted) -> Result<u64, Refusal>
     requires { IsLiveValue heap.now val }
     ensures ok { IfOk result (λ o. RefersTo heap.now (test_of wanted) val o) }
-    ensures err { IfErr result (λ r. HasNoObject heap.now (test_of wanted) (number_of (refusal_of wanted)) val r) }
+    ensures err { IfErr result (λ r. HasNoObject heap.now (test_of wanted)
+        (number_of (refusal_of wanted)) val r) }
 {
     let mut near = Near::default();
     object_near(heap, val, wanted, &mut near)
 }
 
-/// The same, and where the object is, for the next access. Looks nothing up if the object is near already.
+/// The same, and where the object is, for the next access. Looks nothing up if the object is near
+/// already.
 #[inline(always)]
 pub(crate) fn object_near<B: Kind>(
     heap: &Heap<B>,
@@ -306,7 +316,8 @@ pub(crate) fn object_near<B: Kind>(
 ) -> Result<u64, Refusal>
     requires { IsLiveValue heap.now val }
     ensures ok { IfOk result (λ o. RefersTo heap.now (test_of wanted) val o) }
-    ensures err { IfErr result (λ r. HasNoObject heap.now (test_of wanted) (number_of (refusal_of wanted)) val r) }
+    ensures err { IfErr result (λ r. HasNoObject heap.now (test_of wanted)
+        (number_of (refusal_of wanted)) val r) }
 {
     let object = reference(val, wanted)?;
     if wanted.admits(heap.locate(object, near), object) {

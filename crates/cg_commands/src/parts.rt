@@ -71,7 +71,8 @@ impl<const N: usize> Parts<N> {
     }
 }
 
-/// The items that the values of operands make, in order. Refuses at the first operand without a value.
+/// The items that the values of operands make, in order. Refuses at the first operand without a
+/// value.
 pub(crate) fn gather<B: Kind, const N: usize>(
     heap: &Heap<B>,
     locals: &Option<Locals>,
@@ -81,7 +82,8 @@ pub(crate) fn gather<B: Kind, const N: usize>(
     requires locals { LocalsLive heap.now locals.now }
     requires few { length operands.now ≤ N }
     ensures ok { IfOk result (λ parts. Gathers heap.now locals.now operands.now parts) }
-    ensures err { IfErr result (λ r. IsRefused heap.now locals.now (λ w. machine.values w operands.now) r) }
+    ensures err { IfErr result (λ r. IsRefused heap.now locals.now
+        (λ w. machine.values w operands.now) r) }
 {
     let mut parts = Parts::new();
     for operand in operands {
@@ -99,7 +101,8 @@ pub(crate) fn callback_parts<B: Kind>(
 ) -> Result<Parts<1>, Refusal>
     requires { IsLiveValue heap.now callback }
     ensures ok { IfOk result (λ parts. IsCallback heap.now locals.now callback parts) }
-    ensures err { IfErr result (λ r. IsRefused heap.now locals.now (λ w. callback_entries w callback) r) }
+    ensures err { IfErr result (λ r. IsRefused heap.now locals.now
+        (λ w. callback_entries w callback) r) }
 {
     let mut parts = Parts::new();
     match callback {

@@ -29,7 +29,8 @@ pub(crate) fn print<B: Kind>(
 ) -> Result<Done, Refusal>
     requires known { All (λ n. n < length heap.now.names) (operand_texts operand.now) }
     requires locals { LocalsLive heap.now locals.now }
-    ensures { PerformsOnHeap heap.now locals.now (λ w. effect w (command.Print operand.now)) heap.now result }
+    ensures { PerformsOnHeap heap.now locals.now (λ w. effect w (command.Print operand.now))
+        heap.now result }
 {
     let val = value(heap, locals, operand)?;
     Ok(told(Some(Event::Value(val))))
@@ -45,7 +46,8 @@ pub(crate) fn refs<B: Kind>(
 ) -> Result<Done, Refusal>
     requires known { All (λ n. n < length heap.now.names) (operand_texts operand.now) }
     requires locals { LocalsLive heap.now locals.now }
-    ensures { PerformsOnHeap heap.now locals.now (λ w. effect w (command.Refs operand.now)) heap.now result }
+    ensures { PerformsOnHeap heap.now locals.now (λ w. effect w (command.Refs operand.now)) heap.now
+        result }
 {
     let val = value(heap, locals, operand)?;
     let target = object(heap, val, Wanted::Any)?;
@@ -62,7 +64,8 @@ pub(crate) fn tracked<B: Kind>(
 ) -> Result<Done, Refusal>
     requires known { All (λ n. n < length heap.now.names) (operand_texts operand.now) }
     requires locals { LocalsLive heap.now locals.now }
-    ensures { PerformsOnHeap heap.now locals.now (λ w. effect w (command.Tracked operand.now)) heap.now result }
+    ensures { PerformsOnHeap heap.now locals.now (λ w. effect w (command.Tracked operand.now))
+        heap.now result }
 {
     let val = value(heap, locals, operand)?;
     let answer = is_tracked(heap, val);
@@ -78,7 +81,8 @@ pub(crate) fn finalized<B: Kind>(
 ) -> Result<Done, Refusal>
     requires known { All (λ n. n < length heap.now.names) (operand_texts operand.now) }
     requires locals { LocalsLive heap.now locals.now }
-    ensures { PerformsOnHeap heap.now locals.now (λ w. effect w (command.Finalized operand.now)) heap.now result }
+    ensures { PerformsOnHeap heap.now locals.now (λ w. effect w (command.Finalized operand.now))
+        heap.now result }
 {
     let val = value(heap, locals, operand)?;
     let answer = is_finalized(heap, val);

@@ -6,7 +6,7 @@ use Rattle.cg_value.specs.declared.Place.{Place}
 use Rattle.cg_graph.specs.Member.{Includes}
 use Rattle.cg_graph.specs.Store.{Store, IsLive, list_at}
 use Rattle.cg_heap.specs.Calls.{IsListed}
-use Rattle.cg_trial.proofs.Placed.{where_is}
+use Rattle.cg_trial.proofs.PlacesOfObjects.{where_is}
 
 -- all of a list live
 pub all_live : (store : Store) (listed : IsListed store) (p : Place) (xs : List ℕ) → xs ≡ list_at store p → All (λ o. IsLive store o) xs

@@ -60,10 +60,12 @@ keeps_entry s e = occurrences-append s (references_of_value (Some e.val)) (refer
 
 module _ (old new : Store) (held : List ℕ) (count names : ℕ) (b : Backed old held count names) where
   -- one more object, held from outside; the test keeps the hold or not
-  pub backed_made : (kept : List ℕ) (serial : ℕ) (code : KindCode) (class : Option ℕ) (parts : List Entry) (referent : Option ℕ) → ((s : ℕ) → IsLive old s → s ≤ old.last) → new ≡ attached (old.last + 1) referent (made code class parts old) → serial ≡ old.last + 1
+  pub backed_made : (kept : List ℕ) (serial : ℕ) (code : KindCode) (class : Option ℕ) (parts : List Entry) (referent : Option ℕ)
+      → ((s : ℕ) → IsLive old s → s ≤ old.last) → new ≡ attached (old.last + 1) referent (made code class parts old) → serial ≡ old.last + 1
       → ((s : ℕ) → occurrences s kept ≤ occurrences s held + occurrences s (serial ∷ [])) → Backed new kept (count + 1) names
   backed_made kept serial code class parts referent below is same keeps = subst (λ (s : Store). Backed s kept (count + 1) names) (sym is) (
-    λ s. let here : occurrences s (serial ∷ []) ≡ occurrences s ((old.last + 1) ∷ []) = ap (λ k. occurrences s (k ∷ [])) same in omega (arith, keeps s, b.0 s, here, outside-made code class parts old below s),
+    λ s. let here : occurrences s (serial ∷ []) ≡ occurrences s ((old.last + 1) ∷ []) = ap (λ k. occurrences s (k ∷ [])) same
+        in omega (arith, keeps s, b.0 s, here, outside-made code class parts old below s),
     omega (arith, b.1, total-made code class parts old),
     omega (arith, b.2),
     b.3,
@@ -141,7 +143,8 @@ module _ (old new : Store) (held : List ℕ) (count names : ℕ) (b : Backed old
   )
 
   -- an entry removed from an object; its references are held
-  taken : (kept : List ℕ) (o : ℕ) (es : List Entry) (e : Entry) → ((s : ℕ) → 0 < inner old s → IsLive old s) → ((s : ℕ) → occurrences s (entry_references e) ≤ inner old s) → new ≡ holding (entry_references e) (rewritten o es old)
+  taken : (kept : List ℕ) (o : ℕ) (es : List Entry) (e : Entry) → ((s : ℕ) → 0 < inner old s → IsLive old s)
+      → ((s : ℕ) → occurrences s (entry_references e) ≤ inner old s) → new ≡ holding (entry_references e) (rewritten o es old)
       → ((s : ℕ) → occurrences s kept ≤ occurrences s held + occurrences s (entry_references e)) → Backed new kept (count + 2) names
   taken kept o es e live inside is keeps = subst (λ (s : Store). Backed s kept (count + 2) names) (sym is) (
     λ s. omega (
@@ -156,17 +159,20 @@ module _ (old new : Store) (held : List ℕ) (count names : ℕ) (b : Backed old
     b.3,
   )
 
-  pub backed_take : (kept : List ℕ) (o i : ℕ) (e : Entry) → ((s : ℕ) → 0 < inner old s → IsLive old s) → slice_get (entries_of old o) i ≡ Some e → new ≡ holding (entry_references e) (rewritten o (remove (entries_of old o) i) old)
+  pub backed_take : (kept : List ℕ) (o i : ℕ) (e : Entry) → ((s : ℕ) → 0 < inner old s → IsLive old s) → slice_get (entries_of old o) i ≡ Some e → new
+      ≡ holding (entry_references e) (rewritten o (remove (entries_of old o) i) old)
       → ((s : ℕ) → occurrences s kept ≤ occurrences s held + occurrences s (entry_references e)) → Backed new kept (count + 2) names
   backed_take kept o i e live at is keeps = taken kept o (remove (entries_of old o) i) e live (entry_holds old o i e at) is keeps
 
-  pub backed_take_key : (kept : List ℕ) (o : ℕ) (key : Val) (e : Entry) → ((s : ℕ) → 0 < inner old s → IsLive old s) → Some e ≡ entry_at (entries_of old o) key → new ≡ holding (entry_references e) (rewritten o (without_key (entries_of old o) key) old)
+  pub backed_take_key : (kept : List ℕ) (o : ℕ) (key : Val) (e : Entry) → ((s : ℕ) → 0 < inner old s → IsLive old s) → Some e ≡ entry_at (entries_of old o) key
+      → new ≡ holding (entry_references e) (rewritten o (without_key (entries_of old o) key) old)
       → ((s : ℕ) → occurrences s kept ≤ occurrences s held + occurrences s (entry_references e)) → Backed new kept (count + 2) names
   backed_take_key kept o key e live at is keeps =
       let (i, there) = stands_somewhere key (entries_of old o) e (sym at) in
       taken kept o (without_key (entries_of old o) key) e live (entry_holds old o i e there.here) is keeps
 
-  pub backed_detach : (kept : List ℕ) (o : ℕ) (e : Entry) → ((s : ℕ) → 0 < inner old s → IsLive old s) → entries_of old o ≡ without_last (entries_of old o) ++ e ∷ [] → new ≡ holding (entry_references e) (rewritten o (without_last (entries_of old o)) old)
+  pub backed_detach : (kept : List ℕ) (o : ℕ) (e : Entry) → ((s : ℕ) → 0 < inner old s → IsLive old s) → entries_of old o ≡ without_last (entries_of old o) ++ e
+      ∷ [] → new ≡ holding (entry_references e) (rewritten o (without_last (entries_of old o)) old)
       → ((s : ℕ) → occurrences s kept ≤ occurrences s held + occurrences s (entry_references e)) → Backed new kept (count + 2) names
   backed_detach kept o e live last is keeps =
       taken kept o (without_last (entries_of old o)) e live
@@ -174,7 +180,8 @@ module _ (old new : Store) (held : List ℕ) (count names : ℕ) (b : Backed old
       is keeps
 
 -- the queries answer that an object is in no row
-pub unnamed : (store : Store) → IsSound store → (o : ℕ) (code : KindCode) → IfSome (fin.get store.nodes o) (λ n. code ≡ n.code) → (code ≡ Weak → ⊥) → None ≡ slice_get (weak_references_in store.rows o) 0 → None ≡ slice_get (waiting_in store.rows o) 0 → IsInNoRow o store.rows
+pub unnamed : (store : Store) → IsSound store → (o : ℕ) (code : KindCode) → IfSome (fin.get store.nodes o) (λ n. code ≡ n.code) → (code ≡ Weak → ⊥) → None
+    ≡ slice_get (weak_references_in store.rows o) 0 → None ≡ slice_get (waiting_in store.rows o) 0 → IsInNoRow o store.rows
 unnamed store sound o code told other refers waits =
     in_no_row store.rows o
     (no_own_row store sound.rows o (λ has. other (kind (fin.get store.nodes o) told has)))

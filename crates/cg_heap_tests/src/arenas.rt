@@ -209,7 +209,8 @@ fn look(rt: &impl Abort, alloc: Global, arena: &Arena, row: Row) -> Result<(), A
     Ok(())
 }
 
-/// Takes an arena through the rows. What owns an arena stands apart: with all that is asked of it, it would be proved for minutes.
+/// Takes an arena through the rows. What owns an arena stands apart: with all that is asked of it,
+/// it would be proved for minutes.
 fn follow(rt: &impl Abort, alloc: Global, arena: &mut Arena, rows: &[Row]) -> Result<(), Fail> {
     'rows: for row in rows {
         place_nodes(rt, arena, *row)?;
@@ -339,7 +340,8 @@ fn nodes_move_are_merged_and_keep_their_fields(rt: HostRuntime) -> Result<(), Fa
     Ok(())
 }
 
-/// These four pick the same of the first 64 guesses, so all but the last added are looked up by their rows.
+/// These four pick the same of the first 64 guesses, so all but the last added are looked up by
+/// their rows.
 const SHARING: [u64; 4] = [5, 68, 135, 198];
 
 #[test]

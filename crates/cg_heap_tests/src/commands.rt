@@ -1,5 +1,6 @@
-//! What the commands that inspect tell of two lists, one in the other, as `a = list; b = list a` leaves them, where `a` alone is a
-//! name. Each is asked of a heap of its own: no clause says what a command leaves where the heap stands for no world.
+//! What the commands that inspect tell of two lists, one in the other, as `a = list; b = list a`
+//! leaves them, where `a` alone is a name. Each is asked of a heap of its own: no clause says what
+//! a command leaves where the heap stands for no world.
 ghost use Rattle.std.specs.Prelude.{◌≡◌, ◌<◌, false, map, replicate, length, IfOk, IfSome};
 ghost use Rattle.std.specs.FinMap as fin;
 ghost use Rattle.cg_graph.specs.Store.{IsLive};
@@ -42,8 +43,8 @@ enum Answer {
     Refused(u8),
 }
 
-/// A name; a command, the object in the frame of whose finalizer it is given, whether the outer list is held, whether a collection is
-/// running; and the answer.
+/// A name; a command, the object in the frame of whose finalizer it is given, whether the outer
+/// list is held, whether a collection is running; and the answer.
 type Row = (&'static str, Asked, Option<u64>, bool, bool, Answer);
 
 static ROWS: [Row; 12] = [

@@ -1,4 +1,5 @@
-//! Keys that are dropped in large numbers. What a dictionary answers is what a plain list in order of insertion would.
+//! Keys that are dropped in large numbers. What a dictionary answers is what a plain list in order
+//! of insertion would.
 ghost use Rattle.std.specs.Prelude.{[]};
 ghost use Rattle.cg_kind.specs.Bodies.{Holds};
 ghost use Rattle.cg_kind.specs.Calls.{IsParts};
@@ -53,7 +54,8 @@ fn drop_key<K: Kind>(rt: &impl Abort, kind: &mut K, at: usize, place: usize, key
     );
 }
 
-/// The place and the key of the pair that goes next, of keys from 0 to before `count` of which so many are gone.
+/// The place and the key of the pair that goes next, of keys from 0 to before `count` of which so
+/// many are gone.
 fn next_of(order: Order, count: u64, gone: u64) -> (usize, u64) {
     let left = count.saturating_sub(gone);
     match order {

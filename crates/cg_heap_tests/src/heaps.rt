@@ -1,5 +1,5 @@
-//! Whole heaps over six kinds. The expected answers come from counting references by hand, as `sys.getrefcount` of
-//! Python does.
+//! Whole heaps over six kinds. The expected answers come from counting references by hand, as
+//! `sys.getrefcount` of Python does.
 ghost use Rattle.std.specs.Prelude.{◌≡◌, map, replicate};
 ghost use Rattle.std.specs.FinMap as fin;
 ghost use Rattle.cg_heap.specs.Boxes.{six_kinds};

@@ -63,8 +63,8 @@ fn backwards<B: Kind, L: Ledger>(
     referrers(alloc, heap, object, &mut Steps::<L>::new(blank))
 }
 
-/// A name; which items the lists #2 to #6 get, which of them stay held, which two the names have, which the garbage list gets, and
-/// the path by which #2 is alive then, empty where there is none.
+/// A name; which items the lists #2 to #6 get, which of them stay held, which two the names have,
+/// which the garbage list gets, and the path by which #2 is alive then, empty where there is none.
 type Row = (
     &'static str,
     &'static [(u64, u64)],
@@ -162,8 +162,8 @@ fn path_in(answer: &Why) -> &[u64] {
     }
 }
 
-/// Builds the graph of a row, and asks why the object is alive. The heap's owner is a separate function: together their proof
-/// would take minutes.
+/// Builds the graph of a row, and asks why the object is alive. The heap's owner is a separate
+/// function: together their proof would take minutes.
 fn ask_row<B: Kind>(
     scene: &mut Scene<B>,
     rt: &impl Abort,

@@ -1,5 +1,5 @@
-//! All six kinds, through the boxed interface. The expected entries are those that Python's lists, tuples and
-//! dictionaries have after the same steps.
+//! All six kinds, through the boxed interface. The expected entries are those that Python's lists,
+//! tuples and dictionaries have after the same steps.
 ghost use Rattle.std.specs.Prelude.{◌≡◌, ℕ, List, [], length, IsTrue, IfOk};
 ghost use Rattle.cg_value.specs.declared.Entry.{Entry};
 ghost use Rattle.cg_graph.specs.Value.{item};
@@ -57,7 +57,8 @@ fn item_of(val: Val) -> Entry
 
 /// Whether `put` may be called at this key of an object with `count` entries.
 fn can_put(code: KindCode, count: usize, key: Val) -> bool
-    ensures { IsTrue result → (entries : List Entry) → length entries ≡ count → CanPut code entries key }
+    ensures { IsTrue result → (entries : List Entry) → length entries ≡ count
+        → CanPut code entries key }
 {
     match code {
         KindCode::List => match key {
@@ -225,7 +226,8 @@ fn listed(alloc: Global, pairs: &[(Val, i64)]) -> Result<Vec<Entry>, AllocError>
 pub fn make<K: Kind>(kind: &mut K, parts: &[Entry]) -> Result<usize, AllocError>
     requires { IsParts (K.kind kind.old) parts.now }
     ensures held { IfOk result (λ at. Holds (K.bodies kind.new) at) }
-    ensures others { (place : ℕ) → Holds (K.bodies kind.old) place → Holds (K.bodies kind.new) place }
+    ensures others { (place : ℕ) → Holds (K.bodies kind.old) place → Holds (K.bodies kind.new)
+        place }
     ensures same_kind { K.kind kind.new ≡ K.kind kind.old }
 {
     let at = kind.make(parts)?;
@@ -241,7 +243,8 @@ fn free<K: Kind>(kind: &mut K, at: usize)
     }
 }
 
-/// Takes an object through the steps, and checks the entries after each. A second object stays as it is.
+/// Takes an object through the steps, and checks the entries after each. A second object stays as
+/// it is.
 fn drive<K: Kind>(
     rt: &impl Abort,
     alloc: Global,

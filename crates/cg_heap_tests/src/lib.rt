@@ -1,4 +1,5 @@
-//! Tests of the crates from cg_graph to cg_commands: kinds, nodes, weak references, whole heaps, and questions about a heap.
+//! Tests of the crates from cg_graph to cg_commands: kinds, nodes, weak references, whole heaps,
+//! and questions about a heap.
 //!
 //! A separate crate, so that those crates are checked without the tests. Nothing depends on it.
 #![tactic(auto)]

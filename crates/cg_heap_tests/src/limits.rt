@@ -14,8 +14,8 @@ use std::alloc::{AllocError, Global};
 use std::process::Abort;
 use std::test::Fail;
 
-/// Takes all entries of an object off. It answers the object to which the last one that was taken refers, and which is held
-/// then, if there is one.
+/// Takes all entries of an object off. It answers the object to which the last one that was taken
+/// refers, and which is held then, if there is one.
 fn empty<B: Kind>(
     rt: &impl Abort,
     scene: &mut Scene<B>,
@@ -31,8 +31,8 @@ fn empty<B: Kind>(
     Ok(found)
 }
 
-/// Frees an object that nothing else holds, after removing its entries. Answers the object of its first entry, which is
-/// then held, if any.
+/// Frees an object that nothing else holds, after removing its entries. Answers the object of its
+/// first entry, which is then held, if any.
 fn give_up<B: Kind>(
     rt: &impl Abort,
     scene: &mut Scene<B>,
@@ -109,7 +109,8 @@ fn reach_objects<B: Kind>(rt: &impl Abort, scene: &mut Scene<B>) -> Result<(), F
 
 const LIMIT: HeapFault = HeapFault::EntryLimit;
 
-/// A thousand lists of four thousand numbers: one entry more is refused, an object without entries is not.
+/// A thousand lists of four thousand numbers: one entry more is refused, an object without entries
+/// is not.
 static ENTRIES: [Row; 8] = [
     (Step::Entries, Answer::Number(4_000_000)),
     (
@@ -210,8 +211,8 @@ fn attempt<B: Kind>(rt: &impl Abort, scene: &mut Scene<B>, trial: Trial) -> Resu
     }
 }
 
-/// Runs one on a new heap, which it borrows: the proof of a function that owned the heap and made all these calls would take
-/// minutes.
+/// Runs one on a new heap, which it borrows: the proof of a function that owned the heap and made
+/// all these calls would take minutes.
 fn check<B: Kind>(rt: &impl Abort, alloc: Global, kinds: Vec<B>, trial: Trial) -> Result<(), Fail>
     requires kinds { map B.kind kinds.items ≡ six_kinds }
     requires empty { map B.bodies kinds.items ≡ replicate 6 fin.empty }

@@ -11,8 +11,8 @@ use std::alloc::{AllocError, Global};
 use std::process::Abort;
 use std::test::Fail;
 
-/// The whole numbers from one to before another, which are the items of a list: appended one by one, and taken off in the same
-/// order.
+/// The whole numbers from one to before another, which are the items of a list: appended one by
+/// one, and taken off in the same order.
 #[derive(Clone, Copy, Drop)]
 struct Numbers {
     first: i64,

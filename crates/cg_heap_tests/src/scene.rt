@@ -26,8 +26,8 @@ const MOST_GIVEN: u64 = 2_000_000_000;
 
 /// A heap and the holds of a test. At most `count` holds and objects were given.
 ///
-/// What the heap requires and the test does not know is asserted at run time: each call panics if its object does not
-/// live or is of another kind.
+/// What the heap requires and the test does not know is asserted at run time: each call panics if
+/// its object does not live or is of another kind.
 #[derive(Drop)]
 pub struct Scene<B: Kind> {
     pub heap: Heap<B>,
@@ -50,7 +50,8 @@ impl<B: Kind> Model for Scene<B> {
     ghost view = { λ a. a.heap };
 
     ghost invariant = { λ a. ((s : ℕ) → occurrences s a.held.items ≤ outside_of a.heap s)
-        × (outside_total a.heap ≤ a.count) × (a.heap.last ≤ a.count + 1) × (length a.heap.names ≡ a.names) };
+        × (outside_total a.heap ≤ a.count) × (a.heap.last ≤ a.count + 1)
+        × (length a.heap.names ≡ a.names) };
 }
 
 /// The position of a hold.
@@ -62,7 +63,8 @@ fn place_of_hold(held: &[u64], object: u64) -> Option<usize>
 
 /// One more hold for each reference of an entry.
 fn keep(held: &mut Vec<u64>, entry: Entry) -> Result<(), AllocError>
-    ensures { (s : ℕ) → occurrences s held.new.items ≤ occurrences s held.old.items + occurrences s (entry_references entry) }
+    ensures { (s : ℕ) → occurrences s held.new.items ≤ occurrences s held.old.items + occurrences s
+        (entry_references entry) }
 {
     keep_value(held, entry.val)?;
     keep_value(held, entry.key)?;
@@ -70,7 +72,8 @@ fn keep(held: &mut Vec<u64>, entry: Entry) -> Result<(), AllocError>
 }
 
 fn keep_value(held: &mut Vec<u64>, val: Val) -> Result<(), AllocError>
-    ensures { (s : ℕ) → occurrences s held.new.items ≤ occurrences s held.old.items + occurrences s (references_of_value (Some val)) }
+    ensures { (s : ℕ) → occurrences s held.new.items ≤ occurrences s held.old.items + occurrences s
+        (references_of_value (Some val)) }
 {
     if let Val::Ref(serial) = val {
         held.push(serial)?;

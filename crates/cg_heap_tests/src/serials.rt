@@ -1,5 +1,5 @@
-//! Nearby serials in an index table. The table chooses a group by the low bits of a hash, and separates the members of a group by
-//! a tag, the byte above bit 24, at least 1.
+//! Nearby serials in an index table. The table chooses a group by the low bits of a hash, and
+//! separates the members of a group by a tag, the byte above bit 24, at least 1.
 
 use cg_serial::serial_hashing;
 use std::hash::BuildHasher;

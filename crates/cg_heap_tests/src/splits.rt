@@ -1,4 +1,5 @@
-//! Small graphs in a heap over six kinds, split. What is to be left is found by hand, and what is kept by the plain search.
+//! Small graphs in a heap over six kinds, split. What is to be left is found by hand, and what is
+//! kept by the plain search.
 ghost use Rattle.std.specs.Prelude.{◌≡◌, ◌<◌, map, replicate, IfOk};
 ghost use Rattle.std.specs.List.{All};
 ghost use Rattle.std.specs.FinMap as fin;
@@ -25,7 +26,8 @@ use std::test::Fail;
 enum Graph {
     /// So many lists from #2 on, and their items.
     Lists(u32, &'static [(u64, u64)]),
-    /// The dictionary #2 has the object #4 under the object #3, and the function #5 has the dictionary as a cell.
+    /// The dictionary #2 has the object #4 under the object #3, and the function #5 has the
+    /// dictionary as a cell.
     KeyAndCell,
 }
 
@@ -44,7 +46,8 @@ const RING: Graph = Graph::Lists(4, &[(2, 3), (3, 4), (4, 2)]);
 /// #2 and #3 hold each other, #4 holds #2, and #5 holds #4.
 const CHAIN: Graph = Graph::Lists(4, &[(2, 3), (3, 2), (4, 2), (5, 4)]);
 
-/// A name, a graph, the objects that stay held from outside, what is unreachable, and whether all objects are candidates before.
+/// A name, a graph, the objects that stay held from outside, what is unreachable, and whether all
+/// objects are candidates before.
 type Row = (&'static str, Graph, &'static [u64], &'static [u64], bool);
 
 static ROWS: [Row; 14] = [
@@ -212,7 +215,8 @@ fn reached_plainly<B: Kind>(
     reach_plain(alloc, &edges, members, &held)
 }
 
-/// Splits the place. Answers what is left, what is kept, and what the plain search finds, each rising.
+/// Splits the place. Answers what is left, what is kept, and what the plain search finds, each
+/// rising.
 fn split_place<B: Kind, L: Ledger>(
     rt: &impl Abort,
     alloc: Global,
@@ -239,8 +243,8 @@ fn split_place<B: Kind, L: Ledger>(
     Ok((left, kept, reached))
 }
 
-/// A heap with only this graph, and some held objects. The heap's owner is a separate function: together with the many calls
-/// its proof would take minutes.
+/// A heap with only this graph, and some held objects. The heap's owner is a separate function:
+/// together with the many calls its proof would take minutes.
 fn heap_of<B: Kind>(
     rt: &impl Abort,
     alloc: Global,
@@ -269,8 +273,8 @@ fn set<B: Kind>(
     Ok(())
 }
 
-/// Splits the place of a row, and checks what is kept against the plain search, and what is left against the
-/// row.
+/// Splits the place of a row, and checks what is kept against the plain search, and what is left
+/// against the row.
 fn split_as_row<B: Kind, L: Ledger>(
     rt: &impl Abort,
     alloc: Global,

@@ -1,5 +1,5 @@
-//! Dictionaries around the size at which their pairs move from the list to the map. They answer what a plain list in insertion
-//! order would.
+//! Dictionaries around the size at which their pairs move from the list to the map. They answer
+//! what a plain list in insertion order would.
 ghost use Rattle.std.specs.Prelude.{[]};
 ghost use Rattle.cg_kind.specs.Bodies.{Holds};
 ghost use Rattle.cg_kind.specs.Calls.{IsParts};
@@ -58,8 +58,8 @@ fn assert_has<K: Kind>(
     Ok(())
 }
 
-/// Puts a value under a key of an object and of a plain list. A refusal leaves the object unchanged; then the put is
-/// repeated.
+/// Puts a value under a key of an object and of a plain list. A refusal leaves the object
+/// unchanged; then the put is repeated.
 fn put_both<K: Kind>(
     rt: &impl Abort,
     alloc: Global,
@@ -83,7 +83,8 @@ fn put_both<K: Kind>(
     Ok(())
 }
 
-/// Takes the entry at a place out of an object and out of a plain list, where there is one. Its key is found no more.
+/// Takes the entry at a place out of an object and out of a plain list, where there is one. Its key
+/// is found no more.
 fn take_both<K: Kind>(
     rt: &impl Abort,
     kind: &mut K,
@@ -101,7 +102,8 @@ fn take_both<K: Kind>(
     }
 }
 
-/// Takes the entry of a key out of an object and out of a plain list, where there is one. The key is found no more.
+/// Takes the entry of a key out of an object and out of a plain list, where there is one. The key
+/// is found no more.
 fn take_key_of_both<K: Kind>(
     rt: &impl Abort,
     kind: &mut K,
@@ -149,8 +151,8 @@ fn advance<K: Kind>(
     Ok(())
 }
 
-/// The keys from the first to before the last are put, each with ten times itself or with 10; then come steps, each so many times;
-/// so many entries are left.
+/// The keys from the first to before the last are put, each with ten times itself or with 10; then
+/// come steps, each so many times; so many entries are left.
 type Row = (i64, i64, bool, &'static [(u32, Step)], usize);
 
 /// Takes an object through a row, and looks at all entries after each step.
@@ -176,7 +178,8 @@ fn follow<K: Kind>(rt: &impl Abort, alloc: Global, kind: &mut K, row: Row) -> Re
     Ok(())
 }
 
-/// A value is replaced, the first key goes and comes again, and two keys are taken, one of which is not there.
+/// A value is replaced, the first key goes and comes again, and two keys are taken, one of which is
+/// not there.
 const CHANGES: &[(u32, Step)] = &[
     (1, Step::Put(Val::Int(3), Val::Int(30))),
     (1, Step::Take(0)),
@@ -185,8 +188,9 @@ const CHANGES: &[(u32, Step)] = &[
     (1, Step::TakeKey(Val::Int(99))),
 ];
 
-/// Some keys of 48 are taken, two are put again, and one more is taken. The newest goes while the map keeps the order, the others from
-/// an order that the oldest brought. The keys that are left: 2 to 45 without 12 and 44, and then 12 and 0.
+/// Some keys of 48 are taken, two are put again, and one more is taken. The newest goes while the
+/// map keeps the order, the others from an order that the oldest brought. The keys that are left: 2
+/// to 45 without 12 and 44, and then 12 and 0.
 const AGAIN: &[(u32, Step)] = &[
     (1, Step::TakeKey(Val::Int(47))),
     (1, Step::TakeKey(Val::Int(0))),
@@ -198,8 +202,8 @@ const AGAIN: &[(u32, Step)] = &[
     (1, Step::TakeKey(Val::Int(44))),
 ];
 
-/// Values at the ends of their ranges, as keys and as values. They come out as they went in, from the map's own order, and from another
-/// once the first keys are gone.
+/// Values at the ends of their ranges, as keys and as values. They come out as they went in, from
+/// the map's own order, and from another once the first keys are gone.
 const ENDS: &[(u32, Step)] = &[
     (1, Step::Put(Val::None, Val::Ref(u64::MAX))),
     (1, Step::Put(Val::Int(i64::MIN), Val::Ref(u32::MAX as u64))),
@@ -214,8 +218,8 @@ const ENDS: &[(u32, Step)] = &[
     (48, Step::Take(0)),
 ];
 
-/// Dictionaries: one key too many for a list; enough keys behind the first for its drop to note the order down; keys that come again;
-/// values at the ends of their ranges.
+/// Dictionaries: one key too many for a list; enough keys behind the first for its drop to note the
+/// order down; keys that come again; values at the ends of their ranges.
 static DICTS: [Row; 12] = [
     (0, 23, false, CHANGES, 22),
     (0, 24, false, CHANGES, 23),
@@ -269,8 +273,8 @@ fn drawn(number: u64, keys: u64) -> Step {
     }
 }
 
-/// Takes an object through steps at random, over so many keys, and looks at all entries each time after so many of them. At the end they
-/// are taken off, past the end.
+/// Takes an object through steps at random, over so many keys, and looks at all entries each time
+/// after so many of them. At the end they are taken off, past the end.
 fn walk<K: Kind>(
     rt: &impl Abort,
     alloc: Global,

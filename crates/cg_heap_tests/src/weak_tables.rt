@@ -1,5 +1,5 @@
-//! Weak references that are added, wait and leave, in a table without a heap. The walks are worked out by
-//! hand.
+//! Weak references that are added, wait and leave, in a table without a heap. The walks are worked
+//! out by hand.
 ghost use Rattle.std.specs.Prelude.{◌<◌};
 ghost use Rattle.std.specs.List.{All};
 
@@ -141,7 +141,8 @@ fn look(rt: &impl Abort, alloc: Global, numbered: &Numbered, row: Row) -> Result
     Ok(())
 }
 
-/// Takes a table through the rows. What owns a table stands apart: with all that is asked of it, it would be proved for long.
+/// Takes a table through the rows. What owns a table stands apart: with all that is asked of it, it
+/// would be proved for long.
 fn follow(
     rt: &impl Abort,
     alloc: Global,
@@ -210,7 +211,8 @@ fn referents() -> &'static [Row] {
     &REFERENTS
 }
 
-/// Those that wait are forgotten newest first. They are set waiting in an order that is neither rising nor falling.
+/// Those that wait are forgotten newest first. They are set waiting in an order that is neither
+/// rising nor falling.
 static WAITING: [Row; 20] = [
     Row::Clear(14, true),
     Row::Clear(16, true),

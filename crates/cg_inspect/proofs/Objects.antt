@@ -29,8 +29,8 @@ use Rattle.cg_arena.specs.Nodes.{count_in_list, following}
 use Rattle.cg_heap.specs.Keeps.{one}
 use Rattle.cg_heap.specs.Calls.{IsListed, object_number}
 use Rattle.cg_trial.proofs.Lists.{occurs, occurs_in, occurrences-cons, IsAt, ahead}
-use Rattle.cg_trial.proofs.Along.{along_more, along_end}
-use Rattle.cg_trial.proofs.Placed.{stands, where_is, is_there}
+use Rattle.cg_trial.proofs.WalksOverLists.{along_more, along_end}
+use Rattle.cg_trial.proofs.PlacesOfObjects.{stands, where_is, is_there}
 use Rattle.cg_trial.proofs.Objects.{once_key, found, finds}
 use Rattle.cg_inspect.specs.Inspection.{IsIdle, idle_lists}
 use Rattle.cg_search.proofs.Trails.{in_get, get_in, get_below}

@@ -40,11 +40,11 @@ use Rattle.cg_death.specs.Activities.{references_left}
 use Rattle.cg_interp.specs.Callers.{Changes, releasing, call_of, caller_activity, caller_locals, GivesUp, RunsTo, IsAtCommand, IsPerformed, StaysKeptAfter}
 use Rattle.cg_interp.specs.Turns.{StaysSound}
 use Rattle.cg_interp.proofs.CallerLemmas.{same_engine}
-use Rattle.cg_interp.proofs.Lawfully.{stays_sound}
-use Rattle.cg_interp.proofs.UnderWay.{under_way, policy_is}
+use Rattle.cg_interp.proofs.LawsOfEngines.{stays_sound}
+use Rattle.cg_interp.proofs.CollectionUnderWay.{under_way, policy_is}
 use Rattle.cg_commands.specs.Reasons.{Explained}
-use Rattle.cg_commands.proofs.Explaining.{explanation}
-use Rattle.cg_commands.proofs.Bridges.{released-none}
+use Rattle.cg_commands.proofs.WhyLemmas.{explanation}
+use Rattle.cg_commands.proofs.ChangesOfHeaps.{released-none}
 use Rattle.cg_graph.specs.Value.{item, entry_references}
 use Rattle.cg_value.specs.declared.Val.TheVariants as val_of
 use Rattle.cg_graph.proofs.Members.{either}
@@ -77,7 +77,8 @@ module _ (script : Script) (w : World) (r : Result Effect ℕ) where
   refusal_may refusal_of.EntryLimit h = by_refusal _ h
   refusal_may refusal_of.InCollection h = by_refusal _ h
 
-  pub change_may : (wants : Bool) (lines : List Event) (given_up : List ℕ) (after : World) → r ≡ Ok (ChangesEffect wants lines given_up after) → DoesEffect script w r lines (push (Releasing given_up) after)
+  pub change_may : (wants : Bool) (lines : List Event) (given_up : List ℕ) (after : World) → r ≡ Ok (ChangesEffect wants lines given_up after)
+      → DoesEffect script w r lines (push (Releasing given_up) after)
   change_may wants lines given_up after is = subst (λ q. DoesEffect script w q lines (push (Releasing given_up) after)) (sym is) (inl (refl, refl))
 
   pub explain_may : (o : ℕ) (lines : List Event) → r ≡ Ok (ExplainsEffect o) → Explanation w o lines → DoesEffect script w r lines (push (Releasing []) w)
@@ -92,7 +93,8 @@ module _ (script : Script) (w : World) (r : Result Effect ℕ) where
 
   -- a requested collection
   module _ (g : ℕ) (is : r ≡ Ok (CollectsEffect g)) where
-    collects : (busy : Bool) (events : List Event) (after : World) → is_collecting w ≡ busy → Yields (if busy then (Collected 0 ∷ [], w) else ([], push (new_collection g true w) w)) events after → DoesEffect script w r events after
+    collects : (busy : Bool) (events : List Event) (after : World) → is_collecting w ≡ busy → Yields (if busy then (Collected 0 ∷ [], w)
+        else ([], push (new_collection g true w) w)) events after → DoesEffect script w r events after
     collects busy events after same yields =
         subst (λ q. DoesEffect script w q events after) (sym is)
         (subst (λ b. Yields (if b then (Collected 0 ∷ [], w) else ([], push (new_collection g true w) w)) events after) (sym same) yields)
@@ -128,7 +130,8 @@ shape_there w command e Ends = tt
 shape_there w command e s = tt
 
 -- the release of what was given up is on top
-pub change_stands : (script : Script) (top : Own) (e : State) (given_up : Entry) (release : Release) (after : World) → references_left release ≡ entry_references given_up → Changes script top e given_up after
+pub change_stands : (script : Script) (top : Own) (e : State) (given_up : Entry) (release : Release) (after : World) → references_left release
+    ≡ entry_references given_up → Changes script top e given_up after
     → StandsFor script (under (activity.Releasing release) (under top e)) (releasing given_up after)
 change_stands script top e given_up release after is changes = record {
   represents = changes.represents;
@@ -185,7 +188,8 @@ module _ (script : Script) (e : State) (top : Own) (w : World) (command : Comman
     may_give_up = (script, left, changed, left_sound)
 
     -- and the command comes to what that comes to
-    pub change_runs : (new : State) (result : Option Turned) → ((s : Script) (after : World) → Changes s top e given_up after → StaysSound s (releasing given_up after) → GivesUp s (releasing given_up after) top new line result)
+    pub change_runs : (new : State) (result : Option Turned) → ((s : Script) (after : World) → Changes s top e given_up after
+        → StaysSound s (releasing given_up after) → GivesUp s (releasing given_up after) top new line result)
         → RunsTo script w command top new result
     change_runs new result gives_up = runs_to script w command top new line (releasing given_up left) left_may result (gives_up script left changed left_sound)
 
@@ -242,7 +246,8 @@ module _ (script : Script) (e : State) (top : Own) (w : World) (command : Comman
       subst (λ st. IsLive st f) (sym p.answers.heap.1) (lives_in_heap before w p.stood.represents f there)
 
 -- A caller is at a command, and what a call asks of the heap and the policy holds.
-module _ (script : Script) (caller : Caller) (locals : Option Locals) (inside old : State) (w : World) (command : Command) (same : inside ≡ old) (own : locals ≡ caller_locals caller) (at : IsAtCommand script caller old w command) where
+module _ (script : Script) (caller : Caller) (locals : Option Locals) (inside old : State) (w : World) (command : Command) (same : inside ≡ old) (own : locals
+    ≡ caller_locals caller) (at : IsAtCommand script caller old w command) where
   before : StandsFor script (under (caller_activity caller) inside) w
   before = subst (λ e. StandsFor script (under (caller_activity caller) e) w) (sym same) at.stands
 

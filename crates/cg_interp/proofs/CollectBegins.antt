@@ -25,11 +25,12 @@ use Rattle.cg_interp.specs.Collecting.{StandsWith}
 use Rattle.cg_interp.specs.Turns.{IsFit}
 use Rattle.cg_interp.proofs.SmallNumbers.{small_numbers}
 use Rattle.cg_interp.proofs.CollectReady.{clear_at_start, idle_without}
-use Rattle.cg_interp.proofs.UnderWay.{runs_in}
+use Rattle.cg_interp.proofs.CollectionUnderWay.{runs_in}
 use Rattle.cg_inspect.specs.Inspection.{IsIdle}
 
 -- the machine's new collection, which a collection with nothing to give up represents
-starts_there : (asked : Bool) (d : Collection) (first : machine.Collection) (below : List Activity) (release : Option Release) (q : Option machine.CollectPhase) → Collecting first ∷ below ≡ released_over release (collecting asked d q) ++ below → q ≡ Some first.phase
+starts_there : (asked : Bool) (d : Collection) (first : machine.Collection) (below : List Activity) (release : Option Release) (q : Option machine.CollectPhase)
+    → Collecting first ∷ below ≡ released_over release (collecting asked d q) ++ below → q ≡ Some first.phase
 starts_there asked d first below None None is = let longer : length (Collecting first ∷ below) ≡ length below = ap length is in absurd (omega (arith, longer))
 starts_there asked d first below None (Some p) is = let same : collection_of asked d p ≡ first = cc in ap Some (ap (λ (x : machine.Collection). x.phase) same)
 starts_there asked d first below (Some r) q is = absurd (cc)
@@ -59,7 +60,8 @@ module _ (script : Script) (asked : Bool) (g : ℕ) (top : Own) (e : State) (w :
   clear_before budget sound kept = clear_at_start e.store (push (new_collection g asked w) w) sound stands.represents.objects kept.apart begins_as (inl refl) refl
 
   -- the engine in which it has begun
-  pub begins : (d : Collection) (new : State) → e.policy.running ≡ false → new.activities ≡ activity.Collecting asked d ∷ top ∷ e.activities → new.budget ≡ e.budget → CollectionShows asked d new.store new.policy (push (new_collection g asked w) w) w.stack → IsReadyForCollection script d new.store
+  pub begins : (d : Collection) (new : State) → e.policy.running ≡ false → new.activities ≡ activity.Collecting asked d ∷ top ∷ e.activities → new.budget
+      ≡ e.budget → CollectionShows asked d new.store new.policy (push (new_collection g asked w) w) w.stack → IsReadyForCollection script d new.store
       → StandsWith script new [] (push (new_collection g asked w) w)
   begins d new idle activities budget shows ready = inr (record {
     asked = asked;
@@ -74,12 +76,14 @@ module _ (script : Script) (asked : Bool) (g : ℕ) (top : Own) (e : State) (w :
       running = stands.running;
       alone = sym stands.collecting ∙ idle;
       ready = ready;
-      lines = sym (none_at_start script asked d d.phase (list_at new.store Pend) new.store (starts_there asked d begins_as w.stack d.release (machine_phase d.phase (list_at new.store Pend)) shows.top));
+      lines = sym (none_at_start script asked d d.phase (list_at new.store Pend) new.store (starts_there asked d begins_as w.stack d.release
+          (machine_phase d.phase (list_at new.store Pend)) shows.top));
     };
   })
 
 -- If no collection is under way, the places of collections are empty.
-pub idle_in : (script : Script) (budget : ℕ) (top : Own) (e : State) (w : World) → StandsFor script (under top e) w → IsSound e.store → IsKept script budget w → e.policy.running ≡ false → IsIdle e.store
+pub idle_in : (script : Script) (budget : ℕ) (top : Own) (e : State) (w : World) → StandsFor script (under top e) w → IsSound e.store → IsKept script budget w
+    → e.policy.running ≡ false → IsIdle e.store
 idle_in script budget top e w stands sound kept none = idle_without e.store w sound stands.represents.objects kept.apart (sym (runs_in script (under top e) w stands) ∙ none)
 
 -- An engine with a collection about to begin on top.

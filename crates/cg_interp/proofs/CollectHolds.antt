@@ -33,7 +33,7 @@ use Rattle.cg_interp.specs.declared.activity.Activity.TheVariants as activity
 use Rattle.cg_machine.specs.Program.{commands_of}
 use Rattle.cg_interp.specs.Engines.{State, commands_from, frame_of, ActivityShows, ShowsAll, HasHandedOut, released_first, is_collecting, any_collecting}
 use Rattle.cg_interp.specs.Turns.{IsFit}
-use Rattle.cg_interp.proofs.Lawfully.{at_least, few_holds, few_objects}
+use Rattle.cg_interp.proofs.LawsOfEngines.{at_least, few_holds, few_objects}
 use Rattle.cg_interp.proofs.CollectReady.{phase_there}
 
 -- the heap after the remaining lines are printed has the same nodes
@@ -47,7 +47,8 @@ outside_after : (p : Phase) (store : Store) (s : ℕ) → outside_of (store_afte
 outside_after p store s = ap (λ m. outside_in (fin.get m s)) (nodes_after p store)
 
 -- what is given up is held, and what the phase holds
-held_over : (s : ℕ) (release : Option Release) (tops : List Activity) → occurrences s (flat_map holds (released_over release tops)) ≡ occurrences s (given_up_by release) + occurrences s (flat_map holds tops)
+held_over : (s : ℕ) (release : Option Release) (tops : List Activity) → occurrences s (flat_map holds (released_over release tops))
+    ≡ occurrences s (given_up_by release) + occurrences s (flat_map holds tops)
 held_over s None tops = omega arith
 held_over s (Some release) tops = occurrences-append s (references_left release) (flat_map holds tops)
 
@@ -70,7 +71,8 @@ module _ (asked : Bool) (c : Collection) (store : Store) (w : World) (below : Li
   )
 
 -- The heap has few holds, in a world of a run.
-pub few_holds_after : (script : Script) (budget : ℕ) (p : Phase) (store : Store) (w : World) → IsSound store → Represents (store_after p store) w → IsLawful script budget w → budget ≤ 100000 → HasFewHolds store
+pub few_holds_after : (script : Script) (budget : ℕ) (p : Phase) (store : Store) (w : World) → IsSound store → Represents (store_after p store) w
+    → IsLawful script budget w → budget ≤ 100000 → HasFewHolds store
 few_holds_after script budget p store w sound r lawful low =
     let number : object_number (store_after p store) ≤ 1000000 = subst (λ m. total one m - 1 ≤ 1000000) (sym (nodes_after p store)) sound.objects in
     let few = few_holds script budget (store_after p store) w r lawful low (few_objects (store_after p store) number) in
@@ -90,7 +92,8 @@ objects_after p store w r = ap length (sym r.objects) ∙ each p
     each p = refl
 
 -- The stack has room above what lies below a collection.
-pub room_above : (script : Script) (e : State) (p : Phase) (w : World) (tops below : List Activity) → Represents (store_after p e.store) w → ShowsAll script e.activities below → w.stack ≡ tops ++ below → IsLawful script e.first_budget w → IsFit script e → 4 < e.room
+pub room_above : (script : Script) (e : State) (p : Phase) (w : World) (tops below : List Activity) → Represents (store_after p e.store) w
+    → ShowsAll script e.activities below → w.stack ≡ tops ++ below → IsLawful script e.first_budget w → IsFit script e → 4 < e.room
 room_above script e p w tops below r over top lawful fit =
     omega (
       arith,
@@ -140,14 +143,16 @@ counts_alike script (activity.Script next) tops is = ap (count_by is_collection)
 counts_alike script (activity.Frame locals procedure next) tops is = ap (count_by is_collection) is ∙ count_more (Framed (frame_of script locals procedure next)) []
 counts_alike script (activity.Releasing release) tops is = ap (count_by is_collection) is ∙ count_more (Releasing (references_left release)) []
 counts_alike script (activity.Shutdown started) tops is = ap (count_by is_collection) is ∙ count_more (ShuttingDown started) []
-counts_alike script (activity.Dying death) tops (waiting, is, settled) = ap (count_by is_collection) is ∙ release_is_none death.release (death_activities death.object death.phase waiting) ∙ death_is_none death.object death.phase waiting
+counts_alike script (activity.Dying death) tops (waiting, is, settled) = ap (count_by is_collection) is ∙ release_is_none death.release
+    (death_activities death.object death.phase waiting) ∙ death_is_none death.object death.phase waiting
 counts_alike script (activity.Collecting asked c) tops out = counts_one asked c tops out
 
 -- the stack and the activities have the same number of collections
 pub count_same : (script : Script) (activities : List Own) (stack : List Activity) → ShowsAll script activities stack → count_by is_collection stack ≡ count_by is_collecting activities
 count_same script [] stack is = ap (count_by is_collection) is
 count_same script (a ∷ activities) stack shows =
-    let parts : count_by is_collection stack ≡ count_by is_collection shows.tops + count_by is_collection shows.below = ap (count_by is_collection) shows.is ∙ sum_by-append (λ (b : Activity). cond {A = ℕ} (is_collection b) 1 0) shows.tops shows.below in
+    let parts : count_by is_collection stack ≡ count_by is_collection shows.tops + count_by is_collection shows.below = ap (count_by is_collection) shows.is
+    ∙ sum_by-append (λ (b : Activity). cond {A = ℕ} (is_collection b) 1 0) shows.tops shows.below in
     omega (arith, parts, counts_alike script a shows.tops shows.shows, count_same script activities shows.below shows.over, count_own a activities)
 
 pub none_counted : (activities : List Own) → any_collecting activities ≡ false → count_by is_collecting activities ≡ 0

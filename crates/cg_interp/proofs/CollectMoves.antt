@@ -27,7 +27,7 @@ use Rattle.cg_interp.specs.Engines.{State, StandsFor, under}
 use Rattle.cg_interp.specs.Collecting.{Collects}
 use Rattle.cg_interp.specs.Telling.{Advances, CollectsNext, CollectTurns}
 use Rattle.cg_interp.specs.Turns.{Makes, DyingIsSound}
-use Rattle.cg_interp.proofs.Lawfully.{few_objects}
+use Rattle.cg_interp.proofs.LawsOfEngines.{few_objects}
 use Rattle.cg_interp.proofs.SmallNumbers.{small_at}
 use Rattle.cg_interp.proofs.CollectHolds.{collection_is_held, few_holds_after, room_above}
 use Rattle.cg_interp.proofs.CollectTurns.{stands_for_step, stands_before, goes_on_quietly, goes_on_telling, ends, starts_with, dies_with, death_moves, sound_at_death, function_lives, few_holds_before, store_in_run}
@@ -65,16 +65,19 @@ module _ (script : Script) (asked : Bool) (c : Collection) (e : State) where
 
 module _ (script : Script) (asked : Bool) (c : Collection) (e : State) where
   -- what a step answers, by the remaining lines
-  pub answered : (left : List Event) (w : World) (k : Collects script asked c e left w) → IsKept script e.first_budget w → (d : Collection) (new : State) (answer : Rattle.cg_collect.specs.declared.answer.CollectStep.CollectStep)
+  pub answered : (left : List Event) (w : World) (k : Collects script asked c e left w) → IsKept script e.first_budget w → (d : Collection) (new : State)
+      (answer : Rattle.cg_collect.specs.declared.answer.CollectStep.CollectStep)
       → CollectSteps script c e.store e.policy d new.store new.policy answer → CollectAnswer script asked w k.below left d new.store new.policy answer
   answered left w k kept d new answer steps =
       subst (λ l. CollectAnswer script asked w k.below l d new.store new.policy answer) (sym k.lines) (steps asked w k.below (stands_for_step script asked c e left w k kept))
 
   module _ (d : Collection) (mid : State) (top : mid.activities ≡ activity.Collecting asked d ∷ e.activities) (budget : mid.budget ≡ e.budget) where
-    pub turns_quietly : IsReadyForCollection script d mid.store → CollectFalls c e.store d mid.store → CollectSteps script c e.store e.policy d mid.store mid.policy answer_of.Continue → CollectTurns script asked c e mid turned.Quiet
+    pub turns_quietly : IsReadyForCollection script d mid.store → CollectFalls c e.store d mid.store → CollectSteps script c e.store e.policy d mid.store
+        mid.policy answer_of.Continue → CollectTurns script asked c e mid turned.Quiet
     turns_quietly ready falls steps w left k stays = goes_on_quietly script asked c e left w k d mid top budget ready falls (answered left w k (stays [] tt) d mid answer_of.Continue steps)
 
-    pub turns_telling : (event : Event) → IsReadyForCollection script d mid.store → CollectSteps script c e.store e.policy d mid.store mid.policy (answer_of.Emit event) → CollectTurns script asked c e mid (turned.Line event)
+    pub turns_telling : (event : Event) → IsReadyForCollection script d mid.store → CollectSteps script c e.store e.policy d mid.store mid.policy
+        (answer_of.Emit event) → CollectTurns script asked c e mid (turned.Line event)
     turns_telling event ready steps w left k stays = goes_on_telling script asked c e left w k d mid top budget ready event (answered left w k (stays [] tt) d mid (answer_of.Emit event) steps)
 
     module _ (spec : FrameSpec) (h : HandsOut d mid.store) (steps : CollectSteps script c e.store e.policy d mid.store mid.policy (answer_of.Frame spec)) where
@@ -87,12 +90,14 @@ module _ (script : Script) (asked : Bool) (c : Collection) (e : State) where
       pub frame_has_few : CollectsNext script asked c e → IsSound mid.store → HasFewHolds mid.store
       frame_has_few next sound =
           let (none, left_none, gave) = answered next.left next.world next.collects (next.kept [] tt) d mid (answer_of.Frame spec) steps in
-          few_holds_before script e.first_budget spec mid.store next.world gave.before (subst (λ st. Represents st gave.before) (store_in_run d.phase mid.store h.runs) gave.shows.represents) gave.goes next.kept next.fit.first_budget (few_objects mid.store sound.objects)
+          few_holds_before script e.first_budget spec mid.store next.world gave.before (subst (λ st. Represents st gave.before)
+          (store_in_run d.phase mid.store h.runs) gave.shows.represents) gave.goes next.kept next.fit.first_budget (few_objects mid.store sound.objects)
 
       pub frame_function_lives : CollectsNext script asked c e → 0 < e.budget → IfSome spec.func (λ f. IsLive mid.store f)
       frame_function_lives next some =
           let (none, left_none, gave) = answered next.left next.world next.collects (next.kept [] tt) d mid (answer_of.Frame spec) steps in
-          function_lives script e.first_budget spec mid.store next.world gave.before (subst (λ st. Represents st gave.before) (store_in_run d.phase mid.store h.runs) gave.shows.represents) gave.goes next.kept
+          function_lives script e.first_budget spec mid.store next.world gave.before (subst (λ st. Represents st gave.before)
+          (store_in_run d.phase mid.store h.runs) gave.shows.represents) gave.goes next.kept
           (omega (arith, some, gave.keeps.budget, next.collects.budget))
 
     module _ (o : ℕ) (h : HandsOut d mid.store) (steps : CollectSteps script c e.store e.policy d mid.store mid.policy (answer_of.Died o)) where
@@ -112,7 +117,9 @@ module _ (script : Script) (asked : Bool) (c : Collection) (e : State) where
             sound_at_death script e.first_budget next.world gave.before o next.kept gave.goes,
           )
 
-  pub turns_to_end : (d : Collection) (new : State) (collected set_aside : ℕ) (answer : Turned) → new.activities ≡ e.activities → new.budget ≡ e.budget → CollectSteps script c e.store e.policy d new.store new.policy (answer_of.Finished collected set_aside)
+  pub turns_to_end : (d : Collection) (new : State) (collected set_aside : ℕ) (answer : Turned) → new.activities ≡ e.activities → new.budget ≡ e.budget
+      → CollectSteps script c e.store e.policy d new.store new.policy (answer_of.Finished collected set_aside)
       → (asked ≡ true → answer ≡ turned.Line (Collected (collected + set_aside))) → (asked ≡ false → answer ≡ turned.Quiet) → CollectTurns script asked c e new answer
   turns_to_end d new collected set_aside answer activities budget steps telling quiet w left k stays =
-      ends script asked c e left w k new activities budget collected set_aside (answered left w k (stays [] tt) d new (answer_of.Finished collected set_aside) steps) answer (Collected (collected + set_aside)) refl telling quiet
+      ends script asked c e left w k new activities budget collected set_aside (answered left w k (stays [] tt) d new (answer_of.Finished collected set_aside)
+      steps) answer (Collected (collected + set_aside)) refl telling quiet

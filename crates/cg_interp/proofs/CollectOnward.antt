@@ -40,9 +40,9 @@ use Rattle.cg_interp.specs.Graphs.{detection_by}
 use Rattle.cg_interp.specs.Recorded.{detection_at, next_detection}
 use Rattle.cg_interp.proofs.CollectTurns.{still_collects}
 use Rattle.cg_interp.proofs.CollectMoves.{MayStep, answered, may_step}
-use Rattle.cg_interp.proofs.Keeping.{still_fit}
+use Rattle.cg_interp.proofs.RoomStays.{still_fit}
 use Rattle.cg_interp.proofs.NextDetections.{none_after, same_next}
-use Rattle.cg_interp.proofs.Quietly.{none-append, alone, none_made, some_after}
+use Rattle.cg_interp.proofs.SilentTurns.{none-append, alone, none_made, some_after}
 
 -- If no reachability pass comes next, none is made.
 undetected_phase : (g : ℕ) (phase : machine.CollectPhase) → detection_at g phase ≡ None → is_detection phase ≡ false
@@ -69,7 +69,8 @@ undetected (Collecting c ∷ below) none = undetected_phase c.generation c.phase
 undetected (ShuttingDown started ∷ below) none = refl
 
 -- A collection on top makes none unless its stage says so.
-detects_none : (script : Script) (asked : Bool) (c : Collection) (e : State) (left : List Event) (w : World) → Collects script asked c e left w → detection_by c.generation (stage_of c) ≡ None → detects w.stack ≡ false
+detects_none : (script : Script) (asked : Bool) (c : Collection) (e : State) (left : List Event) (w : World) → Collects script asked c e left w
+    → detection_by c.generation (stage_of c) ≡ None → detects w.stack ≡ false
 detects_none script asked c e left w k none =
     undetected w.stack
     (sym (same_next script (under (activity.Collecting asked c) e) left w (inr (record { asked = asked; collection = c; rest = e.activities; top = refl; collects = k }))) ∙ none)
@@ -81,7 +82,8 @@ made_none g phase_of.Split detected left leaves is = absurd (let clash : stage.A
 made_none g phase detected left leaves is = none_after g detected
 
 -- Steps without a pass, and then more steps.
-alone_then : (w : World) (steps more : List StepTaken) → MakesNoDetection w steps → (steps ≡ []) ⊎ (detects (last_world w steps).stack ≡ false) → MakesDetectionsAlone (last_world w steps) more → MakesDetectionsAlone w (steps ++ more)
+alone_then : (w : World) (steps more : List StepTaken) → MakesNoDetection w steps → (steps ≡ []) ⊎ (detects (last_world w steps).stack ≡ false)
+    → MakesDetectionsAlone (last_world w steps) more → MakesDetectionsAlone w (steps ++ more)
 alone_then w steps more none (inl nothing) by_itself = subst (λ l. MakesDetectionsAlone w (l ++ more)) (sym nothing) (subst (λ l. MakesDetectionsAlone (last_world w l) more) nothing by_itself)
 alone_then w steps more none (inr next) by_itself = alone w (steps ++ more) (none-append w steps more none (none_made (last_world w steps) more by_itself next))
 
@@ -131,7 +133,8 @@ module _ (script : Script) (asked : Bool) (w : World) (left : List Event) (d : C
       (first, record { after = ends.after; goes = subst (λ es. Goes script w (es ++ lines) ends.after) printed (goes_then lines ends.after ends.goes); ended = ends.ended })
 
   module _ (c : Collection) (e new : State) (far : HasNotMoved c e.store d at.store ⊎ CollectFalls c e.store d at.store) where
-    nearer_then : (activities : List Activity) → IsNearer (activity.Collecting asked d ∷ at.activities) at.store activities new.store → IsNearer (activity.Collecting asked c ∷ e.activities) e.store activities new.store
+    nearer_then : (activities : List Activity) → IsNearer (activity.Collecting asked d ∷ at.activities) at.store activities new.store
+        → IsNearer (activity.Collecting asked c ∷ e.activities) e.store activities new.store
     nearer_then [] near = tt
     nearer_then (activity.Script next ∷ below) near = tt
     nearer_then (activity.Frame locals procedure next ∷ below) near = tt
@@ -144,7 +147,8 @@ module _ (script : Script) (asked : Bool) (w : World) (left : List Event) (d : C
     advances_then more same (inl fewer) = inl (omega (arith, fewer, ap length same))
     advances_then more same (inr (many, near)) = inr (omega (arith, many, ap length same), nearer_then new.activities near)
 
-    goes_on_then : (told : List Event) → GoesOnTo script (Advances (under (activity.Collecting asked d) at) still new) mid still told new → GoesOnTo script (Advances (under (activity.Collecting asked c) e) left new) w left told new
+    goes_on_then : (told : List Event) → GoesOnTo script (Advances (under (activity.Collecting asked d) at) still new) mid still told new
+        → GoesOnTo script (Advances (under (activity.Collecting asked c) e) left new) w left told new
     unfolding goes_then
     goes_on_then told more = record {
       events = events_of on.steps ++ more.events;
@@ -156,13 +160,15 @@ module _ (script : Script) (asked : Bool) (w : World) (left : List Event) (d : C
       stands = more.stands;
     }
       where
-        by : (steps : List StepTaken) → on.steps ≡ steps → (more.goes.steps ≢ []) ⊎ Advances (under (activity.Collecting asked d) at) still new more.still → (on.steps ++ more.goes.steps ≢ []) ⊎ Advances (under (activity.Collecting asked c) e) left new more.still
+        by : (steps : List StepTaken) → on.steps ≡ steps → (more.goes.steps ≢ []) ⊎ Advances (under (activity.Collecting asked d) at) still new more.still
+            → (on.steps ++ more.goes.steps ≢ []) ⊎ Advances (under (activity.Collecting asked c) e) left new more.still
         by (step ∷ steps) is moves = inl (some_before step steps on.steps more.goes.steps is)
         by [] none (inl moves) = inl (some_after on.steps more.goes.steps moves)
         by [] none (inr rests) = inr (advances_then more.still (ap (λ l. left ++ events_of l) none ∙ append-nil left) rests)
 
     -- What is answered from there, is answered from here.
-    turned_then : (answer : Turned) → TurnsWith script (Advances (under (activity.Collecting asked d) at) still new) mid still new answer → TurnsWith script (Advances (under (activity.Collecting asked c) e) left new) w left new answer
+    turned_then : (answer : Turned) → TurnsWith script (Advances (under (activity.Collecting asked d) at) still new) mid still new answer
+        → TurnsWith script (Advances (under (activity.Collecting asked c) e) left new) w left new answer
     turned_then turned.Quiet more = goes_on_then [] more
     turned_then (turned.Line event) more = goes_on_then (event ∷ []) more
     turned_then (turned.Lines events) more = goes_on_then events more
@@ -199,30 +205,37 @@ module _ (script : Script) (c : Collection) (store : Store) (policy : Policy) (d
   may_step_there asked e next sound = may_step script asked d (over_both now policy_now e) (next_there asked e next) sound
 
   -- and the turn answers what it answers
-  pub turns_there : (asked : Bool) (e new : State) (answer : Turned) → CollectTurns script asked d (over_both now policy_now e) new answer → CollectTurns script asked c (over_both store policy e) new answer
+  pub turns_there : (asked : Bool) (e new : State) (answer : Turned) → CollectTurns script asked d (over_both now policy_now e) new answer
+      → CollectTurns script asked c (over_both store policy e) new answer
   turns_there asked e new answer turns w left k kept =
       let on = came.goes asked e w left k kept in
       turned_then script asked w left d (over_both now policy_now e) on c (over_both store policy e) new came.far answer
       (turns (last_world w on.steps) (left ++ events_of on.steps) on.collects (kept_then script e.first_budget w on.steps on.run kept))
 
   -- It goes on by a step without a line and without a pass.
-  module _ (next : Collection) (after : Store) (policy_after : Policy) (answer : CollectStep) (is : answer ≡ answer_of.Continue) (steps : CollectSteps script d now policy_now next after policy_after answer) (ready : KeepsReady script next after answer)
+  module _ (next : Collection) (after : Store) (policy_after : Policy) (answer : CollectStep) (is : answer ≡ answer_of.Continue)
+      (steps : CollectSteps script d now policy_now next after policy_after answer) (ready : KeepsReady script next after answer)
       (leaves : LeavesStage d.phase (stage_of next)) (between : stage_of next ≡ stage.Between) where
-    on_then : (asked : Bool) (e : State) (w : World) (left : List Event) → CollectsOn script asked w left d (over_both now policy_now e) → StaysKept script e.first_budget w → CollectsOn script asked w left next (over_both after policy_after e)
+    on_then : (asked : Bool) (e : State) (w : World) (left : List Event) → CollectsOn script asked w left d (over_both now policy_now e)
+        → StaysKept script e.first_budget w → CollectsOn script asked w left next (over_both after policy_after e)
     on_then asked e w left on kept =
         let mid : World = last_world w on.steps in
         let still : List Event = left ++ events_of on.steps in
-        let went = answered script asked d (over_both now policy_now e) still mid on.collects (kept on.steps on.run) next (over_both after policy_after e) answer_of.Continue (subst (CollectSteps script d now policy_now next after policy_after) is steps) in
+        let went = answered script asked d (over_both now policy_now e) still mid on.collects (kept on.steps on.run) next (over_both after policy_after e)
+        answer_of.Continue (subst (CollectSteps script d now policy_now next after policy_after) is steps) in
         let more : List StepTaken = went.goes.steps in
-        let k = still_collects script asked d (over_both now policy_now e) still mid on.collects next (over_both after policy_after e) refl refl (subst (KeepsReady script next after) is ready) [] went in
+        let k = still_collects script asked d (over_both now policy_now e) still mid on.collects next (over_both after policy_after e) refl refl
+        (subst (KeepsReady script next after) is ready) [] went in
         let lines : left ++ events_of (on.steps ++ more) ≡ lines_left script asked next next.phase after =
         ap (λ es. left ++ es) (events_of-append on.steps more ∙ ap (λ es. events_of on.steps ++ es) went.goes.prints) ∙ sym (append_assoc left (events_of on.steps) went.events) ∙ went.lines in
         let ends : last_world w (on.steps ++ more) ≡ went.after = last_world-append w on.steps more ∙ went.goes.ends in
         record {
           steps = on.steps ++ more;
           run = Run-append script w on.steps more on.run went.goes.run;
-          none = none-append w on.steps more on.none (none_made mid more went.goes.alone (detects_none script asked d (over_both now policy_now e) still mid on.collects (made_none d.generation d.phase d.detected (stage_of next) leaves between)));
-          next = inr (ap (λ (v : World). detects v.stack) ends ∙ detects_none script asked next (over_both after policy_after e) (lines_left script asked next next.phase after) went.after k (ap (detection_by next.generation) between));
+          none = none-append w on.steps more on.none (none_made mid more went.goes.alone (detects_none script asked d (over_both now policy_now e) still mid
+              on.collects (made_none d.generation d.phase d.detected (stage_of next) leaves between)));
+          next = inr (ap (λ (v : World). detects v.stack) ends ∙ detects_none script asked next (over_both after policy_after e)
+              (lines_left script asked next next.phase after) went.after k (ap (detection_by next.generation) between));
           collects = subst (λ v. Collects script asked next (over_both after policy_after e) (left ++ events_of (on.steps ++ more)) v) (sym ends)
               (subst (λ l. Collects script asked next (over_both after policy_after e) l went.after) (sym lines) k);
         }
@@ -235,7 +248,8 @@ module _ (script : Script) (c : Collection) (store : Store) (policy : Policy) (d
     }
 
 -- The last step was made, from an engine that was unchanged before.
-module _ (script : Script) (asked : Bool) (c : Collection) (e : State) (d : Collection) (mid : State) (answer : CollectStep) (last : LastStep script c e.store e.policy d mid.store mid.policy answer) where
+module _ (script : Script) (asked : Bool) (c : Collection) (e : State) (d : Collection) (mid : State) (answer : CollectStep)
+    (last : LastStep script c e.store e.policy d mid.store mid.policy answer) where
   abbrev pub before_last : State
   before_last = over_both last.store_before last.policy_before e
 

@@ -20,7 +20,7 @@ use Rattle.cg_laws.specs.Laws.{IsOfCollection}
 use Rattle.cg_represents.specs.Represents.{Represents, CollectionWaits}
 use Rattle.cg_machine.specs.Weak.{callback_of, callback_in}
 use Rattle.cg_laws.specs.Apart.{IsApart, IsFound, IsInWeakPhase, IsInLatePhase, StandsRightly}
-use Rattle.cg_trial.proofs.Placed.{where_is}
+use Rattle.cg_trial.proofs.PlacesOfObjects.{where_is}
 use Rattle.cg_death.specs.declared.release.Release.{Release}
 use Rattle.cg_death.proofs.Callbacks.{callback-at}
 use Rattle.cg_death.proofs.Emptying.{entries-agree}
@@ -30,7 +30,7 @@ use Rattle.cg_collect.specs.declared.phase.Phase.TheVariants as phase_of
 use Rattle.cg_collect.specs.Phases.{machine_phase, collection_of, collecting, released_over, shown_with, on_stack}
 use Rattle.cg_collect.specs.Ready.{IsClear, IsHeapApart as IsSetApart, IsApartUnseen, IsEmptyAt, IsUnsaved, IsReadyForCollectionAt, HasFewCollected, SparesGarbageList, MayRun, HasItsWalk}
 use Rattle.cg_collect.specs.Collections.{IsReadyForCollection}
-use Rattle.cg_collect.proofs.Standing.{object_there, node_of_live, empty_at}
+use Rattle.cg_collect.proofs.PlacesOfObjects.{object_there, node_of_live, empty_at}
 use Rattle.cg_interp.specs.Engines.{HasHandedOut}
 use Rattle.cg_inspect.specs.Inspection.{IsIdle}
 use Rattle.cg_machine.specs.Holdings.{is_collecting}
@@ -139,12 +139,14 @@ others_again : (weak : ℕ) (xs : List ℕ) → others weak (others weak xs) ≡
 others_again weak [] = refl
 others_again weak (x ∷ xs) = go (x == weak) refl (others_again weak xs)
   where
-    go : (b : Bool) → (x == weak) ≡ b → others weak (others weak xs) ≡ others weak xs → others weak (cond (not b) (x ∷ others weak xs) (others weak xs)) ≡ cond (not b) (x ∷ others weak xs) (others weak xs)
+    go : (b : Bool) → (x == weak) ≡ b → others weak (others weak xs) ≡ others weak xs → others weak (cond (not b) (x ∷ others weak xs) (others weak xs))
+        ≡ cond (not b) (x ∷ others weak xs) (others weak xs)
     go true e again = again
     go false e again = ap (λ b. cond (not b) (x ∷ others weak (others weak xs)) (others weak (others weak xs))) e ∙ ap (λ l. x ∷ l) again
 
 -- what waits besides the one that was given up, whether or not that still comes first
-others_same : (weak : ℕ) (then now : List ℕ) → (now ≡ filter (λ q. not (q == weak)) then) ⊎ (now ≡ weak ∷ filter (λ q. not (q == weak)) then) → filter (λ q. not (q == weak)) then ≡ filter (λ q. not (q == weak)) now
+others_same : (weak : ℕ) (then now : List ℕ) → (now ≡ filter (λ q. not (q == weak)) then) ⊎ (now ≡ weak ∷ filter (λ q. not (q == weak)) then)
+    → filter (λ q. not (q == weak)) then ≡ filter (λ q. not (q == weak)) now
 others_same weak then now (inl e) = sym (ap (filter (λ q. not (q == weak))) e ∙ others_again weak then)
 others_same weak then now (inr e) =
     let rest : List ℕ = filter (λ q. not (q == weak)) then in
@@ -170,7 +172,8 @@ same_phase (phase_of.AfterTurn o) then now q runs is waits = refl
 same_phase p then now q runs is waits = absurd runs
 
 -- As many wait, so the number of collected objects stays small.
-few_again : (n : ℕ) (p : Phase) (then now : Store) (q : machine.CollectPhase) → MayRun p → machine_phase p (list_at then Pend) ≡ Some q → CollectionWaits q (list_at then Pend) → CollectionWaits q (list_at now Pend) → HasFewCollected n p then → HasFewCollected n p now
+few_again : (n : ℕ) (p : Phase) (then now : Store) (q : machine.CollectPhase) → MayRun p → machine_phase p (list_at then Pend) ≡ Some q
+    → CollectionWaits q (list_at then Pend) → CollectionWaits q (list_at now Pend) → HasFewCollected n p then → HasFewCollected n p now
 few_again n (phase_of.AfterCallback weak) then now q runs is waited waits few =
     let phase : q ≡ machine.AfterCallback weak (drop 1 (list_at then Pend)) = cc in
     let same : list_at now Pend ≡ list_at then Pend = subst (λ r. CollectionWaits r (list_at now Pend)) phase waits ∙ sym (subst (λ r. CollectionWaits r (list_at then Pend)) phase waited) in
@@ -200,7 +203,8 @@ no_walk profile (phase_of.WeakClearing member weak) store runs = absurd runs
 no_walk profile p store runs = tt
 
 -- the collection is among the activities represented, with what it gives up above it
-pub shown_there : (asked : Bool) (c : Collection) (pending : List ℕ) (q : machine.CollectPhase) → machine_phase c.phase pending ≡ Some q → Includes (shown_with asked c pending) (Collecting (collection_of asked c q))
+pub shown_there : (asked : Bool) (c : Collection) (pending : List ℕ) (q : machine.CollectPhase) → machine_phase c.phase pending ≡ Some q
+    → Includes (shown_with asked c pending) (Collecting (collection_of asked c q))
 shown_there asked c pending q is = subst (λ x. Includes (released_over c.release (collecting asked c x)) (Collecting (collection_of asked c q))) (sym is) (by c.release)
   where
     by : (release : Option Release) → Includes (released_over release (Collecting (collection_of asked c q) ∷ [])) (Collecting (collection_of asked c q))
@@ -213,13 +217,15 @@ pub record Resumes (script : Script) (asked : Bool) (c : Collection) (store : St
   pub shown : tops ≡ on_stack asked c store
   pub ready : IsReadyForCollection script c store
 
-pub resumes : (script : Script) (asked : Bool) (c : Collection) (store : Store) (w : World) (tops below : List Activity) → IsSound store → Represents store w → IsApart w → IsOrderly w → HasHandedOut asked c tops → w.stack ≡ tops ++ below → Resumes script asked c store tops
+pub resumes : (script : Script) (asked : Bool) (c : Collection) (store : Store) (w : World) (tops below : List Activity) → IsSound store → Represents store w
+    → IsApart w → IsOrderly w → HasHandedOut asked c tops → w.stack ≡ tops ++ below → Resumes script asked c store tops
 resumes script asked c store w tops below sound r apart orderly out top =
     let then : Store = out.then in
     let h = out.handing in
     let (q, is) = phase_there c.phase (list_at then Pend) h.runs in
     let on : Includes w.stack (Collecting (collection_of asked c q)) =
-    subst (λ st. Includes st (Collecting (collection_of asked c q))) (sym (top ∙ ap (λ l. l ++ below) out.shown)) (Includes-append_left (on_stack asked c then) below (Collecting (collection_of asked c q)) (shown_there asked c (list_at then Pend) q is)) in
+    subst (λ st. Includes st (Collecting (collection_of asked c q))) (sym (top ∙ ap (λ l. l ++ below) out.shown)) (Includes-append_left (on_stack asked c then)
+    below (Collecting (collection_of asked c q)) (shown_there asked c (list_at then Pend) q is)) in
     let waits : CollectionWaits q (list_at store Pend) = r.collection (collection_of asked c q) on in
     record {
       shown = out.shown ∙ ap (λ x. released_over c.release (collecting asked c x)) (same_phase c.phase (list_at then Pend) (list_at store Pend) q h.runs is waits);

@@ -37,7 +37,7 @@ use Rattle.cg_interp.specs.Engines.{State, StandsFor, ShowsAll, ShowsTop, under,
 use Rattle.cg_interp.specs.Collecting.{StandsWith, Collects}
 use Rattle.cg_interp.specs.Telling.{TurnsWith, GoesOnTo, Advances, IsNearer}
 use Rattle.cg_interp.specs.Turns.{Makes, DyingIsSound}
-use Rattle.cg_interp.proofs.Lawfully.{dying_sound, total_fits, is_live}
+use Rattle.cg_interp.proofs.LawsOfEngines.{dying_sound, total_fits, is_live}
 use Rattle.cg_interp.proofs.CollectReady.{resumes, phase_there, shown_there}
 use Rattle.cg_interp.proofs.CollectHolds.{count_same, count_own, none_counted, none_found}
 
@@ -85,7 +85,13 @@ module _ (script : Script) (asked : Bool) (c : Collection) (e : State) (left : L
         over = s.over;
         budget = stands.budget;
         running = stands.running;
-        alone = none_found e.activities (omega (arith, kept.lawful.bounded.collections, count_same script (activity.Collecting asked c ∷ e.activities) w.stack stands.shows, count_own (activity.Collecting asked c) e.activities));
+        alone = none_found e.activities (omega (
+          arith,
+          kept.lawful.bounded.collections,
+          count_same script (activity.Collecting asked c ∷ e.activities) w.stack
+              stands.shows,
+          count_own (activity.Collecting asked c) e.activities,
+        ));
         ready = again.ready;
         lines = none ∙ sym (lines_in_run script asked c c.phase e.store runs);
       }
@@ -130,7 +136,14 @@ module _ (script : Script) (asked : Bool) (c : Collection) (e : State) (left : L
     module _ (d : Collection) (new : State) (top : new.activities ≡ activity.Collecting asked d ∷ e.activities) (budget : new.budget ≡ e.budget) where
       module _ (ready : IsReadyForCollection script d new.store) where
         on_top : (told : List Event) (went : WentOn script asked w k.below left told d new.store new.policy) → StandsWith script new (lines_left script asked d d.phase new.store) went.after
-        on_top told went = inr (record { asked = asked; collection = d; rest = e.activities; top = top; collects = still_collects d (record new { activities = e.activities }) refl budget ready told went })
+        on_top told went = inr (record {
+          asked = asked;
+          collection = d;
+          rest = e.activities;
+          top = top;
+          collects = still_collects d
+              (record new { activities = e.activities }) refl budget ready told went;
+        })
 
         -- Without a step of the machine it printed one of the remaining lines, or is nearer to its end.
         goes_on : (told : List Event) → (went : WentOn script asked w k.below left told d new.store new.policy)
@@ -152,14 +165,18 @@ module _ (script : Script) (asked : Bool) (c : Collection) (e : State) (left : L
                 inr (rests (sym (append-nil left) ∙ ap (λ l. left ++ l) (sym nothing) ∙ went.lines))
             by (step ∷ steps) some = inl (λ none. let clash : [] ≡ step ∷ steps = sym none ∙ some in cc)
 
-        pub goes_on_quietly : CollectFalls c e.store d new.store → WentOn script asked w k.below left [] d new.store new.policy → GoesOnTo script (Advances (under (activity.Collecting asked c) e) left new) w left [] new
+        pub goes_on_quietly : CollectFalls c e.store d new.store → WentOn script asked w k.below left [] d new.store new.policy
+            → GoesOnTo script (Advances (under (activity.Collecting asked c) e) left new) w left [] new
         goes_on_quietly falls went = goes_on [] went (λ same. inr (ap length (sym same), subst (λ l. IsNearer (activity.Collecting asked c ∷ e.activities) e.store l new.store) (sym top) falls))
 
-        pub goes_on_telling : (event : Event) → WentOn script asked w k.below left (event ∷ []) d new.store new.policy → GoesOnTo script (Advances (under (activity.Collecting asked c) e) left new) w left (event ∷ []) new
-        goes_on_telling event went = goes_on (event ∷ []) went (λ same. let longer : length left ≡ length (event ∷ lines_left script asked d d.phase new.store) = ap length same in inl (omega (arith, longer)))
+        pub goes_on_telling : (event : Event) → WentOn script asked w k.below left (event ∷ []) d new.store new.policy
+            → GoesOnTo script (Advances (under (activity.Collecting asked c) e) left new) w left (event ∷ []) new
+        goes_on_telling event went = goes_on (event ∷ []) went (λ same. let longer : length left
+            ≡ length (event ∷ lines_left script asked d d.phase new.store) = ap length same in inl (omega (arith, longer)))
 
       -- It answers a frame or a death: the engine represents the world before that.
-      pub stands_before : (before : World) → HandsOut d new.store → CollectionShows asked d new.store new.policy before k.below → before.budget ≡ w.budget → before.outcome ≡ w.outcome → StandsFor script new before
+      pub stands_before : (before : World) → HandsOut d new.store → CollectionShows asked d new.store new.policy before k.below → before.budget ≡ w.budget
+          → before.outcome ≡ w.outcome → StandsFor script new before
       stands_before before h shows spent outcome =
           let r : Represents new.store before = subst (λ st. Represents st before) (store_in_run d.phase new.store h.runs) shows.represents in
           let (q, is) = phase_there d.phase (list_at new.store Pend) h.runs in
@@ -186,7 +203,8 @@ module _ (script : Script) (asked : Bool) (c : Collection) (e : State) (left : L
             collecting = shows.running ∙ runs_in_machine d.phase h.runs ∙ sym (ap any_collecting top);
           }
 
-    module _ (new : State) (activities : new.activities ≡ e.activities) (budget : new.budget ≡ e.budget) (collected set_aside : ℕ) (f : HasFinished asked w k.below left collected set_aside new.store new.policy) where
+    module _ (new : State) (activities : new.activities ≡ e.activities) (budget : new.budget ≡ e.budget) (collected set_aside : ℕ)
+        (f : HasFinished asked w k.below left collected set_aside new.store new.policy) where
       stands_after : StandsFor script new w
       stands_after = record {
         represents = f.represents;
@@ -207,7 +225,8 @@ module _ (script : Script) (asked : Bool) (c : Collection) (e : State) (left : L
       none_on_top (activity.Dying death ∷ own) none = tt
       none_on_top (activity.Collecting also d ∷ own) none = absurd (let clash : true ≡ false = none in cc)
 
-      ends_telling : (told : List Event) → left ≡ told → Advances (under (activity.Collecting asked c) e) left new [] → GoesOnTo script (Advances (under (activity.Collecting asked c) e) left new) w left told new
+      ends_telling : (told : List Event) → left ≡ told → Advances (under (activity.Collecting asked c) e) left new []
+          → GoesOnTo script (Advances (under (activity.Collecting asked c) e) left new) w left told new
       ends_telling told is advances = record {
         events = [];
         after = w;
@@ -251,7 +270,8 @@ starts_telling script spec w = go (w.budget == 0)
     go false e = cc
 
 -- A transition with these lines, at least one, was made when no line was left.
-tells_with : (script : Script) (may_rest : List Event → Type 0) (w : World) (left : List Event) (transition : Transition) (e : State) (told : List Event) → left ≡ [] → Goes script w transition.0 transition.1 → (transition.0 ≡ [] → ⊥) → transition.0 ≡ told → StandsFor script e transition.1
+tells_with : (script : Script) (may_rest : List Event → Type 0) (w : World) (left : List Event) (transition : Transition) (e : State) (told : List Event) → left
+    ≡ [] → Goes script w transition.0 transition.1 → (transition.0 ≡ [] → ⊥) → transition.0 ≡ told → StandsFor script e transition.1
     → GoesOnTo script may_rest w left told e
 tells_with script may_rest w left transition e told none goes tells is stands = record {
   events = told;
@@ -264,18 +284,61 @@ tells_with script may_rest w left transition e told none goes tells is stands = 
 }
 
 -- the same, by the answer
-pub makes_with : (script : Script) (may_rest : List Event → Type 0) (w : World) (left : List Event) (transition : Transition) (e : State) (answer : Turned) → left ≡ [] → Goes script w transition.0 transition.1 → (transition.0 ≡ [] → ⊥) → Makes script transition e answer
+pub makes_with : (script : Script) (may_rest : List Event → Type 0) (w : World) (left : List Event) (transition : Transition) (e : State) (answer : Turned)
+    → left ≡ [] → Goes script w transition.0 transition.1 → (transition.0 ≡ [] → ⊥) → Makes script transition e answer
     → TurnsWith script may_rest w left e answer
 makes_with script may_rest w left transition e turned.Quiet none goes tells makes = absurd (tells makes.0)
 makes_with script may_rest w left transition e (turned.Line event) none goes tells makes = tells_with script may_rest w left transition e (event ∷ []) none goes tells makes.0 makes.1
 makes_with script may_rest w left transition e (turned.Lines events) none goes tells makes = tells_with script may_rest w left transition e events none goes tells makes.0 makes.1
-makes_with script may_rest w left transition e turned.Ended none goes tells makes = (none, record { after = transition.1; goes = record { steps = goes.steps; run = goes.run; prints = goes.prints ∙ makes.0; ends = goes.ends; alone = goes.alone }; ended = makes.1 })
-makes_with script may_rest w left transition e (turned.Left n) none goes tells makes = (none, record { after = transition.1; goes = record { steps = goes.steps; run = goes.run; prints = goes.prints ∙ makes.0; ends = goes.ends; alone = goes.alone }; ended = makes.1 })
-makes_with script may_rest w left transition e turned.Spent none goes tells makes = (none, record { after = transition.1; goes = record { steps = goes.steps; run = goes.run; prints = goes.prints ∙ makes.0; ends = goes.ends; alone = goes.alone }; ended = makes.1 })
+makes_with script may_rest w left transition e turned.Ended none goes tells makes = (
+  none,
+  record {
+    after = transition.1;
+    goes = record {
+      steps = goes.steps;
+      run = goes.run;
+      prints = goes.prints ∙ makes.0;
+      ends = goes.ends;
+      alone = goes.alone;
+    };
+    ended = makes.1;
+  },
+)
+makes_with script may_rest w left transition e (turned.Left n) none goes tells makes = (
+  none,
+  record {
+    after = transition.1;
+    goes = record {
+      steps = goes.steps;
+      run = goes.run;
+      prints = goes.prints ∙ makes.0;
+      ends = goes.ends;
+      alone = goes.alone;
+    };
+    ended = makes.1;
+  },
+)
+makes_with script may_rest w left transition e turned.Spent none goes tells makes = (
+  none,
+  record {
+    after = transition.1;
+    goes = record {
+      steps = goes.steps;
+      run = goes.run;
+      prints = goes.prints ∙ makes.0;
+      ends = goes.ends;
+      alone = goes.alone;
+    };
+    ended = makes.1;
+  },
+)
 
-pub starts_with : (script : Script) (may_rest : List Event → Type 0) (w : World) (left : List Event) (spec : FrameSpec) (before : World) (e : State) (answer : Turned) → left ≡ [] → Goes script w (start_frame script spec before).0 (start_frame script spec before).1 → Makes script (start_frame script spec before) e answer
+pub starts_with : (script : Script) (may_rest : List Event → Type 0) (w : World) (left : List Event) (spec : FrameSpec) (before : World) (e : State)
+    (answer : Turned) → left ≡ [] → Goes script w (start_frame script spec before).0 (start_frame script spec before).1
+    → Makes script (start_frame script spec before) e answer
     → TurnsWith script may_rest w left e answer
-starts_with script may_rest w left spec before e answer none goes makes = makes_with script may_rest w left (start_frame script spec before) e answer none goes (starts_telling script spec before) makes
+starts_with script may_rest w left spec before e answer none goes makes = makes_with script may_rest w left (start_frame script spec before) e answer none goes
+    (starts_telling script spec before) makes
 
 -- how many activities a collection represents
 at_most_two : (asked : Bool) (c : Collection) (store : Store) → length (on_stack asked c store) ≤ 2
@@ -295,7 +358,8 @@ two_there asked c store runs gives = let (q, is) = phase_there c.phase (list_at 
     by (Some r) gives q = refl
 
 -- A death that it answers was begun by a step.
-pub death_moves : (script : Script) (asked : Bool) (c d : Collection) (old new : Store) (w before : World) (below : List Activity) (o : ℕ) → w.stack ≡ on_stack asked c old ++ below → before.stack ≡ on_stack asked d new ++ below → MayRun d.phase → IsSome d.release
+pub death_moves : (script : Script) (asked : Bool) (c d : Collection) (old new : Store) (w before : World) (below : List Activity) (o : ℕ) → w.stack
+    ≡ on_stack asked c old ++ below → before.stack ≡ on_stack asked d new ++ below → MayRun d.phase → IsSome d.release
     → (goes : Goes script w [] (begin_death o before)) → goes.steps ≢ []
 death_moves script asked c d old new w before below o top now runs gives goes none =
     let same : w ≡ begin_death o before = ap (last_world w) (sym none) ∙ goes.ends in
@@ -311,7 +375,8 @@ death_moves script asked c d old new w before below o top now runs gives goes no
       two_there asked d new runs gives,
     )
 
-pub dies_with : (script : Script) (may_rest : List Event → Type 0) (w before : World) (left : List Event) (o : ℕ) (e : State) → left ≡ [] → (goes : Goes script w [] (begin_death o before)) → goes.steps ≢ [] → StandsFor script e (begin_death o before) → GoesOnTo script may_rest w left [] e
+pub dies_with : (script : Script) (may_rest : List Event → Type 0) (w before : World) (left : List Event) (o : ℕ) (e : State) → left ≡ []
+    → (goes : Goes script w [] (begin_death o before)) → goes.steps ≢ [] → StandsFor script e (begin_death o before) → GoesOnTo script may_rest w left [] e
 dies_with script may_rest w before left o e none goes moves stands = record {
   events = [];
   after = begin_death o before;
@@ -326,7 +391,8 @@ dies_with script may_rest w before left o e none goes moves stands = record {
 pub sound_at_death : (script : Script) (budget : ℕ) (w before : World) (o : ℕ) → StaysKept script budget w → Goes script w [] (begin_death o before) → DyingIsSound (begin_death o before)
 sound_at_death script budget w before o stays goes = dying_sound script budget (begin_death o before) (subst (IsKept script budget) goes.ends (stays goes.steps goes.run)).lawful
 
-module _ (script : Script) (budget : ℕ) (spec : FrameSpec) (store : Store) (w before : World) (r : Represents store before) (goes : Goes script w (start_frame script spec before).0 (start_frame script spec before).1) (stays : StaysKept script budget w) where
+module _ (script : Script) (budget : ℕ) (spec : FrameSpec) (store : Store) (w before : World) (r : Represents store before)
+    (goes : Goes script w (start_frame script spec before).0 (start_frame script spec before).1) (stays : StaysKept script budget w) where
   abbrev frame : machine.Frame
   frame = record { sort = spec.sort; subject = spec.subject; function = spec.func; commands = body_of script spec.proc }
 
@@ -353,6 +419,7 @@ module _ (script : Script) (budget : ℕ) (spec : FrameSpec) (store : Store) (w 
       let same : length (objects_of store) ≡ length before.objects = ap length r.objects in
       omega (arith, held, same, by (before.budget == 0) kept_after.lawful.bounded.holds, low, few)
     where
-      by : (b : Bool) → length (flat_map holds (started script spec before b).1.stack) ≤ budget + 5 * length (started script spec before b).1.objects + 3 → length (flat_map holds before.stack) ≤ budget + 5 * length before.objects + 3
+      by : (b : Bool) → length (flat_map holds (started script spec before b).1.stack) ≤ budget + 5 * length (started script spec before b).1.objects + 3
+          → length (flat_map holds before.stack) ≤ budget + 5 * length before.objects + 3
       by true bound = bound
       by false bound = omega (arith, bound, length-append (holds (Framed frame)) (flat_map holds before.stack))

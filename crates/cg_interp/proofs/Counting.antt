@@ -124,7 +124,8 @@ commands_of_deaths : (o : ℕ) (phase : dying.Phase) (waiting : List ℕ) → ta
 commands_of_deaths o dying_phase.Finalizer waiting = refl
 commands_of_deaths o _ waiting = refl
 
-commands_of_collections : (asked : Bool) (c : Collection) (phase : Phase) (pending : List ℕ) → tally commands_in (collecting asked c (machine_phase phase pending)) ≡ tally commands_in (collecting asked c (machine_phase phase []))
+commands_of_collections : (asked : Bool) (c : Collection) (phase : Phase) (pending : List ℕ)
+    → tally commands_in (collecting asked c (machine_phase phase pending)) ≡ tally commands_in (collecting asked c (machine_phase phase []))
 commands_of_collections asked c phase_of.Start pending = refl
 commands_of_collections asked c _ pending = refl
 
@@ -132,7 +133,8 @@ ranks_of_deaths : (o : ℕ) (phase : dying.Phase) (waiting : List ℕ) → tally
 ranks_of_deaths o dying_phase.Finalizer waiting = refl
 ranks_of_deaths o _ waiting = refl
 
-ranks_of_collections : (asked : Bool) (c : Collection) (phase : Phase) (pending : List ℕ) → tally rank_in (collecting asked c (machine_phase phase pending)) ≡ tally rank_in (collecting asked c (machine_phase phase []))
+ranks_of_collections : (asked : Bool) (c : Collection) (phase : Phase) (pending : List ℕ) → tally rank_in (collecting asked c (machine_phase phase pending))
+    ≡ tally rank_in (collecting asked c (machine_phase phase []))
 ranks_of_collections asked c phase_of.Start pending = refl
 ranks_of_collections asked c _ pending = refl
 
@@ -140,7 +142,8 @@ weights_of_deaths : (o : ℕ) (phase : dying.Phase) (waiting : List ℕ) → tal
 weights_of_deaths o dying_phase.Finalizer waiting = refl
 weights_of_deaths o _ waiting = refl
 
-weights_of_collections : (asked : Bool) (c : Collection) (phase : Phase) (pending : List ℕ) → tally weight_in (collecting asked c (machine_phase phase pending)) ≡ tally weight_in (collecting asked c (machine_phase phase []))
+weights_of_collections : (asked : Bool) (c : Collection) (phase : Phase) (pending : List ℕ) → tally weight_in (collecting asked c (machine_phase phase pending))
+    ≡ tally weight_in (collecting asked c (machine_phase phase []))
 weights_of_collections asked c phase_of.Start pending = refl
 weights_of_collections asked c _ pending = refl
 
@@ -151,7 +154,8 @@ starts_of_deaths : (o : ℕ) (phase : dying.Phase) (waiting : List ℕ) → tall
 starts_of_deaths o dying_phase.Finalizer waiting = refl
 starts_of_deaths o _ waiting = refl
 
-starts_of_collections : (asked : Bool) (c : Collection) (phase : Phase) (pending : List ℕ) → tally starting (collecting asked c (machine_phase phase pending)) ≡ tally starting (collecting asked c (machine_phase phase []))
+starts_of_collections : (asked : Bool) (c : Collection) (phase : Phase) (pending : List ℕ) → tally starting (collecting asked c (machine_phase phase pending))
+    ≡ tally starting (collecting asked c (machine_phase phase []))
 starts_of_collections asked c phase_of.Start pending = refl
 starts_of_collections asked c _ pending = refl
 
@@ -160,7 +164,8 @@ module _ (objects : List Object) where
   left_of_deaths o dying_phase.Finalizer waiting = refl
   left_of_deaths o _ waiting = refl
 
-  left_of_collections : (asked : Bool) (c : Collection) (phase : Phase) (pending : List ℕ) → tally (left_in objects) (collecting asked c (machine_phase phase pending)) ≡ tally (left_in objects) (collecting asked c (machine_phase phase []))
+  left_of_collections : (asked : Bool) (c : Collection) (phase : Phase) (pending : List ℕ) → tally (left_in objects)
+      (collecting asked c (machine_phase phase pending)) ≡ tally (left_in objects) (collecting asked c (machine_phase phase []))
   left_of_collections asked c phase_of.Start pending = refl
   left_of_collections asked c _ pending = refl
 
@@ -174,14 +179,16 @@ module _ (f : machine.Activity → ℕ) (blind : IsBlind f) (script : Script) wh
   over_release (Some release) xs ys e = omega (arith, e)
 
   collection_alike : (asked : Bool) (c : Collection) (pending : List ℕ) → tally f (shown_with asked c pending) ≡ tally f (shown_with asked c [])
-  collection_alike asked c pending = over_release c.release (collecting asked c (machine_phase c.phase pending)) (collecting asked c (machine_phase c.phase [])) (blind.collections asked c c.phase pending)
+  collection_alike asked c pending = over_release c.release (collecting asked c (machine_phase c.phase pending)) (collecting asked c (machine_phase c.phase []))
+      (blind.collections asked c c.phase pending)
 
   one : (a : Activity) (tops : List machine.Activity) → ActivityShows script a tops → tally f tops ≡ tally f (shown script a)
   one (activity.Script next) tops e = ap (tally f) e
   one (activity.Frame locals procedure next) tops e = ap (tally f) e
   one (activity.Releasing release) tops e = ap (tally f) e
   one (activity.Shutdown started) tops e = ap (tally f) e
-  one (activity.Dying death) tops (waiting, e, settled) = ap (tally f) e ∙ under_release death.release (death_activities death.object death.phase waiting) (death_activities death.object death.phase []) (blind.deaths death.object death.phase waiting)
+  one (activity.Dying death) tops (waiting, e, settled) = ap (tally f) e ∙ under_release death.release (death_activities death.object death.phase waiting)
+      (death_activities death.object death.phase []) (blind.deaths death.object death.phase waiting)
   one (activity.Collecting asked c) tops s = ap (tally f) s.shown ∙ collection_alike asked c (list_at s.then Pend)
 
   same_tally : (activities : List Activity) (stack : List machine.Activity) → ShowsAll script activities stack → tally f stack ≡ tally f (flat_map (shown script) activities)
@@ -198,7 +205,8 @@ module _ (f : machine.Activity → ℕ) (blind : IsBlind f) (script : Script) wh
       )
 
   -- the same with a collection on top
-  same_on_top : (asked : Bool) (c : Collection) (pending : List ℕ) (rest : List Activity) (stack below : List machine.Activity) → stack ≡ shown_with asked c pending ++ below → ShowsAll script rest below
+  same_on_top : (asked : Bool) (c : Collection) (pending : List ℕ) (rest : List Activity) (stack below : List machine.Activity) → stack
+      ≡ shown_with asked c pending ++ below → ShowsAll script rest below
       → tally f stack ≡ tally f (flat_map (shown script) (activity.Collecting asked c ∷ rest))
   same_on_top asked c pending rest stack below is over =
       let here : tally f stack ≡ tally f (shown_with asked c pending ++ below) = ap (tally f) is in
@@ -229,7 +237,8 @@ due_alike false false same m n numbers = ap (λ (k : Numbers). due_rank (is_due 
 
 -- A world with the engine's parts and a stack with the same sums has its number. If a collection is about to start, the
 -- policy's numbers do not count.
-module _ (script : Script) (e : State) (w : World) (objects : w.objects ≡ objects_of (store_told e.activities e.store)) (names : w.names ≡ e.store.names) (numbers : list_any is_starting w.stack ≡ false → w.numbers ≡ e.policy.numbers) (budget : w.budget ≡ e.budget) (running : w.outcome ≡ Running)
+module _ (script : Script) (e : State) (w : World) (objects : w.objects ≡ objects_of (store_told e.activities e.store)) (names : w.names ≡ e.store.names)
+    (numbers : list_any is_starting w.stack ≡ false → w.numbers ≡ e.policy.numbers) (budget : w.budget ≡ e.budget) (running : w.outcome ≡ Running)
     (alike : (f : machine.Activity → ℕ) → IsBlind f → tally f w.stack ≡ tally f (flat_map (shown script) e.activities)) where
   same_summary : summary script w ≡ summary script (world_from script e)
   same_summary =
@@ -273,13 +282,15 @@ names_after phase store = refl
 -- the number of a world that an engine represents after its lines are printed
 pub same_number : (script : Script) (e : State) (left : List Event) (w : World) → StandsWith script e left w → number_of script w ≡ number_of script (world_from script e)
 same_number script e left w (inl (stands, none)) =
-    same script e w (sym stands.represents.objects ∙ ap objects_of (sym (same_store script e.activities w.stack e.store stands.shows))) (sym stands.represents.names) (λ none. sym stands.numbers) stands.budget stands.running
+    same script e w (sym stands.represents.objects ∙ ap objects_of (sym (same_store script e.activities w.stack e.store stands.shows)))
+    (sym stands.represents.names) (λ none. sym stands.numbers) stands.budget stands.running
     (λ f blind. same_tally f blind script e.activities w.stack stands.shows)
 same_number script e left w (inr top) =
     let c : Collection = top.collection in
     let h = top.collects in
     let here : State = record e { activities = activity.Collecting top.asked c ∷ top.rest } in
     same script here w (sym h.shows.represents.objects) (sym h.shows.represents.names ∙ names_after c.phase e.store)
-    (λ none. sym (h.shows.numbers ∙ begun_numbers top.asked c c.phase c.release (list_at e.store Pend) h.below c.generation w.numbers (ap (list_any is_starting) (sym h.shows.top) ∙ none))) h.budget h.running
+    (λ none. sym (h.shows.numbers ∙ begun_numbers top.asked c c.phase c.release (list_at e.store Pend) h.below c.generation w.numbers
+    (ap (list_any is_starting) (sym h.shows.top) ∙ none))) h.budget h.running
     (λ f blind. same_on_top f blind script top.asked c (list_at e.store Pend) top.rest w.stack h.below h.shows.top h.over)
     ∙ ap (λ list. number_of script (world_from script (record e { activities = list }))) (sym top.top)

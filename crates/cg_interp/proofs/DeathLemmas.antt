@@ -55,7 +55,8 @@ counts o d (a ∷ stack) m e =
 -- an object that begins to die was not dying
 pub was_not_dying : (o : ℕ) (w : World) → DyingIsSound (begin_death o w) → (d : machine.Death) → Includes w.stack (Dying d) → d.object ≢ o
 was_not_dying o w sound d m e =
-    let split : count_by (is_death_of o) (begin_death o w).stack ≡ cond (o == o) 1 0 + count_by (is_death_of o) w.stack = sum_by-cons (λ (b : Activity). cond {A = ℕ} (is_death_of o b) 1 0) (death_of o Finalizer) w.stack in
+    let split : count_by (is_death_of o) (begin_death o w).stack ≡ cond (o == o) 1 0 + count_by (is_death_of o) w.stack =
+    sum_by-cons (λ (b : Activity). cond {A = ℕ} (is_death_of o b) 1 0) (death_of o Finalizer) w.stack in
     let own : cond {A = ℕ} (o == o) 1 0 ≡ 1 = ap (λ t. cond {A = ℕ} t 1 0) (eq-eqb o o refl) in
     let there = counts o d w.stack m e in
     let once = sound.once o in
@@ -77,12 +78,25 @@ none_waits script e o w stands sound =
     was_not_dying o w sound found.0 found.1 (found.2 ∙ is)))
 
 -- then its death is on top
-pub dies : (script : Script) (old new : State) (o : ℕ) (death : Death) (w : World) → StandsFor script old w → Represents new.store (begin_death o w) → on_stack death new.store ≡ death_of o Finalizer ∷ [] → IsSettled death → new.policy ≡ old.policy → new.activities ≡ activity.Dying death ∷ old.activities → new.budget ≡ old.budget
+pub dies : (script : Script) (old new : State) (o : ℕ) (death : Death) (w : World) → StandsFor script old w → Represents new.store (begin_death o w)
+    → on_stack death new.store ≡ death_of o Finalizer ∷ [] → IsSettled death → new.policy ≡ old.policy → new.activities ≡ activity.Dying death ∷ old.activities
+    → new.budget ≡ old.budget
     → StandsFor script new (begin_death o w)
 dies script old new o death w stands represents shown settled policy top budget = record {
   represents = represents;
   shows = subst (λ l. ShowsAll script l (begin_death o w).stack) (sym top)
-      (record { tops = death_of o Finalizer ∷ []; below = w.stack; shows = (waiting_for new.store death.object, sym shown ∙ shown_on_stack death new.store, settled); some = λ e. absurd (cc); over = stands.shows; is = refl });
+      (record {
+        tops = death_of o Finalizer ∷ [];
+        below = w.stack;
+        shows = (
+          waiting_for new.store death.object,
+          sym shown ∙ shown_on_stack death new.store,
+          settled,
+        );
+        some = λ e. absurd (cc);
+        over = stands.shows;
+        is = refl;
+      });
   budget = stands.budget ∙ sym budget;
   running = stands.running;
   numbers = ap (λ (p : Policy). p.numbers) policy ∙ stands.numbers;
@@ -90,13 +104,15 @@ dies script old new o death w stands represents shown settled policy top budget 
 }
 
 -- The world knows which weak references wait with a dying object: those of the heap.
-waits_known : (store : Store) (w : World) (o : ℕ) (phase : Phase) (waiting : List ℕ) → Represents store w → ((d : machine.Death) → Includes (death_activities o phase waiting) (Dying d) → Includes w.stack (Dying d))
+waits_known : (store : Store) (w : World) (o : ℕ) (phase : Phase) (waiting : List ℕ) → Represents store w
+    → ((d : machine.Death) → Includes (death_activities o phase waiting) (Dying d) → Includes w.stack (Dying d))
     → death_activities o phase waiting ≡ death_activities o phase (waiting_for store o)
 waits_known store w o phase_of.Finalizer waiting r inside = refl
 waits_known store w o phase_of.AfterFinalizer waiting r inside = refl
 waits_known store w o phase_of.Clearing waiting r inside = ap (λ l. death_of o (machine.Clearing l) ∷ []) (r.deaths (record { object = o; phase = machine.Clearing waiting }) (inside _ (inl refl)))
 waits_known store w o phase_of.Calling waiting r inside = ap (λ l. death_of o (machine.Calling l) ∷ []) (r.deaths (record { object = o; phase = machine.Calling waiting }) (inside _ (inl refl)))
-waits_known store w o (phase_of.AfterCall weak callback) waiting r inside = ap (λ l. death_of o (machine.AfterCall weak callback l) ∷ []) (r.deaths (record { object = o; phase = machine.AfterCall weak callback waiting }) (inside _ (inl refl)))
+waits_known store w o (phase_of.AfterCall weak callback) waiting r inside = ap (λ l. death_of o (machine.AfterCall weak callback l) ∷ [])
+    (r.deaths (record { object = o; phase = machine.AfterCall weak callback waiting }) (inside _ (inl refl)))
 waits_known store w o phase_of.LegacyFinalizer waiting r inside = refl
 waits_known store w o phase_of.AfterLegacy waiting r inside = refl
 waits_known store w o phase_of.Detaching waiting r inside = refl
@@ -125,12 +141,77 @@ starts_moves script spec w steps prints = by (w.budget == 0) _ _ prints
 
 -- a transition that the machine reached
 comes : (script : Script) (w : World) (e : State) (t : Transition) (answer : Turned) → (goes : Goes script w t.0 t.1) → goes.steps ≢ [] → Makes script t e answer → Turns script w e answer
-comes script w e t turned.Quiet goes moves makes = record { after = t.1; goes = record { steps = goes.steps; run = goes.run; prints = goes.prints ∙ makes.0; ends = goes.ends; alone = goes.alone }; moves = moves; stands = makes.1 }
-comes script w e t (turned.Line event) goes moves makes = record { after = t.1; goes = record { steps = goes.steps; run = goes.run; prints = goes.prints ∙ makes.0; ends = goes.ends; alone = goes.alone }; moves = moves; stands = makes.1 }
-comes script w e t (turned.Lines events) goes moves makes = record { after = t.1; goes = record { steps = goes.steps; run = goes.run; prints = goes.prints ∙ makes.0; ends = goes.ends; alone = goes.alone }; moves = moves; stands = makes.1 }
-comes script w e t turned.Ended goes moves makes = record { after = t.1; goes = record { steps = goes.steps; run = goes.run; prints = goes.prints ∙ makes.0; ends = goes.ends; alone = goes.alone }; ended = makes.1 }
-comes script w e t (turned.Left n) goes moves makes = record { after = t.1; goes = record { steps = goes.steps; run = goes.run; prints = goes.prints ∙ makes.0; ends = goes.ends; alone = goes.alone }; ended = makes.1 }
-comes script w e t turned.Spent goes moves makes = record { after = t.1; goes = record { steps = goes.steps; run = goes.run; prints = goes.prints ∙ makes.0; ends = goes.ends; alone = goes.alone }; ended = makes.1 }
+comes script w e t turned.Quiet goes moves makes = record {
+  after = t.1;
+  goes = record {
+    steps = goes.steps;
+    run = goes.run;
+    prints = goes.prints ∙ makes.0;
+    ends = goes.ends;
+    alone = goes.alone;
+  };
+  moves = moves;
+  stands = makes.1;
+}
+comes script w e t (turned.Line event) goes moves makes = record {
+  after = t.1;
+  goes = record {
+    steps = goes.steps;
+    run = goes.run;
+    prints = goes.prints
+        ∙ makes.0;
+    ends = goes.ends;
+    alone = goes.alone;
+  };
+  moves = moves;
+  stands = makes.1;
+}
+comes script w e t (turned.Lines events) goes moves makes = record {
+  after = t.1;
+  goes = record {
+    steps = goes.steps;
+    run = goes.run;
+    prints = goes.prints
+        ∙ makes.0;
+    ends = goes.ends;
+    alone = goes.alone;
+  };
+  moves = moves;
+  stands = makes.1;
+}
+comes script w e t turned.Ended goes moves makes = record {
+  after = t.1;
+  goes = record {
+    steps = goes.steps;
+    run = goes.run;
+    prints = goes.prints ∙ makes.0;
+    ends = goes.ends;
+    alone = goes.alone;
+  };
+  ended = makes.1;
+}
+comes script w e t (turned.Left n) goes moves makes = record {
+  after = t.1;
+  goes = record {
+    steps = goes.steps;
+    run = goes.run;
+    prints = goes.prints ∙ makes.0;
+    ends = goes.ends;
+    alone = goes.alone;
+  };
+  ended = makes.1;
+}
+comes script w e t turned.Spent goes moves makes = record {
+  after = t.1;
+  goes = record {
+    steps = goes.steps;
+    run = goes.run;
+    prints = goes.prints ∙ makes.0;
+    ends = goes.ends;
+    alone = goes.alone;
+  };
+  ended = makes.1;
+}
 
 -- what of a death on top is on the stack
 module _ (script : Script) (e : State) (death : Death) (w : World) (stands : StandsFor script (under (activity.Dying death) e) w) where
@@ -139,7 +220,8 @@ module _ (script : Script) (e : State) (death : Death) (w : World) (stands : Sta
   tops_shown =
       stands.shows.shows.1
       ∙ ap (released_first death.release) (waits_known e.store w death.object death.phase stands.shows.shows.0 stands.represents (λ d m.
-      subst (λ st. Includes st (Dying d)) (sym (stands.shows.is ∙ ap (λ l. l ++ stands.shows.below) stands.shows.shows.1)) (within death.release (death_activities death.object death.phase stands.shows.shows.0) stands.shows.below (Dying d) m)))
+      subst (λ st. Includes st (Dying d)) (sym (stands.shows.is ∙ ap (λ l. l ++ stands.shows.below) stands.shows.shows.1))
+      (within death.release (death_activities death.object death.phase stands.shows.shows.0) stands.shows.below (Dying d) m)))
       ∙ sym (shown_on_stack death e.store)
 
   pub death_on_top : w.stack ≡ on_stack death e.store ++ stands.shows.below
@@ -154,7 +236,8 @@ module _ (script : Script) (e : State) (death : Death) (w : World) (stands : Sta
   something_shown none = stands.shows.some (tops_shown ∙ none)
 
 module _ (script : Script) (old new : State) (death after_death : Death) (answer : DeathStep) (w : World) (stands : StandsFor script (under (activity.Dying death) old) w) (sound : DyingIsSound w)
-    (steps : DeathSteps script old.store (on_stack death old.store) new.store (on_stack after_death new.store) answer) (settles : IsSettled death → IsSettled after_death) (put : StaysOn after_death old.activities new.activities) (budget : new.budget ≡ old.budget) where
+    (steps : DeathSteps script old.store (on_stack death old.store) new.store (on_stack after_death new.store) answer) (settles : IsSettled death
+    → IsSettled after_death) (put : StaysOn after_death old.activities new.activities) (budget : new.budget ≡ old.budget) where
   rest : List Activity
   rest = stands.shows.below
 
@@ -169,14 +252,22 @@ module _ (script : Script) (old new : State) (death after_death : Death) (answer
   unfolding rest
   with_rest stack is = either put
       (λ going.
-      subst (λ l. ShowsAll script l stack) (sym going.1) (record { tops = on_stack after_death new.store; below = stands.shows.below; shows = (waiting_for new.store after_death.object, shown_on_stack after_death new.store, settles stands.shows.shows.2); some = going.0 new.store; over = stands.shows.over; is = is }))
+      subst (λ l. ShowsAll script l stack) (sym going.1) (record {
+        tops = on_stack after_death new.store;
+        below = stands.shows.below;
+        shows = (waiting_for new.store after_death.object, shown_on_stack after_death new.store, settles stands.shows.shows.2);
+        some = going.0 new.store;
+        over = stands.shows.over;
+        is = is;
+      }))
       (λ gone. subst (λ l. ShowsAll script l stack) (sym gone.1) (subst (ShowsAll script old.activities) (sym (is ∙ ap (λ l. l ++ stands.shows.below) (gone.0 new.store))) stands.shows.over))
 
   -- a collection is under way if one was
   under_way : any_collecting new.activities ≡ any_collecting old.activities
   under_way = either put (λ going. ap any_collecting going.1) (λ gone. ap any_collecting gone.1)
 
-  went_on : (events : List Event) (numbers : Numbers) → new.policy.numbers ≡ numbers → new.policy.running ≡ old.policy.running → (went : WentOn script w events numbers new.store (on_stack after_death new.store ++ rest)) → went.goes.goes.steps ≢ [] → GoesTo script w events new
+  went_on : (events : List Event) (numbers : Numbers) → new.policy.numbers ≡ numbers → new.policy.running ≡ old.policy.running
+      → (went : WentOn script w events numbers new.store (on_stack after_death new.store ++ rest)) → went.goes.goes.steps ≢ [] → GoesTo script w events new
   went_on events numbers counted running went moves = record {
     after = went.goes.after;
     goes = went.goes.goes;
@@ -199,25 +290,30 @@ module _ (script : Script) (old new : State) (death after_death : Death) (answer
   same_top : (after : World) → after.stack ≡ on_stack after_death new.store ++ rest → w ≡ after → on_stack death old.store ≡ on_stack after_death new.store
   same_top after top same = append_cancel_right (on_stack death old.store) (on_stack after_death new.store) rest (sym at ∙ ap (λ (v : World). v.stack) same ∙ top)
 
-  pub death_continues : answer ≡ answer_of.Continue → new.policy ≡ old.policy → AreRows old.store → AreRows new.store → after_death.object ≡ death.object → (answer ≡ answer_of.Continue → DeathFalls death old.store after_death new.store) → GoesTo script w [] new
+  pub death_continues : answer ≡ answer_of.Continue → new.policy ≡ old.policy → AreRows old.store → AreRows new.store → after_death.object ≡ death.object
+      → (answer ≡ answer_of.Continue → DeathFalls death old.store after_death new.store) → GoesTo script w [] new
   death_continues is policy rows_old rows_new object falls = go (subst (DeathAnswer script w new.store (on_stack after_death new.store ++ rest)) is says)
     where
       go : WentOn script w [] w.numbers new.store (on_stack after_death new.store ++ rest) → GoesTo script w [] new
       go went = went_on [] w.numbers (ap (λ (p : Policy). p.numbers) policy ∙ stands.numbers) (ap (λ (p : Policy). p.running) policy) went (λ none.
           let same = stayed went.goes.after went.goes.goes.steps went.goes.goes.ends none in
-          no_fall death after_death old.store new.store went.goes.after (subst (Represents old.store) same stands.represents) went.goes.represents rows_old rows_new object (same_top went.goes.after went.goes.top same) (falls is))
+          no_fall death after_death old.store new.store went.goes.after (subst (Represents old.store) same stands.represents) went.goes.represents rows_old
+          rows_new object (same_top went.goes.after went.goes.top same) (falls is))
 
   pub death_tells : (event : Event) → answer ≡ answer_of.Emit event → new.policy ≡ with_numbers (numbers_after event old.policy.numbers) old.policy → GoesTo script w (event ∷ []) new
   death_tells event is policy = go (subst (DeathAnswer script w new.store (on_stack after_death new.store ++ rest)) is says)
     where
       go : WentOn script w (event ∷ []) (numbers_after event w.numbers) new.store (on_stack after_death new.store ++ rest) → GoesTo script w (event ∷ []) new
-      go went = went_on (event ∷ []) (numbers_after event w.numbers) (ap (λ (p : Policy). p.numbers) policy ∙ ap (numbers_after event) stands.numbers) (ap (λ (p : Policy). p.running) policy) went (prints_moves went.goes.goes.steps event [] went.goes.goes.prints)
+      go went = went_on (event ∷ []) (numbers_after event w.numbers) (ap (λ (p : Policy). p.numbers) policy ∙ ap (numbers_after event) stands.numbers)
+          (ap (λ (p : Policy). p.running) policy) went (prints_moves went.goes.goes.steps event [] went.goes.goes.prints)
 
   pub death_ends : answer ≡ answer_of.Gone → new.policy ≡ old.policy → on_stack after_death new.store ≡ [] → GoesTo script w [] new
   death_ends is policy none = go (subst (DeathAnswer script w new.store (on_stack after_death new.store ++ rest)) is says)
     where
       go : WentOn script w [] w.numbers new.store (on_stack after_death new.store ++ rest) → GoesTo script w [] new
-      go went = went_on [] w.numbers (ap (λ (p : Policy). p.numbers) policy ∙ stands.numbers) (ap (λ (p : Policy). p.running) policy) went (λ still. something_shown script old death w stands (same_top went.goes.after went.goes.top (stayed went.goes.after went.goes.goes.steps went.goes.goes.ends still) ∙ none))
+      go went = went_on [] w.numbers (ap (λ (p : Policy). p.numbers) policy ∙ stands.numbers) (ap (λ (p : Policy). p.running) policy) went
+          (λ still. something_shown script old death w stands (same_top went.goes.after went.goes.top (stayed went.goes.after went.goes.goes.steps
+          went.goes.goes.ends still) ∙ none))
 
   handed : new.policy ≡ old.policy → (u : World) → Represents new.store u → u.stack ≡ on_stack after_death new.store ++ rest → KeepsWorld w w.numbers u → StandsFor script new u
   handed policy u represents is keeps = record {
@@ -239,7 +335,8 @@ module _ (script : Script) (old new : State) (death after_death : Death) (answer
         moves = λ none.
             let same = stayed (begin_death o gave.hands.before) gave.hands.goes.steps gave.hands.goes.ends none in
             no_death_on_top death old.store o (on_stack after_death new.store) other
-            (append_cancel_right (death_of o Finalizer ∷ on_stack after_death new.store) (on_stack death old.store) rest (ap (λ l. death_of o Finalizer ∷ l) (sym gave.hands.top) ∙ sym (ap (λ (v : World). v.stack) same) ∙ at));
+            (append_cancel_right (death_of o Finalizer ∷ on_stack after_death new.store) (on_stack death old.store) rest (ap (λ l. death_of o Finalizer ∷ l)
+            (sym gave.hands.top) ∙ sym (ap (λ (v : World). v.stack) same) ∙ at));
         stands = handed policy gave.hands.before gave.hands.represents gave.hands.top gave.keeps;
       }
 
@@ -249,4 +346,6 @@ module _ (script : Script) (old new : State) (death after_death : Death) (answer
   death_calls spec final turned_to is policy starts = go (subst (DeathAnswer script w new.store (on_stack after_death new.store ++ rest)) is says)
     where
       go : GaveFrame script w spec new.store (on_stack after_death new.store ++ rest) → Turns script w final turned_to
-      go gave = comes script w final (start_frame script spec gave.hands.before) turned_to gave.hands.goes (starts_moves script spec gave.hands.before gave.hands.goes.steps gave.hands.goes.prints) (starts gave.hands.before (handed policy gave.hands.before gave.hands.represents gave.hands.top gave.keeps))
+      go gave = comes script w final (start_frame script spec gave.hands.before) turned_to gave.hands.goes (starts_moves script spec gave.hands.before
+          gave.hands.goes.steps gave.hands.goes.prints) (starts gave.hands.before (handed policy gave.hands.before gave.hands.represents gave.hands.top
+          gave.keeps))

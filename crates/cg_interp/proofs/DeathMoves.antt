@@ -50,7 +50,8 @@ module _ (a b : Store) (w : World) (in_a : Represents a w) (in_b : Represents b 
   pub same_waiting : waiting_for a o ≡ waiting_for b o
   same_waiting = by (a_row_waits o a.rows) (a_row_waits o b.rows)
     where
-      by : (filter (waits_with o) a.rows ≡ []) ⊎ ((r : Row) × Includes a.rows r × (r.waits ≡ true) × (r.referent ≡ o)) → (filter (waits_with o) b.rows ≡ []) ⊎ ((r : Row) × Includes b.rows r × (r.waits ≡ true) × (r.referent ≡ o))
+      by : (filter (waits_with o) a.rows ≡ []) ⊎ ((r : Row) × Includes a.rows r × (r.waits ≡ true) × (r.referent ≡ o)) → (filter (waits_with o) b.rows ≡ [])
+          ⊎ ((r : Row) × Includes b.rows r × (r.waits ≡ true) × (r.referent ≡ o))
           → waiting_for a o ≡ waiting_for b o
       by (inr x) y = let found = in_a.no_others x.0 x.1 x.2 in by_death found.0 found.1 (found.2 ∙ x.3)
       by (inl x) (inr y) = let found = in_b.no_others y.0 y.1 y.2 in by_death found.0 found.1 (found.2 ∙ y.3)
@@ -145,7 +146,8 @@ are_shown o phase None store = let s = is_shown o phase (waiting_for store o) in
 are_shown o phase (Some release) store = let s = is_shown o phase (waiting_for store o) in record { pass = s.pass; own = s.own; released = refl }
 
 -- Nothing falls if the stack is the same, in the same world.
-pub no_fall : (death after : Death) (old new : Store) (w : World) → Represents old w → Represents new w → AreRows old → AreRows new → after.object ≡ death.object → on_stack death old ≡ on_stack after new → DeathFalls death old after new → ⊥
+pub no_fall : (death after : Death) (old new : Store) (w : World) → Represents old w → Represents new w → AreRows old → AreRows new → after.object
+    ≡ death.object → on_stack death old ≡ on_stack after new → DeathFalls death old after new → ⊥
 no_fall death after old new w in_old in_new rows_old rows_new same stacks falls = by falls
   where
     was : AreShown death.object death.phase death.release old

@@ -23,7 +23,7 @@ use Rattle.cg_interp.specs.declared.turned.Turned.TheVariants as turned
 use Rattle.cg_policy.specs.Policy.{Policy}
 use Rattle.cg_interp.specs.Engines.{State, StandsFor, ShowsAll, ShowsTop, frame_of, commands_from, under, any_collecting}
 use Rattle.cg_interp.specs.Turns.{Makes, Turns}
-use Rattle.cg_interp.proofs.Standing.{plain_frame, plain_release, holding, taken, replaced, spelled, one_step}
+use Rattle.cg_interp.proofs.StackChanges.{plain_frame, plain_release, holding, taken, replaced, spelled, one_step}
 
 -- the function that a frame holds lives
 called_live : (store : Store) (o : Option ℕ) → IfSome o (λ f. IsLive store f) → (s : ℕ) → 0 < occurrences s (option_to_list o) → IsLive store s
@@ -60,7 +60,8 @@ module _ (script : Script) (old new : State) (spec : FrameSpec) (w : World) (sta
   unfolding chosen
   spends none = subst (λ b. Makes script (chosen b) new turned.Spent) (sym (eq-eqb w.budget 0 (stands.budget ∙ none))) (refl, refl)
 
-  pub enters : (called : Option ℕ) → old.budget ≢ 0 → call_holds spec.sort spec.func ≡ option_to_list called → IfSome called (λ f. IsLive old.store f) → new.store ≡ held (option_to_list called) old.store → new.policy ≡ old.policy
+  pub enters : (called : Option ℕ) → old.budget ≢ 0 → call_holds spec.sort spec.func ≡ option_to_list called → IfSome called (λ f. IsLive old.store f)
+      → new.store ≡ held (option_to_list called) old.store → new.policy ≡ old.policy
       → new.activities ≡ activity.Frame (record { sort = spec.sort; subject = spec.subject; func = spec.func }) spec.proc (Some 0) ∷ old.activities
       → new.budget ≡ old.budget - 1 → Makes script (start_frame script spec w) new (turned.Line (Enter spec.sort spec.subject))
   unfolding chosen
@@ -68,7 +69,8 @@ module _ (script : Script) (old new : State) (spec : FrameSpec) (w : World) (sta
       subst (λ b. Makes script (chosen b) new (turned.Line (Enter spec.sort spec.subject))) (sym (ne_eqb w.budget 0 (λ z. some (sym stands.budget ∙ z)))) (
         refl,
         record {
-          represents = subst (λ st. Represents st (chosen false).1) (sym now) (holding old.store (record w { budget = w.budget - 1 }) frame (option_to_list called) (plain_frame _) is (called_live old.store called live) (anywhere stands.represents));
+          represents = subst (λ st. Represents st (chosen false).1) (sym now) (holding old.store (record w { budget = w.budget - 1 }) frame
+              (option_to_list called) (plain_frame _) is (called_live old.store called live) (anywhere stands.represents));
           shows = subst (λ l. ShowsAll script l (frame ∷ w.stack)) (sym top) (record { tops = frame ∷ []; below = w.stack; shows = refl; some = λ e. absurd (cc); over = stands.shows; is = refl });
           budget = ap (λ n. n - 1) stands.budget ∙ sym left;
           running = stands.running;
@@ -84,11 +86,13 @@ module _ (script : Script) (old new : State) (spec : FrameSpec) (w : World) (sta
       anywhere r = record { objects = r.objects; next_serial = r.next_serial; names = r.names; outside = r.outside; deaths = r.deaths; no_others = r.no_others; collection = r.collection }
 
 -- A frame is on top: the top of the world's stack.
-pub top_of : (script : Script) (locals : Locals) (procedure : ℕ) (next : Option ℕ) (rest : List Activity → Type 0) (stack : List Activity) → ShowsTop script (activity.Frame locals procedure next) rest stack
+pub top_of : (script : Script) (locals : Locals) (procedure : ℕ) (next : Option ℕ) (rest : List Activity → Type 0) (stack : List Activity)
+    → ShowsTop script (activity.Frame locals procedure next) rest stack
     → (below : List Activity) × rest below × (stack ≡ Framed (frame_of script locals procedure next) ∷ below)
 top_of script locals procedure next rest stack s = (s.below, s.over, s.is ∙ ap (λ l. l ++ s.below) s.shows)
 
-module _ (script : Script) (old new : State) (locals : Locals) (procedure : ℕ) (next : Option ℕ) (w : World) (none : commands_from next (body_of script procedure) ≡ []) (stands : StandsFor script (under (activity.Frame locals procedure next) old) w) where
+module _ (script : Script) (old new : State) (locals : Locals) (procedure : ℕ) (next : Option ℕ) (w : World)
+    (none : commands_from next (body_of script procedure) ≡ []) (stands : StandsFor script (under (activity.Frame locals procedure next) old) w) where
   abbrev frame : Frame
   frame = frame_of script locals procedure next
 

@@ -20,7 +20,7 @@ use Rattle.cg_heap.specs.Calls.{IsListed}
 use Rattle.cg_arena.specs.Nodes.{following}
 use Rattle.cg_kind.proofs.References.{references_in_turn, references_split}
 use Rattle.cg_trial.proofs.Lists.{IsAt, ahead, head_is}
-use Rattle.cg_trial.proofs.Along.{Along, along_more, along_end}
+use Rattle.cg_trial.proofs.WalksOverLists.{Along, along_more, along_end}
 use Rattle.cg_records.specs.Members.{member}
 use Rattle.cg_records.specs.Text.{numbered, flag, member_text}
 use Rattle.cg_interp.specs.declared.graphs.Detection.{Detection}
@@ -140,8 +140,11 @@ below_split store (suc n) i less = go (cases_of (i == n)) (below_split store n i
     go : (i == n ≡ true) ⊎ (i == n ≡ false) → (i < n → (rest : List ℕ) × (generations_below store n ≡ generations_below store i ++ (list_at store (Gen i) ++ rest)))
         → (rest : List ℕ) × (generations_below store (suc n) ≡ generations_below store i ++ (list_at store (Gen i) ++ rest))
     go (inl same) rec =
-        let e : i ≡ n = eqb-true i n same in
-        ([], subst (λ k. generations_below store (suc n) ≡ generations_below store k ++ (list_at store (Gen k) ++ [])) (sym e) (ap (λ l. generations_below store n ++ l) (sym (append-nil (list_at store (Gen n))))))
+        let e : i ≡ n = eqb-true i n same in (
+          [],
+          subst (λ k. generations_below store (suc n) ≡ generations_below store k ++ (list_at store (Gen k) ++ [])) (sym e)
+              (ap (λ l. generations_below store n ++ l) (sym (append-nil (list_at store (Gen n))))),
+        )
     go (inr other) rec =
         let deeper = rec (lower other) in (
           deeper.0 ++ list_at store (Gen n),
@@ -150,9 +153,11 @@ below_split store (suc n) i less = go (cases_of (i == n)) (below_split store n i
               ∙ ap (λ l. generations_below store i ++ l) (append_assoc (list_at store (Gen i)) deeper.0 (list_at store (Gen n))),
         )
 
-pub generations_cut : (f : ℕ → List ℕ) (store : Store) (n i : ℕ) → i < n → (a b c : Option (List ℕ)) → Appends a b (flat_map f (generations_below store i)) → AppendsFront b c (flat_map f (list_at store (Gen i))) → AppendsFront a c (flat_map f (generations_below store n))
+pub generations_cut : (f : ℕ → List ℕ) (store : Store) (n i : ℕ) → i < n → (a b c : Option (List ℕ)) → Appends a b (flat_map f (generations_below store i))
+    → AppendsFront b c (flat_map f (list_at store (Gen i))) → AppendsFront a c (flat_map f (generations_below store n))
 generations_cut f store n i less a b c wrote part =
     let (rest, is) = below_split store n i less in
     cut_between a b c (flat_map f (generations_below store i)) (flat_map f (list_at store (Gen i))) (flat_map f rest) (flat_map f (generations_below store n))
-    (ap (flat_map f) is ∙ flat_map-append f (generations_below store i) (list_at store (Gen i) ++ rest) ∙ ap (λ l. flat_map f (generations_below store i) ++ l) (flat_map-append f (list_at store (Gen i)) rest))
+    (ap (flat_map f) is ∙ flat_map-append f (generations_below store i) (list_at store (Gen i) ++ rest) ∙ ap (λ l. flat_map f (generations_below store i) ++ l)
+    (flat_map-append f (list_at store (Gen i)) rest))
     wrote part

@@ -42,8 +42,10 @@ module _ (events : List Event) (i : ℕ) (d : Event) (within : i < length events
   is_one = subst (λ l. Includes l next) (sym (up_to_next events i d within)) (Includes-append_right (take i events) (next ∷ drop (suc i) events) next (inl refl))
 
   -- after a cut, a prefix of all lines was written
-  pub wrote_part : (names : List (List ℕ)) (before mid now : Option (List ℕ)) → Appends before mid (flat_map (line names) (take i events)) → AppendsFront mid now (line names next) → AppendsFront before now (flat_map (line names) events)
+  pub wrote_part : (names : List (List ℕ)) (before mid now : Option (List ℕ)) → Appends before mid (flat_map (line names) (take i events))
+      → AppendsFront mid now (line names next) → AppendsFront before now (flat_map (line names) events)
   wrote_part names before mid now wrote part =
       let rest : List ℕ = flat_map (line names) (drop (suc i) events) in
-      let all : flat_map (line names) events ≡ flat_map (line names) (take i events) ++ (line names next ++ rest) = ap (flat_map (line names)) (up_to_next events i d within) ∙ flat_map-append (line names) (take i events) (next ∷ drop (suc i) events) in
+      let all : flat_map (line names) events ≡ flat_map (line names) (take i events) ++ (line names next ++ rest) = ap (flat_map (line names))
+      (up_to_next events i d within) ∙ flat_map-append (line names) (take i events) (next ∷ drop (suc i) events) in
       subst (AppendsFront before now) (sym all) (after_front before mid now (flat_map (line names) (take i events)) (line names next ++ rest) wrote (longer_front mid now (line names next) rest part))

@@ -72,7 +72,8 @@ module _ (asked : Bool) (c : Collection) (pending : List ℕ) (below : List mach
   of_release None may none = by_phase c.generation c.phase c.detected pending ∙ of_phase (machine_phase c.phase pending) none
   of_release (Some release) may none = none_giving c.generation c.phase c.detected may
 
-  pub collection_next : GivesUpIn c.phase c.release → (shown_with asked c pending ≡ [] → next_detection below ≡ None) → detection_by c.generation (stage_of c) ≡ next_detection (shown_with asked c pending ++ below)
+  pub collection_next : GivesUpIn c.phase c.release → (shown_with asked c pending ≡ [] → next_detection below ≡ None) → detection_by c.generation (stage_of c)
+      ≡ next_detection (shown_with asked c pending ++ below)
   collection_next may none = of_release c.release may none
 
 -- other activities make none
@@ -83,7 +84,8 @@ dying_none o phase waiting below some = refl
 death_none : (d : Death) (waiting : List ℕ) (below : List machine.Activity) → death_shown d waiting ≢ [] → next_detection (death_shown d waiting ++ below) ≡ None
 death_none d waiting below some = go d.release some
   where
-    go : (release : Option Release) → released_first release (death_activities d.object d.phase waiting) ≢ [] → next_detection (released_first release (death_activities d.object d.phase waiting) ++ below) ≡ None
+    go : (release : Option Release) → released_first release (death_activities d.object d.phase waiting) ≢ []
+        → next_detection (released_first release (death_activities d.object d.phase waiting) ++ below) ≡ None
     go None some = dying_none d.object d.phase waiting below some
     go (Some release) some = refl
 
@@ -231,6 +233,9 @@ pub no_advance : (e e' : State) (d : Detection) (left still : List Event) (w aft
 no_advance e e' d left still w after a b (inl less) = let none = ap (λ (l : List Event). length l) a.none in absurd (omega (arith, less, none))
 no_advance e e' d left still w after a b (inr (same, near)) =
     let first : IsNearer e.activities e.store (activity.Collecting b.asked b.collection ∷ b.rest) e'.store = subst (λ (l : List Activity). IsNearer e.activities e.store l e'.store) b.top near in
-    let falls : ComesNearer e.store a.collection.phase a.collection.release e'.store b.collection.phase b.collection.release = subst (λ (l : List Activity). IsNearer l e.store (activity.Collecting b.asked b.collection ∷ b.rest) e'.store) a.top first in
-    let old : ComesNearer e.store (phase_for d) None e'.store b.collection.phase b.collection.release = subst (λ (x : Phase × Option Release). ComesNearer e.store x.0 x.1 e'.store b.collection.phase b.collection.release) (λ i. (a.phase i, a.release i)) falls in
+    let falls : ComesNearer e.store a.collection.phase a.collection.release e'.store b.collection.phase b.collection.release =
+    subst (λ (l : List Activity). IsNearer l e.store (activity.Collecting b.asked b.collection ∷ b.rest) e'.store) a.top first in
+    let old : ComesNearer e.store (phase_for d) None e'.store b.collection.phase b.collection.release =
+    subst (λ (x : Phase × Option Release). ComesNearer e.store x.0 x.1 e'.store b.collection.phase b.collection.release) (λ i. (a.phase i, a.release i))
+    falls in
     nearer_no d e.store e'.store (subst (λ (x : Phase × Option Release). ComesNearer e.store (phase_for d) None e'.store x.0 x.1) (λ i. (b.phase i, b.release i)) old)

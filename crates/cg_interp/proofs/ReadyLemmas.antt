@@ -38,7 +38,7 @@ use Rattle.cg_death.specs.declared.death.Death.{Death}
 use Rattle.cg_death.specs.Activities.{death_of, death_activities, IsUnheld, IsReadyForDeathAt, HaveCallbacks}
 use Rattle.cg_death.specs.Deaths.{IsReadyForDeath, IsUnheldDuring, IsSettledAt, IsSettled}
 use Rattle.cg_death.proofs.CallerLemmas.{unheld_in_heap, newer_in_heap, no_referent_in_heap}
-use Rattle.cg_interp.proofs.Lawfully.{in_map, is_live}
+use Rattle.cg_interp.proofs.LawsOfEngines.{in_map, is_live}
 
 -- what an activity holds, the stack holds
 in_flat : (f : Activity → List ℕ) (stack : List Activity) (a : Activity) (q : ℕ) → Includes stack a → Includes (f a) q → Includes (flat_map f stack) q
@@ -90,14 +90,20 @@ one_callback (e ∷ []) items few some = by e.val refl some
     by (Str s) is ref = absurd (ref refl)
     by (Ref f) is ref = (f, ap (λ (x : Entry). x ∷ []) (λ i. record { key = All-head (λ (x : Entry). x.key ≡ Nothing) e [] items i; val = is i }))
 
-module _ (script : Script) (budget : ℕ) (store : Store) (w : World) (represents : Represents store w) (lawful : IsLawful script budget w) (rows : AreRows store) (well : (s : ℕ) → IsWellMadeAt (fin.get store.nodes s)) where
+module _ (script : Script) (budget : ℕ) (store : Store) (w : World) (represents : Represents store w) (lawful : IsLawful script budget w) (rows : AreRows store)
+    (well : (s : ℕ) → IsWellMadeAt (fin.get store.nodes s)) where
   -- an object that lives in the heap is one of the world
   member : (q : ℕ) → IsLive store q → (n : Node) × (fin.get store.nodes q ≡ Some n) × Includes w.objects (object_from store.rows q n)
   member q live = known (fin.get store.nodes q) refl live
     where
       known : (x : Option Node) → fin.get store.nodes q ≡ x → IsSome x → (n : Node) × (fin.get store.nodes q ≡ Some n) × Includes w.objects (object_from store.rows q n)
       known None e some = absurd (cc)
-      known (Some n) e some = (n, e, (found_at w.objects q (object_from store.rows q n) (ap (λ os. object_at os q) (sym represents.objects) ∙ object-at store q ∙ ap (option_map (object_from store.rows q)) e)).0)
+      known (Some n) e some = (
+        n,
+        e,
+        (found_at w.objects q (object_from store.rows q n) (ap (λ os. object_at os q) (sym represents.objects) ∙ object-at store q
+            ∙ ap (option_map (object_from store.rows q)) e)).0,
+      )
 
   -- what waits is held
   waits_are_held : (q : ℕ) → Includes (all_waits w.stack) q → Includes (holdings w) q
@@ -132,7 +138,8 @@ module _ (script : Script) (budget : ℕ) (store : Store) (w : World) (represent
 
     -- no row is that of an emptied object, or refers to it
     no_row : Includes w.stack (death_of o machine.Emptying) → occurrences o (holdings w) ≡ 0 → IsInNoRow o store.rows
-    no_row m none = in_no_row store.rows o (all_rows (λ r. r.weak ≢ o) store.rows own) (no_referent_in_heap store w represents rows o none_refers (sym (represents.deaths (record { object = o; phase = machine.Emptying }) m)))
+    no_row m none = in_no_row store.rows o (all_rows (λ r. r.weak ≢ o) store.rows own) (no_referent_in_heap store w represents rows o none_refers
+        (sym (represents.deaths (record { object = o; phase = machine.Emptying }) m)))
       where
         death : IsDeathIn w.objects (record { object = o; phase = machine.Emptying })
         death = lawful.orderly.deaths (record { object = o; phase = machine.Emptying }) m
@@ -157,7 +164,8 @@ module _ (script : Script) (budget : ℕ) (store : Store) (w : World) (represent
     ready_at phase_of.AfterFinalizer on = tt
     ready_at phase_of.Clearing on = (
       unheld_now (machine.Clearing (waiting_for store o)) (on _ (inl refl)) (lawful.unheld _ (on _ (inl refl))),
-      newer_in_heap store w represents rows o (waiting_for store o) refl (lawful.newest (record { object = o; phase = machine.Clearing (waiting_for store o) }) (on _ (inl refl)) (waiting_for store o) refl),
+      newer_in_heap store w represents rows o (waiting_for store o) refl (lawful.newest (record { object = o; phase = machine.Clearing (waiting_for store o) })
+          (on _ (inl refl)) (waiting_for store o) refl),
     )
     ready_at phase_of.Calling on = (unheld_now (machine.Calling (waiting_for store o)) (on _ (inl refl)) (lawful.unheld _ (on _ (inl refl))), callbacks (on _ (inl refl)))
     ready_at (phase_of.AfterCall weak callback) on = unheld_now (machine.AfterCall weak callback (waiting_for store o)) (on _ (inl refl)) (lawful.unheld _ (on _ (inl refl)))
@@ -168,7 +176,8 @@ module _ (script : Script) (budget : ℕ) (store : Store) (w : World) (represent
     ready_at phase_of.Over on = tt
 
     -- while references are given up it is unheld
-    unheld_during : (phase : Phase) (release : Option Release) → IsSettledAt phase release → ((a : Activity) → Includes (death_activities o phase (waiting_for store o)) a → Includes w.stack a) → IsUnheldDuring store o release
+    unheld_during : (phase : Phase) (release : Option Release) → IsSettledAt phase release
+        → ((a : Activity) → Includes (death_activities o phase (waiting_for store o)) a → Includes w.stack a) → IsUnheldDuring store o release
     unheld_during phase None settled on = tt
     unheld_during phase_of.Calling (Some release) settled on = unheld_now (machine.Calling (waiting_for store o)) (on _ (inl refl)) (lawful.unheld _ (on _ (inl refl)))
     unheld_during phase_of.Emptying (Some release) settled on = unheld_now machine.Emptying (on _ (inl refl)) (lawful.unheld _ (on _ (inl refl)))
@@ -181,5 +190,6 @@ module _ (script : Script) (budget : ℕ) (store : Store) (w : World) (represent
     unheld_during phase_of.Detaching (Some release) settled on = absurd settled
     unheld_during phase_of.Over (Some release) settled on = absurd settled
 
-  pub death_ready : (death : Death) → IsSettled death → ((a : Activity) → Includes (death_activities death.object death.phase (waiting_for store death.object)) a → Includes w.stack a) → IsReadyForDeath death store
+  pub death_ready : (death : Death) → IsSettled death → ((a : Activity) → Includes (death_activities death.object death.phase (waiting_for store death.object))
+      a → Includes w.stack a) → IsReadyForDeath death store
   death_ready death settled on = (ready_at death.object death.phase on, unheld_during death.object death.phase death.release settled on)

@@ -40,7 +40,8 @@ abbrev legacy_text : Graph → List ℕ
 legacy_text graph = flat_map (numbered (codes "legacy")) graph.legacy
 
 abbrev BothWritten : List Picture → Type 0
-BothWritten pictures = (text (records_of pictures) ≡ text_to_end false pictures) × ((g : ℕ) (graph : Graph) → text (begun g graph pictures) ≡ picture_text false (First g) graph ++ text_to_end true pictures)
+BothWritten pictures = (text (records_of pictures) ≡ text_to_end false pictures) × ((g : ℕ) (graph : Graph) → text (begun g graph pictures)
+    ≡ picture_text false (First g) graph ++ text_to_end true pictures)
 
 both : (pictures : List Picture) → BothWritten pictures
 both [] = (refl, λ g graph. assoc_cut (numbered (codes "record") g) (codes "graph 1\n") (graph_text graph) (legacy_text graph) (codes "cut\n") (codes "end\n"))
@@ -52,15 +53,18 @@ both (p ∷ ps) = by p.detection p.graph (both ps)
       λ g graph.
           text-cons (recorded g graph None) (begun m h ps)
           ∙ ap (λ t. record_text (recorded g graph None) ++ t) (rec.1 m h)
-          ∙ ap (λ t. (t ++ codes "cut\n") ++ (picture_text false (First m) h ++ text_to_end true ps)) (assoc_front (numbered (codes "record") g) (codes "graph 1\n") (graph_text graph) (legacy_text graph))
-          ∙ assoc_first (picture_text false (First g) graph) (codes "cut\n") (numbered (codes "record") m ++ codes "graph 1\n") (graph_text h ++ legacy_text h) (text_so_far true ps) (closing (unfinished_so_far true ps) ++ codes "end\n"),
+          ∙ ap (λ t. (t ++ codes "cut\n") ++ (picture_text false (First m) h ++ text_to_end true ps)) (assoc_front (numbered (codes "record") g)
+          (codes "graph 1\n") (graph_text graph) (legacy_text graph))
+          ∙ assoc_first (picture_text false (First g) graph) (codes "cut\n") (numbered (codes "record") m ++ codes "graph 1\n") (graph_text h ++ legacy_text h)
+          (text_so_far true ps) (closing (unfinished_so_far true ps) ++ codes "end\n"),
     )
     by Second h rec = (
       rec.0,
       λ g graph.
           text-cons (recorded g graph (Some h)) (records_of ps)
           ∙ ap (λ t. record_text (recorded g graph (Some h)) ++ t) rec.0
-          ∙ assoc_second (numbered (codes "record") g) (codes "graph 1\n") (graph_text graph) (legacy_text graph) (codes "graph 2\n") (graph_text h) (codes "stop\n") (text_so_far false ps) (closing (unfinished_so_far false ps) ++ codes "end\n"),
+          ∙ assoc_second (numbered (codes "record") g) (codes "graph 1\n") (graph_text graph) (legacy_text graph) (codes "graph 2\n") (graph_text h)
+          (codes "stop\n") (text_so_far false ps) (closing (unfinished_so_far false ps) ++ codes "end\n"),
     )
 
 pub all_written : (pictures : List Picture) → text (records_of pictures) ≡ text_to_end false pictures
@@ -84,7 +88,8 @@ text_to_end-append b ps qs =
     ∙ append_assoc (text_so_far b ps) (text_so_far (unfinished_so_far b ps) qs) (closing (unfinished_so_far (unfinished_so_far b ps) qs) ++ codes "end\n")
 
 -- A prefix of what is written from here on is a prefix of the text of all records.
-pub front_of_all : (before now : Option (List ℕ)) (ps qs : List Picture) (more rest : List ℕ) → AppendsFront before now (text_so_far false ps ++ more) → text_to_end (unfinished_so_far false ps) qs ≡ more ++ rest
+pub front_of_all : (before now : Option (List ℕ)) (ps qs : List Picture) (more rest : List ℕ) → AppendsFront before now (text_so_far false ps ++ more)
+    → text_to_end (unfinished_so_far false ps) qs ≡ more ++ rest
     → AppendsFront before now (text (records_of (ps ++ qs)))
 front_of_all before now ps qs more rest wrote is = record {
   front = wrote.front;

@@ -33,17 +33,32 @@ use Rattle.cg_interp.specs.Recording.{RecordsTurn, CutsRecord, RecordedSo, told_
 use Rattle.cg_interp.proofs.LineByLine.{after_front}
 use Rattle.cg_interp.proofs.RunLemmas.{ends_longer, lines_longer, kept_so_far}
 use Rattle.cg_interp.proofs.RecordText.{text_to_end, all_written, unfinished-append, text_so_far-append, front_of_all}
-use Rattle.cg_interp.proofs.Shown.{shows-append, some_shown, shows_first, graph_by}
+use Rattle.cg_interp.proofs.ShownGraphs.{shows-append, some_shown, shows_first, graph_by}
 use Rattle.cg_interp.proofs.TurnGraphs.{TurnShows, shown_on, shown_end, taken_or_not, graph_with, begun_front}
 use Rattle.cg_interp.proofs.WorldGraphs.{all_candidates}
 use Rattle.cg_interp.proofs.NextDetections.{AtDetection, at_detection, same_next}
 use Rattle.cg_interp.proofs.Sizes.{IsSmall}
-use Rattle.cg_interp.proofs.Falling.{falling, turn_falls}
+use Rattle.cg_interp.proofs.MeasureOfTurns.{falling, turn_falls}
 use Rattle.cg_laws.proofs.InvariantOfRuns.{opening_sound}
 
 -- nothing was recorded yet
 pub recorded_start : (script : Script) (budget : ℕ) (e : State) (before : Option (List ℕ)) → StandsFor script e (opening script budget) → RecordedSo script budget before e false before
-recorded_start script budget e before stands = record { ran = record { steps = []; told = []; left = []; run = tt; lines = refl; stands = inl (stands, refl); written = tt }; pictures = []; shows = refl; unrefused = refl; is = refl; written = Appends-nil before }
+recorded_start script budget e before stands = record {
+  ran = record {
+    steps = [];
+    told = [];
+    left = [];
+    run = tt;
+    lines = refl;
+    stands = inl (stands, refl);
+    written = tt;
+  };
+  pictures = [];
+  shows = refl;
+  unrefused = refl;
+  is = refl;
+  written = Appends-nil before;
+}
 
 -- the answer of a turn with the state of the run
 told_some : (b : Bool) (s t : Standing) → cond b None (Some s) ≡ Some t → (b ≡ false) × (s ≡ t)
@@ -55,8 +70,10 @@ both_false a b e f = rw (e, f) refl
 
 module _ (law : NoRunIsStuck) (script : Script) (budget : ℕ) (before now : Option (List ℕ)) where
   -- A prefix of what is written from a run on is a prefix of the records of a whole run.
-  pub part_of_records : (steps : List StepTaken) (ps : List Picture) (more : List ℕ) → IsRun script budget steps → RunShows script (opening script budget) steps ps → AppendsFront before now (text_so_far false ps ++ more)
-      → ((others : List StepTaken) (outcome : Outcome) → IsWholeRun script budget outcome (steps ++ others) → (qs : List Picture) × (rest : List ℕ) × RunShows script (last_world (opening script budget) steps) others qs × (text_to_end (unfinished_so_far false ps) qs ≡ more ++ rest))
+  pub part_of_records : (steps : List StepTaken) (ps : List Picture) (more : List ℕ) → IsRun script budget steps → RunShows script (opening script budget) steps
+      ps → AppendsFront before now (text_so_far false ps ++ more)
+      → ((others : List StepTaken) (outcome : Outcome) → IsWholeRun script budget outcome (steps ++ others) → (qs : List Picture) × (rest : List ℕ)
+      × RunShows script (last_world (opening script budget) steps) others qs × (text_to_end (unfinished_so_far false ps) qs ≡ more ++ rest))
       → WroteRecordsPart script budget before now
   part_of_records steps ps more run shows wrote on =
       let whole = law script budget steps run in
@@ -71,7 +88,8 @@ module _ (law : NoRunIsStuck) (script : Script) (budget : ℕ) (before now : Opt
       }
 
   -- what was written so far
-  pub part_so_far : (steps : List StepTaken) (ps : List Picture) → IsRun script budget steps → RunShows script (opening script budget) steps ps → AppendsFront before now (text_so_far false ps) → WroteRecordsPart script budget before now
+  pub part_so_far : (steps : List StepTaken) (ps : List Picture) → IsRun script budget steps → RunShows script (opening script budget) steps ps
+      → AppendsFront before now (text_so_far false ps) → WroteRecordsPart script budget before now
   part_so_far steps ps run shows wrote =
       part_of_records steps ps [] run shows (subst (AppendsFront before now) (sym (append-nil (text_so_far false ps))) wrote)
       (λ others outcome whole. let some = some_shown script (last_world (opening script budget) steps) others in (some.0, text_to_end (unfinished_so_far false ps) some.0, some.1, refl))
@@ -92,9 +110,11 @@ pub told_known : (b : Bool) (s t : Standing) → b ≡ false → t ≡ s → Som
 told_known b s t e same = ap Some same ∙ ap (λ k. cond k None (Some s)) (sym e)
 
 -- a turn, with what was written before and after it
-module _ (script : Script) (old : State) (unfinished : Bool) (w : World) (l : List Event) (e : State) (before mid now : Option (List ℕ)) (d : Option Detection) (is : d ≡ recorded_next unfinished old) (answer : Turned)
+module _ (script : Script) (old : State) (unfinished : Bool) (w : World) (l : List Event) (e : State) (before mid now : Option (List ℕ)) (d : Option Detection)
+    (is : d ≡ recorded_next unfinished old) (answer : Turned)
     (turns : TurnsWith script (Advances old l e) w l e answer) (begun : Appends before mid (text_before script old.store unfinished d)) where
-  pub records_turn : (then : Bool) (told : Option Standing) → told ≡ told_after answer → then ≡ unfinished_after unfinished d → Appends mid now (text_after e.store d) → RecordsTurn script old unfinished w l e then told before now
+  pub records_turn : (then : Bool) (told : Option Standing) → told ≡ told_after answer → then ≡ unfinished_after unfinished d
+      → Appends mid now (text_after e.store d) → RecordsTurn script old unfinished w l e then told before now
   records_turn then told tells still found = record {
     answer = answer;
     is = tells;
@@ -112,12 +132,14 @@ module _ (script : Script) (old : State) (unfinished : Bool) (w : World) (l : Li
 
 -- the same in every world that the engine represents
 pub cuts_all : (script : Script) (old : State) (unfinished : Bool) (e : State) (before mid now : Option (List ℕ)) (d : Option Detection) → d ≡ recorded_next unfinished old → (answer : Turned)
-    → ((w : World) (l : List Event) → StandsWith script old l w → StaysKept script old.first_budget w → TurnsWith script (Advances old l e) w l e answer) → Appends before mid (text_before script old.store unfinished d) → AppendsFront mid now (text_after e.store d)
+    → ((w : World) (l : List Event) → StandsWith script old l w → StaysKept script old.first_budget w → TurnsWith script (Advances old l e) w l e answer)
+    → Appends before mid (text_before script old.store unfinished d) → AppendsFront mid now (text_after e.store d)
     → (w : World) (l : List Event) → StandsWith script old l w → StaysKept script old.first_budget w → CutsRecord script old unfinished w l e before now
 cuts_all script old unfinished e before mid now d is answer turns begun part w l stands kept = cuts_findings script old unfinished w l e before mid now d is answer (turns w l stands kept) begun part
 
 -- What was recorded so far, and the laws.
-module _ (law : NoRunIsStuck) (script : Script) (budget : ℕ) (before : Option (List ℕ)) (e : State) (unfinished : Bool) (now : Option (List ℕ)) (so : RecordedSo script budget before e unfinished now) (laws : HasLaws script budget) (first_budget : e.first_budget ≡ budget) where
+module _ (law : NoRunIsStuck) (script : Script) (budget : ℕ) (before : Option (List ℕ)) (e : State) (unfinished : Bool) (now : Option (List ℕ))
+    (so : RecordedSo script budget before e unfinished now) (laws : HasLaws script budget) (first_budget : e.first_budget ≡ budget) where
   abbrev so_far : World
   so_far = world_after script budget so.ran.steps
 
@@ -146,7 +168,8 @@ module _ (law : NoRunIsStuck) (script : Script) (budget : ℕ) (before : Option 
     shows_longer = shows-append script (opening script budget) so.ran.steps goes.steps so.pictures t.pictures so.shows t.shows
 
     text_longer : text_so_far false pictures ≡ text_so_far false so.pictures ++ text_of_turn script e.store e'.store unfinished (recorded_next unfinished e)
-    text_longer = text_so_far-append false so.pictures t.pictures ∙ ap (λ u. text_so_far false so.pictures ++ text_so_far u t.pictures) (sym so.is) ∙ ap (λ x. text_so_far false so.pictures ++ x) (sym t.text)
+    text_longer = text_so_far-append false so.pictures t.pictures ∙ ap (λ u. text_so_far false so.pictures ++ text_so_far u t.pictures) (sym so.is)
+        ∙ ap (λ x. text_so_far false so.pictures ++ x) (sym t.text)
 
     still_longer : (then : Bool) → then ≡ unfinished_after unfinished (recorded_next unfinished e) → then ≡ unfinished_so_far false pictures
     still_longer then is = is ∙ t.still ∙ ap (λ u. unfinished_so_far u t.pictures) so.is ∙ sym (unfinished-append false so.pictures t.pictures)
@@ -156,10 +179,12 @@ module _ (law : NoRunIsStuck) (script : Script) (budget : ℕ) (before : Option 
 
     -- a prefix of its records was written
     cut_longer : AppendsFront now now' (text_of_turn script e.store e'.store unfinished (recorded_next unfinished e)) → WroteRecordsPart script budget before now'
-    cut_longer wrote = part_so_far law script budget before now' longer pictures runs_longer shows_longer (subst (AppendsFront before now') (sym text_longer) (after_front before now now' _ _ so.written wrote))
+    cut_longer wrote = part_so_far law script budget before now' longer pictures runs_longer shows_longer (subst (AppendsFront before now') (sym text_longer)
+        (after_front before now now' _ _ so.written wrote))
 
     -- the run goes on
-    so_longer : (tell still : List Event) → left ++ events ≡ tell ++ still → StandsWith script e' still after → list_any wants_memory tell ≡ false → (then : Bool) → then ≡ unfinished_after unfinished (recorded_next unfinished e)
+    so_longer : (tell still : List Event) → left ++ events ≡ tell ++ still → StandsWith script e' still after → list_any wants_memory tell ≡ false
+        → (then : Bool) → then ≡ unfinished_after unfinished (recorded_next unfinished e)
         → Appends now now' (text_of_turn script e.store e'.store unfinished (recorded_next unfinished e)) → RecordedSo script budget before e' then now'
     so_longer tell still lines stands none then is wrote = record {
       ran = record {
@@ -179,22 +204,27 @@ module _ (law : NoRunIsStuck) (script : Script) (budget : ℕ) (before : Option 
     }
 
     -- or it has ended, and the end of the records is written
-    whole_longer : (lines : List Event) (outcome : Outcome) → left ≡ [] → events ≡ lines → after.outcome ≡ outcome → outcome ≢ Running → list_any wants_memory lines ≡ false → (then : Bool) → then ≡ unfinished_after unfinished (recorded_next unfinished e)
-        → Appends now now' (text_of_turn script e.store e'.store unfinished (recorded_next unfinished e)) → (now'' : Option (List ℕ)) → Appends now' now'' (closing then ++ codes "end\n") → WroteRecords script budget outcome before now''
+    whole_longer : (lines : List Event) (outcome : Outcome) → left ≡ [] → events ≡ lines → after.outcome ≡ outcome → outcome ≢ Running
+        → list_any wants_memory lines ≡ false → (then : Bool) → then ≡ unfinished_after unfinished (recorded_next unfinished e)
+        → Appends now now' (text_of_turn script e.store e'.store unfinished (recorded_next unfinished e)) → (now'' : Option (List ℕ))
+        → Appends now' now'' (closing then ++ codes "end\n") → WroteRecords script budget outcome before now''
     whole_longer lines outcome none told ended over unrefused then is wrote now'' end = record {
       steps = longer;
       whole = record { run = runs_longer; whole = over; ends = ap (λ (v : World). v.outcome) (last_world-append (opening script budget) so.ran.steps goes.steps ∙ goes.ends) ∙ ended };
       unrefused =
-          ap (list_any wants_memory) (lines_longer script budget None e None so.ran laws first_budget events lines [] after goes (ap (λ l. l ++ events) none ∙ told ∙ sym (append-nil lines)) ∙ append-nil (so.ran.told ++ lines))
+          ap (list_any wants_memory) (lines_longer script budget None e None so.ran laws first_budget events lines [] after goes (ap (λ l. l ++ events) none
+          ∙ told ∙ sym (append-nil lines)) ∙ append-nil (so.ran.told ++ lines))
           ∙ list_any-append wants_memory so.ran.told lines
           ∙ both_false (list_any wants_memory so.ran.told) (list_any wants_memory lines) so.unrefused unrefused;
       records = records_of pictures;
       has = record { pictures = pictures; shows = shows_longer; are = refl };
-      written = subst (Appends before now'') (sym (all_written pictures ∙ ap (λ u. text_so_far false pictures ++ (closing u ++ codes "end\n")) (sym (still_longer then is)))) (Appends-trans before now' now'' _ _ (wrote_longer wrote) end);
+      written = subst (Appends before now'') (sym (all_written pictures ∙ ap (λ u. text_so_far false pictures ++ (closing u ++ codes "end\n"))
+          (sym (still_longer then is)))) (Appends-trans before now' now'' _ _ (wrote_longer wrote) end);
     }
 
     -- or only a prefix of that end
-    end_longer : (then : Bool) → then ≡ unfinished_after unfinished (recorded_next unfinished e) → Appends now now' (text_of_turn script e.store e'.store unfinished (recorded_next unfinished e)) → (now'' : Option (List ℕ)) → after.outcome ≢ Running
+    end_longer : (then : Bool) → then ≡ unfinished_after unfinished (recorded_next unfinished e)
+        → Appends now now' (text_of_turn script e.store e'.store unfinished (recorded_next unfinished e)) → (now'' : Option (List ℕ)) → after.outcome ≢ Running
         → AppendsFront now' now'' (closing then ++ codes "end\n") → WroteRecordsPart script budget before now''
     end_longer then is wrote now'' over end = record {
       steps = longer;
@@ -202,7 +232,8 @@ module _ (law : NoRunIsStuck) (script : Script) (budget : ℕ) (before : Option 
       whole = record { run = runs_longer; whole = over; ends = ap (λ (v : World). v.outcome) (last_world-append (opening script budget) so.ran.steps goes.steps ∙ goes.ends) };
       records = records_of pictures;
       has = record { pictures = pictures; shows = shows_longer; are = refl };
-      written = subst (AppendsFront before now'') (sym (all_written pictures ∙ ap (λ u. text_so_far false pictures ++ (closing u ++ codes "end\n")) (sym (still_longer then is)))) (after_front before now' now'' _ _ (wrote_longer wrote) end);
+      written = subst (AppendsFront before now'') (sym (all_written pictures ∙ ap (λ u. text_so_far false pictures ++ (closing u ++ codes "end\n"))
+          (sym (still_longer then is)))) (after_front before now' now'' _ _ (wrote_longer wrote) end);
     }
 
   -- the world runs
@@ -238,9 +269,11 @@ module _ (law : NoRunIsStuck) (script : Script) (budget : ℕ) (before : Option 
             let tail : List ℕ = text_so_far (begins_record d) later.0 ++ (closing (unfinished_so_far (begins_record d) later.0) ++ codes "end\n") in (
               picture d g ∷ later.0,
               front.0 ++ tail,
-              shows_first script so_far step more d (sym (same_next script e left so_far so.ran.stands) ∙ next) g (graph_by script d so_far step.world (candidates_in e.store d) (all_candidates script d e.store so_far listed at.represents)) later.0 later.1,
+              shows_first script so_far step more d (sym (same_next script e left so_far so.ran.stands) ∙ next) g (graph_by script d so_far step.world
+                  (candidates_in e.store d) (all_candidates script d e.store so_far listed at.represents)) later.0 later.1,
               ap (λ u. text_to_end u (picture d g ∷ later.0)) (sym so.is)
-                  ∙ ap (λ (o : Option Detection). (text_if_taken unfinished o g ++ text_so_far (begins_record d) later.0) ++ (closing (unfinished_so_far (begins_record d) later.0) ++ codes "end\n")) is
+                  ∙ ap (λ (o : Option Detection). (text_if_taken unfinished o g ++ text_so_far (begins_record d) later.0)
+                  ++ (closing (unfinished_so_far (begins_record d) later.0) ++ codes "end\n")) is
                   ∙ append_assoc (picture_text unfinished d g) (text_so_far (begins_record d) later.0) (closing (unfinished_so_far (begins_record d) later.0) ++ codes "end\n")
                   ∙ ap (λ t. t ++ tail) front.1
                   ∙ append_assoc (begun_text script e.store unfinished d) front.0 tail,
@@ -281,10 +314,14 @@ module _ (law : NoRunIsStuck) (script : Script) (budget : ℕ) (before : Option 
         let (none, stands) = told_some (list_any wants_memory (events_told h.answer)) (standing_after h.answer) standing.Running (sym h.is ∙ is) in
         go h.answer stands none h.turns h.still h.written
       where
-        on : (tell : List Event) → list_any wants_memory tell ≡ false → GoesOnTo script (Advances e left e') so_far left tell e' → then ≡ unfinished_after unfinished (recorded_next unfinished e) → Appends now now' (text_of_turn script e.store e'.store unfinished (recorded_next unfinished e)) → RecordedSo script budget before e' then now'
+        on : (tell : List Event) → list_any wants_memory tell ≡ false → GoesOnTo script (Advances e left e') so_far left tell e' → then
+            ≡ unfinished_after unfinished (recorded_next unfinished e) → Appends now now' (text_of_turn script e.store e'.store unfinished
+            (recorded_next unfinished e)) → RecordedSo script budget before e' then now'
         on tell none g still wrote = so_longer e' now' g.events g.after g.goes (on_shown tell g) tell g.still g.lines g.stands none then still wrote
 
-        go : (answer : Turned) → standing_after answer ≡ standing.Running → list_any wants_memory (events_told answer) ≡ false → Turned_so answer → then ≡ unfinished_after unfinished (recorded_next unfinished e) → Appends now now' (text_of_turn script e.store e'.store unfinished (recorded_next unfinished e)) → RecordedSo script budget before e' then now'
+        go : (answer : Turned) → standing_after answer ≡ standing.Running → list_any wants_memory (events_told answer) ≡ false → Turned_so answer → then
+            ≡ unfinished_after unfinished (recorded_next unfinished e) → Appends now now' (text_of_turn script e.store e'.store unfinished
+            (recorded_next unfinished e)) → RecordedSo script budget before e' then now'
         go turned.Quiet s none g still wrote = on [] none g still wrote
         go (turned.Line event) s none g still wrote = on (event ∷ []) none g still wrote
         go (turned.Lines events) s none g still wrote = on events none g still wrote
@@ -294,9 +331,11 @@ module _ (law : NoRunIsStuck) (script : Script) (budget : ℕ) (before : Option 
 
     -- the run has ended, and the end of the records is written
     module _ (now'' : Option (List ℕ)) (end : Appends now' now'' (closing then ++ codes "end\n")) where
-      ends : (lines : List Event) (outcome : Outcome) → outcome ≢ Running → list_any wants_memory lines ≡ false → left ≡ [] → RunEndsWith script so_far lines outcome → then ≡ unfinished_after unfinished (recorded_next unfinished e)
+      ends : (lines : List Event) (outcome : Outcome) → outcome ≢ Running → list_any wants_memory lines ≡ false → left ≡ [] → RunEndsWith script so_far lines
+          outcome → then ≡ unfinished_after unfinished (recorded_next unfinished e)
           → Appends now now' (text_of_turn script e.store e'.store unfinished (recorded_next unfinished e)) → WroteRecords script budget outcome before now''
-      ends lines outcome over unrefused none k still wrote = whole_longer e' now' lines k.after k.goes (end_shown lines outcome over k) lines outcome none refl k.ended over unrefused then still wrote now'' end
+      ends lines outcome over unrefused none k still wrote = whole_longer e' now' lines k.after k.goes (end_shown lines outcome over k) lines outcome none refl
+          k.ended over unrefused then still wrote now'' end
 
       pub recorded_to_end : (told : Option Standing) → told ≡ Some standing.Ended → Recorded told → WroteRecords script budget Ended before now''
       recorded_to_end told is t = let h = here told t in go h.answer (told_some _ _ _ (sym h.is ∙ is)).1 h.turns h.still h.written
@@ -323,7 +362,8 @@ module _ (law : NoRunIsStuck) (script : Script) (budget : ℕ) (before : Option 
           go turned.Spent s (none, k) still wrote = ends (BudgetSpent ∷ []) BudgetIsSpent (λ n. cc) refl none k still wrote
 
     -- or a prefix of it
-    pub recorded_end_cut : (told : Option Standing) (s : Standing) → told ≡ Some s → s ≢ standing.Running → Recorded told → (now'' : Option (List ℕ)) → AppendsFront now' now'' (closing then ++ codes "end\n") → WroteRecordsPart script budget before now''
+    pub recorded_end_cut : (told : Option Standing) (s : Standing) → told ≡ Some s → s ≢ standing.Running → Recorded told → (now'' : Option (List ℕ))
+        → AppendsFront now' now'' (closing then ++ codes "end\n") → WroteRecordsPart script budget before now''
     recorded_end_cut told s is over t now'' end = let h = here told t in go h.answer ((told_some _ _ _ (sym h.is ∙ is)).1) h.turns h.still h.written
       where
         ends : (lines : List Event) (outcome : Outcome) → outcome ≢ Running → RunEndsWith script so_far lines outcome → then ≡ unfinished_after unfinished (recorded_next unfinished e)
@@ -340,7 +380,8 @@ module _ (law : NoRunIsStuck) (script : Script) (budget : ℕ) (before : Option 
         go turned.Spent e (none, k) still wrote = ends (BudgetSpent ∷ []) BudgetIsSpent (λ n. cc) k still wrote
 
     -- a prefix of any turn's records
-    turned_cut : (answer : Turned) → Turned_so answer → AppendsFront now now' (text_of_turn script e.store e'.store unfinished (recorded_next unfinished e)) → WroteRecordsPart script budget before now'
+    turned_cut : (answer : Turned) → Turned_so answer → AppendsFront now now' (text_of_turn script e.store e'.store unfinished (recorded_next unfinished e))
+        → WroteRecordsPart script budget before now'
     turned_cut turned.Quiet g wrote = cut_longer e' now' g.events g.after g.goes (on_shown [] g) wrote
     turned_cut (turned.Line event) g wrote = cut_longer e' now' g.events g.after g.goes (on_shown (event ∷ []) g) wrote
     turned_cut (turned.Lines events) g wrote = cut_longer e' now' g.events g.after g.goes (on_shown events g) wrote
@@ -353,7 +394,8 @@ module _ (law : NoRunIsStuck) (script : Script) (budget : ℕ) (before : Option 
     recorded_refused told t = let h = here told t in turned_cut h.answer h.turns (all_front now now' _ h.written)
 
     -- a line was cut off
-    pub recorded_cut : ((w : World) (l : List Event) → StandsWith script e l w → StaysKept script e.first_budget w → CutsRecord script e unfinished w l e' now now') → WroteRecordsPart script budget before now'
+    pub recorded_cut : ((w : World) (l : List Event) → StandsWith script e l w → StaysKept script e.first_budget w → CutsRecord script e unfinished w l e' now
+        now') → WroteRecordsPart script budget before now'
     recorded_cut cut = by (cut so_far left so.ran.stands kept)
       where
         by : CutsRecord script e unfinished so_far left e' now now' → WroteRecordsPart script budget before now'

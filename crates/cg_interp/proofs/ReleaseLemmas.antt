@@ -52,7 +52,8 @@ unheld_then (q ∷ left) old new o holds now is = go (count_of new q == 0) refl 
     go false e is = absurd (let clash : answer_of.Died o ≡ answer_of.Continue = is in cc)
 
 module _ (script : Script) (old new : State) (release after_release : Release) (answer : DeathStep) (w : World)
-    (stands : StandsFor script (under (activity.Releasing release) old) w) (sound : DyingIsSound w) (steps : ReleaseSteps old.store (references_left release) new.store (references_left after_release) answer) (policy : new.policy ≡ old.policy) (budget : new.budget ≡ old.budget) where
+    (stands : StandsFor script (under (activity.Releasing release) old) w) (sound : DyingIsSound w) (steps : ReleaseSteps old.store (references_left release)
+    new.store (references_left after_release) answer) (policy : new.policy ≡ old.policy) (budget : new.budget ≡ old.budget) where
   below : List Activity
   below = stands.shows.below
 
@@ -71,7 +72,8 @@ module _ (script : Script) (old new : State) (release after_release : Release) (
   with_rest : (stack : List Activity) → stack ≡ Releasing (references_left after_release) ∷ below → ShowsAll script (activity.Releasing after_release ∷ old.activities) stack
   with_rest stack is = record { tops = Releasing (references_left after_release) ∷ []; below = below; shows = refl; some = λ e. absurd (cc); over = over; is = is }
 
-  went_on : (stack : List Activity) → WentOn script w [] w.numbers new.store stack → (w.stack ≡ stack → ⊥) → ShowsAll script new.activities stack → any_collecting new.activities ≡ any_collecting old.activities → GoesTo script w [] new
+  went_on : (stack : List Activity) → WentOn script w [] w.numbers new.store stack → (w.stack ≡ stack → ⊥) → ShowsAll script new.activities stack
+      → any_collecting new.activities ≡ any_collecting old.activities → GoesTo script w [] new
   went_on stack went other shows under_way = record {
     after = went.goes.after;
     goes = went.goes.goes;
@@ -86,7 +88,8 @@ module _ (script : Script) (old new : State) (release after_release : Release) (
     };
   }
 
-  pub continues : answer ≡ answer_of.Continue → length (references_left after_release) < length (references_left release) → new.activities ≡ activity.Releasing after_release ∷ old.activities → GoesTo script w [] new
+  pub continues : answer ≡ answer_of.Continue → length (references_left after_release) < length (references_left release) → new.activities
+      ≡ activity.Releasing after_release ∷ old.activities → GoesTo script w [] new
   continues is fewer top =
       went_on (Releasing (references_left after_release) ∷ below) (subst (ReleaseAnswer script w below new.store (references_left after_release)) is says) (λ e. other (sym at ∙ e))
       (subst (λ l. ShowsAll script l (Releasing (references_left after_release) ∷ below)) (sym top) (with_rest _ refl))
@@ -97,7 +100,8 @@ module _ (script : Script) (old new : State) (release after_release : Release) (
 
   pub ends : answer ≡ answer_of.Gone → new.activities ≡ old.activities → GoesTo script w [] new
   ends is top =
-      went_on below (subst (ReleaseAnswer script w below new.store (references_left after_release)) is says) (λ e. let longer : length (Releasing (references_left release) ∷ below) ≡ length below = ap length (sym at ∙ e) in omega arith)
+      went_on below (subst (ReleaseAnswer script w below new.store (references_left after_release)) is says)
+      (λ e. let longer : length (Releasing (references_left release) ∷ below) ≡ length below = ap length (sym at ∙ e) in omega arith)
       (subst (λ l. ShowsAll script l below) (sym top) over)
       (ap any_collecting top)
 

@@ -33,7 +33,7 @@ use Rattle.cg_interp.specs.Telling.{TurnsWith, Advances, GoesOnTo}
 use Rattle.cg_interp.specs.Written.{WroteRun, WrotePart}
 use Rattle.cg_interp.specs.Running.{Ran, HasLaws, MayWrite, MayRun, MayOpen, StaysPrintable, WritesTurn, CutsTurn, events_told, standing_after}
 use Rattle.cg_interp.proofs.Sizes.{IsSmall}
-use Rattle.cg_interp.proofs.Falling.{falling, turn_falls}
+use Rattle.cg_interp.proofs.MeasureOfTurns.{falling, turn_falls}
 use Rattle.cg_interp.specs.Turns.{RunEndsWith, IsFit}
 use Rattle.cg_interp.proofs.LineByLine.{after_front, longer_front}
 
@@ -54,7 +54,8 @@ went script may_rest w left e (turned.Left n) (none, t) = record { events = Left
 went script may_rest w left e turned.Spent (none, t) = record { events = BudgetSpent ∷ []; after = t.after; still = []; goes = t.goes; lines = ap (λ l. l ++ BudgetSpent ∷ []) none }
 
 -- so its line can be printed, if all lines can
-pub told_printable : (script : Script) (may_rest : List Event → Type 0) (w : World) (left : List Event) (e : State) (answer : Turned) → TurnsWith script may_rest w left e answer → StaysPrintable script left w
+pub told_printable : (script : Script) (may_rest : List Event → Type 0) (w : World) (left : List Event) (e : State) (answer : Turned)
+    → TurnsWith script may_rest w left e answer → StaysPrintable script left w
     → (event : Event) → Includes (events_told answer) event → IsPrintable script.names event
 told_printable script may_rest w left e answer turns all event m =
     let g = went script may_rest w left e answer turns in
@@ -62,7 +63,8 @@ told_printable script may_rest w left e answer turns all event m =
     (subst (λ es. Includes (left ++ es) event) (sym g.goes.prints) (subst (λ es. Includes es event) (sym g.lines) (Includes-append_left (events_told answer) g.still event m)))
 
 -- a prefix of what a run has printed is a prefix of the text of a whole run
-part_of_whole : FrontsBeginWholeTexts → (script : Script) (budget : ℕ) (steps : List StepTaken) (before now : Option (List ℕ)) → IsRun script budget steps → AppendsFront before now (text_of script steps)
+part_of_whole : FrontsBeginWholeTexts → (script : Script) (budget : ℕ) (steps : List StepTaken) (before now : Option (List ℕ)) → IsRun script budget steps
+    → AppendsFront before now (text_of script steps)
     → WrotePart script budget before now
 part_of_whole law script budget steps before now run wrote =
     let whole = law script budget steps run [] (inl refl) in
@@ -70,7 +72,8 @@ part_of_whole law script budget steps before now run wrote =
       steps = whole.steps;
       outcome = whole.outcome;
       whole = whole.run;
-      written = subst (AppendsFront before now) (sym (whole.text ∙ ap (λ es. flat_map (line script.names) es ++ whole.rest) (append-nil (events_of steps)))) (longer_front before now (text_of script steps) whole.rest wrote);
+      written = subst (AppendsFront before now) (sym (whole.text ∙ ap (λ es. flat_map (line script.names) es ++ whole.rest) (append-nil (events_of steps))))
+          (longer_front before now (text_of script steps) whole.rest wrote);
     }
 
 -- nothing was written yet
@@ -85,7 +88,8 @@ has_laws kept printable script budget known spelled = record {
 }
 
 -- So the engine made for a script and a budget may run.
-pub may_run : WorldsStayKept → LinesArePrintable → (script : Script) (heap : Store) (budget : ℕ) → MayOpen script heap budget → (e : State) → StandsFor script e (opening script budget) → IsFit script e → e.first_budget ≡ budget → MayRun script e
+pub may_run : WorldsStayKept → LinesArePrintable → (script : Script) (heap : Store) (budget : ℕ) → MayOpen script heap budget → (e : State)
+    → StandsFor script e (opening script budget) → IsFit script e → e.first_budget ≡ budget → MayRun script e
 may_run kept printable script heap budget may e stands fit first_budget = record {
   spelled = may.spelled;
   fit = fit;
@@ -94,7 +98,8 @@ may_run kept printable script heap budget may e stands fit first_budget = record
 }
 
 -- What ran so far, and the laws.
-module _ (script : Script) (budget : ℕ) (before : Option (List ℕ)) (e : State) (now : Option (List ℕ)) (ran : Ran script budget before e now) (laws : HasLaws script budget) (first_budget : e.first_budget ≡ budget) where
+module _ (script : Script) (budget : ℕ) (before : Option (List ℕ)) (e : State) (now : Option (List ℕ)) (ran : Ran script budget before e now)
+    (laws : HasLaws script budget) (first_budget : e.first_budget ≡ budget) where
   -- the world after it
   abbrev pub so_far : World
   so_far = world_after script budget ran.steps
@@ -213,10 +218,12 @@ module _ (script : Script) (budget : ℕ) (before : Option (List ℕ)) (e : Stat
         go (turned.Lines events) is g wrote = absurd (cc)
         go turned.Ended is g wrote = absurd (cc)
         go (turned.Left n) is g wrote = absurd (cc)
-        go turned.Spent is (none, ends) wrote = ran_whole (BudgetSpent ∷ []) (BudgetSpent ∷ []) [] ends.after ends.goes (ap (λ l. l ++ BudgetSpent ∷ []) none) BudgetIsSpent now' refl ends.ended (λ n. cc) wrote
+        go turned.Spent is (none, ends) wrote = ran_whole (BudgetSpent ∷ []) (BudgetSpent ∷ []) [] ends.after ends.goes (ap (λ l. l ++ BudgetSpent ∷ []) none)
+            BudgetIsSpent now' refl ends.ended (λ n. cc) wrote
 
     -- a line was cut off
-    pub ran_cut : FrontsBeginWholeTexts → ((w : World) (left : List Event) → StandsWith script e left w → StaysKept script e.first_budget w → CutsTurn script e w left e' now now') → WrotePart script budget before now'
+    pub ran_cut : FrontsBeginWholeTexts → ((w : World) (left : List Event) → StandsWith script e left w → StaysKept script e.first_budget w
+        → CutsTurn script e w left e' now now') → WrotePart script budget before now'
     ran_cut law cut =
         let t = cut so_far ran.left ran.stands kept_so_far in
         let g = went script (Advances e ran.left e') so_far ran.left e' t.answer t.turns in

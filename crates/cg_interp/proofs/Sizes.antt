@@ -21,9 +21,9 @@ use Rattle.cg_heap.specs.Keeps.{size, IsSaved}
 use Rattle.cg_heap.specs.Calls.{IsSound}
 use Rattle.cg_represents.proofs.Lists.{occurrences-cons, fewer_times, present, Includes-of_count}
 use Rattle.cg_death.proofs.RowSplits.{all_in}
-use Rattle.cg_collect.proofs.Standing.{node_of_live, object_there}
+use Rattle.cg_collect.proofs.PlacesOfObjects.{node_of_live, object_there}
 use Rattle.cg_collect.proofs.WalkTurns.{list_few}
-use Rattle.cg_interp.proofs.Lawfully.{few_objects}
+use Rattle.cg_interp.proofs.LawsOfEngines.{few_objects}
 
 -- exposes the heap's invariant to proofs
 pub record IsSmall (store : Store) : Type 0 where
@@ -59,7 +59,8 @@ weak_once (r ∷ rows) rise s = go (weak_once rows rise.1 s) (occurrences s (map
     here : occurrences s (r.weak ∷ map (λ (x : Row). x.weak) rows) ≡ cond (r.weak == s) 1 0 + occurrences s (map (λ (x : Row). x.weak) rows)
     here = occurrences-cons s r.weak (map (λ (x : Row). x.weak) rows)
 
-    go : occurrences s (map (λ (x : Row). x.weak) rows) ≤ 1 → (n : ℕ) → occurrences s (map (λ (x : Row). x.weak) rows) ≡ n → (b : Bool) → (r.weak == s) ≡ b → occurrences s (r.weak ∷ map (λ (x : Row). x.weak) rows) ≤ 1
+    go : occurrences s (map (λ (x : Row). x.weak) rows) ≤ 1 → (n : ℕ) → occurrences s (map (λ (x : Row). x.weak) rows) ≡ n → (b : Bool) → (r.weak == s) ≡ b
+        → occurrences s (r.weak ∷ map (λ (x : Row). x.weak) rows) ≤ 1
     go rest n e false is = let none : cond {A = ℕ} (r.weak == s) 1 0 ≡ 0 = ap (λ b. cond {A = ℕ} b 1 0) is in omega (arith, here, rest, none)
     go rest zero e true is = let one : cond {A = ℕ} (r.weak == s) 1 0 ≡ 1 = ap (λ b. cond {A = ℕ} b 1 0) is in omega (arith, here, one, e)
     go rest (suc n) e true is =

@@ -23,7 +23,7 @@ use Rattle.cg_commands.specs.Stands.{LocalsLive}
 use Rattle.cg_interp.specs.declared.activity.Activity.TheVariants as activity
 use Rattle.cg_interp.specs.Engines.{State, StandsFor, frame_of, under}
 use Rattle.cg_interp.specs.Callers.{AreDoable}
-use Rattle.cg_interp.proofs.Lawfully.{is_live}
+use Rattle.cg_interp.proofs.LawsOfEngines.{is_live}
 
 -- a property of all holds of one
 of_all : {X : Type 0} (P : X → Type 0) (xs : List X) (x : X) → All P xs → Includes xs x → P x
@@ -80,16 +80,19 @@ module _ (script : Script) (spelled : IsSpelled script) where
       (of_all (IsSpelledCommand (length script.names)) p.body c (of_all (IsSpelledItem (length script.names)) script.items (Def p) spelled.lines (procedure_line script.items p i)).1 m))
 
   pub short_bodies : (number : ℕ) → length (body_of script number) ≤ 400000
-  short_bodies number = of_body (λ body. length body ≤ 400000) number (omega arith) (λ p i. (of_all (IsSpelledItem (length script.names)) script.items (Def p) spelled.lines (procedure_line script.items p i)).0)
+  short_bodies number = of_body (λ body. length body ≤ 400000) number (omega arith) (λ p i. (of_all (IsSpelledItem (length script.names)) script.items (Def p)
+      spelled.lines (procedure_line script.items p i)).0)
 
   -- A serial is far below 2^63.
   pub low_serials : (budget : ℕ) (store : Store) (w : World) → Represents store w → IsLawful script budget w → budget ≤ 100000 → store.last < 9223372036854775808
   low_serials budget store w represents lawful low = omega (arith, lawful.serials 400000 short_bodies, represents.next_serial, few_commands script.items, spelled.few_lines, low)
 
 -- the locals of the top frame live
-pub locals_are_live : (script : Script) (budget : ℕ) (e : State) (locals : Locals) (procedure : ℕ) (next : Option ℕ) (w : World) → StandsFor script (under (activity.Frame locals procedure next) e) w → IsLawful script budget w
+pub locals_are_live : (script : Script) (budget : ℕ) (e : State) (locals : Locals) (procedure : ℕ) (next : Option ℕ) (w : World)
+    → StandsFor script (under (activity.Frame locals procedure next) e) w → IsLawful script budget w
     → LocalsLive e.store (Some locals)
-locals_are_live script budget e locals procedure next w stands lawful = (is_live e.store w locals.subject stands.represents (lawful.locals.subjects (frame_of script locals procedure next) on), by locals.func refl)
+locals_are_live script budget e locals procedure next w stands lawful =
+    (is_live e.store w locals.subject stands.represents (lawful.locals.subjects (frame_of script locals procedure next) on), by locals.func refl)
   where
     on : Includes w.stack (Framed (frame_of script locals procedure next))
     on = subst (λ st. Includes st (Framed (frame_of script locals procedure next))) (sym (stands.shows.is ∙ ap (λ l. l ++ stands.shows.below) stands.shows.shows)) (inl refl)

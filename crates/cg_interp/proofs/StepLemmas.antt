@@ -36,14 +36,14 @@ use Rattle.cg_interp.specs.Quietly.{ComesTo}
 use Rattle.cg_interp.specs.Collecting.{StandsWith}
 use Rattle.cg_interp.specs.Telling.{TurnsWith}
 use Rattle.cg_interp.specs.Turns.{Makes, Turns, GoesTo, IsFit}
-use Rattle.cg_interp.proofs.Standing.{plain_frame, plain_script, replaced, spelled, one_step, plain_shutdown}
-use Rattle.cg_interp.proofs.Telling.{turns_plainly}
-use Rattle.cg_interp.proofs.Quietly.{quietly, first_then, first_moves}
-use Rattle.cg_interp.proofs.Lawfully.{has_room, few_holds, few_objects}
+use Rattle.cg_interp.proofs.StackChanges.{plain_frame, plain_script, replaced, spelled, one_step, plain_shutdown}
+use Rattle.cg_interp.proofs.AnswersOfTurns.{turns_plainly}
+use Rattle.cg_interp.proofs.SilentTurns.{quietly, first_then, first_moves}
+use Rattle.cg_interp.proofs.LawsOfEngines.{has_room, few_holds, few_objects}
 use Rattle.cg_interp.proofs.CollectBegins.{idle_in}
 use Rattle.cg_interp.proofs.SmallNumbers.{small_numbers}
 use Rattle.cg_interp.proofs.SpelledLemmas.{script_doable, body_doable, low_serials, locals_are_live}
-use Rattle.cg_interp.proofs.UnderWay.{policy_is}
+use Rattle.cg_interp.proofs.CollectionUnderWay.{policy_is}
 use Rattle.cg_machine.specs.Shutdown.{after_commands}
 
 -- What is due by the policy is due by the machine.
@@ -56,12 +56,45 @@ none_due_in script e w (Some g) stands is never = absurd (never g refl)
 
 -- a transition that the machine may make answers a turn
 pub turns : (script : Script) (w : World) (e : State) (t : Transition) (answer : Turned) → w.outcome ≡ Running → StepOf script w w.stack t.0 t.1 → Makes script t e answer → Turns script w e answer
-turns script w e t turned.Quiet running step makes = record { after = t.1; goes = one_step script w [] t.1 running (subst (λ es. StepOf script w w.stack es t.1) makes.0 step); moves = λ n. absurd (cc); stands = makes.1 }
-turns script w e t (turned.Line event) running step makes = record { after = t.1; goes = one_step script w (event ∷ []) t.1 running (subst (λ es. StepOf script w w.stack es t.1) makes.0 step); moves = λ n. absurd (cc); stands = makes.1 }
-turns script w e t (turned.Lines events) running step makes = record { after = t.1; goes = one_step script w events t.1 running (subst (λ es. StepOf script w w.stack es t.1) makes.0 step); moves = λ n. absurd (cc); stands = makes.1 }
-turns script w e t turned.Ended running step makes = record { after = t.1; goes = one_step script w (End ∷ []) t.1 running (subst (λ es. StepOf script w w.stack es t.1) makes.0 step); ended = makes.1 }
-turns script w e t (turned.Left n) running step makes = record { after = t.1; goes = one_step script w (Left n ∷ End ∷ []) t.1 running (subst (λ es. StepOf script w w.stack es t.1) makes.0 step); ended = makes.1 }
-turns script w e t turned.Spent running step makes = record { after = t.1; goes = one_step script w (BudgetSpent ∷ []) t.1 running (subst (λ es. StepOf script w w.stack es t.1) makes.0 step); ended = makes.1 }
+turns script w e t turned.Quiet running step makes = record {
+  after = t.1;
+  goes = one_step script w [] t.1 running (subst (λ es. StepOf script w w.stack es t.1)
+      makes.0 step);
+  moves = λ n. absurd (cc);
+  stands = makes.1;
+}
+turns script w e t (turned.Line event) running step makes = record {
+  after = t.1;
+  goes = one_step script w (event ∷ []) t.1 running
+      (subst (λ es. StepOf script w w.stack es t.1) makes.0 step);
+  moves = λ n. absurd (cc);
+  stands = makes.1;
+}
+turns script w e t (turned.Lines events) running step makes = record {
+  after = t.1;
+  goes = one_step script w events t.1 running
+      (subst (λ es. StepOf script w w.stack es t.1) makes.0 step);
+  moves = λ n. absurd (cc);
+  stands = makes.1;
+}
+turns script w e t turned.Ended running step makes = record {
+  after = t.1;
+  goes = one_step script w (End ∷ []) t.1 running
+      (subst (λ es. StepOf script w w.stack es t.1) makes.0 step);
+  ended = makes.1;
+}
+turns script w e t (turned.Left n) running step makes = record {
+  after = t.1;
+  goes = one_step script w (Left n ∷ End ∷ []) t.1 running
+      (subst (λ es. StepOf script w w.stack es t.1) makes.0 step);
+  ended = makes.1;
+}
+turns script w e t turned.Spent running step makes = record {
+  after = t.1;
+  goes = one_step script w (BudgetSpent ∷ []) t.1 running
+      (subst (λ es. StepOf script w w.stack es t.1) makes.0 step);
+  ended = makes.1;
+}
 
 -- A step of the machine comes first.
 module _ (script : Script) (w mid : World) (running : w.outcome ≡ Running) where
@@ -126,11 +159,15 @@ is_there commands rest None c is = absurd (cc)
 is_there commands rest (Some n) c is = still_there n commands c (subst (λ l. Includes l c) (sym is) (inl refl))
 
 -- the current command in the body of a procedure
-pub comes_next : (script : Script) (locals : Locals) (procedure : ℕ) (next : Option ℕ) (c : Command) (after : ℕ) (body : List Command) → body ≡ body_of script procedure → commands_from next body ≡ c ∷ commands_from (Some after) body → ComesNext script (frame_caller locals procedure (Some after)) next c
+pub comes_next : (script : Script) (locals : Locals) (procedure : ℕ) (next : Option ℕ) (c : Command) (after : ℕ) (body : List Command) → body
+    ≡ body_of script procedure → commands_from next body ≡ c ∷ commands_from (Some after) body → ComesNext script (frame_caller locals procedure (Some after))
+    next c
 comes_next script locals procedure next c after body is turn = subst (λ l. commands_from next l ≡ c ∷ commands_from (Some after) l) is turn
 
 -- the command that has the turn, and a caller that goes on behind it
-pub comes_next_at : (script : Script) (locals : Locals) (procedure n : ℕ) (c : Command) (body : List Command) (caller : Caller) → caller ≡ frame_caller locals procedure (Some (n + 1)) → body ≡ body_of script procedure → commands_from (Some n) body ≡ c ∷ commands_from (Some (n + 1)) body → ComesNext script caller (Some n) c
+pub comes_next_at : (script : Script) (locals : Locals) (procedure n : ℕ) (c : Command) (body : List Command) (caller : Caller) → caller
+    ≡ frame_caller locals procedure (Some (n + 1)) → body ≡ body_of script procedure → commands_from (Some n) body ≡ c ∷ commands_from (Some (n + 1)) body
+    → ComesNext script caller (Some n) c
 comes_next_at script locals procedure n c body caller frame is there = subst (λ k. ComesNext script k (Some n) c) (sym frame) (comes_next script locals procedure (Some n) c (n + 1) body is there)
 
 module _ (script : Script) (e : State) (next : Option ℕ) (w : World) (stands : StandsFor script (under (activity.Script next) e) w) where
@@ -157,12 +194,15 @@ module _ (script : Script) (e : State) (next : Option ℕ) (w : World) (stands :
     commands_end new answer makes = turns script w new next_world answer stands.running steps_on makes
 
   -- the engine with the shutdown on top
-  pub shutdown_stands : (new : State) → commands_from next (commands_of script.items) ≡ [] → new.store ≡ e.store → new.policy ≡ e.policy → new.activities ≡ activity.Shutdown false ∷ e.activities → new.budget ≡ e.budget
+  pub shutdown_stands : (new : State) → commands_from next (commands_of script.items) ≡ [] → new.store ≡ e.store → new.policy ≡ e.policy → new.activities
+      ≡ activity.Shutdown false ∷ e.activities → new.budget ≡ e.budget
       → StandsFor script new (with_stack (ShuttingDown false ∷ stands.shows.below) w)
   shutdown_stands new is store policy activities budget = record {
     represents = subst (λ st. Represents st (with_stack (ShuttingDown false ∷ stands.shows.below) w)) (sym store)
-        (replaced e.store w (TopLevel []) (ShuttingDown false) stands.shows.below (plain_script _) (plain_shutdown false) refl (spelled (Represents e.store) w (TopLevel [] ∷ stands.shows.below) (script_at [] is) stands.represents));
-    shows = subst (λ l. ShowsAll script l (ShuttingDown false ∷ stands.shows.below)) (sym activities) (record { tops = ShuttingDown false ∷ []; below = stands.shows.below; shows = refl; some = λ e. absurd (cc); over = stands.shows.over; is = refl });
+        (replaced e.store w (TopLevel []) (ShuttingDown false) stands.shows.below (plain_script _) (plain_shutdown false) refl
+        (spelled (Represents e.store) w (TopLevel [] ∷ stands.shows.below) (script_at [] is) stands.represents));
+    shows = subst (λ l. ShowsAll script l (ShuttingDown false ∷ stands.shows.below)) (sym activities)
+        (record { tops = ShuttingDown false ∷ []; below = stands.shows.below; shows = refl; some = λ e. absurd (cc); over = stands.shows.over; is = refl });
     budget = stands.budget ∙ sym budget;
     running = stands.running;
     numbers = ap (λ (p : Policy). p.numbers) policy ∙ stands.numbers;
@@ -179,7 +219,8 @@ module _ (script : Script) (e : State) (next : Option ℕ) (w : World) (stands :
     pub script_stands : StandsFor script (under (activity.Script after) e) script_goes_on
     unfolding script_goes_on
     script_stands = record {
-      represents = replaced e.store w (TopLevel (c ∷ rest)) (TopLevel rest) stands.shows.below (plain_script _) (plain_script _) refl (spelled (Represents e.store) w (TopLevel (c ∷ rest) ∷ stands.shows.below) (script_at (c ∷ rest) is) stands.represents);
+      represents = replaced e.store w (TopLevel (c ∷ rest)) (TopLevel rest) stands.shows.below (plain_script _) (plain_script _) refl
+          (spelled (Represents e.store) w (TopLevel (c ∷ rest) ∷ stands.shows.below) (script_at (c ∷ rest) is) stands.represents);
       shows = record { tops = TopLevel rest ∷ []; below = stands.shows.below; shows = refl; some = λ e. absurd (cc); over = stands.shows.over; is = refl };
       budget = stands.budget;
       running = stands.running;
@@ -209,7 +250,8 @@ module _ (script : Script) (e : State) (locals : Locals) (procedure : ℕ) (next
   frame_at : w.stack ≡ Framed running_frame ∷ stands.shows.below
   frame_at = stands.shows.is ∙ ap (λ l. l ++ stands.shows.below) stands.shows.shows
 
-  frame_steps : (found : Option ℕ) (events : List Event) (done : World) → due w ≡ found → CommandInFrame script w found running_frame c frame_after.commands stands.shows.below events done → StepOf script w w.stack events done
+  frame_steps : (found : Option ℕ) (events : List Event) (done : World) → due w ≡ found → CommandInFrame script w found running_frame c frame_after.commands
+      stands.shows.below events done → StepOf script w w.stack events done
   frame_steps found events done same step =
       subst (λ st. StepOf script w st events done) (sym frame_at)
       (subst (λ cs. FrameStep script w running_frame cs stands.shows.below events done) (sym is)
@@ -224,7 +266,8 @@ module _ (script : Script) (e : State) (locals : Locals) (procedure : ℕ) (next
   pub frame_stands : StandsFor script (under (activity.Frame locals procedure after) e) frame_goes_on
   unfolding frame_goes_on
   frame_stands = record {
-    represents = replaced e.store w (Framed running_frame) (Framed frame_after) stands.shows.below (plain_frame _) (plain_frame _) refl (spelled (Represents e.store) w (Framed running_frame ∷ stands.shows.below) frame_at stands.represents);
+    represents = replaced e.store w (Framed running_frame) (Framed frame_after) stands.shows.below (plain_frame _) (plain_frame _) refl
+        (spelled (Represents e.store) w (Framed running_frame ∷ stands.shows.below) frame_at stands.represents);
     shows = record { tops = Framed frame_after ∷ []; below = stands.shows.below; shows = refl; some = λ e. absurd (cc); over = stands.shows.over; is = refl };
     budget = stands.budget;
     running = stands.running;
@@ -258,7 +301,8 @@ module _ (script : Script) (e : State) (w : World) where
 
   -- its next command is known; it has advanced past it
   module _ (next : Option ℕ) (c : Command) where
-    without_by : (r : Runner) (after : Option ℕ) → ComesNext script (record { runner = r; next = after }) next c → StandsFor script (under (activity_at r next) e) w → Without script (record { runner = r; next = after }) c e w
+    without_by : (r : Runner) (after : Option ℕ) → ComesNext script (record { runner = r; next = after }) next c
+        → StandsFor script (under (activity_at r next) e) w → Without script (record { runner = r; next = after }) c e w
     without_by runner_is.Script after is stands = record {
       world = script_goes_on script e next w stands after c is;
       stands = script_stands script e next w stands after c is;
@@ -275,15 +319,18 @@ module _ (script : Script) (e : State) (w : World) where
     pub without_command : (caller : Caller) → ComesNext script caller next c → StandsFor script (under (caller_activity (with_next next caller)) e) w → Without script caller c e w
     without_command caller = without_by caller.runner caller.next
 
-    collects_by : (r : Runner) (after : Option ℕ) → ComesNext script (record { runner = r; next = after }) next c → StandsFor script (under (activity_at r next) e) w → (g : ℕ) → due w ≡ Some g → StepOf script w w.stack [] (push (new_collection g false w) w)
+    collects_by : (r : Runner) (after : Option ℕ) → ComesNext script (record { runner = r; next = after }) next c
+        → StandsFor script (under (activity_at r next) e) w → (g : ℕ) → due w ≡ Some g → StepOf script w w.stack [] (push (new_collection g false w) w)
     collects_by runner_is.Script after is stands = script_collects script e next w stands
     collects_by (runner_is.Frame locals procedure) after is stands = frame_collects script e locals procedure next after c w stands is
 
-    pub caller_collects : (caller : Caller) → ComesNext script caller next c → StandsFor script (under (caller_activity (with_next next caller)) e) w → (g : ℕ) → due w ≡ Some g → StepOf script w w.stack [] (push (new_collection g false w) w)
+    pub caller_collects : (caller : Caller) → ComesNext script caller next c → StandsFor script (under (caller_activity (with_next next caller)) e) w → (g : ℕ)
+        → due w ≡ Some g → StepOf script w w.stack [] (push (new_collection g false w) w)
     caller_collects caller = collects_by caller.runner caller.next
 
     -- the command is one of a script that some bytes spell
-    doable_by : IsSpelled script → (names : ℕ) → names ≡ length script.names → (r : Runner) (after : Option ℕ) → ComesNext script (record { runner = r; next = after }) next c → IsSpelledCommand names c
+    doable_by : IsSpelled script → (names : ℕ) → names ≡ length script.names → (r : Runner) (after : Option ℕ)
+        → ComesNext script (record { runner = r; next = after }) next c → IsSpelledCommand names c
     doable_by spelled names same runner_is.Script after is = script_doable script spelled names same c (is_there (commands_of script.items) _ next c is)
     doable_by spelled names same (runner_is.Frame locals procedure) after is = body_doable script spelled names procedure same c (is_there (body_of script procedure) _ next c is)
 
@@ -295,7 +342,8 @@ module _ (script : Script) (e : State) (w : World) where
   live_by budget next runner_is.Script stands lawful = tt
   live_by budget next (runner_is.Frame locals procedure) stands lawful = locals_are_live script budget e locals procedure next w stands lawful
 
-  pub caller_live : (budget : ℕ) (next : Option ℕ) (caller : Caller) → StandsFor script (under (caller_activity (with_next next caller)) e) w → IsLawful script budget w → LocalsLive e.store (caller_locals caller)
+  pub caller_live : (budget : ℕ) (next : Option ℕ) (caller : Caller) → StandsFor script (under (caller_activity (with_next next caller)) e) w
+      → IsLawful script budget w → LocalsLive e.store (caller_locals caller)
   caller_live budget next caller = live_by budget next caller.runner
 
   -- what a command may assume
@@ -309,7 +357,8 @@ module _ (script : Script) (e : State) (w : World) where
   }
 
 -- The command that a caller has advanced past was done.
-module _ (script : Script) (caller : Caller) (next : Option ℕ) (c : Command) (old new : State) (is : ComesNext script caller next c) (w : World) (stands : StandsFor script (under (caller_activity (with_next next caller)) old) w) (kept : StaysKept script old.first_budget w) (none : due w ≡ None) where
+module _ (script : Script) (caller : Caller) (next : Option ℕ) (c : Command) (old new : State) (is : ComesNext script caller next c) (w : World)
+    (stands : StandsFor script (under (caller_activity (with_next next caller)) old) w) (kept : StaysKept script old.first_budget w) (none : due w ≡ None) where
   without : Without script caller c old w
   without = without_command script old w next c caller is stands
 
@@ -336,7 +385,8 @@ module _ (script : Script) (caller : Caller) (next : Option ℕ) (c : Command) (
   unfolding without at_command
   answers answer does = command_turns script w without.world c stands.running (caller_detects_none script old w (with_next next caller) stands) (without.does none) new answer does
 
-pub steps_from : (script : Script) (caller : Caller) (next : Option ℕ) (c : Command) (old new : State) → ComesNext script caller next c → ((w : World) → StandsFor script (under (caller_activity (with_next next caller)) old) w → due w ≡ None)
+pub steps_from : (script : Script) (caller : Caller) (next : Option ℕ) (c : Command) (old new : State) → ComesNext script caller next c
+    → ((w : World) → StandsFor script (under (caller_activity (with_next next caller)) old) w → due w ≡ None)
     → (result : Option Turned) → ((w : World) → IsAtCommand script caller old w c → RunsTo script w c (caller_activity caller) new result) → StepsFrom script caller next old new result
 steps_from script caller next c old new is none None does = λ w stands kept.
     let at = at_command script caller next c old new is w stands kept (none w stands) in comes script caller next c old new is w stands kept (none w stands) (does at.0 at.1)

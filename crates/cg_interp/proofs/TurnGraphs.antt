@@ -28,7 +28,7 @@ use Rattle.cg_interp.specs.Graphs.{taken, taken_while, begins_record, unfinished
 use Rattle.cg_interp.specs.Recorded.{Picture, picture, next_detection, detection_at, RunShows, IsGraphOf, candidates, member_among}
 use Rattle.cg_records.specs.Reading.{graph}
 use Rattle.cg_interp.specs.Recording.{recorded_next, text_of_turn, picture_text, text_if_taken, text_so_far, unfinished_so_far}
-use Rattle.cg_interp.proofs.Shown.{alone_none, one_alone, shows_one}
+use Rattle.cg_interp.proofs.ShownGraphs.{alone_none, one_alone, shows_one}
 use Rattle.cg_interp.proofs.WorldGraphs.{graph_is, stands_alike, members_alike}
 use Rattle.cg_interp.proofs.NextDetections.{same_next, at_detection, no_advance}
 
@@ -78,7 +78,8 @@ pub alike_now : (script : Script) (e : State) (left : List Event) (w : World) �
 alike_now script e left w (inl s) listed p = stands_alike e.store w listed s.0.represents p
 alike_now script e left w (inr t) listed p =
     let phase = t.collection.phase in
-    subst (λ (l : List ℕ). SameMembers l (serials_at w.objects p)) (later_list phase e.store p) (stands_alike (store_after phase e.store) w (later_listed phase e.store listed) t.collects.shows.represents p)
+    subst (λ (l : List ℕ). SameMembers l (serials_at w.objects p)) (later_list phase e.store p) (stands_alike (store_after phase e.store) w
+    (later_listed phase e.store listed) t.collects.shows.represents p)
 
 -- the text of a graph, as it is written before its step and after it
 assoc_graph : (h m c l e : List ℕ) → (h ++ m) ++ (c ++ (l ++ e)) ≡ h ++ ((m ++ (c ++ l)) ++ e)
@@ -95,12 +96,16 @@ module _ (script : Script) (store now : Store) (unfinished : Bool) where
   graph_written : (d : Detection) → begun_text script store unfinished d ++ findings now d ≡ picture_text unfinished d (graph_in script d store now)
   graph_written (First g) =
       ap (λ t. (heading unfinished (First g) ++ t) ++ findings now (First g)) (members_map script store (First g) (candidates_in store (First g)))
-      ∙ assoc_graph (heading unfinished (First g)) (flat_map member_text (map (member_in script store (First g)) (candidates_in store (First g)))) (flat_map (numbered (codes "lost")) (list_at now Cand)) (flat_map (numbered (codes "lost")) (list_at now Legacy)) (flat_map (numbered (codes "legacy")) (list_at now Legacy))
-      ∙ ap (λ t. heading unfinished (First g) ++ ((flat_map member_text (map (member_in script store (First g)) (candidates_in store (First g))) ++ t) ++ flat_map (numbered (codes "legacy")) (list_at now Legacy)))
+      ∙ assoc_graph (heading unfinished (First g)) (flat_map member_text (map (member_in script store (First g)) (candidates_in store (First g))))
+      (flat_map (numbered (codes "lost")) (list_at now Cand)) (flat_map (numbered (codes "lost")) (list_at now Legacy))
+      (flat_map (numbered (codes "legacy")) (list_at now Legacy))
+      ∙ ap (λ t. heading unfinished (First g) ++ ((flat_map member_text (map (member_in script store (First g)) (candidates_in store (First g))) ++ t)
+      ++ flat_map (numbered (codes "legacy")) (list_at now Legacy)))
       (sym (flat_map-append (numbered (codes "lost")) (list_at now Cand) (list_at now Legacy)))
   graph_written Second =
       ap (λ t. (heading unfinished Second ++ t) ++ findings now Second) (members_map script store Second (candidates_in store Second))
-      ∙ assoc_second (heading unfinished Second) (flat_map member_text (map (member_in script store Second) (candidates_in store Second))) (flat_map (numbered (codes "lost")) (list_at now Cand)) (codes "stop\n")
+      ∙ assoc_second (heading unfinished Second) (flat_map member_text (map (member_in script store Second) (candidates_in store Second)))
+      (flat_map (numbered (codes "lost")) (list_at now Cand)) (codes "stop\n")
 
   if_written : (o : Option Detection) (d : Detection) → (o ≡ None) ⊎ (o ≡ Some d) → text_of_turn script store now unfinished o ≡ text_if_taken unfinished o (graph_in script d store now)
   if_written None d is = refl
@@ -157,7 +162,8 @@ module _ (script : Script) (e e' : State) (unfinished : Bool) (left : List Event
     still = ap (λ (d : Option Detection). unfinished_after unfinished (taken unfinished d)) none;
   }
 
-  shows_graph : (d : Detection) (step : StepTaken) → detection_on e.activities ≡ Some d → IsGraphOf script d w step.world (graph_in script d e.store e'.store) → TurnShows script w (step ∷ []) e e' unfinished
+  shows_graph : (d : Detection) (step : StepTaken) → detection_on e.activities ≡ Some d → IsGraphOf script d w step.world (graph_in script d e.store e'.store)
+      → TurnShows script w (step ∷ []) e e' unfinished
   shows_graph d step next is = record {
     pictures = picture d (graph_in script d e.store e'.store) ∷ [];
     shows = shows_one script w step d (sym (same_next script e left w stands) ∙ next) (graph_in script d e.store e'.store) is;
@@ -176,7 +182,8 @@ module _ (script : Script) (e e' : State) (unfinished : Bool) (left : List Event
         | inl some ↦ some none
         | inr rests ↦
             let here : w ≡ g.after = ap (last_world w) (sym none) ∙ g.goes.ends in
-            let same : detection_on e'.activities ≡ Some d = same_next script e' g.still g.after g.stands ∙ ap (λ (v : World). next_detection v.stack) (sym here) ∙ sym (same_next script e left w stands) ∙ next in
+            let same : detection_on e'.activities ≡ Some d = same_next script e' g.still g.after g.stands ∙ ap (λ (v : World). next_detection v.stack)
+            (sym here) ∙ sym (same_next script e left w stands) ∙ next in
             no_advance e e' d left g.still w g.after (at_detection script e left w d stands next) (at_detection script e' g.still g.after d g.stands same) rests
       ]
 

@@ -14,12 +14,13 @@ use Rattle.cg_interp.specs.declared.turned.Turned.{Turned}
 use Rattle.cg_interp.specs.Engines.{State, StandsFor, is_collecting, under}
 use Rattle.cg_interp.specs.Collecting.{StandsWith, CollectsOnTop}
 use Rattle.cg_interp.specs.Telling.{Advances, TurnsWith, TurnsFrom, TurnsAny}
-use Rattle.cg_interp.proofs.ArmLemmas.{something_under_way}
+use Rattle.cg_interp.proofs.ActivityLemmas.{something_under_way}
 use Rattle.cg_interp.proofs.CallerLemmas.{same_engine}
-use Rattle.cg_interp.proofs.Telling.{turns_moving}
+use Rattle.cg_interp.proofs.AnswersOfTurns.{turns_moving}
 
 -- With anything but a collection on top, no line is left.
-pub stands_plainly : (script : Script) (top : Own) (e : State) (left : List Event) (w : World) → is_collecting top ≡ false → StandsWith script (under top e) left w → StandsFor script (under top e) w × (left ≡ [])
+pub stands_plainly : (script : Script) (top : Own) (e : State) (left : List Event) (w : World) → is_collecting top ≡ false → StandsWith script (under top e)
+    left w → StandsFor script (under top e) w × (left ≡ [])
 stands_plainly script top e left w plain stands = either stands (λ plainly. plainly) (λ (on_top : CollectsOnTop script (under top e) left w).
     let heads : (top ∷ e.activities) ≡ activity.Collecting on_top.asked on_top.collection ∷ on_top.rest = on_top.top in
     let same : top ≡ activity.Collecting on_top.asked on_top.collection = cc in
@@ -33,7 +34,8 @@ turns_any script top old new answer plain turns w left stands kept =
     subst (λ l. TurnsWith script (Advances (under top old) l new) w l new answer) (sym plainly.1) (turns_moving script (Advances (under top old) [] new) w [] new answer (turns w plainly.0 kept))
 
 -- another engine with the same parts, even if a collection on top has lines left
-pub stands_alike : (script : Script) (old new : State) (left : List Event) (w : World) → new.store ≡ old.store → new.policy ≡ old.policy → new.activities ≡ old.activities → new.budget ≡ old.budget → StandsWith script old left w → StandsWith script new left w
+pub stands_alike : (script : Script) (old new : State) (left : List Event) (w : World) → new.store ≡ old.store → new.policy ≡ old.policy → new.activities
+    ≡ old.activities → new.budget ≡ old.budget → StandsWith script old left w → StandsWith script new left w
 stands_alike script old new left w store policy activities budget stands = either stands
     (λ plainly. inl (same_engine script old new w plainly.0 store policy activities budget, plainly.1))
     (λ (on_top : CollectsOnTop script old left w). inr (record {

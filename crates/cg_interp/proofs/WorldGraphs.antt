@@ -23,8 +23,8 @@ use Rattle.cg_machine.specs.Collect.{SameMembers, merged_place, has_legacy}
 use Rattle.cg_represents.specs.Represents.{Represents}
 use Rattle.cg_represents.proofs.Representing.{count-in_degree}
 use Rattle.cg_trial.proofs.Lists.{occurs_in, none_or_some}
-use Rattle.cg_trial.proofs.Placed.{once_at, where_is, is_there}
-use Rattle.cg_collect.proofs.Standing.{map_alike, same_times, node_of_live, place_there, live_there, object_there, once_among, list_has}
+use Rattle.cg_trial.proofs.PlacesOfObjects.{once_at, where_is, is_there}
+use Rattle.cg_collect.proofs.PlacesOfObjects.{map_alike, same_times, node_of_live, place_there, live_there, object_there, once_among, list_has}
 use Rattle.cg_collect.specs.Starting.{has_legacy_in}
 use Rattle.cg_records.specs.Members.{member}
 use Rattle.cg_interp.specs.declared.graphs.Detection.{Detection}
@@ -41,7 +41,9 @@ merged_serials g [] = refl
 merged_serials g (x ∷ objects) = go (same_place (merged_place g x.place) (Gen g)) (merged_serials g objects)
   where
     go : (b : Bool) → serials_at (map (λ y. with_place (merged_place g y.place) y) objects) (Gen g) ≡ serials (filter (stands_so (First g)) objects)
-        → serials (cond b (with_place (merged_place g x.place) x ∷ filter (is_at (Gen g)) (map (λ y. with_place (merged_place g y.place) y) objects)) (filter (is_at (Gen g)) (map (λ y. with_place (merged_place g y.place) y) objects))) ≡ serials (cond b (x ∷ filter (stands_so (First g)) objects) (filter (stands_so (First g)) objects))
+        → serials (cond b (with_place (merged_place g x.place) x ∷ filter (is_at (Gen g)) (map (λ y. with_place (merged_place g y.place) y) objects))
+        (filter (is_at (Gen g)) (map (λ y. with_place (merged_place g y.place) y) objects))) ≡ serials (cond b (x ∷ filter (stands_so (First g)) objects)
+        (filter (stands_so (First g)) objects))
     go true same = ap (λ l. x.serial ∷ l) same
     go false same = same
 
@@ -101,7 +103,8 @@ module _ (store : Store) (listed : IsListed store) where
       sum : occurrences o (generations_below store (suc n)) ≡ occurrences o (generations_below store n) + occurrences o (list_at store (Gen n))
       sum = occurrences-append o (generations_below store n) (list_at store (Gen n))
 
-      go : (occurrences o (list_at store (Gen n)) ≡ 0) ⊎ (1 ≤ occurrences o (list_at store (Gen n))) → occurrences o (generations_below store n) ≤ 1 → occurrences o (generations_below store (suc n)) ≤ 1
+      go : (occurrences o (list_at store (Gen n)) ≡ 0) ⊎ (1 ≤ occurrences o (list_at store (Gen n))) → occurrences o (generations_below store n) ≤ 1
+          → occurrences o (generations_below store (suc n)) ≤ 1
       go (inl none) once = omega (arith, sum, none, once)
       go (inr some) once =
           let at = where_is store listed (Gen n) o (occurs_in (list_at store (Gen n)) o some) in
@@ -182,7 +185,8 @@ module _ (script : Script) (d : Detection) (store : Store) (w : World) (listed :
 
   refs_alike : (o : ℕ) → filter (λ q. is_candidate_at d (place_of store q)) (references (entries_of store o)) ≡ filter (includes (candidates d w)) (references (object_entries_of w.objects o))
   refs_alike o =
-      filter_alike (λ q. is_candidate_at d (place_of store q)) (includes (candidates d w)) (references (entries_of store o)) (λ q. candidate_by_place store listed d q ∙ ap (λ l. includes l q) found_in_world)
+      filter_alike (λ q. is_candidate_at d (place_of store q)) (includes (candidates d w)) (references (entries_of store o))
+      (λ q. candidate_by_place store listed d q ∙ ap (λ l. includes l q) found_in_world)
       ∙ ap (λ es. filter (includes (candidates d w)) (references es)) (sym (entries-agree store o) ∙ ap (λ (os : List Object). object_entries_of os o) rep.objects)
 
   member_alike : (o : ℕ) → member_in script store d o ≡ member_among script w (candidates d w) o
@@ -199,7 +203,8 @@ pub stands_alike : (store : Store) (w : World) → IsListed store → Represents
 stands_alike store w listed rep p = λ o. list_has store listed p o ∙ ap (λ (os : List Object). occurrences o (serials_at os p)) rep.objects
 
 -- the graph of a pass
-pub graph_is : (script : Script) (d : Detection) (store : Store) (w : World) (now : Store) (after : World) → IsListed store → Represents store w → ((p : Place) → SameMembers (list_at now p) (serials_at after.objects p))
+pub graph_is : (script : Script) (d : Detection) (store : Store) (w : World) (now : Store) (after : World) → IsListed store → Represents store w
+    → ((p : Place) → SameMembers (list_at now p) (serials_at after.objects p))
     → IsGraphOf script d w after (graph_in script d store now)
 graph_is script d store w now after listed rep alike = record {
   order = candidates_in store d;
@@ -210,7 +215,8 @@ graph_is script d store w now after listed rep alike = record {
 }
   where
     lost_alike : (k : Detection) → SameMembers (lost_in now k) (lost_at k after)
-    lost_alike (First g) = λ o. occurrences-append o (list_at now Cand) (list_at now Legacy) ∙ (λ i. alike Cand o i + alike Legacy o i) ∙ sym (occurrences-append o (serials_at after.objects Cand) (serials_at after.objects Legacy))
+    lost_alike (First g) = λ o. occurrences-append o (list_at now Cand) (list_at now Legacy) ∙ (λ i. alike Cand o i + alike Legacy o i)
+        ∙ sym (occurrences-append o (serials_at after.objects Cand) (serials_at after.objects Legacy))
     lost_alike Second = alike Cand
 
     legacy_alike : (k : Detection) → SameMembers (legacy_in now k) (legacy_at k after)

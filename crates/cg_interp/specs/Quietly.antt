@@ -70,7 +70,8 @@ IsActing script store death = (e : State) × (w : World) × (e.first_budget ≤ 
 
 -- The actions of a death reach an answer, whatever the other activities.
 abbrev pub Acts : Script → Store → Death → Store → Death → DeathStep → Type 0
-Acts script store death now after answer = (e : State) (w : World) → StandsFor script (under (activity.Dying death) (over store e)) w → StaysKept script e.first_budget w → LastAction script w e now after answer
+Acts script store death now after answer = (e : State) (w : World) → StandsFor script (under (activity.Dying death) (over store e)) w
+    → StaysKept script e.first_budget w → LastAction script w e now after answer
 
 -- some death is the cause of an answer
 abbrev pub HasSomeCause : Store → DeathStep → Type 0
@@ -93,7 +94,8 @@ HasNotMoved old store new now = (old ≡ new) × (store ≡ now)
 pub record CameSoFar (script : Script) (old : Collection) (store : Store) (policy : Policy) (new : Collection) (now : Store) (policy_now : Policy) : Type 0 where
   pub far : HasNotMoved old store new now ⊎ CollectFalls old store new now
   pub objects : MakesNone store now
-  pub goes : (asked : Bool) (e : State) (w : World) (left : List Event) → Collects script asked old (over_both store policy e) left w → StaysKept script e.first_budget w → CollectsOn script asked w left new (over_both now policy_now e)
+  pub goes : (asked : Bool) (e : State) (w : World) (left : List Event) → Collects script asked old (over_both store policy e) left w
+      → StaysKept script e.first_budget w → CollectsOn script asked w left new (over_both now policy_now e)
 
 -- The last of some steps of a collection, which had come this far before it.
 pub record LastStep (script : Script) (old : Collection) (store : Store) (policy : Policy) (new : Collection) (now : Store) (policy_now : Policy) (answer : CollectStep) : Type 0 where

@@ -32,7 +32,8 @@ abbrev pub text_of_turn : Script → Store → Store → Bool → Option Detecti
 text_of_turn script before after unfinished d = text_before script before unfinished d ++ text_after after d
 
 -- A turn, and its records were written.
-pub record RecordsTurn (script : Script) (old : State) (unfinished : Bool) (w : World) (left : List Event) (e : State) (then : Bool) (told : Option Standing) (before now : Option (List ℕ)) : Type 0 where
+pub record RecordsTurn (script : Script) (old : State) (unfinished : Bool) (w : World) (left : List Event) (e : State) (then : Bool) (told : Option Standing)
+    (before now : Option (List ℕ)) : Type 0 where
   pub answer : Turned
   pub is : told ≡ told_after answer
   pub turns : TurnsWith script (Advances old left e) w left e answer
@@ -47,7 +48,8 @@ pub record CutsFindings (script : Script) (old : State) (unfinished : Bool) (w :
 
 -- A prefix of a turn's records was written, before the turn or after it.
 abbrev pub CutsRecord : Script → State → Bool → World → List Event → State → Option (List ℕ) → Option (List ℕ) → Type 0
-CutsRecord script old unfinished w left e before now = AppendsFront before now (text_before script old.store unfinished (recorded_next unfinished old)) ⊎ CutsFindings script old unfinished w left e before now
+CutsRecord script old unfinished w left e before now = AppendsFront before now (text_before script old.store unfinished (recorded_next unfinished old))
+    ⊎ CutsFindings script old unfinished w left e before now
 
 -- the text of a graph, if it is recorded
 abbrev pub graph_of_record : Detection → Graph → List ℕ

@@ -26,8 +26,8 @@ use cg_kind::Kind;
 use cg_script::{Command, Script};
 
 impl<B: Kind> Engine<B> {
-    /// Goes on with the script, taken from the top: does command after command, until one prints a line or starts something.
-    /// A due collection comes first, also before the end or the shutdown.
+    /// Goes on with the script, taken from the top: does command after command, until one prints a
+    /// line or starts something. A due collection comes first, also before the end or the shutdown.
     pub fn go_on(&mut self, script: &Script, next: Option<usize>) -> Turned
         requires stands { IsAtTurn script.now (activity_of.Script next) self.old }
         ensures turns { TurnsFrom script.now (activity_of.Script next) self.old self.new result }
@@ -69,7 +69,8 @@ impl<B: Kind> Engine<B> {
         }
     }
 
-    /// The same for a frame. A due collection comes before its next command, but not before its end.
+    /// The same for a frame. A due collection comes before its next command, but not before its
+    /// end.
     pub fn go_on_in(
         &mut self,
         script: &Script,
@@ -88,11 +89,13 @@ impl<B: Kind> Engine<B> {
         }
     }
 
-    /// The same from the command with this number on. First does the run of commands that change names or entries, since
-    /// most commands are of this sort.
+    /// The same from the command with this number on. First does the run of commands that change
+    /// names or entries, since most commands are of this sort.
     fn go_on_at(&mut self, script: &Script, locals: Locals, procedure: u32, number: usize) -> Turned
-        requires stands { IsAtTurn script.now (activity_of.Frame locals procedure (Some number)) self.old }
-        ensures turns { TurnsFrom script.now (activity_of.Frame locals procedure (Some number)) self.old
+        requires stands { IsAtTurn script.now (activity_of.Frame locals procedure (Some number))
+            self.old }
+        ensures turns { TurnsFrom script.now (activity_of.Frame locals procedure (Some number))
+            self.old
             self.new result }
         ensures fit { StaysFit self.old self.new }
     {
@@ -119,8 +122,9 @@ impl<B: Kind> Engine<B> {
         }
     }
 
-    /// Does the next commands of a frame, taken from the top, while they change names or entries and no collection is due.
-    /// Then `number` is that of the next one. Answers `None` if the frame is to go on; it is then not put back.
+    /// Does the next commands of a frame, taken from the top, while they change names or entries
+    /// and no collection is due. Then `number` is that of the next one. Answers `None` if the frame
+    /// is to go on; it is then not put back.
     ///
     /// No such command makes a collection due, so that is checked once.
     #[inline(always)]
@@ -134,8 +138,10 @@ impl<B: Kind> Engine<B> {
         requires stands { (script : AnyScript) × (body.now ≡ body_in script procedure)
             × IsAtTurn script (activity_of.Frame locals procedure (Some number.old)) self.old }
         ensures steps { (script : AnyScript) → body.now ≡ body_in script procedure
-            → StepsFrom script (frame_caller locals procedure (Some number.new)) (Some number.old) self.old self.new result }
-        ensures left { length (commands_from (Some number.new) body.now) ≤ length (commands_from (Some number.old) body.now) }
+            → StepsFrom script (frame_caller locals procedure (Some number.new)) (Some number.old)
+            self.old self.new result }
+        ensures left { length (commands_from (Some number.new) body.now) ≤ length
+            (commands_from (Some number.old) body.now) }
         ensures fit { StaysFit self.old self.new }
     {
         let Some(first) = next_change(body, *number) else {
@@ -147,8 +153,9 @@ impl<B: Kind> Engine<B> {
         }
     }
 
-    /// The same where the first of them is known and no collection is due. This is a call of its own: at the head of a loop over
-    /// commands of any sort, each command would pay for putting together what the other sorts answer.
+    /// The same where the first of them is known and no collection is due. This is a call of its
+    /// own: at the head of a loop over commands of any sort, each command would pay for putting
+    /// together what the other sorts answer.
     #[inline(never)]
     fn make_changes_from(
         &mut self,
@@ -160,13 +167,16 @@ impl<B: Kind> Engine<B> {
     ) -> Option<Turned>
         requires none { due_of self.old.policy ≡ None }
         requires within { number.old < length body.now }
-        requires there { commands_from (Some number.old) body.now ≡ first.now ∷ commands_from (Some (number.old + 1)) body.now }
+        requires there { commands_from (Some number.old) body.now ≡ first.now
+            ∷ commands_from (Some (number.old + 1)) body.now }
         requires changes { only_changes first.now ≡ true }
         requires stands { (script : AnyScript) × (body.now ≡ body_in script procedure)
             × IsAtTurn script (activity_of.Frame locals procedure (Some number.old)) self.old }
         ensures steps { (script : AnyScript) → body.now ≡ body_in script procedure
-            → StepsFrom script (frame_caller locals procedure (Some number.new)) (Some number.old) self.old self.new result }
-        ensures left { length (commands_from (Some number.new) body.now) ≤ length (commands_from (Some number.old) body.now) }
+            → StepsFrom script (frame_caller locals procedure (Some number.new)) (Some number.old)
+            self.old self.new result }
+        ensures left { length (commands_from (Some number.new) body.now) ≤ length
+            (commands_from (Some number.old) body.now) }
         ensures fit { StaysFit self.old self.new }
     {
         let within = Some(locals);
@@ -197,8 +207,9 @@ impl<B: Kind> Engine<B> {
         }
     }
 
-    /// Does the next command of a caller, taken from the top, if it changes names or entries and no collection is due. The
-    /// caller has already advanced past it. After `None`, no collection is due either.
+    /// Does the next command of a caller, taken from the top, if it changes names or entries and no
+    /// collection is due. The caller has already advanced past it. After `None`, no collection is
+    /// due either.
     #[inline(always)]
     fn step_change(
         &mut self,
@@ -209,25 +220,29 @@ impl<B: Kind> Engine<B> {
         requires own { locals.now ≡ caller_locals caller.now }
         requires changes { only_changes command.now ≡ true }
         requires none { due_of self.old.policy ≡ None }
-        requires stands { (script : AnyScript) × (next : Option ℕ) × ComesNext script caller.now next command.now
+        requires stands { (script : AnyScript) × (next : Option ℕ) × ComesNext script caller.now
+            next command.now
             × IsAtTurn script (caller_activity (with_next next caller.now)) self.old }
-        ensures steps { (script : AnyScript) (next : Option ℕ) → ComesNext script caller.now next command.now
+        ensures steps { (script : AnyScript) (next : Option ℕ) → ComesNext script caller.now next
+            command.now
             → StepsFrom script caller.now next self.old self.new result }
         ensures policy { IfNone result (self.new.policy ≡ self.old.policy) }
         ensures fit { StaysFit self.old self.new }
     {
         // Heaps are bounded, and while no collection is under way its places are empty.
         self.heap.sound();
-        // What `change` answers is matched here: handed on, or made a `Done`, it would be copied for each command.
+        // What `change` answers is matched here: handed on, or made a `Done`, it would be copied
+        // for each command.
         match change(&mut self.heap, locals, command) {
             Ok(given_up) => self.give_up_after(caller, None, given_up),
             Err(refusal) => Some(self.refuse(caller, refusal.number())),
         }
     }
 
-    /// Does the next command of a caller, taken from the top, or starts a due collection before it. The caller has already
-    /// advanced past that command, which has this number. Answers `None` if there is no line and the caller is to go on; it is
-    /// then not put back. `locals` are the caller's.
+    /// Does the next command of a caller, taken from the top, or starts a due collection before it.
+    /// The caller has already advanced past that command, which has this number. Answers `None` if
+    /// there is no line and the caller is to go on; it is then not put back. `locals` are the
+    /// caller's.
     #[inline(always)]
     fn step(
         &mut self,
@@ -260,14 +275,16 @@ impl<B: Kind> Engine<B> {
         }
     }
 
-    /// Begins a due collection above the caller, before the caller's next command, which has this number.
+    /// Begins a due collection above the caller, before the caller's next command, which has this
+    /// number.
     #[inline(never)]
     fn collect_first(&mut self, caller: &Caller, next: Option<usize>, generation: u8)
         requires generation { generation ≤ 2 }
         requires room { 1 < self.old.room }
         requires idle { self.old.policy.running ≡ false }
         requires stands { (script : AnyScript) × IsSpelled script × IsFit script self.old
-            × (w : World) × StandsFor script (under (caller_activity (with_next next caller.now)) self.old) w
+            × (w : World) × StandsFor script (under (caller_activity (with_next next caller.now))
+            self.old) w
             × StaysKept script self.old.first_budget (push (new_collection generation false w) w) }
         ensures begins { (script : AnyScript) (w : World)
             → StandsFor script (under (caller_activity (with_next next caller.now)) self.old) w
@@ -277,8 +294,8 @@ impl<B: Kind> Engine<B> {
         self.collect(caller.with_next(next).activity(), false, generation);
     }
 
-    /// Does a command of another sort than `step_change` does, of the caller that was on top, which has gone on to the command
-    /// after it.
+    /// Does a command of another sort than `step_change` does, of the caller that was on top, which
+    /// has gone on to the command after it.
     #[inline(always)]
     fn run(&mut self, caller: &Caller, locals: &Option<Locals>, command: &Command) -> Option<Turned>
         requires own { locals.now ≡ caller_locals caller.now }
@@ -286,9 +303,11 @@ impl<B: Kind> Engine<B> {
         requires locals { LocalsLive self.old.store locals.now }
         requires may { MayCommand self.old }
         requires other { only_changes command.now ≡ false }
-        requires stands { (script : AnyScript) × IsSpelled script × IsFit script self.old × (w : World)
+        requires stands { (script : AnyScript) × IsSpelled script × IsFit script self.old
+            × (w : World)
             × IsAtCommand script caller.now self.old w command.now }
-        ensures does { (script : AnyScript) (w : World) → IsAtCommand script caller.now self.old w command.now
+        ensures does { (script : AnyScript) (w : World) → IsAtCommand script caller.now self.old w
+            command.now
             → RunsTo script w command.now (caller_activity caller.now) self.new result }
         ensures fit { StaysFit self.old self.new }
     {
@@ -310,10 +329,12 @@ impl<B: Kind> Engine<B> {
         requires locals { LocalsLive self.old.store locals.now }
         requires may { MayCommand self.old }
         requires other { only_changes command.now ≡ false }
-        requires stands { (script : AnyScript) × IsSpelled script × IsFit script self.old × (w : World)
+        requires stands { (script : AnyScript) × IsSpelled script × IsFit script self.old
+            × (w : World)
             × IsAtCommand script caller.now self.old w command.now }
         requires one_more { room ≡ true → HasRoomForOneMore self.old }
-        ensures does { (script : AnyScript) (w : World) → IsAtCommand script caller.now self.old w command.now
+        ensures does { (script : AnyScript) (w : World) → IsAtCommand script caller.now self.old w
+            command.now
             → RunsTo script w command.now (caller_activity caller.now) self.new result }
         ensures fit { StaysFit self.old self.new }
     {
@@ -328,8 +349,8 @@ impl<B: Kind> Engine<B> {
         self.answer(caller, done)
     }
 
-    /// Makes room on the stack for the death of an object, if the command makes one. Answers whether it does and there is
-    /// room.
+    /// Makes room on the stack for the death of an object, if the command makes one. Answers
+    /// whether it does and there is room.
     #[inline(always)]
     fn make_room(&mut self, command: &Command) -> bool
         ensures one_more { result ≡ true → HasRoomForOneMore self.new }

@@ -31,7 +31,8 @@ use cg_script::Script;
 use std::sync::ledger::Ledger;
 
 impl<B: Kind> Engine<B> {
-    /// Begins a collection of a generation above the activity from the top. The next turn makes its first step.
+    /// Begins a collection of a generation above the activity from the top. The next turn makes its
+    /// first step.
     pub fn collect(&mut self, top: Activity, asked: bool, generation: u8)
         requires generation { generation ≤ 2 }
         requires room { 1 < self.old.room }
@@ -59,8 +60,10 @@ impl<B: Kind> Engine<B> {
         steps: &mut Steps<L>,
     ) -> Turned
         requires fit { IsFit script.now self.old }
-        requires stands { IsAtAnyTurn script.now (under (activity_of.Collecting asked collection) self.old) }
-        ensures turns { TurnsAny script.now (under (activity_of.Collecting asked collection) self.old) self.new result }
+        requires stands { IsAtAnyTurn script.now (under (activity_of.Collecting asked collection)
+            self.old) }
+        ensures turns { TurnsAny script.now (under (activity_of.Collecting asked collection)
+            self.old) self.new result }
         ensures fit { StaysFit self.old self.new }
     {
         self.heap.sound();
@@ -125,7 +128,8 @@ fn collect_on<B: Kind, L: Ledger>(
     steps: &mut Steps<L>,
 ) -> CollectStep
     requires stands { IsCollecting script.now collection.old heap.old policy.old }
-    ensures last { LastStep script.now collection.old heap.old policy.old collection.new heap.new policy.new result }
+    ensures last { LastStep script.now collection.old heap.old policy.old collection.new heap.new
+        policy.new result }
     ensures ready { KeepsReady script.now collection.new heap.new result }
     ensures died { DiesUnheld result heap.new }
     ensures objects { MakesNone heap.old heap.new }
@@ -140,10 +144,12 @@ fn collect_on<B: Kind, L: Ledger>(
     }
 }
 
-/// Whether a collection makes its next step in the same turn: there is nothing to print, and neither this step nor the next is a
-/// reachability pass. A pass needs a turn of its own, since it is recorded from the heaps before and after the turn.
+/// Whether a collection makes its next step in the same turn: there is nothing to print, and
+/// neither this step nor the next is a reachability pass. A pass needs a turn of its own, since it
+/// is recorded from the heaps before and after the turn.
 fn goes_on(answer: CollectStep, collection: &Collection) -> bool
-    ensures { (result ≡ true) ↔ ((answer ≡ answer_of.Continue) × (stage_of collection.now ≡ stage.Between)) }
+    ensures { (result ≡ true) ↔ ((answer ≡ answer_of.Continue) × (stage_of collection.now
+        ≡ stage.Between)) }
 {
     match (answer, collection.stage()) {
         (CollectStep::Continue, Stage::Between) => true,

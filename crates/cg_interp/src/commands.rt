@@ -36,14 +36,15 @@ use cg_machine::{Event, FrameSort, FrameSpec};
 use cg_value::Entry;
 
 impl<B: Kind> Engine<B> {
-    /// What the engine does after a command of the caller, taken from the top. Answers `None` if there is no line and the caller
-    /// is to go on; it is then not put back.
+    /// What the engine does after a command of the caller, taken from the top. Answers `None` if
+    /// there is no line and the caller is to go on; it is then not put back.
     #[inline(always)]
     pub fn answer(&mut self, caller: &Caller, done: Result<Done, Refusal>) -> Option<Turned>
         requires room { 2 < self.old.room }
         requires performed { (script : AnyScript) × IsSpelled script × IsFit script self.old
             × HasPerformed script (caller_activity caller.now) self.old done }
-        ensures does { (script : AnyScript) (w : World) (command : AnyCommand) (before : Store) (was : AnyPolicy)
+        ensures does { (script : AnyScript) (w : World) (command : AnyCommand) (before : Store)
+            (was : AnyPolicy)
             → IsPerformed script (caller_activity caller.now) self.old w command before was done
             → RunsTo script w command (caller_activity caller.now) self.new result }
         ensures policy { IfNone result (self.new.policy ≡ self.old.policy) }
@@ -61,8 +62,10 @@ impl<B: Kind> Engine<B> {
         requires room { 2 < self.old.room }
         requires performed { (script : AnyScript) × IsSpelled script × IsFit script self.old
             × HasPerformed script (caller_activity caller.now) self.old (Ok done) }
-        ensures does { (script : AnyScript) (w : World) (command : AnyCommand) (before : Store) (was : AnyPolicy)
-            → IsPerformed script (caller_activity caller.now) self.old w command before was (Ok done)
+        ensures does { (script : AnyScript) (w : World) (command : AnyCommand) (before : Store)
+            (was : AnyPolicy)
+            → IsPerformed script (caller_activity caller.now) self.old w command before was
+            (Ok done)
             → RunsTo script w command (caller_activity caller.now) self.new result }
         ensures policy { IfNone result (self.new.policy ≡ self.old.policy) }
         ensures keeps { TurnKeeps self.old self.new }
@@ -80,7 +83,8 @@ impl<B: Kind> Engine<B> {
     #[inline(always)]
     pub fn refuse(&mut self, caller: &Caller, number: u8) -> Turned
         requires room { 0 < self.old.room }
-        ensures refuses { (script : AnyScript) (w : World) → StandsFor script (under (caller_activity caller.now) self.old) w
+        ensures refuses { (script : AnyScript) (w : World)
+            → StandsFor script (under (caller_activity caller.now) self.old) w
             → Makes script (refused number w) self.new result }
         ensures keeps { TurnKeeps self.old self.new }
     {
@@ -92,14 +96,16 @@ impl<B: Kind> Engine<B> {
     #[inline(never)]
     fn stop_frame(&mut self, caller: &Caller)
         requires room { 0 < self.old.room }
-        ensures stops { (script : AnyScript) (w : World) → StandsFor script (under (caller_activity caller.now) self.old) w
+        ensures stops { (script : AnyScript) (w : World)
+            → StandsFor script (under (caller_activity caller.now) self.old) w
             → StandsFor script self.new (with_stack (stopped_frame w.stack) w) }
         ensures keeps { TurnKeeps self.old self.new }
     {
         self.stack.push(caller.stopped_frame().activity());
     }
 
-    /// A command made its change, and references are given up. If that leaves an object unheld, its death begins.
+    /// A command made its change, and references are given up. If that leaves an object unheld, its
+    /// death begins.
     #[inline(always)]
     pub fn give_up_after(
         &mut self,
@@ -108,11 +114,14 @@ impl<B: Kind> Engine<B> {
         given_up: Entry,
     ) -> Option<Turned>
         requires room { 2 < self.old.room }
-        requires stands { (script : AnyScript) × (after : World) × Changes script (caller_activity caller.now) self.old given_up after
+        requires stands { (script : AnyScript) × (after : World)
+            × Changes script (caller_activity caller.now) self.old given_up after
             × StaysSound script (releasing given_up after) }
-        ensures gives_up { (script : AnyScript) (after : World) → Changes script (caller_activity caller.now) self.old given_up after
+        ensures gives_up { (script : AnyScript) (after : World)
+            → Changes script (caller_activity caller.now) self.old given_up after
             → StaysSound script (releasing given_up after)
-            → GivesUp script (releasing given_up after) (caller_activity caller.now) self.new line result }
+            → GivesUp script (releasing given_up after) (caller_activity caller.now) self.new line
+            result }
         ensures policy { IfNone result (self.new.policy ≡ self.old.policy) }
         ensures keeps { TurnKeeps self.old self.new }
     {
@@ -132,10 +141,12 @@ impl<B: Kind> Engine<B> {
         requires unheld { IsUnheld self.old.store object }
         requires room { 2 < self.old.room }
         requires stands { (script : AnyScript) × (w : World)
-            × StandsFor script (under (activity_of.Releasing release) (under (caller_activity caller.now) self.old)) w
+            × StandsFor script (under (activity_of.Releasing release)
+            (under (caller_activity caller.now) self.old)) w
             × DyingIsSound (begin_death object w) }
         ensures begins { (script : AnyScript) (w : World)
-            → StandsFor script (under (activity_of.Releasing release) (under (caller_activity caller.now) self.old)) w
+            → StandsFor script (under (activity_of.Releasing release)
+            (under (caller_activity caller.now) self.old)) w
             → StandsFor script self.new (begin_death object w) }
         ensures keeps { TurnKeeps self.old self.new }
     {
@@ -147,7 +158,8 @@ impl<B: Kind> Engine<B> {
     #[inline(always)]
     fn tell_line(&mut self, caller: &Caller, line: Option<Event>) -> Option<Turned>
         requires room { 0 < self.old.room }
-        ensures tells { (script : AnyScript) (w : World) → ComesTo script w (under (caller_activity caller.now) self.old)
+        ensures tells { (script : AnyScript) (w : World)
+            → ComesTo script w (under (caller_activity caller.now) self.old)
             → GivesUp script w (caller_activity caller.now) self.new line result }
         ensures policy { IfNone result (self.new.policy ≡ self.old.policy) }
         ensures keeps { TurnKeeps self.old self.new }
@@ -165,7 +177,8 @@ impl<B: Kind> Engine<B> {
     #[inline(never)]
     fn wait(&mut self, caller: &Caller)
         requires room { 0 < self.old.room }
-        ensures waits { (script : AnyScript) (w : World) → StandsFor script (under (caller_activity caller.now) self.old) w
+        ensures waits { (script : AnyScript) (w : World)
+            → StandsFor script (under (caller_activity caller.now) self.old) w
             → StandsFor script self.new w }
         ensures keeps { TurnKeeps self.old self.new }
     {
@@ -176,7 +189,8 @@ impl<B: Kind> Engine<B> {
     #[inline(always)]
     fn tell(&mut self, caller: &Caller, lines: Lines) -> Turned
         requires room { 1 < self.old.room }
-        ensures tells { (script : AnyScript) (after : World) → Changes script (caller_activity caller.now) self.old (item val_of.None) after
+        ensures tells { (script : AnyScript) (after : World)
+            → Changes script (caller_activity caller.now) self.old (item val_of.None) after
             → Makes script (transition_of_change lines (item val_of.None) after) self.new result }
         ensures keeps { TurnKeeps self.old self.new }
     {
@@ -188,7 +202,8 @@ impl<B: Kind> Engine<B> {
     #[inline(never)]
     fn wait_releasing(&mut self, caller: &Caller)
         requires room { 1 < self.old.room }
-        ensures waits { (script : AnyScript) (after : World) → Changes script (caller_activity caller.now) self.old (item val_of.None) after
+        ensures waits { (script : AnyScript) (after : World)
+            → Changes script (caller_activity caller.now) self.old (item val_of.None) after
             → StandsFor script self.new (releasing (item val_of.None) after) }
         ensures keeps { TurnKeeps self.old self.new }
     {
@@ -200,7 +215,8 @@ impl<B: Kind> Engine<B> {
     #[inline(always)]
     fn quit(&mut self, caller: &Caller) -> Turned
         requires room { 0 < self.old.room }
-        ensures quits { (script : AnyScript) (w : World) → StandsFor script (under (caller_activity caller.now) self.old) w
+        ensures quits { (script : AnyScript) (w : World)
+            → StandsFor script (under (caller_activity caller.now) self.old) w
             → Makes script ([], with_stack (without_commands w.stack) w) self.new result }
         ensures keeps { TurnKeeps self.old self.new }
     {
@@ -212,7 +228,8 @@ impl<B: Kind> Engine<B> {
     #[inline(never)]
     fn stop(&mut self, caller: &Caller)
         requires room { 0 < self.old.room }
-        ensures stops { (script : AnyScript) (w : World) → StandsFor script (under (caller_activity caller.now) self.old) w
+        ensures stops { (script : AnyScript) (w : World)
+            → StandsFor script (under (caller_activity caller.now) self.old) w
             → StandsFor script self.new (with_stack (without_commands w.stack) w) }
         ensures keeps { TurnKeeps self.old self.new }
     {
@@ -225,7 +242,8 @@ impl<B: Kind> Engine<B> {
         requires few { HasFewHolds self.old.store }
         requires live { IsLive self.old.store function }
         requires room { 1 < self.old.room }
-        ensures calls { (script : AnyScript) (w : World) → StandsFor script (under (caller_activity caller.now) self.old) w
+        ensures calls { (script : AnyScript) (w : World)
+            → StandsFor script (under (caller_activity caller.now) self.old) w
             → Makes script (start_frame script (call_of function w) w) self.new result }
         ensures keeps { TurnKeeps self.old self.new }
     {
@@ -239,14 +257,17 @@ impl<B: Kind> Engine<B> {
         }
     }
 
-    /// Starts the frame of a call above the caller, which is put back. Answers whether the budget had a frame left.
+    /// Starts the frame of a call above the caller, which is put back. Answers whether the budget
+    /// had a frame left.
     #[inline(never)]
     fn start_call(&mut self, caller: &Caller, function: u64) -> bool
         requires few { HasFewHolds self.old.store }
         requires live { IsLive self.old.store function }
         requires room { 1 < self.old.room }
-        ensures calls { (script : AnyScript) (w : World) → StandsFor script (under (caller_activity caller.now) self.old) w
-            → Makes script (start_frame script (call_of function w) w) self.new (entered sort_of.Call function result) }
+        ensures calls { (script : AnyScript) (w : World)
+            → StandsFor script (under (caller_activity caller.now) self.old) w
+            → Makes script (start_frame script (call_of function w) w) self.new
+            (entered sort_of.Call function result) }
         ensures keeps { TurnKeeps self.old self.new }
     {
         let proc = procedure_of(&self.heap, function);
@@ -259,16 +280,21 @@ impl<B: Kind> Engine<B> {
         })
     }
 
-    /// Starts the collection that a command asks for. If one is under way, none starts, and the answer is 0.
+    /// Starts the collection that a command asks for. If one is under way, none starts, and the
+    /// answer is 0.
     #[inline(always)]
     fn collect_if_idle(&mut self, caller: &Caller, generation: u8) -> Turned
         requires generation { generation ≤ 2 }
         requires room { 2 < self.old.room }
         requires stands { (script : AnyScript) × IsSpelled script × IsFit script self.old
-            × (command : AnyCommand) × (w : World) × StandsFor script (under (caller_activity caller.now) self.old) w
-            × (effect w command ≡ Ok (Collects generation)) × StaysKeptAfter script self.old.first_budget w command }
-        ensures does { (script : AnyScript) (command : AnyCommand) (w : World) → StandsFor script (under (caller_activity caller.now) self.old) w
-            → effect w command ≡ Ok (Collects generation) → DoesAny script w command self.new result }
+            × (command : AnyCommand) × (w : World)
+            × StandsFor script (under (caller_activity caller.now) self.old) w
+            × (effect w command ≡ Ok (Collects generation)) × StaysKeptAfter script
+            self.old.first_budget w command }
+        ensures does { (script : AnyScript) (command : AnyCommand) (w : World)
+            → StandsFor script (under (caller_activity caller.now) self.old) w
+            → effect w command ≡ Ok (Collects generation) → DoesAny script w command self.new
+            result }
         ensures keeps { TurnKeeps self.old self.new }
     {
         if self.policy.running() {
@@ -289,7 +315,8 @@ impl<B: Kind> Engine<B> {
         requires stands { (script : AnyScript) × IsSpelled script × IsFit script self.old
             × (w : World) × StandsFor script (under (caller_activity caller.now) self.old) w
             × StaysKept script self.old.first_budget (push (new_collection generation true w) w) }
-        ensures begins { (script : AnyScript) (w : World) → StandsFor script (under (caller_activity caller.now) self.old) w
+        ensures begins { (script : AnyScript) (w : World)
+            → StandsFor script (under (caller_activity caller.now) self.old) w
             → StandsWith script self.new [] (push (new_collection generation true w) w) }
         ensures keeps { TurnKeeps self.old self.new }
     {

@@ -40,13 +40,14 @@ impl<B: Kind> Engine<B> {
         self.stack.push(Activity::Dying(death));
     }
 
-    /// The actions of a death, which was on top, one after the other, as long as the machine goes on without a line. The death
-    /// begins of another object that nothing holds any more.
+    /// The actions of a death, which was on top, one after the other, as long as the machine goes
+    /// on without a line. The death begins of another object that nothing holds any more.
     #[inline(always)]
     pub fn go_on_dying(&mut self, death: Death, script: &Script) -> Turned
         requires room { 1 < self.old.room }
         requires stands { IsAtTurn script.now (activity_of.Dying death) self.old }
-        ensures turns { (w : World) → StandsFor script.now (under (activity_of.Dying death) self.old) w
+        ensures turns { (w : World) → StandsFor script.now (under (activity_of.Dying death)
+            self.old) w
             → StaysKept script.now self.old.first_budget w → Turns script.now w self.new result }
         ensures keeps { TurnKeeps self.old self.new }
     {
@@ -70,7 +71,8 @@ impl<B: Kind> Engine<B> {
 
     /// Makes the policy count a freed object, if a line reports one.
     fn count_freed(&mut self, event: Event)
-        ensures counts { self.new.policy ≡ with_numbers (numbers_after event self.old.policy.numbers) self.old.policy }
+        ensures counts { self.new.policy
+            ≡ with_numbers (numbers_after event self.old.policy.numbers) self.old.policy }
         ensures store { self.new.store ≡ self.old.store }
         ensures activities { self.new.activities ≡ self.old.activities }
         ensures budget { self.new.budget ≡ self.old.budget }

@@ -53,7 +53,8 @@ impl<B: Kind> Engine<B> {
             → IfSome spec.func (λ f. IsLive self.old.store f) }
         requires room { 0 < self.old.room }
         ensures starts { (script : AnyScript) (w : World) → StandsFor script self.old w
-            → Makes script (start_frame script spec w) self.new (entered spec.sort spec.subject result) }
+            → Makes script (start_frame script spec w) self.new (entered spec.sort spec.subject
+            result) }
         ensures keeps { TurnKeeps self.old self.new }
     {
         if self.budget == 0 {
@@ -71,7 +72,8 @@ impl<B: Kind> Engine<B> {
         requires room { 0 < self.old.room }
         requires budget { 0 < self.old.budget }
         ensures starts { (script : AnyScript) (w : World) → StandsFor script self.old w
-            → Makes script (start_frame script spec w) self.new (entered spec.sort spec.subject true) }
+            → Makes script (start_frame script spec w) self.new (entered spec.sort spec.subject
+            true) }
         ensures keeps { TurnKeeps self.old self.new }
     {
         self.budget -= 1;
@@ -100,11 +102,14 @@ impl<B: Kind> Engine<B> {
         }
     }
 
-    /// Ends a frame, taken from the top. If a command called its function, the function is given up.
+    /// Ends a frame, taken from the top. If a command called its function, the function is given
+    /// up.
     pub fn leave(&mut self, locals: Locals) -> Turned
         requires room { 0 < self.old.room }
-        ensures leaves { (script : AnyScript) (procedure : ℕ) (next : Option ℕ) (w : World) → commands_from next (body_of script procedure) ≡ []
-            → StandsFor script (under (activity_of.Frame locals procedure next) self.old) w → Turns script w self.new result }
+        ensures leaves { (script : AnyScript) (procedure : ℕ) (next : Option ℕ) (w : World)
+            → commands_from next (body_of script procedure) ≡ []
+            → StandsFor script (under (activity_of.Frame locals procedure next) self.old) w
+            → Turns script w self.new result }
         ensures keeps { TurnKeeps self.old self.new }
     {
         self.push_if(given_up_by(locals));

@@ -27,7 +27,8 @@ pub enum Detection {
     Second,
 }
 
-/// Whether the pass examines an object in this place: in the generation or a younger one, or among the condemned.
+/// Whether the pass examines an object in this place: in the generation or a younger one, or among
+/// the condemned.
 fn looks_at(detection: Detection, place: Place) -> bool
     ensures { result ≡ is_candidate_at detection place }
 {
@@ -47,9 +48,11 @@ fn write_reference<B: Kind, K: Sink>(
 ) -> Result<(), WriteFailed>
     requires { IsLiveValue heap.now value }
     ensures ok { OnOk result (Appends (K.written sink.old) (K.written sink.new)
-        (flat_map (numbered (codes "r")) (among heap.now detection (references_of_value (Some value))))) }
+        (flat_map (numbered (codes "r"))
+        (among heap.now detection (references_of_value (Some value))))) }
     ensures err { OnErr result (AppendsFront (K.written sink.old) (K.written sink.new)
-        (flat_map (numbered (codes "r")) (among heap.now detection (references_of_value (Some value))))) }
+        (flat_map (numbered (codes "r"))
+        (among heap.now detection (references_of_value (Some value))))) }
     ensures cause { HasCause (K.faults sink.old) (K.faults sink.new) result }
 {
     if let Val::Ref(object) = value {
@@ -70,9 +73,11 @@ fn write_references<B: Kind, K: Sink>(
 ) -> Result<(), WriteFailed>
     requires { IsLive heap.now object }
     ensures ok { OnOk result (Appends (K.written sink.old) (K.written sink.new)
-        (flat_map (numbered (codes "r")) (among heap.now detection (references (entries_of heap.now object))))) }
+        (flat_map (numbered (codes "r"))
+        (among heap.now detection (references (entries_of heap.now object))))) }
     ensures err { OnErr result (AppendsFront (K.written sink.old) (K.written sink.new)
-        (flat_map (numbered (codes "r")) (among heap.now detection (references (entries_of heap.now object))))) }
+        (flat_map (numbered (codes "r"))
+        (among heap.now detection (references (entries_of heap.now object))))) }
     ensures cause { HasCause (K.faults sink.old) (K.faults sink.new) result }
 {
     heap.sound();
@@ -139,9 +144,11 @@ fn write_generations<B: Kind, K: Sink>(
 ) -> Result<(), WriteFailed>
     requires { generation ≤ 2 }
     ensures ok { OnOk result (Appends (K.written sink.old) (K.written sink.new)
-        (members_text script.now heap.now (Detection.First generation) (generations_below heap.now (generation + 1)))) }
+        (members_text script.now heap.now (Detection.First generation) (generations_below heap.now
+        (generation + 1)))) }
     ensures err { OnErr result (AppendsFront (K.written sink.old) (K.written sink.new)
-        (members_text script.now heap.now (Detection.First generation) (generations_below heap.now (generation + 1)))) }
+        (members_text script.now heap.now (Detection.First generation) (generations_below heap.now
+        (generation + 1)))) }
     ensures cause { HasCause (K.faults sink.old) (K.faults sink.new) result }
 {
     let detection = Detection::First { generation };
@@ -198,8 +205,10 @@ fn write_all_at<B: Kind, K: Sink>(
 
 /// Writes what a first pass found: the unreachable objects, and the uncollectable ones among them.
 fn write_sorted<B: Kind, K: Sink>(heap: &Heap<B>, sink: &mut K) -> Result<(), WriteFailed>
-    ensures ok { OnOk result (Appends (K.written sink.old) (K.written sink.new) (sorted_text heap.now)) }
-    ensures err { OnErr result (AppendsFront (K.written sink.old) (K.written sink.new) (sorted_text heap.now)) }
+    ensures ok { OnOk result (Appends (K.written sink.old) (K.written sink.new)
+        (sorted_text heap.now)) }
+    ensures err { OnErr result (AppendsFront (K.written sink.old) (K.written sink.new)
+        (sorted_text heap.now)) }
     ensures cause { HasCause (K.faults sink.old) (K.faults sink.new) result }
 {
     write_all_at(heap, Place::Cand, "lost", sink)?;
@@ -209,8 +218,10 @@ fn write_sorted<B: Kind, K: Sink>(heap: &Heap<B>, sink: &mut K) -> Result<(), Wr
 
 /// Writes what a second pass found, and that the record ends.
 fn write_final<B: Kind, K: Sink>(heap: &Heap<B>, sink: &mut K) -> Result<(), WriteFailed>
-    ensures ok { OnOk result (Appends (K.written sink.old) (K.written sink.new) (final_text heap.now)) }
-    ensures err { OnErr result (AppendsFront (K.written sink.old) (K.written sink.new) (final_text heap.now)) }
+    ensures ok { OnOk result (Appends (K.written sink.old) (K.written sink.new)
+        (final_text heap.now)) }
+    ensures err { OnErr result (AppendsFront (K.written sink.old) (K.written sink.new)
+        (final_text heap.now)) }
     ensures cause { HasCause (K.faults sink.old) (K.faults sink.new) result }
 {
     write_all_at(heap, Place::Cand, "lost", sink)?;
@@ -223,8 +234,10 @@ pub fn write_findings<B: Kind, K: Sink>(
     detection: Detection,
     sink: &mut K,
 ) -> Result<(), WriteFailed>
-    ensures ok { OnOk result (Appends (K.written sink.old) (K.written sink.new) (findings heap.now detection)) }
-    ensures err { OnErr result (AppendsFront (K.written sink.old) (K.written sink.new) (findings heap.now detection)) }
+    ensures ok { OnOk result (Appends (K.written sink.old) (K.written sink.new)
+        (findings heap.now detection)) }
+    ensures err { OnErr result (AppendsFront (K.written sink.old) (K.written sink.new)
+        (findings heap.now detection)) }
     ensures cause { HasCause (K.faults sink.old) (K.faults sink.new) result }
 {
     match detection {

@@ -53,7 +53,8 @@ pub fn next_change(commands: &[Command], number: usize) -> Option<&Command>
     }
 }
 
-/// The commands of a procedure, by its number. There are none where the script has no such procedure.
+/// The commands of a procedure, by its number. There are none where the script has no such
+/// procedure.
 #[inline(always)]
 pub fn body_of(script: &Script, number: u32) -> &[Command]
     ensures { result.now ≡ body_of script.now number }

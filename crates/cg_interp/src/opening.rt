@@ -16,8 +16,8 @@ use cg_script::Script;
 use std::alloc::{AllocError, Global};
 
 impl<B: Kind> Engine<B> {
-    /// The engine of a script with a budget, on a new heap (`Heap::new`) for the script's names. Answers
-    /// `AllocError` only if memory runs out.
+    /// The engine of a script with a budget, on a new heap (`Heap::new`) for the script's names.
+    /// Answers `AllocError` only if memory runs out.
     pub fn new(
         alloc: Global,
         heap: Heap<B>,

@@ -15,8 +15,10 @@ const ROOM: usize = 64;
 /// Writes a line with a word, of at most eight bytes, and a number.
 pub fn write_numbered<K: Sink>(word: &str, number: u64, sink: &mut K) -> Result<(), WriteFailed>
     requires { length word.now ≤ 8 }
-    ensures ok { OnOk result (Appends (K.written sink.old) (K.written sink.new) (numbered word.now number)) }
-    ensures err { OnErr result (AppendsFront (K.written sink.old) (K.written sink.new) (numbered word.now number)) }
+    ensures ok { OnOk result (Appends (K.written sink.old) (K.written sink.new)
+        (numbered word.now number)) }
+    ensures err { OnErr result (AppendsFront (K.written sink.old) (K.written sink.new)
+        (numbered word.now number)) }
     ensures cause { HasCause (K.faults sink.old) (K.faults sink.new) result }
 {
     let mut line: ArrayString<ROOM> = ArrayString::new();
@@ -27,15 +29,18 @@ pub fn write_numbered<K: Sink>(word: &str, number: u64, sink: &mut K) -> Result<
     sink.write(line.as_str().as_bytes())
 }
 
-/// Writes the line of a member: its serial, its in-degree, and whether its class has a legacy finalizer.
+/// Writes the line of a member: its serial, its in-degree, and whether its class has a legacy
+/// finalizer.
 pub fn write_member_line<K: Sink>(
     serial: u64,
     degree: u64,
     legacy: bool,
     sink: &mut K,
 ) -> Result<(), WriteFailed>
-    ensures ok { OnOk result (Appends (K.written sink.old) (K.written sink.new) (member_line serial degree legacy)) }
-    ensures err { OnErr result (AppendsFront (K.written sink.old) (K.written sink.new) (member_line serial degree legacy)) }
+    ensures ok { OnOk result (Appends (K.written sink.old) (K.written sink.new)
+        (member_line serial degree legacy)) }
+    ensures err { OnErr result (AppendsFront (K.written sink.old) (K.written sink.new)
+        (member_line serial degree legacy)) }
     ensures cause { HasCause (K.faults sink.old) (K.faults sink.new) result }
 {
     let mut line: ArrayString<ROOM> = ArrayString::new();
@@ -49,8 +54,10 @@ pub fn write_member_line<K: Sink>(
 
 /// Writes the line that ends a record without a second graph, if one is unfinished.
 pub fn write_cut<K: Sink>(unfinished: bool, sink: &mut K) -> Result<(), WriteFailed>
-    ensures ok { OnOk result (Appends (K.written sink.old) (K.written sink.new) (closing unfinished)) }
-    ensures err { OnErr result (AppendsFront (K.written sink.old) (K.written sink.new) (closing unfinished)) }
+    ensures ok { OnOk result (Appends (K.written sink.old) (K.written sink.new)
+        (closing unfinished)) }
+    ensures err { OnErr result (AppendsFront (K.written sink.old) (K.written sink.new)
+        (closing unfinished)) }
     ensures cause { HasCause (K.faults sink.old) (K.faults sink.new) result }
 {
     if unfinished {

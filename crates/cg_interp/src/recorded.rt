@@ -31,8 +31,8 @@ use std::alloc::Global;
 use std::marker::Brand;
 use std::sync::ledger::{Blank, Ledger};
 
-/// One turn and its records; its lines are dropped. Answers the state of the run, or `None` if a command was refused for
-/// memory.
+/// One turn and its records; its lines are dropped. Answers the state of the run, or `None` if a
+/// command was refused for memory.
 fn turn_and_record<B: Kind, K: Sink, L: Ledger>(
     engine: &mut Engine<B>,
     script: &Script,
@@ -41,12 +41,16 @@ fn turn_and_record<B: Kind, K: Sink, L: Ledger>(
     sink: &mut K,
 ) -> Result<Option<Standing>, WriteFailed>
     requires stands { IsAtAnyTurn script.now engine.old }
-    ensures ok { IfOk result (λ told. (w : World) (left : List AnyEvent) → StandsWith script.now engine.old left w
+    ensures ok { IfOk result (λ told. (w : World) (left : List AnyEvent) → StandsWith script.now
+        engine.old left w
         → StaysKept script.now engine.old.first_budget w
-        → RecordsTurn script.now engine.old unfinished.old w left engine.new unfinished.new told (K.written sink.old) (K.written sink.new)) }
-    ensures err { OnErr result ((w : World) (left : List AnyEvent) → StandsWith script.now engine.old left w
+        → RecordsTurn script.now engine.old unfinished.old w left engine.new unfinished.new told
+        (K.written sink.old) (K.written sink.new)) }
+    ensures err { OnErr result ((w : World) (left : List AnyEvent) → StandsWith script.now
+        engine.old left w
         → StaysKept script.now engine.old.first_budget w
-        → CutsRecord script.now engine.old unfinished.old w left engine.new (K.written sink.old) (K.written sink.new)) }
+        → CutsRecord script.now engine.old unfinished.old w left engine.new (K.written sink.old)
+        (K.written sink.new)) }
     ensures cause { HasCause (K.faults sink.old) (K.faults sink.new) result }
     ensures fit { StaysFit engine.old engine.new }
     ensures was_sound { IsSound engine.old.store }
@@ -73,7 +77,8 @@ fn end_records<K: Sink>(unfinished: bool, end: RunEnd, sink: &mut K) -> RunEnd
     ensures ok { result ≢ RunEnd.WriteFault
         → Appends (K.written sink.old) (K.written sink.new) (closing unfinished ++ codes "end\n") }
     ensures part { result ≡ RunEnd.WriteFault
-        → AppendsFront (K.written sink.old) (K.written sink.new) (closing unfinished ++ codes "end\n") }
+        → AppendsFront (K.written sink.old) (K.written sink.new) (closing unfinished
+        ++ codes "end\n") }
     ensures cause { result ≡ RunEnd.WriteFault → Rose (K.faults sink.old) (K.faults sink.new) }
     ensures later { K.faults sink.old ≤ K.faults sink.new }
 {
@@ -83,7 +88,8 @@ fn end_records<K: Sink>(unfinished: bool, end: RunEnd, sink: &mut K) -> RunEnd
     }
 }
 
-/// Takes turns and records each, until the run has ended, the sink has failed or a command was refused for memory.
+/// Takes turns and records each, until the run has ended, the sink has failed or a command was
+/// refused for memory.
 fn record_turns<B: Kind, K: Sink, L: Ledger>(
     engine: &mut Engine<B>,
     script: &Script,
@@ -92,14 +98,18 @@ fn record_turns<B: Kind, K: Sink, L: Ledger>(
 ) -> RunEnd
     requires may { MayRun script.now engine.old }
     ensures done { result ≡ RunEnd.Done
-        → WroteRecords script.now engine.old.first_budget Ended (K.written sink.old) (K.written sink.new) }
+        → WroteRecords script.now engine.old.first_budget Ended (K.written sink.old)
+        (K.written sink.new) }
     ensures spent { result ≡ RunEnd.Budget
-        → WroteRecords script.now engine.old.first_budget BudgetIsSpent (K.written sink.old) (K.written sink.new) }
+        → WroteRecords script.now engine.old.first_budget BudgetIsSpent (K.written sink.old)
+        (K.written sink.new) }
     ensures part { result ≡ RunEnd.WriteFault
-        → WroteRecordsPart script.now engine.old.first_budget (K.written sink.old) (K.written sink.new) }
+        → WroteRecordsPart script.now engine.old.first_budget (K.written sink.old)
+        (K.written sink.new) }
     ensures cause { result ≡ RunEnd.WriteFault → Rose (K.faults sink.old) (K.faults sink.new) }
     ensures memory { result ≡ RunEnd.OutOfMemory
-        → WroteRecordsPart script.now engine.old.first_budget (K.written sink.old) (K.written sink.new) }
+        → WroteRecordsPart script.now engine.old.first_budget (K.written sink.old)
+        (K.written sink.new) }
     ensures later { K.faults sink.old ≤ K.faults sink.new }
 {
     no_run_is_stuck();
@@ -128,11 +138,15 @@ fn open_and_record<B: Kind, K: Sink, L: Ledger>(
     requires name { blank.name ≡ L.name }
     requires parts { blank.parts ≡ L.parts }
     requires some { 0 < blank.parts }
-    ensures done { result ≡ RunEnd.Done → WroteRecords script.now budget Ended (K.written sink.old) (K.written sink.new) }
-    ensures spent { result ≡ RunEnd.Budget → WroteRecords script.now budget BudgetIsSpent (K.written sink.old) (K.written sink.new) }
-    ensures part { result ≡ RunEnd.WriteFault → WroteRecordsPart script.now budget (K.written sink.old) (K.written sink.new) }
+    ensures done { result ≡ RunEnd.Done → WroteRecords script.now budget Ended (K.written sink.old)
+        (K.written sink.new) }
+    ensures spent { result ≡ RunEnd.Budget → WroteRecords script.now budget BudgetIsSpent
+        (K.written sink.old) (K.written sink.new) }
+    ensures part { result ≡ RunEnd.WriteFault → WroteRecordsPart script.now budget
+        (K.written sink.old) (K.written sink.new) }
     ensures cause { result ≡ RunEnd.WriteFault → Rose (K.faults sink.old) (K.faults sink.new) }
-    ensures memory { result ≡ RunEnd.OutOfMemory → WroteRecordsPart script.now budget (K.written sink.old) (K.written sink.new) }
+    ensures memory { result ≡ RunEnd.OutOfMemory → WroteRecordsPart script.now budget
+        (K.written sink.old) (K.written sink.new) }
     ensures later { K.faults sink.old ≤ K.faults sink.new }
 {
     worlds_stay_kept();
@@ -145,12 +159,12 @@ fn open_and_record<B: Kind, K: Sink, L: Ledger>(
     record_turns(&mut engine, script, &mut steps, sink)
 }
 
-/// Runs a script as `run_script` does, under the same conditions, and writes the records of its collections instead of its text,
-/// one `write` a line. The records allocate nothing.
+/// Runs a script as `run_script` does, under the same conditions, and writes the records of its
+/// collections instead of its text, one `write` a line. The records allocate nothing.
 ///
-/// `Done` if the run ended by `end`; `Budget` if it ended by `budget spent`; `WriteFault` if the sink failed; `OutOfMemory` if
-/// memory was refused, either at the start before anything was written, or to a command: then the run stops, and a prefix of the
-/// records was written.
+/// `Done` if the run ended by `end`; `Budget` if it ended by `budget spent`; `WriteFault` if the
+/// sink failed; `OutOfMemory` if memory was refused, either at the start before anything was
+/// written, or to a command: then the run stops, and a prefix of the records was written.
 pub fn run_recorded<B: Kind, K: Sink>(
     alloc: Global,
     heap: Heap<B>,
@@ -164,12 +178,16 @@ pub fn run_recorded<B: Kind, K: Sink>(
     requires budget { budget ≤ MOST_BUDGET }
 
     // The text of the records of a whole run without a command refused for memory.
-    ensures done { result ≡ RunEnd.Done → WroteRecords script.now budget Ended (K.written sink.old) (K.written sink.new) }
-    ensures spent { result ≡ RunEnd.Budget → WroteRecords script.now budget BudgetIsSpent (K.written sink.old) (K.written sink.new) }
+    ensures done { result ≡ RunEnd.Done → WroteRecords script.now budget Ended (K.written sink.old)
+        (K.written sink.new) }
+    ensures spent { result ≡ RunEnd.Budget → WroteRecords script.now budget BudgetIsSpent
+        (K.written sink.old) (K.written sink.new) }
 
     // A prefix of the text of the records of a whole run.
-    ensures part { result ≡ RunEnd.WriteFault → WroteRecordsPart script.now budget (K.written sink.old) (K.written sink.new) }
-    ensures memory { result ≡ RunEnd.OutOfMemory → WroteRecordsPart script.now budget (K.written sink.old) (K.written sink.new) }
+    ensures part { result ≡ RunEnd.WriteFault → WroteRecordsPart script.now budget
+        (K.written sink.old) (K.written sink.new) }
+    ensures memory { result ≡ RunEnd.OutOfMemory → WroteRecordsPart script.now budget
+        (K.written sink.old) (K.written sink.new) }
     ensures cause { result ≡ RunEnd.WriteFault → Rose (K.faults sink.old) (K.faults sink.new) }
     ensures later { K.faults sink.old ≤ K.faults sink.new }
 {

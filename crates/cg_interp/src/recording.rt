@@ -40,7 +40,8 @@ impl<B: Kind> Engine<B> {
 }
 
 impl Detection {
-    /// Whether a record contains its graph: a first pass begins a record, and a second one ends the unfinished one.
+    /// Whether a record contains its graph: a first pass begins a record, and a second one ends the
+    /// unfinished one.
     fn is_taken(self, unfinished: bool) -> bool
         ensures { taken_while unfinished self ≡ cond result (Some self) None }
     {
@@ -81,11 +82,13 @@ pub fn is_unfinished_after(detection: Option<Detection>, unfinished: bool) -> bo
     }
 }
 
-/// Writes the beginning of a record of a collection of this generation, and its first graph. Ends an unfinished
-/// record.
+/// Writes the beginning of a record of a collection of this generation, and its first graph. Ends
+/// an unfinished record.
 fn write_record<K: Sink>(generation: u64, unfinished: bool, sink: &mut K) -> Result<(), WriteFailed>
-    ensures ok { OnOk result (Appends (K.written sink.old) (K.written sink.new) (record_heading unfinished generation)) }
-    ensures err { OnErr result (AppendsFront (K.written sink.old) (K.written sink.new) (record_heading unfinished generation)) }
+    ensures ok { OnOk result (Appends (K.written sink.old) (K.written sink.new)
+        (record_heading unfinished generation)) }
+    ensures err { OnErr result (AppendsFront (K.written sink.old) (K.written sink.new)
+        (record_heading unfinished generation)) }
     ensures cause { HasCause (K.faults sink.old) (K.faults sink.new) result }
 {
     write_cut(unfinished, sink)?;
@@ -99,8 +102,10 @@ fn write_heading<K: Sink>(
     unfinished: bool,
     sink: &mut K,
 ) -> Result<(), WriteFailed>
-    ensures ok { OnOk result (Appends (K.written sink.old) (K.written sink.new) (heading unfinished detection)) }
-    ensures err { OnErr result (AppendsFront (K.written sink.old) (K.written sink.new) (heading unfinished detection)) }
+    ensures ok { OnOk result (Appends (K.written sink.old) (K.written sink.new)
+        (heading unfinished detection)) }
+    ensures err { OnErr result (AppendsFront (K.written sink.old) (K.written sink.new)
+        (heading unfinished detection)) }
     ensures cause { HasCause (K.faults sink.old) (K.faults sink.new) result }
 {
     match detection {
@@ -156,8 +161,10 @@ impl<B: Kind> Engine<B> {
         detection: Option<Detection>,
         sink: &mut K,
     ) -> Result<(), WriteFailed>
-        ensures ok { OnOk result (Appends (K.written sink.old) (K.written sink.new) (text_after self.now.store detection)) }
-        ensures err { OnErr result (AppendsFront (K.written sink.old) (K.written sink.new) (text_after self.now.store detection)) }
+        ensures ok { OnOk result (Appends (K.written sink.old) (K.written sink.new)
+            (text_after self.now.store detection)) }
+        ensures err { OnErr result (AppendsFront (K.written sink.old) (K.written sink.new)
+            (text_after self.now.store detection)) }
         ensures cause { HasCause (K.faults sink.old) (K.faults sink.new) result }
     {
         match detection {
@@ -169,8 +176,10 @@ impl<B: Kind> Engine<B> {
 
 /// Writes the end of the records; an unfinished one ends without a second graph.
 pub fn write_end<K: Sink>(unfinished: bool, sink: &mut K) -> Result<(), WriteFailed>
-    ensures ok { OnOk result (Appends (K.written sink.old) (K.written sink.new) (closing unfinished ++ codes "end\n")) }
-    ensures err { OnErr result (AppendsFront (K.written sink.old) (K.written sink.new) (closing unfinished ++ codes "end\n")) }
+    ensures ok { OnOk result (Appends (K.written sink.old) (K.written sink.new) (closing unfinished
+        ++ codes "end\n")) }
+    ensures err { OnErr result (AppendsFront (K.written sink.old) (K.written sink.new)
+        (closing unfinished ++ codes "end\n")) }
     ensures cause { HasCause (K.faults sink.old) (K.faults sink.new) result }
 {
     write_cut(unfinished, sink)?;

@@ -20,14 +20,16 @@ use cg_kind::Kind;
 use cg_value::{Entry, Val};
 
 impl<B: Kind> Engine<B> {
-    /// Goes on with a release, taken from the top: gives up its references, until one leaves its object unheld. The death of
-    /// that object begins.
+    /// Goes on with a release, taken from the top: gives up its references, until one leaves its
+    /// object unheld. The death of that object begins.
     #[inline(always)]
     pub fn go_on_releasing(&mut self, release: Release) -> Turned
         requires room { 1 < self.old.room }
         requires stands { (script : AnyScript) × (w : World)
-            × StandsFor script (under (activity_of.Releasing release) self.old) w × StaysSound script w }
-        ensures turns { (script : AnyScript) (w : World) → StandsFor script (under (activity_of.Releasing release) self.old) w
+            × StandsFor script (under (activity_of.Releasing release) self.old) w
+            × StaysSound script w }
+        ensures turns { (script : AnyScript) (w : World)
+            → StandsFor script (under (activity_of.Releasing release) self.old) w
             → StaysSound script w → Turns script w self.new result }
         ensures keeps { TurnKeeps self.old self.new }
     {
@@ -46,8 +48,10 @@ impl<B: Kind> Engine<B> {
         requires unheld { IsUnheld self.old.store object }
         requires room { 1 < self.old.room }
         requires stands { (script : AnyScript) × (w : World)
-            × StandsFor script (under (activity_of.Releasing release) self.old) w × DyingIsSound (begin_death object w) }
-        ensures begins { (script : AnyScript) (w : World) → StandsFor script (under (activity_of.Releasing release) self.old) w
+            × StandsFor script (under (activity_of.Releasing release) self.old) w
+            × DyingIsSound (begin_death object w) }
+        ensures begins { (script : AnyScript) (w : World)
+            → StandsFor script (under (activity_of.Releasing release) self.old) w
             → StandsFor script self.new (begin_death object w) }
         ensures keeps { TurnKeeps self.old self.new }
     {
@@ -66,14 +70,16 @@ pub fn release_of(val: Option<Val>) -> Release
     })
 }
 
-/// Gives up the references of a release one after the other, up to one whose object nothing holds any more. It answers that
-/// object, if there is one: its death is to begin.
+/// Gives up the references of a release one after the other, up to one whose object nothing holds
+/// any more. It answers that object, if there is one: its death is to begin.
 #[inline(always)]
 pub fn give_up<B: Kind>(heap: &mut Heap<B>, release: &mut Release) -> Option<u64>
     requires stands { (script : AnyScript) × (e : State) × (w : World)
-        × StandsFor script (under (activity_of.Releasing release.old) (over heap.old e)) w × StaysSound script w }
+        × StandsFor script (under (activity_of.Releasing release.old) (over heap.old e)) w
+        × StaysSound script w }
     ensures releases { (script : AnyScript) (e : State) (w : World)
-        → StandsFor script (under (activity_of.Releasing release.old) (over heap.old e)) w → StaysSound script w
+        → StandsFor script (under (activity_of.Releasing release.old) (over heap.old e)) w
+        → StaysSound script w
         → Released script w (over heap.new e) release.new result }
     ensures unheld { IfSome result (λ o. IsUnheld heap.new o) }
     ensures objects { MakesNone heap.old heap.new }

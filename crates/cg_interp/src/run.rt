@@ -51,12 +51,16 @@ fn turn_and_write<B: Kind, K: Sink, L: Ledger>(
     sink: &mut K,
 ) -> Result<Standing, WriteFailed>
     requires may { MayWrite script.now engine.old }
-    ensures ok { IfOk result (λ stands. (w : World) (left : List AnyEvent) → StandsWith script.now engine.old left w
+    ensures ok { IfOk result (λ stands. (w : World) (left : List AnyEvent) → StandsWith script.now
+        engine.old left w
         → StaysKept script.now engine.old.first_budget w
-        → WritesTurn script.now engine.old w left engine.new stands (K.written sink.old) (K.written sink.new)) }
-    ensures err { OnErr result ((w : World) (left : List AnyEvent) → StandsWith script.now engine.old left w
+        → WritesTurn script.now engine.old w left engine.new stands (K.written sink.old)
+        (K.written sink.new)) }
+    ensures err { OnErr result ((w : World) (left : List AnyEvent) → StandsWith script.now
+        engine.old left w
         → StaysKept script.now engine.old.first_budget w
-        → CutsTurn script.now engine.old w left engine.new (K.written sink.old) (K.written sink.new)) }
+        → CutsTurn script.now engine.old w left engine.new (K.written sink.old)
+        (K.written sink.new)) }
     ensures cause { HasCause (K.faults sink.old) (K.faults sink.new) result }
     ensures fit { StaysFit engine.old engine.new }
     ensures sound { IsSound engine.new.store }
@@ -79,9 +83,11 @@ fn run_turns<B: Kind, K: Sink, L: Ledger>(
 ) -> RunEnd
     requires may { MayRun script.now engine.old }
     ensures done { result ≡ RunEnd.Done
-        → WroteRun script.now engine.old.first_budget Ended (K.written sink.old) (K.written sink.new) }
+        → WroteRun script.now engine.old.first_budget Ended (K.written sink.old)
+        (K.written sink.new) }
     ensures spent { result ≡ RunEnd.Budget
-        → WroteRun script.now engine.old.first_budget BudgetIsSpent (K.written sink.old) (K.written sink.new) }
+        → WroteRun script.now engine.old.first_budget BudgetIsSpent (K.written sink.old)
+        (K.written sink.new) }
     ensures part { result ≡ RunEnd.WriteFault
         → WrotePart script.now engine.old.first_budget (K.written sink.old) (K.written sink.new) }
     ensures cause { result ≡ RunEnd.WriteFault → Rose (K.faults sink.old) (K.faults sink.new) }
@@ -113,9 +119,12 @@ fn open_and_run<B: Kind, K: Sink, L: Ledger>(
     requires name { blank.name ≡ L.name }
     requires parts { blank.parts ≡ L.parts }
     requires some { 0 < blank.parts }
-    ensures done { result ≡ RunEnd.Done → WroteRun script.now budget Ended (K.written sink.old) (K.written sink.new) }
-    ensures spent { result ≡ RunEnd.Budget → WroteRun script.now budget BudgetIsSpent (K.written sink.old) (K.written sink.new) }
-    ensures part { result ≡ RunEnd.WriteFault → WrotePart script.now budget (K.written sink.old) (K.written sink.new) }
+    ensures done { result ≡ RunEnd.Done → WroteRun script.now budget Ended (K.written sink.old)
+        (K.written sink.new) }
+    ensures spent { result ≡ RunEnd.Budget → WroteRun script.now budget BudgetIsSpent
+        (K.written sink.old) (K.written sink.new) }
+    ensures part { result ≡ RunEnd.WriteFault → WrotePart script.now budget (K.written sink.old)
+        (K.written sink.new) }
     ensures cause { result ≡ RunEnd.WriteFault → Rose (K.faults sink.old) (K.faults sink.new) }
     ensures memory { result ≡ RunEnd.OutOfMemory → Keeps (K.written sink.old) (K.written sink.new) }
     ensures later { K.faults sink.old ≤ K.faults sink.new }
@@ -129,12 +138,13 @@ fn open_and_run<B: Kind, K: Sink, L: Ledger>(
     run_turns(&mut engine, script, &mut steps, sink)
 }
 
-/// Runs a script that some bytes spell, with a budget of at most 100,000 frames, on a new heap (`Heap::new`) for the
-/// script's names, and writes the lines of the run, one `write` a line.
+/// Runs a script that some bytes spell, with a budget of at most 100,000 frames, on a new heap
+/// (`Heap::new`) for the script's names, and writes the lines of the run, one `write` a line.
 ///
-/// `Done` if the run ended by `end`, `Budget` if it ended by `budget spent`, `WriteFault` if the sink failed, and
-/// `OutOfMemory` if memory was refused before anything was written. After any answer, the lines begin each finalizer at most
-/// once (PEP 442), and name no object that an earlier line frees.
+/// `Done` if the run ended by `end`, `Budget` if it ended by `budget spent`, `WriteFault` if the
+/// sink failed, and `OutOfMemory` if memory was refused before anything was written. After any
+/// answer, the lines begin each finalizer at most once (PEP 442), and name no object that an
+/// earlier line frees.
 pub fn run_script<B: Kind, K: Sink>(
     alloc: Global,
     heap: Heap<B>,
@@ -146,9 +156,12 @@ pub fn run_script<B: Kind, K: Sink>(
     requires known { TextsAreKnown script.now }
     requires heap { heap ≡ opening_store (length script.now.names) }
     requires budget { budget ≤ MOST_BUDGET }
-    ensures done { result ≡ RunEnd.Done → WroteRun script.now budget Ended (K.written sink.old) (K.written sink.new) }
-    ensures spent { result ≡ RunEnd.Budget → WroteRun script.now budget BudgetIsSpent (K.written sink.old) (K.written sink.new) }
-    ensures part { result ≡ RunEnd.WriteFault → WrotePart script.now budget (K.written sink.old) (K.written sink.new) }
+    ensures done { result ≡ RunEnd.Done → WroteRun script.now budget Ended (K.written sink.old)
+        (K.written sink.new) }
+    ensures spent { result ≡ RunEnd.Budget → WroteRun script.now budget BudgetIsSpent
+        (K.written sink.old) (K.written sink.new) }
+    ensures part { result ≡ RunEnd.WriteFault → WrotePart script.now budget (K.written sink.old)
+        (K.written sink.new) }
     ensures cause { result ≡ RunEnd.WriteFault → Rose (K.faults sink.old) (K.faults sink.new) }
     ensures memory { result ≡ RunEnd.OutOfMemory → Keeps (K.written sink.old) (K.written sink.new) }
     ensures later { K.faults sink.old ≤ K.faults sink.new }

@@ -1,5 +1,5 @@
-//! The shutdown at the end of a script that declares one: all names are given up, a full collection runs, and what is left
-//! is counted.
+//! The shutdown at the end of a script that declares one: all names are given up, a full collection
+//! runs, and what is left is counted.
 ghost use Rattle.std.specs.Prelude.{◌≡◌, ◌<◌, ℕ, Option, [], None, Some, false, true, length};
 ghost use Rattle.cg_script.specs.declared.Script.{Script as AnyScript};
 ghost use Rattle.cg_heap.specs.Calls.{HasFewHolds, IsSound};
@@ -20,11 +20,14 @@ use cg_kind::Kind;
 use cg_script::Script;
 
 impl<B: Kind> Engine<B> {
-    /// The script, taken from the top, has no command left: the run ends, or the shutdown replaces it.
+    /// The script, taken from the top, has no command left: the run ends, or the shutdown replaces
+    /// it.
     pub fn end_commands(&mut self, script: &Script) -> Turned
         requires room { 0 < self.old.room }
-        ensures ends { (next : Option ℕ) (w : World) → commands_from next (commands_of script.now.items) ≡ [] → due w ≡ None
-            → StandsFor script.now (under (activity_of.Script next) self.old) w → Turns script.now w self.new result }
+        ensures ends { (next : Option ℕ) (w : World)
+            → commands_from next (commands_of script.now.items) ≡ [] → due w ≡ None
+            → StandsFor script.now (under (activity_of.Script next) self.old) w
+            → Turns script.now w self.new result }
         ensures keeps { TurnKeeps self.old self.new }
     {
         if script.shutdown() {
@@ -35,13 +38,15 @@ impl<B: Kind> Engine<B> {
         }
     }
 
-    /// Gives up the bound name with the greatest number, or starts the last collection if none is bound. The shutdown was
-    /// taken from the top.
+    /// Gives up the bound name with the greatest number, or starts the last collection if none is
+    /// bound. The shutdown was taken from the top.
     pub fn shut_down(&mut self) -> Turned
         requires few { HasFewHolds self.old.store }
         requires room { 2 < self.old.room }
-        requires stands { (script : AnyScript) × IsAtTurn script (activity_of.Shutdown false) self.old }
-        ensures turns { (script : AnyScript) → TurnsFrom script (activity_of.Shutdown false) self.old self.new result }
+        requires stands { (script : AnyScript) × IsAtTurn script (activity_of.Shutdown false)
+            self.old }
+        ensures turns { (script : AnyScript) → TurnsFrom script (activity_of.Shutdown false)
+            self.old self.new result }
         ensures keeps { TurnKeeps self.old self.new }
     {
         match self.greatest_bound() {
@@ -66,8 +71,10 @@ impl<B: Kind> Engine<B> {
         requires name { name < length self.old.store.names }
         requires few { HasFewHolds self.old.store }
         requires room { 1 < self.old.room }
-        ensures gives { greatest_from 0 self.old.store.names ≡ Some name → (script : AnyScript) (w : World)
-            → StandsFor script (under (activity_of.Shutdown false) self.old) w → Turns script w self.new result }
+        ensures gives { greatest_from 0 self.old.store.names ≡ Some name
+            → (script : AnyScript) (w : World)
+            → StandsFor script (under (activity_of.Shutdown false) self.old) w
+            → Turns script w self.new result }
         ensures keeps { TurnKeeps self.old self.new }
     {
         self.heap.sound();
@@ -77,11 +84,12 @@ impl<B: Kind> Engine<B> {
         Turned::Quiet
     }
 
-    /// Reports how many objects are left, and ends the run. The shutdown was taken from the top, and its
-    /// collection is over.
+    /// Reports how many objects are left, and ends the run. The shutdown was taken from the top,
+    /// and its collection is over.
     pub fn tell_left(&self) -> Turned
         requires sound { IsSound self.now.store }
-        ensures left { (script : AnyScript) (w : World) → StandsFor script (under (activity_of.Shutdown true) self.now) w
+        ensures left { (script : AnyScript) (w : World)
+            → StandsFor script (under (activity_of.Shutdown true) self.now) w
             → Turns script w self.now result }
     {
         Turned::Left(self.heap.live())

@@ -8,8 +8,8 @@ use cg_collect::Collection;
 use cg_commands::Locals;
 use cg_death::{Death, Release};
 
-/// An activity, with a collection stored in the seat. There is at most one, so other activities need not have room for
-/// it.
+/// An activity, with a collection stored in the seat. There is at most one, so other activities
+/// need not have room for it.
 #[derive(Drop)]
 pub enum Slot {
     /// The script's own commands.

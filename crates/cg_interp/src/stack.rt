@@ -47,7 +47,8 @@ impl Stack {
     #[inline(always)]
     pub fn push(&mut self, activity: Activity)
         requires room { 0 < self.old.room }
-        requires alone { is_collecting activity ≡ true → any_collecting self.old.activities ≡ false }
+        requires alone { is_collecting activity ≡ true → any_collecting self.old.activities
+            ≡ false }
         ensures top { self.new.activities ≡ activity ∷ self.old.activities }
         ensures room { self.old.room ≤ self.new.room + 1 }
     {
@@ -91,7 +92,8 @@ impl Stack {
         self.slots.reserve(room)
     }
 
-    /// Makes room for the stack to grow to this height. Answers `AllocError` only if memory runs out.
+    /// Makes room for the stack to grow to this height. Answers `AllocError` only if memory runs
+    /// out.
     pub fn reserve_up_to(&mut self, height: usize) -> Result<(), AllocError>
         ensures room { OnOk result (height ≤ length self.new.activities + self.new.room) }
         ensures more { self.old.room ≤ self.new.room }

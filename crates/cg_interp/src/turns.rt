@@ -54,7 +54,8 @@ impl<B: Kind> Engine<B> {
     /// A turn of a release, taken from the top.
     #[inline(always)]
     fn turn_of_release(&mut self, release: Release) -> Turned
-        requires stands { (script : AnyScript) × IsAtTurn script (activity_of.Releasing release) self.old }
+        requires stands { (script : AnyScript) × IsAtTurn script (activity_of.Releasing release)
+            self.old }
         ensures turns { (script : AnyScript) →
             TurnsFrom script (activity_of.Releasing release) self.old self.new result }
         ensures fit { StaysFit self.old self.new }
@@ -65,8 +66,10 @@ impl<B: Kind> Engine<B> {
     /// A turn of the shutdown, taken from the top.
     #[inline(always)]
     fn turn_of_shutdown(&mut self, started: bool) -> Turned
-        requires stands { (script : AnyScript) × IsAtTurn script (activity_of.Shutdown started) self.old }
-        ensures turns { (script : AnyScript) → TurnsFrom script (activity_of.Shutdown started) self.old self.new result }
+        requires stands { (script : AnyScript) × IsAtTurn script (activity_of.Shutdown started)
+            self.old }
+        ensures turns { (script : AnyScript) → TurnsFrom script (activity_of.Shutdown started)
+            self.old self.new result }
         ensures fit { StaysFit self.old self.new }
     {
         self.heap.sound();

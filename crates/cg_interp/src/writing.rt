@@ -21,8 +21,10 @@ fn write_event<K: Sink>(
     sink: &mut K,
 ) -> Result<(), WriteFailed>
     requires { IsPrintable names.now event.now }
-    ensures ok { OnOk result (Appends (K.written sink.old) (K.written sink.new) (line names.now event.now)) }
-    ensures err { OnErr result (AppendsFront (K.written sink.old) (K.written sink.new) (line names.now event.now)) }
+    ensures ok { OnOk result (Appends (K.written sink.old) (K.written sink.new)
+        (line names.now event.now)) }
+    ensures err { OnErr result (AppendsFront (K.written sink.old) (K.written sink.new)
+        (line names.now event.now)) }
     ensures cause { HasCause (K.faults sink.old) (K.faults sink.new) result }
 {
     text.clear();
@@ -38,8 +40,10 @@ fn write_events<K: Sink>(
     sink: &mut K,
 ) -> Result<(), WriteFailed>
     requires { (event : AnyEvent) → Includes events.now event → IsPrintable names.now event }
-    ensures ok { OnOk result (Appends (K.written sink.old) (K.written sink.new) (flat_map (line names.now) events.now)) }
-    ensures err { OnErr result (AppendsFront (K.written sink.old) (K.written sink.new) (flat_map (line names.now) events.now)) }
+    ensures ok { OnOk result (Appends (K.written sink.old) (K.written sink.new)
+        (flat_map (line names.now) events.now)) }
+    ensures err { OnErr result (AppendsFront (K.written sink.old) (K.written sink.new)
+        (flat_map (line names.now) events.now)) }
     ensures cause { HasCause (K.faults sink.old) (K.faults sink.new) result }
 {
     'events: for event in events.iter() {
@@ -55,7 +59,8 @@ fn write_left<K: Sink>(
     text: &mut LineText,
     sink: &mut K,
 ) -> Result<(), WriteFailed>
-    requires { (event : AnyEvent) → Includes (events_told (turned_of.Left number)) event → IsPrintable names.now event }
+    requires { (event : AnyEvent) → Includes (events_told (turned_of.Left number)) event
+        → IsPrintable names.now event }
     ensures ok { OnOk result (Appends (K.written sink.old) (K.written sink.new)
         (flat_map (line names.now) (events_told (turned_of.Left number)))) }
     ensures err { OnErr result (AppendsFront (K.written sink.old) (K.written sink.new)
@@ -72,7 +77,8 @@ pub fn write_answer<K: Sink>(
     text: &mut LineText,
     sink: &mut K,
 ) -> Result<(), WriteFailed>
-    requires { (event : AnyEvent) → Includes (events_told answer.now) event → IsPrintable names.now event }
+    requires { (event : AnyEvent) → Includes (events_told answer.now) event → IsPrintable names.now
+        event }
     ensures ok { OnOk result (Appends (K.written sink.old) (K.written sink.new)
         (flat_map (line names.now) (events_told answer.now))) }
     ensures err { OnErr result (AppendsFront (K.written sink.old) (K.written sink.new)

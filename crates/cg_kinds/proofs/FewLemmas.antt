@@ -19,7 +19,8 @@ module _ (key : Val) where
       ap (position_from (has_key key) i) (drop_more es i d within)
       ∙ ap (λ b. cond b (Some i) (position_from (has_key key) (i + 1) (drop (i + 1) es))) has
 
-  pub found_later : (i : ℕ) (es : List Entry) (d : Entry) → i < length es → has_key key (get_or es i d) ≡ false → position_from (has_key key) i (drop i es) ≡ position_from (has_key key) (i + 1) (drop (i + 1) es)
+  pub found_later : (i : ℕ) (es : List Entry) (d : Entry) → i < length es → has_key key (get_or es i d) ≡ false → position_from (has_key key) i (drop i es)
+      ≡ position_from (has_key key) (i + 1) (drop (i + 1) es)
   found_later i es d within lacks =
       ap (position_from (has_key key) i) (drop_more es i d within)
       ∙ ap (λ b. cond b (Some i) (position_from (has_key key) (i + 1) (drop (i + 1) es))) lacks
@@ -29,7 +30,8 @@ module _ (key : Val) where
   value_none i [] none = refl
   value_none i (e ∷ es) none = by (same_value e.key key) none (value_none (i + 1) es)
     where
-      by : (b : Bool) → cond b (Some i) (position_from (has_key key) (i + 1) es) ≡ None → (position_from (has_key key) (i + 1) es ≡ None → value_at es key ≡ None) → cond b (Some e.val) (value_at es key) ≡ None
+      by : (b : Bool) → cond b (Some i) (position_from (has_key key) (i + 1) es) ≡ None → (position_from (has_key key) (i + 1) es ≡ None → value_at es key
+          ≡ None) → cond b (Some e.val) (value_at es key) ≡ None
       by true h again = absurd (cc)
       by false h again = again h
 
@@ -47,7 +49,8 @@ module _ (key : Val) where
   found_at i k [] some = absurd (cc)
   found_at i k (e ∷ es) some = by (same_value e.key key) refl some (found_at (i + 1) k es)
     where
-      by : (b : Bool) → same_value e.key key ≡ b → cond b (Some i) (position_from (has_key key) (i + 1) es) ≡ Some k → (position_from (has_key key) (i + 1) es ≡ Some k → (i + 1 ≤ k) × IsFound es (k - (i + 1))) → (i ≤ k) × IsFound (e ∷ es) (k - i)
+      by : (b : Bool) → same_value e.key key ≡ b → cond b (Some i) (position_from (has_key key) (i + 1) es) ≡ Some k → (position_from (has_key key) (i + 1) es
+          ≡ Some k → (i + 1 ≤ k) × IsFound es (k - (i + 1))) → (i ≤ k) × IsFound (e ∷ es) (k - i)
       by true has h again =
           let here : i ≡ k = cc in (
             omega (arith, here),
@@ -80,7 +83,8 @@ module _ (key : Val) where
   back_put val [] ys none = refl
   back_put val (e ∷ xs) ys none = by (same_value e.key key) none (back_put val xs ys)
     where
-      by : (b : Bool) → cond b (Some e.val) (value_at xs key) ≡ None → (value_at xs key ≡ None → put (xs ++ ys) key val ≡ xs ++ put ys key val) → cond b (record { key = e.key; val = val } ∷ xs ++ ys) (e ∷ put (xs ++ ys) key val) ≡ e ∷ xs ++ put ys key val
+      by : (b : Bool) → cond b (Some e.val) (value_at xs key) ≡ None → (value_at xs key ≡ None → put (xs ++ ys) key val ≡ xs ++ put ys key val)
+          → cond b (record { key = e.key; val = val } ∷ xs ++ ys) (e ∷ put (xs ++ ys) key val) ≡ e ∷ xs ++ put ys key val
       by true h again = absurd (cc)
       by false h again = ap (λ l. e ∷ l) (again h)
 

@@ -23,7 +23,8 @@ absent_put : (es : List Entry) (k key val : Val) → same_value key k ≡ false 
 absent_put [] k key val other none = ap (λ b. cond b (Some val) None) other
 absent_put (e ∷ es) k key val other none = by (same_value e.key k) (same_value e.key key) refl none (absent_put es k key val other)
   where
-    by : (b c : Bool) → same_value e.key k ≡ b → cond b (Some e.val) (value_at es k) ≡ None → (value_at es k ≡ None → value_at (put es key val) k ≡ None) → value_at (cond c (record { key = e.key; val = val } ∷ es) (e ∷ put es key val)) k ≡ None
+    by : (b c : Bool) → same_value e.key k ≡ b → cond b (Some e.val) (value_at es k) ≡ None → (value_at es k ≡ None → value_at (put es key val) k ≡ None)
+        → value_at (cond c (record { key = e.key; val = val } ∷ es) (e ∷ put es key val)) k ≡ None
     by true c is h again = absurd (cc)
     by false true is h again = ap (λ b. cond b (Some val) (value_at es k)) is ∙ h
     by false false is h again = ap (λ b. cond b (Some e.val) (value_at (put es key val) k)) is ∙ again h

@@ -231,7 +231,8 @@ module _ (slots : List (Option ℕ)) (homes : List ℕ) (are : AreHomes slots ho
         ]
 
 -- the slots after one index is renamed to another
-pub slots_moved : (slots : List (Option ℕ)) (slot moved index : ℕ) (gap filled : Option ℕ) → gap ≡ None → filled ≡ Some index → set (set slots slot None) moved (Some index) ≡ set (set slots slot gap) moved filled
+pub slots_moved : (slots : List (Option ℕ)) (slot moved index : ℕ) (gap filled : Option ℕ) → gap ≡ None → filled ≡ Some index → set (set slots slot None) moved
+    (Some index) ≡ set (set slots slot gap) moved filled
 slots_moved slots slot moved index gap filled is_gap is_filled =
     sym (ap (λ o. set (set slots slot o) moved filled) is_gap ∙ ap (set (set slots slot None) moved) is_filled)
 
@@ -415,7 +416,8 @@ closed-filter (None ∷ slots) = closed-filter slots
 closed-filter (Some index ∷ slots) = ap (λ l. Some index ∷ l) (closed-filter slots)
 
 -- an index has only one place in the order
-pub place_only : (slots : List (Option ℕ)) (homes : List ℕ) → AreHomes slots homes → (index slot place : ℕ) → get_or slots slot None ≡ Some index → slice_get (indexes slots) place ≡ Some index → place ≡ pairs_before slots slot
+pub place_only : (slots : List (Option ℕ)) (homes : List ℕ) → AreHomes slots homes → (index slot place : ℕ) → get_or slots slot None ≡ Some index
+    → slice_get (indexes slots) place ≡ Some index → place ≡ pairs_before slots slot
 place_only slots homes are index slot place pair is =
     let there = has_slot slots place index is in
     sym there.before ∙ ap (pairs_before slots) (one_slot slots homes are index slot there.slot pair there.pair)
@@ -458,7 +460,8 @@ others_left slots homes are slot index pair =
     let left = left_there slots homes are slot s k is in
     (omega (arith, are.within s k left.1, are.each), λ same. left.0 (one_slot slots homes are index slot s pair (left.1 ∙ ap Some same)))))
 
-pub taken_facts : (slots : List (Option ℕ)) (homes : List ℕ) → AreHomes slots homes → (slot index place : ℕ) (order : List ℕ) → get_or slots slot None ≡ Some index → indexes slots ≡ order → pairs_before slots slot ≡ place
+pub taken_facts : (slots : List (Option ℕ)) (homes : List ℕ) → AreHomes slots homes → (slot index place : ℕ) (order : List ℕ) → get_or slots slot None
+    ≡ Some index → indexes slots ≡ order → pairs_before slots slot ≡ place
     → (slice_get order place ≡ Some index) × (All (IsOther order index) (remove order place) × (index < length order))
 taken_facts slots homes are slot index place order pair is before = (
   ap (λ l. slice_get l place) (sym is) ∙ ap (slice_get (indexes slots)) (sym before) ∙ order_at slots slot index pair,

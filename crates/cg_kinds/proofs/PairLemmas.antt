@@ -54,7 +54,8 @@ find-packed key packed is ps = ap (λ k. position (equal k) (keys_of ps)) is ∙
 pub lookup-packed : (key packed : Val) → packed ≡ key → (ps : List (Val × Val)) → lookup (equal packed) ps ≡ value_at (map pair_entry ps) key
 lookup-packed key packed is ps = ap (λ k. lookup (equal k) ps) is ∙ lookup-pairs key ps
 
-pub insert-packed : (key packed_key val packed_val : Val) → packed_key ≡ key → packed_val ≡ val → (ps : List (Val × Val)) → map pair_entry (insert_entry equal ps packed_key packed_val) ≡ put (map pair_entry ps) key val
+pub insert-packed : (key packed_key val packed_val : Val) → packed_key ≡ key → packed_val ≡ val → (ps : List (Val × Val))
+    → map pair_entry (insert_entry equal ps packed_key packed_val) ≡ put (map pair_entry ps) key val
 insert-packed key packed_key val packed_val key_is val_is ps =
     ap (λ k. map pair_entry (insert_entry equal ps k packed_val)) key_is
     ∙ ap (λ v. map pair_entry (insert_entry equal ps key v)) val_is

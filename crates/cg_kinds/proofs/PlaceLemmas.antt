@@ -121,7 +121,8 @@ module _ {T : Type 0} (f : T → Body) where
   body_at-value s k v e = ap (λ o. body_of (entries_of o) (spare_of o)) (get-bodies_of s k ∙ ap (option_map f) e)
 
   -- a new value
-  pub made : (old new : Slab T) (k : ℕ) (v : T) (parts : List Entry) → Updates old new k (Some v) → (f v).entries ≡ parts → bodies_of f new ≡ with_body (bodies_of f old) k parts (spare_at (bodies_of f new) k)
+  pub made : (old new : Slab T) (k : ℕ) (v : T) (parts : List Entry) → Updates old new k (Some v) → (f v).entries ≡ parts → bodies_of f new
+      ≡ with_body (bodies_of f old) k parts (spare_at (bodies_of f new) k)
   made old new k v parts u is =
       bodies-set old new k v u
       ∙ ap (fin.insert (bodies_of f old) k)
@@ -162,12 +163,14 @@ module _ {T : Type 0} (f : T → Body) where
         ∙ sym (get-bodies_of s q))
 
     -- the new body has its own spare capacity, and entries computed from the old ones or equal to them
-    pub with_entries : (change : List Entry → List Entry) (w : T) → f w ≡ body_of (change (f v).entries) (f w).spare → bodies_of f (with_value s k w) ≡ with_body (bodies_of f s) k (change (entries_at (bodies_of f s) k)) (spare_at (bodies_of f (with_value s k w)) k)
+    pub with_entries : (change : List Entry → List Entry) (w : T) → f w ≡ body_of (change (f v).entries) (f w).spare → bodies_of f (with_value s k w)
+        ≡ with_body (bodies_of f s) k (change (entries_at (bodies_of f s) k)) (spare_at (bodies_of f (with_value s k w)) k)
     with_entries change w same =
         made s (with_value s k w) k w (change (entries_at (bodies_of f s) k)) (updates w)
         (ap (λ b. b.entries) same ∙ ap (λ b. change b.entries) (sym at_place))
 
-    pub with_spare : (w : T) → f w ≡ body_of (f v).entries (f w).spare → bodies_of f (with_value s k w) ≡ with_body (bodies_of f s) k (entries_at (bodies_of f s) k) (spare_at (bodies_of f (with_value s k w)) k)
+    pub with_spare : (w : T) → f w ≡ body_of (f v).entries (f w).spare → bodies_of f (with_value s k w) ≡ with_body (bodies_of f s) k
+        (entries_at (bodies_of f s) k) (spare_at (bodies_of f (with_value s k w)) k)
     with_spare = with_entries (λ es. es)
 
     -- a relation of the two values' bodies is one of the place before and after

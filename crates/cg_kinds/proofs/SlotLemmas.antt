@@ -57,7 +57,8 @@ gap_earlier slots slot k earlier = ap (λ l. length (indexes l)) (take-set-le k 
 pub gap_later : (slots : List (Option ℕ)) (slot k index : ℕ) → get_or slots slot None ≡ Some index → slot < k → pairs_before (set slots slot None) k + 1 ≡ pairs_before slots k
 gap_later [] slot k index pair later = absurd (cc)
 gap_later (x ∷ slots) zero zero index pair later = absurd (omega (arith, later))
-gap_later (x ∷ slots) zero (suc k) index pair later = let n : length (option_to_list x ++ indexes (take k slots)) ≡ suc (length (indexes (take k slots))) = ap (λ o. length (option_to_list o ++ indexes (take k slots))) pair in omega (arith, n)
+gap_later (x ∷ slots) zero (suc k) index pair later = let n : length (option_to_list x ++ indexes (take k slots)) ≡ suc (length (indexes (take k slots))) =
+    ap (λ o. length (option_to_list o ++ indexes (take k slots))) pair in omega (arith, n)
 gap_later (x ∷ slots) (suc slot) zero index pair later = absurd (omega (arith, later))
 gap_later (x ∷ slots) (suc slot) (suc k) index pair later =
     let rest = gap_later slots slot k index pair (omega (arith, later)) in

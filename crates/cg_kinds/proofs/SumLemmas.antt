@@ -47,11 +47,13 @@ pub sum_here_part : (numbers : List ℕ) (part : ℕ) → sum (take 16 (drop (16
 sum_here_part numbers part = omega (arith, sum_here numbers part, sum_part numbers (16 * part + 16))
 
 -- splitting a part off the rest of the numbers
-pub part_taken : (numbers rest front : List ℕ) (part count : ℕ) → front ≡ take count rest → count ≡ min 16 (length rest) → rest ≡ drop (16 * part) numbers → sum front ≡ sum (take 16 (drop (16 * part) numbers))
+pub part_taken : (numbers rest front : List ℕ) (part count : ℕ) → front ≡ take count rest → count ≡ min 16 (length rest) → rest ≡ drop (16 * part) numbers
+    → sum front ≡ sum (take 16 (drop (16 * part) numbers))
 part_taken numbers rest front part count taken few left = ap sum (taken ∙ ap (λ n. take n rest) few ∙ take_min 16 rest ∙ ap (take 16) left)
 
 -- numbers into which a count is dealt, 16 each
-pub dealt_sum : (numbers : List ℕ) (count : ℕ) → ((i : ℕ) → i < length numbers → get_or numbers i 0 ≡ min 16 (count - 16 * i)) → (k : ℕ) → k ≤ length numbers → sum_before numbers k ≡ min (16 * k) count
+pub dealt_sum : (numbers : List ℕ) (count : ℕ) → ((i : ℕ) → i < length numbers → get_or numbers i 0 ≡ min 16 (count - 16 * i)) → (k : ℕ) → k ≤ length numbers
+    → sum_before numbers k ≡ min (16 * k) count
 dealt_sum numbers count dealt zero within = omega arith
 dealt_sum numbers count dealt (suc k) within =
     let rest = dealt_sum numbers count dealt k (omega (arith, within)) in
@@ -194,7 +196,8 @@ module _ (numbers sums : List ℕ) (are : AreSumsOf numbers sums) where
   sums_within i within = omega (arith, within, are.covered)
 
   -- raising a number raises its part's sum
-  pub raised_above : (i : ℕ) → i < length numbers → (numbers_now sums_now : List ℕ) → numbers_now ≡ set numbers i (get_or numbers i 0 + 1) → sums_now ≡ set sums (i / 16) (get_or sums (i / 16) 0 + 1) → AreSumsOf numbers_now sums_now
+  pub raised_above : (i : ℕ) → i < length numbers → (numbers_now sums_now : List ℕ) → numbers_now ≡ set numbers i (get_or numbers i 0 + 1) → sums_now
+      ≡ set sums (i / 16) (get_or sums (i / 16) 0 + 1) → AreSumsOf numbers_now sums_now
   raised_above i within numbers_now sums_now numbers_are sums_are =
       let a : length numbers_now ≡ length numbers = ap length numbers_are ∙ length-set numbers i (get_or numbers i 0 + 1) in
       let b : length sums_now ≡ length sums = ap length sums_are ∙ length-set sums (i / 16) (get_or sums (i / 16) 0 + 1) in
@@ -211,7 +214,8 @@ module _ (numbers sums : List ℕ) (are : AreSumsOf numbers sums) where
       (sum_grows (set numbers i (get_or numbers i 0 - 1)) (16 * (i / 16)) 16)
 
   -- lowering a number lowers its part's sum
-  pub lowered_above : (i : ℕ) → i < length numbers → 0 < get_or numbers i 0 → (numbers_now sums_now : List ℕ) → numbers_now ≡ set numbers i (get_or numbers i 0 - 1) → sums_now ≡ set sums (i / 16) (get_or sums (i / 16) 0 - 1) → AreSumsOf numbers_now sums_now
+  pub lowered_above : (i : ℕ) → i < length numbers → 0 < get_or numbers i 0 → (numbers_now sums_now : List ℕ) → numbers_now
+      ≡ set numbers i (get_or numbers i 0 - 1) → sums_now ≡ set sums (i / 16) (get_or sums (i / 16) 0 - 1) → AreSumsOf numbers_now sums_now
   lowered_above i within some numbers_now sums_now numbers_are sums_are =
       let a : length numbers_now ≡ length numbers = ap length numbers_are ∙ length-set numbers i (get_or numbers i 0 - 1) in
       let b : length sums_now ≡ length sums = ap length sums_are ∙ length-set sums (i / 16) (get_or sums (i / 16) 0 - 1) in

@@ -128,7 +128,8 @@ module _ (es : List Entry) (order : List ℕ) (within : All (λ index. index < l
             by false is = is
             by true is =
                 let low : j < length order = omega (arith, below, place_within) in
-                let same = unique key (get_or order j 0) index (index_within j low) (position-Some (has_key key) es index nothing found).0 (sym (ap (has_key key) (picked_at j nothing low)) ∙ is) has in
+                let same = unique key (get_or order j 0) index (index_within j low) (position-Some (has_key key) es index nothing found).0
+                (sym (ap (has_key key) (picked_at j nothing low)) ∙ is) has in
                 absurd (omega (arith, below, only_here j low same))
 
     -- replacing the entry at an index replaces it at the index's place
@@ -169,7 +170,8 @@ module _ (es : List Entry) (order : List ℕ) (within : All (λ index. index < l
         ∙ sym (value_set key es index found)
 
 -- an entry appended to both
-pub picked_push : (es : List Entry) (order : List ℕ) (e : Entry) → All (λ index. index < length es) order → length order ≡ length es → picked (es ++ e ∷ []) (order ++ length order ∷ []) ≡ picked es order ++ e ∷ []
+pub picked_push : (es : List Entry) (order : List ℕ) (e : Entry) → All (λ index. index < length es) order → length order ≡ length es
+    → picked (es ++ e ∷ []) (order ++ length order ∷ []) ≡ picked es order ++ e ∷ []
 picked_push es order e within long =
     map-append (λ index. get_or (es ++ e ∷ []) index nothing) order (length order ∷ [])
     ∙ ap (λ l. l ++ get_or (es ++ e ∷ []) (length order) nothing ∷ []) same
@@ -195,19 +197,23 @@ picked_all es count long =
     ∙ ap (λ n. get_or es n nothing) (get_or-range_with_len 0 count j 0 low ∙ (omega arith))
     ∙ get_or_default es j nothing d (omega (arith, low, long)))
 
-distinct_pairs : (pairs : List (Val × Val)) → IsDistinct equal (keys_of pairs) → (key : Val) (i j : ℕ) → i < j → j < length pairs → has_key key (get_or (pairs_of pairs) i nothing) ≡ true → has_key key (get_or (pairs_of pairs) j nothing) ≡ true → ⊥
+distinct_pairs : (pairs : List (Val × Val)) → IsDistinct equal (keys_of pairs) → (key : Val) (i j : ℕ) → i < j → j < length pairs
+    → has_key key (get_or (pairs_of pairs) i nothing) ≡ true → has_key key (get_or (pairs_of pairs) j nothing) ≡ true → ⊥
 distinct_pairs [] distinct key i j below within here there = absurd (omega (arith, within))
 distinct_pairs (p ∷ pairs) distinct key i zero below within here there = absurd (omega (arith, below))
 distinct_pairs (p ∷ pairs) distinct key zero (suc j) below within here there =
     let low : j < length pairs = omega (arith, within) in
-    let head = All-from_recursion (λ k. equal p.0 k ≡ false) (keys_of pairs) (IsDistinct-head equal p.0 (keys_of pairs) distinct) j (get_or pairs j p).0 (omega (arith, low, length-map pairs (λ (q : Val × Val). q.0))) in
+    let head = All-from_recursion (λ k. equal p.0 k ≡ false) (keys_of pairs) (IsDistinct-head equal p.0 (keys_of pairs) distinct) j (get_or pairs j p).0
+    (omega (arith, low, length-map pairs (λ (q : Val × Val). q.0))) in
     let key_is : get_or (keys_of pairs) j (get_or pairs j p).0 ≡ (get_or pairs j p).0 = get_or-map (λ (q : Val × Val). q.0) pairs j p (get_or pairs j p).0 low in
     let lacks : equal p.0 (get_or pairs j p).0 ≡ false = sym (ap (equal p.0) key_is) ∙ head in
     let other : (get_or pairs j p).0 ≡ key = same_is (get_or pairs j p).0 key (sym (ap (has_key key) (get_or-map pair_entry pairs j p nothing low)) ∙ there) in
     let first : p.0 ≡ key = same_is p.0 key here in
-    let yes : equal p.0 (get_or pairs j p).0 ≡ true = equal-same_value p.0 (get_or pairs j p).0 ∙ ap (λ k. same_value (get_or pairs j p).0 k) first ∙ sym (ap (has_key key) (get_or-map pair_entry pairs j p nothing low)) ∙ there in
+    let yes : equal p.0 (get_or pairs j p).0 ≡ true = equal-same_value p.0 (get_or pairs j p).0 ∙ ap (λ k. same_value (get_or pairs j p).0 k) first
+    ∙ sym (ap (has_key key) (get_or-map pair_entry pairs j p nothing low)) ∙ there in
     absurd (true≢false (sym yes ∙ lacks))
-distinct_pairs (p ∷ pairs) distinct key (suc i) (suc j) below within here there = distinct_pairs pairs (IsDistinct-tail equal p.0 (keys_of pairs) distinct) key i j (omega (arith, below)) (omega (arith, within)) here there
+distinct_pairs (p ∷ pairs) distinct key (suc i) (suc j) below within here there = distinct_pairs pairs (IsDistinct-tail equal p.0 (keys_of pairs) distinct) key
+    i j (omega (arith, below)) (omega (arith, within)) here there
 
 pub unique_pairs : (pairs : List (Val × Val)) → IsDistinct equal (keys_of pairs) → AreUnique (pairs_of pairs)
 unique_pairs pairs distinct = λ key i j i_within j_within here there. elim (cases_lt i j) [
@@ -223,17 +229,20 @@ module _ (pairs : List (Val × Val)) where
   long_enough order long sound = λ k d within. omega (arith, sound.within k d within, long, length-map pairs pair_entry)
 
   -- the result of a look-up in an ordered table, and the table after a put
-  pub ordered_none : (order : Option (List ℕ)) → IsOrderOf (length pairs) order → IsSoundOrder order → (key : Val) → position (has_key key) (pairs_of pairs) ≡ None → position (has_key key) (ordered pairs order) ≡ None
+  pub ordered_none : (order : Option (List ℕ)) → IsOrderOf (length pairs) order → IsSoundOrder order → (key : Val) → position (has_key key) (pairs_of pairs)
+      ≡ None → position (has_key key) (ordered pairs order) ≡ None
   ordered_none None long sound key none = none
   ordered_none (Some order) long sound key none = picked_none (pairs_of pairs) order (long_enough order long sound) (has_key key) none
 
-  pub ordered_some : (order : List ℕ) → length order ≡ length pairs → IsSound order → IsDistinct equal (keys_of pairs) → (index place : ℕ) → slice_get order place ≡ Some index → ((other : ℕ) → slice_get order other ≡ Some index → other ≡ place)
+  pub ordered_some : (order : List ℕ) → length order ≡ length pairs → IsSound order → IsDistinct equal (keys_of pairs) → (index place : ℕ)
+      → slice_get order place ≡ Some index → ((other : ℕ) → slice_get order other ≡ Some index → other ≡ place)
       → (key : Val) → position (has_key key) (pairs_of pairs) ≡ Some index → position (has_key key) (picked (pairs_of pairs) order) ≡ Some place
   ordered_some order long sound distinct index place at only key found =
       picked_some (pairs_of pairs) order (long_enough order long sound) index place at only (unique_pairs pairs distinct) key found
 
   -- an existing key
-  pub ordered_put : (order : Option (List ℕ)) → IsOrderOf (length pairs) order → IsSoundOrder order → IsDistinct equal (keys_of pairs) → (index : ℕ) (key val : Val) → position (has_key key) (pairs_of pairs) ≡ Some index
+  pub ordered_put : (order : Option (List ℕ)) → IsOrderOf (length pairs) order → IsSoundOrder order → IsDistinct equal (keys_of pairs)
+      → (index : ℕ) (key val : Val) → position (has_key key) (pairs_of pairs) ≡ Some index
       → (now : List (Val × Val)) → pairs_of now ≡ put (pairs_of pairs) key val → ordered now order ≡ put (ordered pairs order) key val
   ordered_put None long sound distinct index key val found now is = is
   ordered_put (Some order) long sound distinct index key val found now is =
@@ -241,12 +250,14 @@ module _ (pairs : List (Val × Val)) where
       let p = sound.placed index (omega (arith, below, long, length-map pairs pair_entry)) in
       ap (λ l. picked l order) is ∙ picked_put (pairs_of pairs) order (long_enough order long sound) index p.place p.at p.only (unique_pairs pairs distinct) key val found
 
-  pub ordered_value : (order : Option (List ℕ)) → IsOrderOf (length pairs) order → IsSoundOrder order → IsDistinct equal (keys_of pairs) → (key : Val) → value_at (ordered pairs order) key ≡ value_at (pairs_of pairs) key
+  pub ordered_value : (order : Option (List ℕ)) → IsOrderOf (length pairs) order → IsSoundOrder order → IsDistinct equal (keys_of pairs) → (key : Val)
+      → value_at (ordered pairs order) key ≡ value_at (pairs_of pairs) key
   ordered_value None long sound distinct key = refl
   ordered_value (Some order) long sound distinct key = by (position (has_key key) (pairs_of pairs)) refl
     where
       by : (r : Option ℕ) → position (has_key key) (pairs_of pairs) ≡ r → value_at (picked (pairs_of pairs) order) key ≡ value_at (pairs_of pairs) key
-      by None none = value_absent key (picked (pairs_of pairs) order) (picked_none (pairs_of pairs) order (long_enough order long sound) (has_key key) none) ∙ sym (value_absent key (pairs_of pairs) none)
+      by None none = value_absent key (picked (pairs_of pairs) order) (picked_none (pairs_of pairs) order (long_enough order long sound) (has_key key) none)
+          ∙ sym (value_absent key (pairs_of pairs) none)
       by (Some index) found =
           let below = (position-Some (has_key key) (pairs_of pairs) index nothing found).0 in
           let p = sound.placed index (omega (arith, below, long, length-map pairs pair_entry)) in
@@ -296,7 +307,8 @@ pub record StandsIn (es : List Entry) (order : List ℕ) (key : Val) (index : �
   pub below : index < length order
   pub there : Stands (picked es order) key place (get_or es index nothing)
 
-pub ordered_stands : (pairs : List (Val × Val)) (order : List ℕ) → length order ≡ length pairs → IsSound order → IsDistinct equal (keys_of pairs) → (index : ℕ) (key : Val) → position (has_key key) (pairs_of pairs) ≡ Some index
+pub ordered_stands : (pairs : List (Val × Val)) (order : List ℕ) → length order ≡ length pairs → IsSound order → IsDistinct equal (keys_of pairs)
+    → (index : ℕ) (key : Val) → position (has_key key) (pairs_of pairs) ≡ Some index
     → StandsIn (pairs_of pairs) order key index
 ordered_stands pairs order long sound distinct index key found =
     let below : index < length order = omega (arith, (position-Some (has_key key) (pairs_of pairs) index nothing found).0, long, length-map pairs pair_entry) in
@@ -311,7 +323,8 @@ ordered_stands pairs order long sound distinct index key found =
     }
 
 -- what remains after the last entry has moved into the place of the removed one
-pub picked_take : (es now : List Entry) (order : List ℕ) (i index : ℕ) → length order ≡ length es → index < length order → All (IsOther order index) (remove order i) → now ≡ swap_remove es index nothing
+pub picked_take : (es now : List Entry) (order : List ℕ) (i index : ℕ) → length order ≡ length es → index < length order → All (IsOther order index)
+    (remove order i) → now ≡ swap_remove es index nothing
     → picked now (map (renamed (length order - 1) index) (remove order i)) ≡ remove (picked es order) i
 picked_take es now order i index long low others is =
     same_lists (picked now (map ren (remove order i))) (picked es (remove order i))
@@ -395,7 +408,8 @@ entry-pair pairs index pair at =
     sym (get_or_from_slice_get (pairs_of pairs) index (pair_entry pair) nothing (slice_get-map pair_entry pairs index ∙ ap (option_map pair_entry) at))
 
 -- the entry of a key that a map has at an index
-pub entry_found : (pairs : List (Val × Val)) (key : Val) (index : ℕ) (val : Val) → position (has_key key) (pairs_of pairs) ≡ Some index → value_at (pairs_of pairs) key ≡ Some val → record { key = key; val = val } ≡ get_or (pairs_of pairs) index nothing
+pub entry_found : (pairs : List (Val × Val)) (key : Val) (index : ℕ) (val : Val) → position (has_key key) (pairs_of pairs) ≡ Some index
+    → value_at (pairs_of pairs) key ≡ Some val → record { key = key; val = val } ≡ get_or (pairs_of pairs) index nothing
 entry_found pairs key index val found value =
     let es = pairs_of pairs in
     by (get_or es index nothing) (same_is (get_or es index nothing).key key (position-Some (has_key key) es index nothing found).1) (sym value ∙ value_set key es index found)
@@ -407,7 +421,8 @@ entry_found pairs key index val found value =
     by e key_is val_is = ap (λ k. record { key = k; val = val }) (sym key_is) ∙ ap (λ v. record { key = e.key; val = v }) (some_val val e.val val_is)
 
 -- a map without the pair of a key that it has at an index
-pub swapped-out : (pairs now : List (Val × Val)) (key packed : Val) (index : ℕ) → packed ≡ key → position (equal packed) (keys_of pairs) ≡ Some index → now ≡ swap_remove_entry (equal packed) pairs → pairs_of now ≡ swap_remove (pairs_of pairs) index nothing
+pub swapped-out : (pairs now : List (Val × Val)) (key packed : Val) (index : ℕ) → packed ≡ key → position (equal packed) (keys_of pairs) ≡ Some index → now
+    ≡ swap_remove_entry (equal packed) pairs → pairs_of now ≡ swap_remove (pairs_of pairs) index nothing
 swapped-out pairs now key packed index is found rest =
     let below = (position-Some (has_key key) (pairs_of pairs) index nothing (sym (find-packed key packed is pairs) ∙ found)).0 in
     ap pairs_of (rest ∙ swap_remove_entry-found (equal packed) pairs index (key, key) found)

@@ -129,7 +129,8 @@ drop-one_more (suc n) [] (suc k) there = refl
 drop-one_more (suc n) (x ∷ xs) (suc k) there = drop-one_more n xs k (omega (arith, there))
 
 -- facts about the columns of a list
-module _ (sorts numbers : Vec ℕ Global) (first : ℕ) (kept : Kept) (items : drop first (values_in sorts.items numbers.items) ≡ kept.items) (words : AllZip AreWords sorts.items numbers.items) (begins : first ≤ length sorts.items) where
+module _ (sorts numbers : Vec ℕ Global) (first : ℕ) (kept : Kept) (items : drop first (values_in sorts.items numbers.items) ≡ kept.items)
+    (words : AllZip AreWords sorts.items numbers.items) (begins : first ≤ length sorts.items) where
   all-len : length (values_in sorts.items numbers.items) ≡ first + length kept.items
   all-len = omega (arith, ap length items, length-drop first (values_in sorts.items numbers.items), length-sorts sorts.items numbers.items words, begins)
 
@@ -225,7 +226,8 @@ module _ (sorts numbers sorts' numbers' : List ℕ) (first room a b a' b' : ℕ)
         ∙ drop-append-le first (values_in sorts' numbers') (value_in s n ∷ []) (omega (arith, begins', length-sorts sorts' numbers' popped.0))
 
 -- if all sorts in a range are those of references, the references there are the numbers
-pub all-references : (sorts numbers : List ℕ) → length sorts ≡ length numbers → (from n : ℕ) → All (λ sort. 2 < sort) (take n (drop from sorts)) → references (take n (drop from (map item (values_in sorts numbers)))) ≡ take n (drop from numbers)
+pub all-references : (sorts numbers : List ℕ) → length sorts ≡ length numbers → (from n : ℕ) → All (λ sort. 2 < sort) (take n (drop from sorts))
+    → references (take n (drop from (map item (values_in sorts numbers)))) ≡ take n (drop from numbers)
 all-references [] [] same zero zero all = refl
 all-references [] [] same zero (suc n) all = refl
 all-references [] [] same (suc from) zero all = refl
@@ -234,7 +236,9 @@ all-references [] (m ∷ numbers) same from n all = absurd (omega (arith, same))
 all-references (s ∷ sorts) [] same from n all = absurd (omega (arith, same))
 all-references (s ∷ sorts) (m ∷ numbers) same (suc from) n all = all-references sorts numbers (omega (arith, same)) from n all
 all-references (s ∷ sorts) (m ∷ numbers) same zero zero all = refl
-all-references (s ∷ sorts) (m ∷ numbers) same zero (suc n) all = ap (λ v. references (item v ∷ take n (map item (values_in sorts numbers)))) (value_is s m (All-head (λ sort. 2 < sort) s (take n sorts) all)) ∙ ap (λ rest. m ∷ rest) (all-references sorts numbers (omega (arith, same)) zero n (All-tail (λ sort. 2 < sort) s (take n sorts) all))
+all-references (s ∷ sorts) (m ∷ numbers) same zero (suc n) all = ap (λ v. references (item v ∷ take n (map item (values_in sorts numbers))))
+    (value_is s m (All-head (λ sort. 2 < sort) s (take n sorts) all)) ∙ ap (λ rest. m ∷ rest) (all-references sorts numbers (omega (arith, same)) zero n
+    (All-tail (λ sort. 2 < sort) s (take n sorts) all))
   where
     value_is : (s m : ℕ) → 2 < s → value_in s m ≡ Ref m
     value_is zero m above = absurd (omega (arith, above))

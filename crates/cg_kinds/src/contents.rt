@@ -87,7 +87,8 @@ pub trait Contents: Drop {
 
     fn take_key(&mut self, key: Val) -> Option<Entry>
         ensures entry { result ≡ entry_under (body self.old).entries key }
-        ensures rest { OnSome result (body self.new ≡ body_of (after_take_key kind (body self.old).entries key)
+        ensures rest { OnSome result (body self.new
+            ≡ body_of (after_take_key kind (body self.old).entries key)
             (spare_after_leave kind (body self.old).spare)) }
         ensures none { IfNone result (body self.new ≡ body self.old) }
     {
@@ -106,7 +107,8 @@ pub trait Contents: Drop {
         ensures none { IfNone result (body self.new ≡ body self.old) };
 
     fn reserve(&mut self, n: usize) -> Result<(), AllocError>
-        ensures ok { OnOk result (body self.new ≡ body_of (body self.old).entries (body self.new).spare) }
+        ensures ok { OnOk result (body self.new ≡ body_of (body self.old).entries
+            (body self.new).spare) }
         ensures room { kind ≡ code.List → OnOk result (n ≤ (body self.new).spare) }
         ensures no_less { OnOk result ((body self.old).spare ≤ (body self.new).spare) }
         ensures err { OnErr result (body self.new ≡ body self.old) };

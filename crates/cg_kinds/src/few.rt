@@ -14,8 +14,8 @@ use cg_value::{Entry, Val};
 use std::alloc::{AllocError, Global};
 use std::marker::Model;
 
-/// The most pairs kept in a list. From about eight pairs on a map is faster to search, but a small map takes too much
-/// memory: one of ten pairs that has just grown takes more than 64 bytes a pair.
+/// The most pairs kept in a list. From about eight pairs on a map is faster to search, but a small
+/// map takes too much memory: one of ten pairs that has just grown takes more than 64 bytes a pair.
 const FEW: usize = 24;
 
 /// Pairs in insertion order, with distinct keys.
@@ -68,8 +68,8 @@ fn replace_in(pairs: &mut Vec<Pair>, key: Val, val: Val) -> Option<Val>
     }
 }
 
-/// Adds a pair. A full list grows by half and one, so one pair takes the room of one, and two that of two; a vector
-/// would reserve room for at least four.
+/// Adds a pair. A full list grows by half and one, so one pair takes the room of one, and two that
+/// of two; a vector would reserve room for at least four.
 fn push_to(pairs: &mut Vec<Pair>, pair: Entry) -> Result<(), AllocError>
     ensures ok { OnOk result (pairs.new.items ≡ pairs.old.items ++ pair ∷ []) }
     ensures err { OnErr result (pairs.new.items ≡ pairs.old.items) }
@@ -133,7 +133,8 @@ impl Few {
         requires within { from ≤ length self.now }
         requires room { ROOM ≤ length found.old }
         ensures next { result.next ≡ from + length (next_entries self.now from) }
-        ensures references { take result.references found.new ≡ references (next_entries self.now from) }
+        ensures references { take result.references found.new
+            ≡ references (next_entries self.now from) }
         ensures few { result.references ≤ ROOM }
         ensures room { length found.new ≡ length found.old }
     {

@@ -15,7 +15,8 @@ use std::alloc::{AllocError, Global};
 /// Functions, each by its cells.
 pub type FuncKind = BodySlab<Cells>;
 
-/// The cells of a function, at most eight. They are fixed when it is made and only leave one by one.
+/// The cells of a function, at most eight. They are fixed when it is made and only leave one by
+/// one.
 #[derive(Drop)]
 pub struct Cells {
     cells: ArrayVec<Cell, 8>,

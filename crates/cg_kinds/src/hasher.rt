@@ -9,10 +9,11 @@ pub type KeyHashing = BuildHasherDefault<KeyHasher>;
 
 /// Hashes the number of one key, for an `IndexMap`.
 ///
-/// It multiplies and takes bits from the middle, so consecutive or evenly spaced numbers fill the groups of the map
-/// nearly evenly. A random hash overfills some groups, and a group that was once overfull has less room afterwards.
-/// The factor is the best of about three thousand tried for runs of numbers at distances from 1 to 2^48, in maps of 36
-/// to 36,864 keys: one key in a thousand is outside its group, against one in eighty with std's hasher.
+/// It multiplies and takes bits from the middle, so consecutive or evenly spaced numbers fill the
+/// groups of the map nearly evenly. A random hash overfills some groups, and a group that was once
+/// overfull has less room afterwards. The factor is the best of about three thousand tried for runs
+/// of numbers at distances from 1 to 2^48, in maps of 36 to 36,864 keys: one key in a thousand is
+/// outside its group, against one in eighty with std's hasher.
 #[derive(Clone, Copy)]
 pub struct KeyHasher {
     hash: u64,
@@ -26,8 +27,8 @@ impl Default for KeyHasher {
     }
 }
 
-/// The hash of a number: bits 32 to 63 of its product with the factor, and bits 96 to 127, which distinguish large
-/// numbers.
+/// The hash of a number: bits 32 to 63 of its product with the factor, and bits 96 to 127, which
+/// distinguish large numbers.
 #[inline(always)]
 fn spread(number: u64) -> u64
     ensures { result ≡ spread number }

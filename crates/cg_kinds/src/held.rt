@@ -12,8 +12,8 @@ use std::alloc::{AllocError, Global};
 
 /// Pairs in insertion order.
 ///
-/// When they become too many for a list, all move into a map and stay there, however many leave. So a search visits a
-/// few pairs and hashes nothing, or hashes once and visits none.
+/// When they become too many for a list, all move into a map and stay there, however many leave. So
+/// a search visits a few pairs and hashes nothing, or hashes once and visits none.
 #[derive(Drop)]
 pub enum Held {
     Few(Few),
@@ -69,7 +69,8 @@ impl Held {
         requires within { from ≤ length (entries_held self.now) }
         requires room { ROOM ≤ length found.old }
         ensures next { result.next ≡ from + length (next_entries (entries_held self.now) from) }
-        ensures references { take result.references found.new ≡ references (next_entries (entries_held self.now) from) }
+        ensures references { take result.references found.new
+            ≡ references (next_entries (entries_held self.now) from) }
         ensures few { result.references ≤ ROOM }
         ensures room { length found.new ≡ length found.old }
     {
@@ -124,13 +125,16 @@ impl Held {
         }
     }
 
-    /// Appends a pair with a new key. The map is complete before the list is dropped, so an error keeps the list.
+    /// Appends a pair with a new key. The map is complete before the list is dropped, so an error
+    /// keeps the list.
     ///
-    /// It takes an entry, built only for this call; a key and a value would be copied at each `put`.
+    /// It takes an entry, built only for this call; a key and a value would be copied at each
+    /// `put`.
     #[inline(never)]
     fn add(&mut self, pair: Entry) -> Result<(), AllocError>
         requires new { value_at (entries_held self.old) pair.key ≡ None }
-        ensures ok { OnOk result (entries_held self.new ≡ put (entries_held self.old) pair.key pair.val) }
+        ensures ok { OnOk result (entries_held self.new ≡ put (entries_held self.old) pair.key
+            pair.val) }
         ensures err { OnErr result (entries_held self.new ≡ entries_held self.old) }
     {
         match self {

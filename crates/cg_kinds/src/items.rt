@@ -32,7 +32,8 @@ pub fn values_of(alloc: Global, parts: &[Entry]) -> Result<Vec<Val>, AllocError>
 
 /// The first position of a key among items, whose keys are `None`, given how many there are.
 pub fn find_item(count: usize, key: Val) -> Option<usize>
-    ensures { (values : List Val) → length values ≡ count → result ≡ position (has_key key) (map item values) }
+    ensures { (values : List Val) → length values ≡ count → result ≡ position (has_key key)
+        (map item values) }
 {
     if count > 0 && key == Val::None {
         Some(0)

@@ -12,10 +12,12 @@ use cg_value::Val;
 pub trait KeepsEntry {
     ghost kept: { Self → Entry };
 
-    /// Writes its references, its value's and then its key's, after the first `count`. Returns the new count.
+    /// Writes its references, its value's and then its key's, after the first `count`. Returns the
+    /// new count.
     fn note(&self, found: &mut [u64], count: usize) -> usize
         requires { count + 2 ≤ length found.old }
-        ensures noted { take result found.new ≡ take count found.old ++ entry_references (kept self.now) }
+        ensures noted { take result found.new ≡ take count found.old
+            ++ entry_references (kept self.now) }
         ensures few { result ≤ count + 2 }
         ensures room { length found.new ≡ length found.old };
 }
@@ -37,7 +39,8 @@ pub fn note_slice<T: KeepsEntry>(slice: &[T], from: usize, found: &mut [u64]) ->
     requires within { from ≤ length slice.now }
     requires room { ROOM ≤ length found.old }
     ensures next { result.next ≡ from + length (next_entries (map T.kept slice.now) from) }
-    ensures references { take result.references found.new ≡ references (next_entries (map T.kept slice.now) from) }
+    ensures references { take result.references found.new
+        ≡ references (next_entries (map T.kept slice.now) from) }
     ensures few { result.references ≤ ROOM }
     ensures room { length found.new ≡ length found.old }
 {

@@ -17,8 +17,9 @@ const FEW: usize = 64;
 
 /// Values in order.
 ///
-/// Where they become too many for one vector all go into columns, and stay in them however many leave. So one value takes
-/// no block of memory and a few take one, and of many those behind one that is taken move as two runs of bytes.
+/// Where they become too many for one vector all go into columns, and stay in them however many
+/// leave. So one value takes no block of memory and a few take one, and of many those behind one
+/// that is taken move as two runs of bytes.
 #[derive(Drop)]
 pub enum Listed {
     One(One),
@@ -26,15 +27,16 @@ pub enum Listed {
     Many(Box<Values>),
 }
 
-/// A few values in columns, with room for at least `n` more, for as many again as there are, and for as many as
-/// before. These values are unchanged.
+/// A few values in columns, with room for at least `n` more, for as many again as there are, and
+/// for as many as before. These values are unchanged.
 ///
 /// Not inlined, so that the function that grows a list does not carry the locals of new columns.
 #[inline(never)]
 fn columns_of(few: &Vec<Packed>, n: usize) -> Result<Box<Values>, AllocError>
     ensures items { IfOk result (λ columns. columns.value.items ≡ few.now.items) }
     ensures room { IfOk result (λ columns. n ≤ columns.value.room) }
-    ensures no_less { IfOk result (λ columns. vec_capacity few.now - vec_len few.now ≤ columns.value.room) }
+    ensures no_less { IfOk result (λ columns. vec_capacity few.now - vec_len few.now ≤
+        columns.value.room) }
 {
     let alloc = *few.allocator();
     let len = few.len();
@@ -96,8 +98,10 @@ impl Listed {
     pub fn note_from(&self, from: usize, found: &mut [u64]) -> Noted
         requires within { from ≤ length (items_listed self.now) }
         requires room { ROOM ≤ length found.old }
-        ensures next { result.next ≡ from + length (next_entries (map item (items_listed self.now)) from) }
-        ensures references { take result.references found.new ≡ references (next_entries (map item (items_listed self.now)) from) }
+        ensures next { result.next ≡ from + length (next_entries (map item (items_listed self.now))
+            from) }
+        ensures references { take result.references found.new
+            ≡ references (next_entries (map item (items_listed self.now)) from) }
         ensures few { result.references ≤ ROOM }
         ensures room { length found.new ≡ length found.old }
     {
@@ -185,7 +189,8 @@ impl Listed {
         Ok(())
     }
 
-    /// What the values move into is complete before what they stood in goes, so a refusal leaves that.
+    /// What the values move into is complete before what they stood in goes, so a refusal leaves
+    /// that.
     #[inline(never)]
     fn grow(&mut self, n: usize) -> Result<(), AllocError>
         ensures items { items_listed self.new ≡ items_listed self.old }

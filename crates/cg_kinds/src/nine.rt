@@ -13,9 +13,9 @@ use std::marker::Model;
 
 /// A value in nine bytes: the little-endian bytes of its number, then its sort.
 ///
-/// The number comes first because a put then moves a value in fewer pieces. Bytes need no alignment, so a run of these
-/// has no gaps; a `Val` takes sixteen bytes. Each value has only one encoding, so two values are compared by their
-/// bytes.
+/// The number comes first because a put then moves a value in fewer pieces. Bytes need no
+/// alignment, so a run of these has no gaps; a `Val` takes sixteen bytes. Each value has only one
+/// encoding, so two values are compared by their bytes.
 #[derive(Drop)]
 pub struct Nine {
     number: [u8; 8],
@@ -86,8 +86,8 @@ impl Hash for Nine {
 
     ghost respects_eq = { equal_hashed };
 
-    // Only the number, so that a key takes one round of the hasher. Keys of two sorts with the same number share a
-    // hash.
+    // Only the number, so that a key takes one round of the hasher. Keys of two sorts with the same
+    // number share a hash.
     #[inline(always)]
     fn hash<H: Hasher>(&self, state: &mut H) {
         state.write_u64(u64::from_le_bytes(self.number));

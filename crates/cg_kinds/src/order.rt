@@ -32,7 +32,8 @@ impl Model for Order {
 
     ghost view = { λ o. indexes o.slots.items };
 
-    ghost invariant = { λ o. AreHomes o.slots.items o.homes.items × AreCounts o.slots.items o.counts × HasBlocks (vec_capacity o.slots) o.counts };
+    ghost invariant = { λ o. AreHomes o.slots.items o.homes.items × AreCounts o.slots.items o.counts
+        × HasBlocks (vec_capacity o.slots) o.counts };
 }
 
 /// Removes the index from a slot. The last pair moves to that index.
@@ -43,7 +44,8 @@ fn empty_slot(slots: &mut [IndexOrGap], homes: &mut Vec<u32>, slot: usize) -> us
     ensures homes { AreHomes slots.new homes.new.items }
     ensures gap { (k : ℕ) → before slots.new k ≡ before (slice_set slots.old slot None) k }
     ensures long { length slots.new ≡ length slots.old }
-    ensures rest { indexes slots.new ≡ map (renamed (length homes.old.items - 1) result) (remove (indexes slots.old) (before slots.old slot)) }
+    ensures rest { indexes slots.new ≡ map (renamed (length homes.old.items - 1) result)
+        (remove (indexes slots.old) (before slots.old slot)) }
 {
     match slots[slot].index() {
         Some(index) => {
@@ -216,7 +218,8 @@ fn grow_full(
     Ok(())
 }
 
-/// Makes room for one more pair. If the slots are full with many gaps, the gaps are closed instead of allocating.
+/// Makes room for one more pair. If the slots are full with many gaps, the gaps are closed instead
+/// of allocating.
 #[inline(never)]
 fn widen(
     slots: &mut Vec<IndexOrGap>,
@@ -277,7 +280,8 @@ impl Order {
         Ok(order)
     }
 
-    /// Appends the next index. If the slots are full with many gaps, the gaps are closed instead of allocating.
+    /// Appends the next index. If the slots are full with many gaps, the gaps are closed instead of
+    /// allocating.
     #[inline(always)]
     pub fn push(&mut self) -> Result<(), AllocError>
         ensures ok { OnOk result (self.new ≡ self.old ++ length self.old ∷ []) }
@@ -344,7 +348,8 @@ impl Order {
         ensures index { slice_get self.old i ≡ Some result }
         ensures within { result < length self.old }
         ensures rest { self.new ≡ map (renamed (length self.old - 1) result) (remove self.old i) }
-        ensures others { All (λ index. (index < length self.old) × (index ≢ result)) (remove self.old i) }
+        ensures others { All (λ index. (index < length self.old) × (index ≢ result))
+            (remove self.old i) }
     {
         let slot = slot_of(self.slots.as_slice(), &self.counts, i);
         let index = take_slot(&mut self.slots, &mut self.homes, &mut self.counts, slot);

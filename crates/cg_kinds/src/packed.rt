@@ -14,8 +14,8 @@ use std::marker::Model;
 
 /// A value in two 64-bit words: its sort and its number.
 ///
-/// There is no padding between or after them, so a run of values moves as one run of bytes. A `Val` has padding, and a
-/// run of those moves field by field.
+/// There is no padding between or after them, so a run of values moves as one run of bytes. A `Val`
+/// has padding, and a run of those moves field by field.
 #[derive(Drop)]
 pub struct Packed {
     sort: u64,

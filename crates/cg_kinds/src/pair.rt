@@ -83,12 +83,13 @@ impl KeepsEntry for Pair {
     }
 }
 
-/// Writes the references of a packed value and its packed key, in this order, after the first `count`. Returns the new
-/// count.
+/// Writes the references of a packed value and its packed key, in this order, after the first
+/// `count`. Returns the new count.
 #[inline(always)]
 pub fn note_pair(found: &mut [u64], count: usize, key: &Nine, val: &Nine) -> usize
     requires { count + 2 ≤ length found.old }
-    ensures noted { take result found.new ≡ take count found.old ++ entry_references (pair_entry (key.now, val.now)) }
+    ensures noted { take result found.new ≡ take count found.old
+        ++ entry_references (pair_entry (key.now, val.now)) }
     ensures few { result ≤ count + 2 }
     ensures room { length found.new ≡ length found.old }
 {

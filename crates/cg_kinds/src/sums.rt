@@ -11,7 +11,8 @@ pub const PART: usize = 16;
 
 /// Numbers and, if there are more than 16, the sum of each 16, which have sums above them in turn.
 ///
-/// So changing a number changes one sum per level, and a prefix sum adds at most 16 numbers per level.
+/// So changing a number changes one sum per level, and a prefix sum adds at most 16 numbers per
+/// level.
 #[derive(Drop)]
 pub struct Sums {
     numbers: Vec<u32>,
@@ -47,11 +48,13 @@ fn sum_of(numbers: &[u32]) -> usize
     all
 }
 
-/// The position, from `first` on, at which a running sum reaches `count`, and the rest of `count` within it.
+/// The position, from `first` on, at which a running sum reaches `count`, and the rest of `count`
+/// within it.
 fn reached_from(numbers: &[u32], first: usize, count: usize) -> (usize, usize)
     requires { sum_before numbers.now first + count < sum numbers.now }
     ensures within { result.0 < length numbers.now }
-    ensures before { sum_before numbers.now result.0 + result.1 ≡ sum_before numbers.now first + count }
+    ensures before { sum_before numbers.now result.0 + result.1 ≡ sum_before numbers.now first +
+        count }
     ensures there { result.1 < slice_index numbers.now result.0 }
 {
     let mut left = count;
@@ -86,7 +89,8 @@ fn first_sums(alloc: Global, numbers: &[u32]) -> Result<Box<Sums>, AllocError>
 /// Sets numbers to 16 each as far as the count goes, one to the remainder, and later ones to 0.
 fn deal_out(numbers: &mut [u32], count: usize)
     ensures long { length numbers.new ≡ length numbers.old }
-    ensures each { (i : ℕ) → i < length numbers.new → slice_index numbers.new i ≡ min 16 (count - 16 * i) }
+    ensures each { (i : ℕ) → i < length numbers.new → slice_index numbers.new i
+        ≡ min 16 (count - 16 * i) }
 {
     let mut left = count;
     'numbers: for i in 0..numbers.len() {
@@ -235,7 +239,8 @@ impl Sums {
     pub fn deal(&mut self, count: usize)
         requires { count < 2 ^ 32 }
         ensures long { length self.new ≡ length self.old }
-        ensures each { (i : ℕ) → i < length self.new → slice_index self.new i ≡ min 16 (count - 16 * i) }
+        ensures each { (i : ℕ) → i < length self.new → slice_index self.new i
+            ≡ min 16 (count - 16 * i) }
     {
         deal_out(self.numbers.as_mut_slice(), count);
         if let Some(parts) = &mut self.above {

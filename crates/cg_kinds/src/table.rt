@@ -21,8 +21,8 @@ type Map = IndexMap<Nine, Nine, KeyHashing>;
 
 /// Pairs in insertion order.
 ///
-/// The map itself keeps that order until a pair with many after it is removed. As it grows it keeps little more room
-/// than its pairs need.
+/// The map itself keeps that order until a pair with many after it is removed. As it grows it keeps
+/// little more room than its pairs need.
 #[derive(Drop)]
 pub struct Table {
     map: Map,
@@ -34,9 +34,11 @@ pub struct Table {
 /// A record of a map's room, in eight bytes.
 #[derive(Drop)]
 struct Room {
-    /// The map's room in pairs when it last grew. More room than this means that it has grown again.
+    /// The map's room in pairs when it last grew. More room than this means that it has grown
+    /// again.
     all: u32,
-    /// The map cannot grow before this many new keys arrive. Removed keys leave more room than this counts.
+    /// The map cannot grow before this many new keys arrive. Removed keys leave more room than this
+    /// counts.
     left: u32,
 }
 
@@ -52,8 +54,9 @@ impl Model for Table {
     ghost invariant = { λ t. IsOrderOf (length t.map.entries) (unboxed t.order) };
 }
 
-/// If at most this many pairs remain from a removed one on, itself included, the later ones shift down. An order for
-/// fewer would not fit in 300 bytes plus 64 a pair, since the map doubles its index at the 37th.
+/// If at most this many pairs remain from a removed one on, itself included, the later ones shift
+/// down. An order for fewer would not fit in 300 bytes plus 64 a pair, since the map doubles its
+/// index at the 37th.
 const CLOSE: usize = 44;
 
 /// The entry of a packed key and a packed value.
@@ -78,13 +81,15 @@ fn pair_at(map: &Map, index: usize) -> Entry
     }
 }
 
-/// Writes the references of the pair at an index of a map after the first `count`; returns the new count.
+/// Writes the references of the pair at an index of a map after the first `count`; returns the new
+/// count.
 #[inline(always)]
 fn note_pair_at(map: &Map, index: usize, found: &mut [u64], count: usize) -> usize
     requires within { index < length map.now.entries }
     requires room { count + 2 ≤ length found.old }
     ensures noted { take result found.new ≡
-        take count found.old ++ entry_references (slice_index_or (pairs_of map.now.entries) index nothing) }
+        take count found.old ++ entry_references (slice_index_or (pairs_of map.now.entries) index
+        nothing) }
     ensures few { result ≤ count + 2 }
     ensures room { length found.new ≡ length found.old }
 {
@@ -99,7 +104,8 @@ fn note_at(map: &Map, indexes: &[usize], found: &mut [u64]) -> usize
     requires within { All (λ index. index < length map.now.entries) indexes.now }
     requires few { length indexes.now ≤ AT_ONCE }
     requires room { ROOM ≤ length found.old }
-    ensures references { take result found.new ≡ references (picked (pairs_of map.now.entries) indexes.now) }
+    ensures references { take result found.new
+        ≡ references (picked (pairs_of map.now.entries) indexes.now) }
     ensures few { result ≤ ROOM }
     ensures room { length found.new ≡ length found.old }
 {
@@ -110,7 +116,8 @@ fn note_at(map: &Map, indexes: &[usize], found: &mut [u64]) -> usize
     count
 }
 
-/// Writes the references of the pairs in a range of indexes, at most `AT_ONCE`. Returns their number.
+/// Writes the references of the pairs in a range of indexes, at most `AT_ONCE`. Returns their
+/// number.
 fn note_between(map: &Map, from: usize, next: usize, found: &mut [u64]) -> usize
     requires order { from ≤ next }
     requires within { next ≤ length map.now.entries }
@@ -143,9 +150,12 @@ fn swap_out(map: &mut Map, index: usize) -> Entry
 /// Removes the pair of a key, and returns its index. The last pair moves into its place.
 #[inline(always)]
 fn swap_out_key(map: &mut Map, key: Val) -> Option<(usize, Entry)>
-    ensures index { option_map (λ p. p.0) result ≡ position (has_key key) (pairs_of map.old.entries) }
-    ensures entry { IfSome result (λ p. p.1 ≡ slice_index_or (pairs_of map.old.entries) p.0 nothing) }
-    ensures rest { IfSome result (λ p. pairs_of map.new.entries ≡ swap_remove (pairs_of map.old.entries) p.0 nothing) }
+    ensures index { option_map (λ p. p.0) result ≡ position (has_key key)
+        (pairs_of map.old.entries) }
+    ensures entry { IfSome result (λ p. p.1 ≡ slice_index_or (pairs_of map.old.entries) p.0
+        nothing) }
+    ensures rest { IfSome result (λ p. pairs_of map.new.entries
+        ≡ swap_remove (pairs_of map.old.entries) p.0 nothing) }
     ensures stays { IfNone result (map.new.entries ≡ map.old.entries) }
 {
     match map.swap_remove_full(&Nine::new(key)) {
@@ -172,7 +182,8 @@ fn shift_out(map: &mut Map, index: usize) -> Entry
     }
 }
 
-/// Exposes to proofs that each index has one place in the order, if there is an order. Does nothing at run time.
+/// Exposes to proofs that each index has one place in the order, if there is an order. Does nothing
+/// at run time.
 #[inline(always)]
 fn sound(order: &Option<Box<Order>>)
     ensures { IsSoundOrder (unboxed order.now) }
@@ -185,7 +196,8 @@ fn sound(order: &Option<Box<Order>>)
 
 /// Puts a value under a key; a new key goes last. Returns the old value of the key.
 ///
-/// It uses the map's entry: the error of `insert` would carry the value, which would then be moved in pieces.
+/// It uses the map's entry: the error of `insert` would carry the value, which would then be moved
+/// in pieces.
 #[inline(always)]
 fn put_in(map: &mut Map, key: Val, val: Val) -> Result<Option<Val>, AllocError>
     ensures ok { OnOk result (pairs_of map.new.entries ≡ put (pairs_of map.old.entries) key val) }
@@ -222,7 +234,8 @@ fn fit(map: &mut Map, room: &mut Room)
     }
 }
 
-/// Gives part of a grown map's new room back, and records how many keys may come before it grows again.
+/// Gives part of a grown map's new room back, and records how many keys may come before it grows
+/// again.
 #[inline(never)]
 fn fit_again(map: &mut Map, room: &mut Room)
     ensures { map.new.entries ≡ map.old.entries }
@@ -241,9 +254,9 @@ fn in_32_bits(number: usize) -> u32 {
 
 /// Shrinks a map to the room of its pairs plus about two fifths.
 ///
-/// Each growth leaves holes in the process's memory, so growths must be rare. Of the fractions tried, only this one
-/// kept every table measured (25 to 300 pairs as they were put, and about 90 sizes with an order) within 300 bytes
-/// plus 64 a pair.
+/// Each growth leaves holes in the process's memory, so growths must be rare. Of the fractions
+/// tried, only this one kept every table measured (25 to 300 pairs as they were put, and about 90
+/// sizes with an order) within 300 bytes plus 64 a pair.
 fn give_back(map: &mut Map)
     ensures { map.new.entries ≡ map.old.entries }
 {
@@ -260,7 +273,8 @@ fn boxed_order(alloc: Global, count: usize) -> Result<Box<Order>, AllocError>
     Ok(boxed)
 }
 
-/// The order of a map's pairs, boxed. It allocates, so the map first gives back the room that it does not need.
+/// The order of a map's pairs, boxed. It allocates, so the map first gives back the room that it
+/// does not need.
 fn noted_order(map: &mut Map) -> Result<Box<Order>, AllocError>
     ensures same { map.new.entries ≡ map.old.entries }
     ensures order { IfOk result (λ order. order.value ≡ range_with_len 0 (length map.old.entries)) }
@@ -282,8 +296,10 @@ fn lose_last(map: &mut Map)
 #[inline(always)]
 fn order_last(map: &mut Map, order: &mut Option<Box<Order>>) -> Result<(), AllocError>
     ensures ok { OnOk result (map.new.entries ≡ map.old.entries) }
-    ensures order { OnOk result (unboxed order.new ≡ option_map (λ o. o ++ length o ∷ []) (unboxed order.old)) }
-    ensures err { OnErr result (map.new.entries ≡ take (length map.old.entries - 1) map.old.entries) }
+    ensures order { OnOk result (unboxed order.new ≡ option_map (λ o. o ++ length o ∷ [])
+        (unboxed order.old)) }
+    ensures err { OnErr result (map.new.entries ≡ take (length map.old.entries - 1)
+        map.old.entries) }
     ensures same_order { OnErr result (unboxed order.new ≡ unboxed order.old) }
 {
     match order {
@@ -344,13 +360,14 @@ impl Table {
         }
     }
 
-    /// Visits pairs from a position on, as `cg_kind::Kind::note_from` specifies. With an order it walks from slot to
-    /// slot.
+    /// Visits pairs from a position on, as `cg_kind::Kind::note_from` specifies. With an order it
+    /// walks from slot to slot.
     pub fn note_from(&self, from: usize, found: &mut [u64]) -> Noted
         requires within { from ≤ length self.now }
         requires room { ROOM ≤ length found.old }
         ensures next { result.next ≡ from + length (next_entries self.now from) }
-        ensures references { take result.references found.new ≡ references (next_entries self.now from) }
+        ensures references { take result.references found.new
+            ≡ references (next_entries self.now from) }
         ensures few { result.references ≤ ROOM }
         ensures room { length found.new ≡ length found.old }
     {
@@ -417,7 +434,8 @@ impl Table {
         }
     }
 
-    /// Records the map's order before a pair with many after it is removed, if there is memory for it.
+    /// Records the map's order before a pair with many after it is removed, if there is memory for
+    /// it.
     fn note_order(&mut self, i: usize)
         requires { i < length self.old }
         ensures { self.new ≡ self.old }
@@ -451,7 +469,8 @@ impl Table {
         }
     }
 
-    /// Removes the pair of a key, if there is one; later ones move down. An order needs no search for the place.
+    /// Removes the pair of a key, if there is one; later ones move down. An order needs no search
+    /// for the place.
     #[inline(always)]
     pub fn take_key(&mut self, key: Val) -> Option<Entry>
         ensures entry { result ≡ entry_under self.old key }

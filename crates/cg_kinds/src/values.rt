@@ -12,15 +12,16 @@ use std::marker::Model;
 
 /// The values of a list, each in nine bytes: its sort in one column, and its number in the other.
 ///
-/// So the values after a removed one move as two runs of bytes. When the first is removed the others stay in place,
-/// and leave a gap in front.
+/// So the values after a removed one move as two runs of bytes. When the first is removed the
+/// others stay in place, and leave a gap in front.
 #[derive(Drop)]
 pub struct Values {
     sorts: Vec<u8>,
     numbers: Vec<u64>,
     /// The place of the first value. The places before it no longer hold values.
     first: usize,
-    /// How many more values fit into both columns without allocating, some of them only after the front gap is closed.
+    /// How many more values fit into both columns without allocating, some of them only after the
+    /// front gap is closed.
     room: usize,
 }
 
@@ -30,9 +31,13 @@ impl Model for Values {
 
     ghost Value = { Kept };
 
-    ghost view = { λ v. record { items = drop v.first (values_in v.sorts.items v.numbers.items); room = v.room } };
+    ghost view = { λ v. record {
+      items = drop v.first (values_in v.sorts.items v.numbers.items);
+      room = v.room;
+    } };
 
-    ghost invariant = { λ v. AreColumns v.sorts.items v.numbers.items v.first v.room (vec_capacity v.sorts) (vec_capacity v.numbers) };
+    ghost invariant = { λ v. AreColumns v.sorts.items v.numbers.items v.first v.room
+        (vec_capacity v.sorts) (vec_capacity v.numbers) };
 }
 
 /// The sort of a reference, the highest sort.
@@ -75,7 +80,8 @@ pub(crate) fn reference_of(sort: u64, number: u64) -> Option<u64>
     if sort > 2 { Some(number) } else { None }
 }
 
-/// Whether all these sorts are those of references. The loop has no early exit, so that it checks many at once.
+/// Whether all these sorts are those of references. The loop has no early exit, so that it checks
+/// many at once.
 fn are_references(sorts: &[u8]) -> bool
     ensures { result ≡ true → All (λ sort. 2 < sort) sorts.now }
 {
@@ -98,8 +104,8 @@ fn note_all(numbers: &[u64], found: &mut [u64]) -> usize
     count
 }
 
-/// Writes the references of the values in a range of both columns, at most `AT_ONCE`. Returns their number. In most
-/// lists all values are references, and then the numbers are copied directly.
+/// Writes the references of the values in a range of both columns, at most `AT_ONCE`. Returns their
+/// number. In most lists all values are references, and then the numbers are copied directly.
 #[inline(always)]
 fn note_between(sorts: &[u8], numbers: &[u64], from: usize, next: usize, found: &mut [u64]) -> usize
     requires words { AllZip AreWords sorts.now numbers.now }
@@ -138,8 +144,8 @@ fn note_each(sorts: &[u8], numbers: &[u64], from: usize, next: usize, found: &mu
     count
 }
 
-/// Drops the first `n` places. The later ones move down as one run; `drain` would first rotate the front ones to the
-/// back.
+/// Drops the first `n` places. The later ones move down as one run; `drain` would first rotate the
+/// front ones to the back.
 fn lose_front<T: Copy + Drop>(column: &mut Vec<T>, n: usize)
     requires { n ≤ vec_len column.old }
     ensures items { column.new.items ≡ drop n column.old.items }
@@ -166,14 +172,17 @@ fn close_gap(sorts: &mut Vec<u8>, numbers: &mut Vec<u64>, first: &mut usize)
     *first = 0;
 }
 
-/// Makes a free place at the end of both columns for one more value: closes the gap once a column is full. If the room
-/// exceeds the gap, there is a place already.
+/// Makes a free place at the end of both columns for one more value: closes the gap once a column
+/// is full. If the room exceeds the gap, there is a place already.
 #[inline(always)]
 fn have_place(sorts: &mut Vec<u8>, numbers: &mut Vec<u64>, first: &mut usize, room: usize)
-    requires columns { AreColumns sorts.old.items numbers.old.items first.old room (vec_capacity sorts.old) (vec_capacity numbers.old) }
+    requires columns { AreColumns sorts.old.items numbers.old.items first.old room
+        (vec_capacity sorts.old) (vec_capacity numbers.old) }
     requires some { 0 < room }
-    ensures columns { AreColumns sorts.new.items numbers.new.items first.new room (vec_capacity sorts.new) (vec_capacity numbers.new) }
-    ensures values { drop first.new (values_in sorts.new.items numbers.new.items) ≡ drop first.old (values_in sorts.old.items numbers.old.items) }
+    ensures columns { AreColumns sorts.new.items numbers.new.items first.new room
+        (vec_capacity sorts.new) (vec_capacity numbers.new) }
+    ensures values { drop first.new (values_in sorts.new.items numbers.new.items)
+        ≡ drop first.old (values_in sorts.old.items numbers.old.items) }
     ensures in_sorts { vec_len sorts.new < vec_capacity sorts.new }
     ensures in_numbers { vec_len numbers.new < vec_capacity numbers.new }
 {
@@ -186,10 +195,11 @@ fn have_place(sorts: &mut Vec<u8>, numbers: &mut Vec<u64>, first: &mut usize, ro
     close_gap(sorts, numbers, first);
 }
 
-/// How many extra places are kept free, for a number of values and their room. `room` does not count them.
+/// How many extra places are kept free, for a number of values and their room. `room` does not
+/// count them.
 ///
-/// So a full list that loses a value in front for each one it gains at the end closes its gap only once in that many
-/// turns.
+/// So a full list that loses a value in front for each one it gains at the end closes its gap only
+/// once in that many turns.
 #[inline(always)]
 fn spare(len: usize) -> usize {
     len / 8
@@ -242,14 +252,15 @@ impl Values {
         val_of(self.sorts[at], self.numbers[at])
     }
 
-    /// Visits items from a position on, as `cg_kind::Kind::note_from` specifies. A separate call, since copying needs
-    /// more registers than the few items of most lists do.
+    /// Visits items from a position on, as `cg_kind::Kind::note_from` specifies. A separate call,
+    /// since copying needs more registers than the few items of most lists do.
     #[inline(never)]
     pub fn note_from(&self, from: usize, found: &mut [u64]) -> Noted
         requires within { from ≤ length self.now.items }
         requires room { ROOM ≤ length found.old }
         ensures next { result.next ≡ from + length (next_entries (map item self.now.items) from) }
-        ensures references { take result.references found.new ≡ references (next_entries (map item self.now.items) from) }
+        ensures references { take result.references found.new
+            ≡ references (next_entries (map item self.now.items) from) }
         ensures few { result.references ≤ ROOM }
         ensures room { length found.new ≡ length found.old }
     {
@@ -274,7 +285,8 @@ impl Values {
         self.numbers[at] = number;
     }
 
-    /// Removes the value at a place. Later ones move down; if it is the first, they stay until the gap is closed.
+    /// Removes the value at a place. Later ones move down; if it is the first, they stay until the
+    /// gap is closed.
     pub fn remove(&mut self, i: usize) -> Val
         requires { i < length self.old.items }
         ensures val { slice_get self.old.items i ≡ Some result }

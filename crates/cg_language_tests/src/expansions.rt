@@ -1,5 +1,5 @@
-//! Extended scripts and their expansions, or their first bad lines. The texts come from the rules in `specs/Expansion`, worked
-//! out by hand.
+//! Extended scripts and their expansions, or their first bad lines. The texts come from the rules
+//! in `specs/Expansion`, worked out by hand.
 //!
 //! The lines of a script stand with `; ` between them.
 use crate::texts::{fault_text, lines};
@@ -188,8 +188,8 @@ fn bytes_of(alloc: Global, text: Text) -> Result<Vec<u8>, AllocError> {
     Ok(bytes)
 }
 
-/// Texts as they stand, and what they become, before a line feed: a last line without a line feed is a line; lines that are too long;
-/// a long comment; and lines behind the first 400,000.
+/// Texts as they stand, and what they become, before a line feed: a last line without a line feed
+/// is a line; lines that are too long; a long comment; and lines behind the first 400,000.
 static WHOLE: [(Text, Text); 14] = [
     ((0, "\na = list", 0), (0, "\na = list", 0)),
     ((0, "m = wmap", 0), (0, "m = dict", 0)),

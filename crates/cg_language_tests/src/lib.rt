@@ -1,5 +1,6 @@
-//! Tests of the language's public calls: texts, scripts, arguments, large scripts and tallies, extended scripts, the lines of
-//! events, and the numbers of the collector. A separate crate, so that the tested crates are checked without them.
+//! Tests of the language's public calls: texts, scripts, arguments, large scripts and tallies,
+//! extended scripts, the lines of events, and the numbers of the collector. A separate crate, so
+//! that the tested crates are checked without them.
 #![tactic(auto)]
 
 #[cfg(test)]

@@ -4,7 +4,8 @@ use std::alloc::AllocError;
 use std::process::Abort;
 use std::test::Fail;
 
-/// Texts in the order in which they are interned, the numbers that they get, all texts by their numbers, and one that is none.
+/// Texts in the order in which they are interned, the numbers that they get, all texts by their
+/// numbers, and one that is none.
 static ORDERS: [(&[(&str, u32)], &[&str], &str); 2] = [
     (
         &[("a", 0), ("b", 1), ("", 2), ("b", 1), ("a", 0), ("c", 3)],

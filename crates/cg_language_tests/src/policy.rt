@@ -14,7 +14,10 @@ fn collect(policy: &mut Policy, generation: u8, survivors: u64)
     requires begins { IsBounded (begun generation policy.old.numbers) }
     requires ends { IsBounded (survived generation survivors (begun generation policy.old.numbers)) }
     ensures { policy.new
-        ≡ record { numbers = survived generation survivors (begun generation policy.old.numbers); running = false } }
+        ≡ record {
+          numbers = survived generation survivors (begun generation policy.old.numbers);
+          running = false;
+        } }
 {
     policy.begin(generation);
     policy.survived(generation, survivors);

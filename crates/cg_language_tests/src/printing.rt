@@ -108,7 +108,8 @@ fn passed() -> &'static [(&'static str, &'static str)] {
     &PASSED
 }
 
-/// What stands before a line is printed as it is, the line in another way; what was printed is printed as it is.
+/// What stands before a line is printed as it is, the line in another way; what was printed is
+/// printed as it is.
 fn check(
     rt: &impl Abort,
     alloc: Global,

@@ -98,7 +98,8 @@ fn scripts_are_read_line_by_line(rt: HostRuntime) -> Result<(), Fail> {
 
 const NONE: Operand = Operand::None;
 
-/// A command: its word, its numbers, -1 for one that is absent, and its operands, `NONE` where it has fewer than three.
+/// A command: its word, its numbers, -1 for one that is absent, and its operands, `NONE` where it
+/// has fewer than three.
 type Parts = (&'static str, [i64; 3], [Operand; 3]);
 
 /// How an absent number is told.

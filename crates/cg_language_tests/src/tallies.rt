@@ -1,4 +1,5 @@
-//! Worked scripts, tallies and summaries. The numbers of the large script were counted by hand from its blocks.
+//! Worked scripts, tallies and summaries. The numbers of the large script were counted by hand from
+//! its blocks.
 use cg_generator::{Tally, TallySink, generated_script, summary_line, tally};
 use cg_io::Sink;
 use cg_script::print;

@@ -98,19 +98,21 @@ fn each_byte_in_each_place(rt: HostRuntime) -> Result<(), Fail> {
     Ok(())
 }
 
-/// A script with a finalizer that makes a weak reference in a collection. Under each byte is what the script that ends there is:
-/// good (a dot); bad in its last line, with this code; or bad with 7 in the line after, where a procedure is still open.
+/// A script with a finalizer that makes a weak reference in a collection. Under each byte is what
+/// the script that ends there is: good (a dot); bad in its last line, with this code; or bad with 7
+/// in the line after, where a procedure is still open.
 ///
-/// A line without `=` as its second word is of no form (2) until its first word is complete, and then has too few words (3). One with it has
-/// too few (3) until there is a third word, which is a variable as long as it is not the word of a form.
+/// A line without `=` as its second word is of no form (2) until its first word is complete, and
+/// then has too few words (3). One with it has too few (3) until there is a third word, which is a
+/// variable as long as it is not the word of a form.
 static FRONTS: [(&str, &str); 17] = [
     ("def cb\n", "2233777"),
     ("end\n", "22.."),
     ("def d\n", "223377"),
     // `attr` requires a value and a name.
     ("n = attr self other\n", "22337773333333777777"),
-    // `ref` is also a value: the weak reference of the callback. As a form it requires a value, and a second one may
-    // follow.
+    // `ref` is also a value: the weak reference of the callback. As a form it requires a value, and
+    // a second one may follow.
     ("w = ref n f\n", "223377777777"),
     ("del n\n", "223377"),
     ("end\n", "22.."),

@@ -25,8 +25,8 @@ pub const RECORD: &[&str] = &["record"];
 
 pub const EXPAND: &[&str] = &["expand"];
 
-/// The write with this number, from 1, fails after its first `keep` bytes; the lists refuse the call of `make` before which so many
-/// were made.
+/// The write with this number, from 1, fails after its first `keep` bytes; the lists refuse the
+/// call of `make` before which so many were made.
 #[derive(Clone, Copy)]
 pub struct Faults {
     pub write: u64,

@@ -10,8 +10,8 @@ use std::test::Fail;
 const LIST: &str =
     "record 2\ngraph 1\nm 2 1 0\nr 2\nlost 2\ngraph 2\nm 2 1 0\nr 2\nlost 2\nstop\nend\n";
 
-/// Calls: a name, the words, the records, which reads fail, which writes fail, each after its first two bytes, how it ends, and its
-/// text.
+/// Calls: a name, the words, the records, which reads fail, which writes fail, each after its first
+/// two bytes, how it ends, and its text.
 type Call = (
     &'static str,
     &'static [&'static str],

@@ -1,8 +1,10 @@
-//! Worked scripts with collections, asked for and due. The texts come from the rules of docs/RULES.md, worked out by hand.
+//! Worked scripts with collections, asked for and due. The texts come from the rules of
+//! docs/RULES.md, worked out by hand.
 use crate::calls::{Case, RECORD, RUN, Worked};
 use cg_cli::Status;
 
-/// Cycles, with finalizers and weak references; legacy finalizers and flags; tracking; collections that are due; frozen objects.
+/// Cycles, with finalizers and weak references; legacy finalizers and flags; tracking; collections
+/// that are due; frozen objects.
 static DONE: [Worked; 44] = [
     (
         "a list that holds itself",

@@ -1,5 +1,5 @@
-//! Deaths, frames and collections within each other, through the whole budget, and large graphs. The texts come from the rules of
-//! docs/RULES.md.
+//! Deaths, frames and collections within each other, through the whole budget, and large graphs.
+//! The texts come from the rules of docs/RULES.md.
 use crate::parts::Line::{Counted, Numbered, Plain};
 use crate::parts::Part::{Lines, Turns};
 use crate::sizes::{Long, check_long_calls};
@@ -8,8 +8,9 @@ use std::test::Fail;
 
 /// Calls within each other.
 static DEEP: [Long; 5] = [
-    // Each finalizer calls a function that makes an instance and drops it: its finalizer begins in that frame. Each object takes two
-    // of 100,000 frames, and the finalizer of the last is one too many.
+    // Each finalizer calls a function that makes an instance and drops it: its finalizer begins in
+    // that frame. Each object takes two of 100,000 frames, and the finalizer of the last is one too
+    // many.
     (
         "finalizers that make what is finalized",
         &["run"],
@@ -30,7 +31,8 @@ static DEEP: [Long; 5] = [
             Lines("budget spent"),
         ],
     ),
-    // Each instance holds the one before, and its finalizer gives that up: 100,000 frames stand on each other, and each ends.
+    // Each instance holds the one before, and its finalizer gives that up: 100,000 frames stand on
+    // each other, and each ends.
     (
         "finalizers that drop what is finalized",
         &["run"],
@@ -53,8 +55,9 @@ static DEEP: [Long; 5] = [
             Lines("end"),
         ],
     ),
-    // 100,000 lists, each of a weak reference, its referent and the list before. A callback gives the list up that is bound, by
-    // binding the one before: its referent dies, and is called back for in that frame. The first list of all has no items.
+    // 100,000 lists, each of a weak reference, its referent and the list before. A callback gives
+    // the list up that is bound, by binding the one before: its referent dies, and is called back
+    // for in that frame. The first list of all has no items.
     (
         "callbacks within callbacks",
         &["run"],
@@ -103,7 +106,8 @@ static DEEP: [Long; 5] = [
             Lines("end"),
         ],
     ),
-    // The finalizer of a dying instance collects, and the finalizer of what is found drops a chain of 300,000 lists.
+    // The finalizer of a dying instance collects, and the finalizer of what is found drops a chain
+    // of 300,000 lists.
     (
         "a death within a collection within a death",
         &["run"],
@@ -207,7 +211,8 @@ static LARGE: [Long; 6] = [
             Lines("end"),
         ],
     ),
-    // A list and a function, and 999,998 lists are made by 1,000 frames: the last but one of the last frame is refused.
+    // A list and a function, and 999,998 lists are made by 1,000 frames: the last but one of the
+    // last frame is refused.
     (
         "a million objects are the most",
         &["run"],

@@ -1,4 +1,5 @@
-//! Two texts with each line left out, doubled and swapped with the next, and the resulting verdicts.
+//! Two texts with each line left out, doubled and swapped with the next, and the resulting
+//! verdicts.
 use cg_cert::{Verdict, check_records};
 use std::alloc::{AllocError, Global};
 use std::process::Abort;
@@ -70,7 +71,8 @@ const INSTANCE: [&[u8]; 9] = [
     b"end\n",
 ];
 
-/// The verdicts, by graph and code, on texts with each line edited, in order. The last line has no next.
+/// The verdicts, by graph and code, on texts with each line edited, in order. The last line has no
+/// next.
 static VERDICTS: [(&str, &[&[u8]], Edit, &[(u64, u8)]); 6] = [
     (
         "a line of the list left out",

@@ -1,5 +1,5 @@
-//! Extended scripts: their expansions, and what runs of these write. The texts come from the rules of docs/SCRIPT.md and
-//! docs/RULES.md, worked out by hand.
+//! Extended scripts: their expansions, and what runs of these write. The texts come from the rules
+//! of docs/SCRIPT.md and docs/RULES.md, worked out by hand.
 use crate::calls::{Case, EXPAND};
 use cg_cli::Status;
 

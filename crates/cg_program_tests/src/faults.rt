@@ -12,8 +12,8 @@ use std::alloc::{AllocError, Global};
 use std::process::Abort;
 use std::test::Fail;
 
-/// A call of which all is known: its words and its script, how often it reads a source that gives the whole script at once,
-/// how it ends and its text.
+/// A call of which all is known: its words and its script, how often it reads a source that gives
+/// the whole script at once, how it ends and its text.
 type Call = (
     &'static [&'static str],
     &'static str,
@@ -22,8 +22,8 @@ type Call = (
     &'static str,
 );
 
-/// Two callbacks, a shutdown, an inspection, a spent budget, a bad script, bad words, a summary, records, an expansion, and one of a
-/// bad script.
+/// Two callbacks, a shutdown, an inspection, a spent budget, a bad script, bad words, a summary,
+/// records, an expansion, and one of a bad script.
 static CALLS: [Call; 10] = [
     (
         RUN,
@@ -181,7 +181,8 @@ fn check_read<S: Source>(
     Ok(())
 }
 
-/// Each read of a call fails in turn, and the one after the last, with a source that gives all that is asked for.
+/// Each read of a call fails in turn, and the one after the last, with a source that gives all that
+/// is asked for.
 fn check_reads(
     rt: &impl Abort,
     alloc: Global,
@@ -196,7 +197,8 @@ fn check_reads(
     Ok(())
 }
 
-/// The same with a source that gives one byte a call: as many reads as bytes, and one for the end, if it is read at all.
+/// The same with a source that gives one byte a call: as many reads as bytes, and one for the end,
+/// if it is read at all.
 fn check_reads_of_a_byte(
     rt: &impl Abort,
     alloc: Global,
@@ -232,8 +234,9 @@ fn each_read_fails_in_turn(rt: HostRuntime) -> Result<(), Fail> {
     Ok(())
 }
 
-/// Calls where the lists refuse a call of `make`: their words, how many were made before, how they end, and their text. The script
-/// makes the garbage list, `a` and `b` by one call each; that of three blocks makes eight.
+/// Calls where the lists refuse a call of `make`: their words, how many were made before, how they
+/// end, and their text. The script makes the garbage list, `a` and `b` by one call each; that of
+/// three blocks makes eight.
 static REFUSED: [(&[&str], usize, Status, &str); 12] = [
     (RECORD, 0, Status::OutOfMemory, ""),
     (RECORD, 1, Status::OutOfMemory, ""),

@@ -1,4 +1,5 @@
-//! Worked scripts with commands that look at the graph. The texts come from the rules of docs/RULES.md, worked out by hand.
+//! Worked scripts with commands that look at the graph. The texts come from the rules of
+//! docs/RULES.md, worked out by hand.
 use crate::calls::Worked;
 
 /// What refers to what, and why an object is alive.

@@ -1,5 +1,6 @@
-//! Tests of public calls of the program and its parts: sources and sinks, records, the checker, and the top call on worked
-//! scripts, under faults, at its limits and in depth. A separate crate, so that the tested crates are checked without them.
+//! Tests of public calls of the program and its parts: sources and sinks, records, the checker, and
+//! the top call on worked scripts, under faults, at its limits and in depth. A separate crate, so
+//! that the tested crates are checked without them.
 #![tactic(auto)]
 
 #[cfg(test)]

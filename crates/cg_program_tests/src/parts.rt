@@ -21,7 +21,8 @@ pub enum Line {
     Plain(&'static str),
     /// A line of these bytes, so many times.
     Filled(&'static [u8], u32),
-    /// A line that ends with a number: that of the first turn, and by how much it rises from turn to turn.
+    /// A line that ends with a number: that of the first turn, and by how much it rises from turn
+    /// to turn.
     Numbered(&'static str, i64, i64),
     /// So many lines that end with numbers, which rise by one from that of the first turn's first.
     Counted(&'static str, u32, i64),

@@ -1,5 +1,5 @@
-//! What every run promises, by scripts that would print something else if a promise were broken. The texts come from the rules
-//! of docs/RULES.md, worked out by hand.
+//! What every run promises, by scripts that would print something else if a promise were broken.
+//! The texts come from the rules of docs/RULES.md, worked out by hand.
 use crate::calls::Worked;
 
 /// Finalizers begin once, the dead are not named, and a set that is half cleared is out of reach.

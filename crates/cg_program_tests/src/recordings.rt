@@ -1,4 +1,5 @@
-//! The records of worked scripts. The texts come from the rules of docs/RULES.md and docs/RECORDS.md, worked out by hand.
+//! The records of worked scripts. The texts come from the rules of docs/RULES.md and
+//! docs/RECORDS.md, worked out by hand.
 use crate::calls::{Case, RECORD};
 use cg_cli::Status;
 

@@ -14,8 +14,8 @@ fn reread(alloc: Global, bytes: &[u8]) -> Result<Option<Vec<u8>>, AllocError> {
     }
 }
 
-/// A graph: its members, each with its serial, its in-degree, whether it has a legacy finalizer, and its references; what is lost of it,
-/// and what is set aside.
+/// A graph: its members, each with its serial, its in-degree, whether it has a legacy finalizer,
+/// and its references; what is lost of it, and what is set aside.
 type Told = (
     &'static [(u64, u64, bool, &'static [u64])],
     &'static [u64],
@@ -36,7 +36,8 @@ fn assert_graph(rt: &impl Abort, graph: &Graph, told: Told) {
     assert_eq!(rt; graph.legacy.as_slice(), legacy);
 }
 
-/// A record of one collection: its text, its generation, its first graph, and its second, if it has one.
+/// A record of one collection: its text, its generation, its first graph, and its second, if it has
+/// one.
 static RECORDS: [(&[u8], u8, Told, Option<Told>); 2] = [
     (
         b"record 2\ngraph 1\nm 2 1 0\nr 2\nlost 2\ngraph 2\nm 2 1 0\nr 2\nlost 2\nstop\nend\n",

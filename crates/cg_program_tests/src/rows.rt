@@ -1,4 +1,5 @@
-//! Worked scripts without collections. The texts come from the rules of docs/RULES.md, worked out by hand.
+//! Worked scripts without collections. The texts come from the rules of docs/RULES.md, worked out
+//! by hand.
 use crate::calls::{Case, Worked};
 use cg_cli::Status;
 

@@ -1,4 +1,5 @@
-//! Worked scripts with a shutdown. The texts come from the rules of docs/RULES.md, worked out by hand.
+//! Worked scripts with a shutdown. The texts come from the rules of docs/RULES.md, worked out by
+//! hand.
 use crate::calls::Worked;
 
 /// What the shutdown leaves, and collections that are due at it.

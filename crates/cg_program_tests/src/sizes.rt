@@ -10,7 +10,8 @@ use std::alloc::{AllocError, Global};
 use std::process::Abort;
 use std::test::Fail;
 
-/// A call with a long script or a long text: its name, its words, its script, how it ends, and its text.
+/// A call with a long script or a long text: its name, its words, its script, how it ends, and its
+/// text.
 pub type Long = (
     &'static str,
     &'static [&'static str],
@@ -155,7 +156,8 @@ fn bytes() -> &'static [Long] {
 /// Lines of spaces, with one byte more than a script may have.
 pub const TOO_LARGE: [Part; 2] = [Turns(16_384, &[Filled(b" ", 1023)]), Again(b" ", 1)];
 
-/// 1,024 bytes and 64 words are the most of a line, and 400,000 lines the most of a script. At the end bad scripts, byte by byte.
+/// 1,024 bytes and 64 words are the most of a line, and 400,000 lines the most of a script. At the
+/// end bad scripts, byte by byte.
 static LINES: [Long; 14] = [
     (
         "a line of 1,024 bytes",

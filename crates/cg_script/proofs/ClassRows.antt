@@ -15,8 +15,8 @@ use Rattle.cg_script.specs.Meanings.{fits}
 use Rattle.cg_script.specs.Parts.{Known, defined_number, finalizer, legacy, legacy_of, finalizer_of, is_unknown}
 use Rattle.cg_script.specs.Commands.{del_if, legacy_if, opening, said_filled}
 use Rattle.cg_script.proofs.Ascii.{both}
-use Rattle.cg_script.proofs.Joined.{and_both}
-use Rattle.cg_script.proofs.Shown.{neither, prefixed}
+use Rattle.cg_script.proofs.JoinedWords.{and_both}
+use Rattle.cg_script.proofs.PrintedParts.{neither, prefixed}
 use Rattle.cg_script.proofs.GoodLines.{Good, never_sign}
 use Rattle.cg_script.proofs.Rows.{Given, Row, plain_row}
 
@@ -39,14 +39,16 @@ legacy_case : (f : List ℕ) (found : Option ℕ) → names_legacy f ≡ true �
 legacy_case f None named known = absurd (cc)
 legacy_case f (Some k) named known = record { proc = k; part = refl; named = named }
 
-legacy_cases : (procs : List (List ℕ)) (f : List ℕ) (found : Option (List ℕ)) → after_prefix (codes "legacy=") f ≡ found → is_identifier_after found ≡ true → is_unknown (legacy_of procs found) ≡ false → IsLegacy (legacy_of procs found) f
+legacy_cases : (procs : List (List ℕ)) (f : List ℕ) (found : Option (List ℕ)) → after_prefix (codes "legacy=") f ≡ found → is_identifier_after found ≡ true
+    → is_unknown (legacy_of procs found) ≡ false → IsLegacy (legacy_of procs found) f
 legacy_cases procs f None e named known = absurd (cc)
 legacy_cases procs f (Some name) e named known = legacy_case f (defined_number procs name) (ap is_identifier_after e ∙ named) known
 
 no_both : (f name : List ℕ) → f ≡ codes "del=" ++ name → names_legacy f ≡ true → ⊥
 no_both f name is named = let both_ways : false ≡ true = sym (ap names_legacy is) ∙ named in absurd (cc)
 
-cases : (procs : List (List ℕ)) (f : List ℕ) (found : Option (List ℕ)) → after_prefix (codes "del=") f ≡ found → (is_identifier_after found || names_legacy f) ≡ true → is_unknown (finalizer_of procs found f) ≡ false
+cases : (procs : List (List ℕ)) (f : List ℕ) (found : Option (List ℕ)) → after_prefix (codes "del=") f ≡ found → (is_identifier_after found || names_legacy f)
+    ≡ true → is_unknown (finalizer_of procs found f) ≡ false
     → IsDel (finalizer_of procs found f) f ⊎ IsLegacy (finalizer_of procs found f) f
 cases procs f None e fit known = inr (legacy_cases procs f (after_prefix (codes "legacy=") f) refl fit known)
 cases procs f (Some name) e fit known = by (is_identifier name) refl fit
@@ -99,7 +101,8 @@ module _ (known : Known) where
   two_tidy c f g p q d l =
       ap (λ (x : Part). said_filled (class2 c x q)) d.part
       ∙ ap (λ (y : Part). said_filled (class2 c (parts.Finalizer d.proc) y)) l.part
-      ∙ sym (ap (λ (x : Part). opening forms.Class (parts.Text (text_number known.texts c) ∷ x ∷ q ∷ [])) d.part ∙ ap (λ (y : Part). opening forms.Class (parts.Text (text_number known.texts c) ∷ parts.Finalizer d.proc ∷ y ∷ [])) l.part)
+      ∙ sym (ap (λ (x : Part). opening forms.Class (parts.Text (text_number known.texts c) ∷ x ∷ q ∷ [])) d.part
+      ∙ ap (λ (y : Part). opening forms.Class (parts.Text (text_number known.texts c) ∷ parts.Finalizer d.proc ∷ y ∷ [])) l.part)
 
   swapped_said : (c f g : List ℕ) (p q : Part) → IsLegacy p f → IsDel q g → class2 c q p ≡ class2 c p q
   swapped_said c f g p q l d =
@@ -127,8 +130,10 @@ module _ (known : Known) where
       let fit = fits_of c f g good.fit in
       let light = good.light in
       record {
-        fit = and_both (fits Name c) (fits Finalizer g && (fits Finalizer f && true)) fit.name (and_both (fits Finalizer g) (fits Finalizer f && true) fit.second (and_both (fits Finalizer f) true fit.first refl));
-        single = ap (λ b. b || (names_legacy g && names_legacy f)) (and_swap (names_finalizer g) (names_finalizer f)) ∙ ap (λ b. (names_finalizer f && names_finalizer g) || b) (and_swap (names_legacy g) (names_legacy f)) ∙ good.single;
+        fit = and_both (fits Name c) (fits Finalizer g && (fits Finalizer f && true)) fit.name (and_both (fits Finalizer g) (fits Finalizer f && true)
+            fit.second (and_both (fits Finalizer f) true fit.first refl));
+        single = ap (λ b. b || (names_legacy g && names_legacy f)) (and_swap (names_finalizer g) (names_finalizer f))
+            ∙ ap (λ b. (names_finalizer f && names_finalizer g) || b) (and_swap (names_legacy g) (names_legacy f)) ∙ good.single;
         enough = omega arith;
         most = omega arith;
         light = omega arith;
@@ -138,7 +143,8 @@ module _ (known : Known) where
         unpassed = refl;
       }
 
-  two_words : (c f g : List ℕ) → Given known forms.Class (codes "class" ∷ c ∷ f ∷ g ∷ []) → is_unknown (part f) ≡ false → is_unknown (part g) ≡ false → Case f → Case g → Row known forms.Class (codes "class" ∷ c ∷ f ∷ g ∷ [])
+  two_words : (c f g : List ℕ) → Given known forms.Class (codes "class" ∷ c ∷ f ∷ g ∷ []) → is_unknown (part f) ≡ false → is_unknown (part g) ≡ false → Case f
+      → Case g → Row known forms.Class (codes "class" ∷ c ∷ f ∷ g ∷ [])
   two_words c f g given kf kg (inl d) (inr l) = plain_row known forms.Class (codes "class" ∷ c ∷ f ∷ g ∷ []) given (two_tidy c f g (part f) (part g) d l)
   two_words c f g given kf kg (inr l) (inl d) = record {
     standing = codes "class" ∷ c ∷ g ∷ f ∷ [];

@@ -16,9 +16,9 @@ use Rattle.cg_script.specs.Meanings.{says, meaning}
 use Rattle.cg_script.specs.Forms.{sort_at}
 use Rattle.cg_script.specs.Parts.{Known, with_text_if, text_in, value_text, texts_from}
 use Rattle.cg_script.specs.Reading.{good, lines_from}
-use Rattle.cg_script.proofs.Says.{says_of_line}
+use Rattle.cg_script.proofs.GoodWords.{says_of_line}
 use Rattle.cg_script.proofs.Lines.{passed_before_last, says_before_last}
-use Rattle.cg_script.proofs.Walk.{each_line}
+use Rattle.cg_script.proofs.LinesInOrder.{each_line}
 
 abbrev Few : ℕ → Known → List (List ℕ) → List Said → Type 0
 Few number known texts saids = number ≤ 400001 → length saids + number ≤ 400001
@@ -40,11 +40,14 @@ onto_short : (n b : ℕ) (ps : List (List ℕ)) → All (IsShort n) ps → All (
 onto_short n b [] short = All-cons (IsShort (suc n)) (b ∷ []) [] (omega arith) (All-nil (IsShort (suc n)))
 onto_short n b (p ∷ ps) short =
     let first : length p ≤ n = All-head (IsShort n) p ps short in
-    All-cons (IsShort (suc n)) (b ∷ p) ps (omega arith) (All-weaker (IsShort n) (IsShort (suc n)) (λ (t : List ℕ) (k : length t ≤ n). let r : length t ≤ suc n = omega arith in r) ps (All-tail (IsShort n) p ps short))
+    All-cons (IsShort (suc n)) (b ∷ p) ps (omega arith) (All-weaker (IsShort n) (IsShort (suc n)) (λ (t : List ℕ) (k : length t ≤ n). let r : length t ≤ suc n =
+    omega arith in r) ps (All-tail (IsShort n) p ps short))
 
-pieces_step : (n : ℕ) (separator b : ℕ) (bytes : List ℕ) (here : Bool) → All (IsShort n) (pieces separator bytes) → All (IsShort (suc n)) (cond here ([] ∷ pieces separator bytes) (onto b (pieces separator bytes)))
+pieces_step : (n : ℕ) (separator b : ℕ) (bytes : List ℕ) (here : Bool) → All (IsShort n) (pieces separator bytes)
+    → All (IsShort (suc n)) (cond here ([] ∷ pieces separator bytes) (onto b (pieces separator bytes)))
 pieces_step n separator b bytes true short =
-    All-cons (IsShort (suc n)) [] (pieces separator bytes) (omega arith) (All-weaker (IsShort n) (IsShort (suc n)) (λ (t : List ℕ) (k : length t ≤ n). let r : length t ≤ suc n = omega arith in r) (pieces separator bytes) short)
+    All-cons (IsShort (suc n)) [] (pieces separator bytes) (omega arith) (All-weaker (IsShort n) (IsShort (suc n)) (λ (t : List ℕ) (k : length t ≤ n). let r :
+    length t ≤ suc n = omega arith in r) (pieces separator bytes) short)
 pieces_step n separator b bytes false short = onto_short n b (pieces separator bytes) short
 
 short_pieces : (separator : ℕ) (bytes : List ℕ) → All (IsShort (length bytes)) (pieces separator bytes)
@@ -91,7 +94,8 @@ texts_short n form (word ∷ words) texts place all short =
     (with_short_if n texts (text_in (sort_at form place) word) all (text_short n (sort_at form place) word (All-head (IsShort n) word words short)))
     (All-tail (IsShort n) word words short)
 
-line_short : (number : ℕ) (line : List ℕ) (form : Form) (words texts : List (List ℕ)) → says form words ≡ meaning number line → All (IsShort 1024) texts → All (IsShort 1024) (texts_from texts form 0 words)
+line_short : (number : ℕ) (line : List ℕ) (form : Form) (words texts : List (List ℕ)) → says form words ≡ meaning number line → All (IsShort 1024) texts
+    → All (IsShort 1024) (texts_from texts form 0 words)
 line_short number line form words texts m all =
     let of = says_of_line number line form words m in
     let short = of.short in

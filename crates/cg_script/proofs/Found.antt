@@ -11,7 +11,7 @@ use Rattle.cg_script.specs.Tables.{named}
 use Rattle.cg_script.specs.Words.{reserves}
 use Rattle.cg_script.specs.Forms.{word_of, by_words, binds, binding_forms, opening_forms, worded_forms, words_of_forms, openers, bindings}
 use Rattle.cg_script.specs.Alike.{forms_like}
-use Rattle.cg_script.proofs.Alike.{named_forms_like}
+use Rattle.cg_script.proofs.RowsByLength.{named_forms_like}
 
 -- a form among some is found by its word
 pub by_words-is : (these : List Form) (w : List ℕ) (form : Form) → named (by_words these) w ≡ Some form → w ≡ word_of form
@@ -27,7 +27,8 @@ pub found_all : (p : Form → Bool) (these : List Form) (w : List ℕ) (form : F
 found_all p [] w form all e = absurd (cc)
 found_all p (f ∷ these) w form all e = by (p f) (bytes_eq w (word_of f)) refl all e (found_all p these w form)
   where
-    by : (q b : Bool) → p f ≡ q → (q && list_all p these) ≡ true → cond b (Some f) (named (by_words these) w) ≡ Some form → (list_all p these ≡ true → named (by_words these) w ≡ Some form → p form ≡ true) → p form ≡ true
+    by : (q b : Bool) → p f ≡ q → (q && list_all p these) ≡ true → cond b (Some f) (named (by_words these) w) ≡ Some form
+        → (list_all p these ≡ true → named (by_words these) w ≡ Some form → p form ≡ true) → p form ≡ true
     by true true eq all e later = let same : f ≡ form = cc in ap p (sym same) ∙ eq
     by true false eq all e later = later all e
     by false b eq all e later = absurd (cc)

@@ -20,10 +20,10 @@ use Rattle.cg_script.specs.Commands.{said}
 use Rattle.cg_script.specs.Reading.{is_misplaced, is_repeated, procs_after, classes_after, known_after, fault_in}
 use Rattle.cg_script.specs.Canonical.{joined}
 use Rattle.cg_script.proofs.Ascii.{both}
-use Rattle.cg_script.proofs.Says.{not_bad, not_passed, says_fits, says_of_line}
-use Rattle.cg_script.proofs.Joined.{and_both, EachSound, weight, words_of-joined, all_printable, length-joined, words_weight, sound_words}
+use Rattle.cg_script.proofs.GoodWords.{not_bad, not_passed, says_fits, says_of_line}
+use Rattle.cg_script.proofs.JoinedWords.{and_both, EachSound, weight, words_of-joined, all_printable, length-joined, words_weight, sound_words}
 use Rattle.cg_script.proofs.NormalWords.{word_again, normal, alike, Alike, AllNames, names_by_test, named_nowhere}
-use Rattle.cg_script.proofs.Shown.{normal_from}
+use Rattle.cg_script.proofs.PrintedParts.{normal_from}
 
 -- the first words of a line select the form
 abbrev pub Picks : Form → List (List ℕ) → Type 0
@@ -71,7 +71,8 @@ not_true false e = absurd (cc)
 formed_says : (form : Form) (words : List (List ℕ)) → Good form words → formed form words ≡ says form words
 formed_says form words good =
     chosen2 (nat_lt (length words) (row form).fewest || nat_lt (row form).most (length words)) (not (all_fit form 0 words) || repeats_finalizer form words) (bad 3) (bad 4) (says form words)
-    (or_none (nat_lt (length words) (row form).fewest) (nat_lt (row form).most (length words)) (not_less (length words) (row form).fewest good.enough) (not_less (row form).most (length words) good.most))
+    (or_none (nat_lt (length words) (row form).fewest) (nat_lt (row form).most (length words)) (not_less (length words) (row form).fewest good.enough)
+    (not_less (row form).most (length words) good.most))
     (or_none (not (all_fit form 0 words)) (repeats_finalizer form words) (not_true (all_fit form 0 words) good.fit) good.single)
 
 worded_formed : (form : Form) (words : List (List ℕ)) → Picks form words → worded words ≡ formed form words
@@ -91,7 +92,8 @@ good_says number form words good before =
     let light = good.light in
     let short : length line ≤ 1024 = omega (arith, length-joined words (some_words words good.unpassed)) in
     let few : length (words_of line) ≤ 64 = subst (λ (ws : List (List ℕ)). length ws ≤ 64) (sym same) good.few_words in
-    chosen3 (list_all is_printable line) (nat_lt 1024 (length line) || nat_lt 64 (length (words_of line)) || (number == 400001)) (is_passed (words_of line)) (bad 1) (bad 5) passed (worded (words_of line))
+    chosen3 (list_all is_printable line) (nat_lt 1024 (length line) || nat_lt 64 (length (words_of line)) || (number == 400001)) (is_passed (words_of line))
+    (bad 1) (bad 5) passed (worded (words_of line))
     (all_printable words good.sound)
     (or_none (nat_lt 1024 (length line) || nat_lt 64 (length (words_of line))) (number == 400001)
     (or_none (nat_lt 1024 (length line)) (nat_lt 64 (length (words_of line))) (not_less 1024 (length line) short) (not_less 64 (length (words_of line)) few)) before)
@@ -234,12 +236,15 @@ letterless_binds c b e =
     let other : bytes_eq c (codes "ref") ≡ false =
     to_false (bytes_eq c (codes "ref"))
     (λ (t : bytes_eq c (codes "ref") ≡ true). let both_ways : false ≡ true = sym e ∙ ap (λ (u : List ℕ). begins_name (slice_index u 0)) ((bytes_eq-Decides c (codes "ref")).0 t) in absurd (cc)) in
-    ap (λ t. cond t forms.Bind (unwrap_or (named bindings c) forms.Bind)) (and_false (bytes_eq c (codes "ref")) b other) ∙ ap (λ (o : Option Form). unwrap_or o forms.Bind) (named_nowhere bindings c bindings_named e)
+    ap (λ t. cond t forms.Bind (unwrap_or (named bindings c) forms.Bind)) (and_false (bytes_eq c (codes "ref")) b other)
+    ∙ ap (λ (o : Option Form). unwrap_or o forms.Bind) (named_nowhere bindings c bindings_named e)
 
 binding_again : (c v : List ℕ) (n m : ℕ) → Alike c v → m ≡ n
-    → cond (bytes_eq v (codes "ref") && (m == 3)) forms.Bind (unwrap_or (named bindings v) forms.Bind) ≡ cond (bytes_eq c (codes "ref") && (n == 3)) forms.Bind (unwrap_or (named bindings c) forms.Bind)
+    → cond (bytes_eq v (codes "ref") && (m == 3)) forms.Bind (unwrap_or (named bindings v) forms.Bind) ≡ cond (bytes_eq c (codes "ref") && (n == 3)) forms.Bind
+    (unwrap_or (named bindings c) forms.Bind)
 binding_again c v n m (inl same) count =
-    ap (λ (t : List ℕ). cond (bytes_eq t (codes "ref") && (m == 3)) forms.Bind (unwrap_or (named bindings t) forms.Bind)) same ∙ ap (λ (k : ℕ). cond (bytes_eq c (codes "ref") && (k == 3)) forms.Bind (unwrap_or (named bindings c) forms.Bind)) count
+    ap (λ (t : List ℕ). cond (bytes_eq t (codes "ref") && (m == 3)) forms.Bind (unwrap_or (named bindings t) forms.Bind)) same
+    ∙ ap (λ (k : ℕ). cond (bytes_eq c (codes "ref") && (k == 3)) forms.Bind (unwrap_or (named bindings c) forms.Bind)) count
 binding_again c v n m (inr p) count = letterless_binds v (m == 3) p.1 ∙ sym (letterless_binds c (n == 3) p.0)
 
 third_again : (form : Form) (ws : List (List ℕ)) → all_fit form 0 ws ≡ true → length (normal_from form 0 ws) ≡ length ws → binding_form (normal_from form 0 ws) ≡ binding_form ws
@@ -343,7 +348,15 @@ same_along known form us ws vs a b = record {
 
 pub same_known : (known : Known) (form : Form) (ws vs : List (List ℕ)) → Same known form ws vs → known_after known form vs ≡ known_after known form ws
 same_known known form ws vs same =
-    λ i. record { texts = same.texts_same i; procs = same.procs_same i; classes = same.classes_same i; budget = (known_after known form ws).budget; shutdown = (known_after known form ws).shutdown; started = true; inside = (known_after known form ws).inside }
+    λ i. record {
+      texts = same.texts_same i;
+      procs = same.procs_same i;
+      classes = same.classes_same i;
+      budget = (known_after known form ws).budget;
+      shutdown = (known_after known form ws).shutdown;
+      started = true;
+      inside = (known_after known form ws).inside;
+    }
 
 -- nothing is wrong with a line
 pub record Faultless (known : Known) (form : Form) (words : List (List ℕ)) : Type 0 where
@@ -354,7 +367,8 @@ pub record Faultless (known : Known) (form : Form) (words : List (List ℕ)) : T
 pub faultless : (known : Known) (form : Form) (words : List (List ℕ)) → fault_in known form words ≡ None → Faultless known form words
 faultless known form words e = by (is_misplaced known form) (is_repeated known form words) (has_unknown (parts_of known form words)) refl refl refl e
   where
-    by : (a b c : Bool) → is_misplaced known form ≡ a → is_repeated known form words ≡ b → has_unknown (parts_of known form words) ≡ c → cond {A = Option ℕ} a (Some 7) (cond b (Some 8) (cond c (Some 6) None)) ≡ None
+    by : (a b c : Bool) → is_misplaced known form ≡ a → is_repeated known form words ≡ b → has_unknown (parts_of known form words) ≡ c
+        → cond {A = Option ℕ} a (Some 7) (cond b (Some 8) (cond c (Some 6) None)) ≡ None
         → Faultless known form words
     by true b c ea eb ec e = absurd (cc)
     by false true c ea eb ec e = absurd (cc)
@@ -362,7 +376,8 @@ faultless known form words e = by (is_misplaced known form) (is_repeated known f
     by false false false ea eb ec e = record { placed = ea; fresh = eb; defined = ec }
 
 pub no_fault : (known : Known) (form : Form) (ws vs : List (List ℕ)) → Faultless known form ws → Same known form ws vs → fault_in known form vs ≡ None
-no_fault known form ws vs clean same = none (is_misplaced known form) (is_repeated known form vs) (has_unknown (parts_of known form vs)) clean.placed (same.repeated_same ∙ clean.fresh) same.none_unknown
+no_fault known form ws vs clean same = none (is_misplaced known form) (is_repeated known form vs) (has_unknown (parts_of known form vs)) clean.placed
+    (same.repeated_same ∙ clean.fresh) same.none_unknown
   where
     none : (a b c : Bool) → a ≡ false → b ≡ false → c ≡ false → cond {A = Option ℕ} a (Some 7) (cond b (Some 8) (cond c (Some 6) None)) ≡ None
     none false false false p q r = refl

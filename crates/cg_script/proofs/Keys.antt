@@ -14,7 +14,7 @@ use Rattle.cg_script.specs.Canonical.{key_word}
 use Rattle.cg_script.proofs.Ascii.{both}
 use Rattle.cg_script.proofs.Found.{by_words-is, found_all}
 use Rattle.cg_script.proofs.GoodLines.{Picks}
-use Rattle.cg_script.proofs.Shown.{is_key, KeysStand}
+use Rattle.cg_script.proofs.PrintedParts.{is_key, KeysStand}
 
 abbrev asks : Sort → Bool
 asks s = not (is_key s)
@@ -70,7 +70,8 @@ bound_stand form ws sign e =
 bind_stand : (ws : List (List ℕ)) → codes "=" ≡ word_at ws 1 → KeysStand forms.Bind 0 ws
 bind_stand ws sign = three_stand forms.Bind ws (never_key forms.Bind 0 (word_at ws 0) refl) (λ key. sign) (never_key forms.Bind 2 (word_at ws 2) refl) refl
 
-third_stand : (form : Form) (ws : List (List ℕ)) → codes "=" ≡ word_at ws 1 → (lone : Bool) (found : Option Form) → named bindings (word_at ws 2) ≡ found → cond lone forms.Bind (unwrap_or found forms.Bind) ≡ form → KeysStand form 0 ws
+third_stand : (form : Form) (ws : List (List ℕ)) → codes "=" ≡ word_at ws 1 → (lone : Bool) (found : Option Form) → named bindings (word_at ws 2) ≡ found
+    → cond lone forms.Bind (unwrap_or found forms.Bind) ≡ form → KeysStand form 0 ws
 third_stand form ws sign true found e is = subst (λ (f : Form). KeysStand f 0 ws) is (bind_stand ws sign)
 third_stand form ws sign false None e is = subst (λ (f : Form). KeysStand f 0 ws) is (bind_stand ws sign)
 third_stand form ws sign false (Some other) e is = bound_stand form ws sign (e ∙ ap (λ (f : Form). Some f) is)

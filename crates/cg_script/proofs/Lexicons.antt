@@ -12,7 +12,7 @@ use Rattle.std.proofs.lemmas.Slice.Eq.{bytes_eq-Decides}
 use Rattle.cg_value.specs.Texts.{has_text, text_number, with_text}
 use Rattle.cg_script.specs.Words.{is_variable}
 use Rattle.cg_script.specs.Lexicons.{IsVariableAt, IsRemembered}
-use Rattle.cg_script.proofs.Below.{any_below}
+use Rattle.cg_script.proofs.TextNumbers.{any_below}
 
 stands_on : {A : Type 0} (xs : List A) (y x : A) (n : ℕ) → slice_get xs n ≡ Some x → slice_get (xs ++ y ∷ []) n ≡ Some x
 stands_on xs y x n e =

@@ -37,7 +37,8 @@ module _ (draft : Draft) (number : ℕ) (line : List ℕ) where
   wrong (says form words) code e lines = absurd (cc)
   wrong (bad other) code e lines = let s : other ≡ code = cc in ap (faulty number) s
 
-  pub line_wrong : (m : Meaning) (code : ℕ) → m ≡ meaning number line → Some code ≡ code_of (checked (known_of draft) m) → (lines : List (List ℕ)) → reading_after draft number (line ∷ lines) ≡ faulty number code
+  pub line_wrong : (m : Meaning) (code : ℕ) → m ≡ meaning number line → Some code ≡ code_of (checked (known_of draft) m) → (lines : List (List ℕ))
+      → reading_after draft number (line ∷ lines) ≡ faulty number code
   line_wrong m code e f lines = first m e lines ∙ wrong (checked (known_of draft) m) code f lines
 
   said_all : (new : Draft) (s : Said) → ((later : List Said) → grouped new.items new.begun later ≡ grouped draft.items draft.begun (s ∷ later)) → (all : Lines)

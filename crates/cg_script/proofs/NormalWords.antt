@@ -20,7 +20,7 @@ use Rattle.cg_script.specs.Meanings.{fits}
 use Rattle.cg_script.specs.Parts.{part_of, text_in, value_text, operand_or}
 use Rattle.cg_value.specs.Texts.{text_number}
 use Rattle.cg_script.proofs.Ascii.{both}
-use Rattle.cg_script.proofs.Joined.{Graphic, and_both}
+use Rattle.cg_script.proofs.JoinedWords.{Graphic, and_both}
 
 test_le : (a b : ℕ) → a ≤ b → nat_le a b ≡ true
 test_le a b h = grind (arith, nat_tests)
@@ -129,7 +129,8 @@ positive w minus e =
     let v_minus : has_minus v ≡ false = not_byte (slice_index v 0) 45 (omega arith) in
     record {
       number = ap (λ b. cond b (are_digits 19 (drop 1 v) && nat_le (decimal_value (drop 1 v)) 9223372036854775808) (are_digits 19 v && nat_le (decimal_value v) 9223372036854775807)) v_minus
-          ∙ and_both (are_digits 19 v) (nat_le (decimal_value v) 9223372036854775807) (are_digits_from 19 v again.some (omega arith) again.digits) (ap (λ n. nat_le n 9223372036854775807) again.value ∙ p.1);
+          ∙ and_both (are_digits 19 v) (nat_le (decimal_value v) 9223372036854775807) (are_digits_from 19 v again.some (omega arith) again.digits)
+          (ap (λ n. nat_le n 9223372036854775807) again.value ∙ p.1);
       same = ap (λ b. cond b (neg_ℤ (pos (decimal_value (drop 1 v)))) (pos (decimal_value v))) v_minus
           ∙ ap pos again.value
           ∙ sym (ap (λ b. cond b (neg_ℤ (pos (decimal_value (drop 1 w)))) (pos (decimal_value w))) minus);
@@ -145,7 +146,8 @@ zero_again w v is same some =
     subst (λ (u : List ℕ). NumberAgain w u) (sym is)
     (record { number = refl; same = sym same; some = omega arith; graphic = ((omega arith, omega arith), tt); light = some; no_letter = refl; no_quote = refl })
 
-below_zero : (w : List ℕ) (k : ℕ) → 1 ≤ length w → number_of w ≡ negsuc k → suc k ≤ 9223372036854775808 → DigitsAgain (drop 1 w) (decimal (suc k)) → decimal_value (drop 1 w) ≡ suc k → length (drop 1 w) ≤ 19
+below_zero : (w : List ℕ) (k : ℕ) → 1 ≤ length w → number_of w ≡ negsuc k → suc k ≤ 9223372036854775808 → DigitsAgain (drop 1 w) (decimal (suc k))
+    → decimal_value (drop 1 w) ≡ suc k → length (drop 1 w) ≤ 19
     → NumberAgain w (45 ∷ decimal (suc k))
 below_zero w k some same limit again value few =
     let light = again.light in
@@ -239,7 +241,8 @@ names_by_test (row ∷ rows) e = let p = both (begins_name (slice_index row.0 0)
 pub named_nowhere : {A : Type 0} (rows : List (List ℕ × A)) (w : List ℕ) → AllNames rows → begins_name (slice_index w 0) ≡ false → named rows w ≡ None
 named_nowhere [] w names e = refl
 named_nowhere (row ∷ rows) w names e =
-    not_here (bytes_eq w row.0) refl (λ (same : w ≡ row.0). let both_ways : false ≡ true = sym e ∙ ap (λ (t : List ℕ). begins_name (slice_index t 0)) same ∙ names.0 in absurd (cc)) row.1 (named rows w) (named_nowhere rows w names.1 e)
+    not_here (bytes_eq w row.0) refl (λ (same : w ≡ row.0). let both_ways : false ≡ true = sym e ∙ ap (λ (t : List ℕ). begins_name (slice_index t 0)) same
+    ∙ names.0 in absurd (cc)) row.1 (named rows w) (named_nowhere rows w names.1 e)
     (bytes_eq-Decides w row.0).0
   where
     not_here : {A : Type 0} {P : Type 0} (b : Bool) → (b ≡ b) → (P → ⊥) → (x : A) (later : Option A) → later ≡ None → (b ≡ true → P) → cond b (Some x) later ≡ None
@@ -271,7 +274,8 @@ number_value w v none quote letter n =
     λ u none quote letter. ap (λ (f : Option Operand). cond (is_some f) true (cond (is_quoted u) (list_all is_graphic u) (cond (begins_name (slice_index u 0)) (is_variable u) (is_number u)))) none
     ∙ ap (λ b. cond b (list_all is_graphic u) (cond (begins_name (slice_index u 0)) (is_variable u) (is_number u))) quote
     ∙ ap (λ b. cond b (is_variable u) (is_number u)) letter in
-    let operand : (texts : List (List ℕ)) (u : List ℕ) → named atoms u ≡ None → is_quoted u ≡ false → begins_name (slice_index u 0) ≡ false → operand_or (named atoms u) texts u ≡ operands.Int (number_of u) =
+    let operand : (texts : List (List ℕ)) (u : List ℕ) → named atoms u ≡ None → is_quoted u ≡ false → begins_name (slice_index u 0) ≡ false
+    → operand_or (named atoms u) texts u ≡ operands.Int (number_of u) =
     λ texts u none quote letter. ap (λ (f : Option Operand). operand_or f texts u) none
     ∙ ap (λ b. cond b (operands.Str (text_number texts (string_text u))) (cond (begins_name (slice_index u 0)) (operands.Name (text_number texts u)) (operands.Int (number_of u)))) quote
     ∙ ap (λ b. cond b (operands.Name (text_number texts u)) (operands.Int (number_of u))) letter in
@@ -330,7 +334,8 @@ number_letterless : (w : List ℕ) → is_number w ≡ true → begins_name (sli
 number_letterless w e = by (has_minus w) refl e
   where
     by : (b : Bool) → has_minus w ≡ b
-        → cond b (are_digits 19 (drop 1 w) && nat_le (decimal_value (drop 1 w)) 9223372036854775808) (are_digits 19 w && nat_le (decimal_value w) 9223372036854775807) ≡ true → begins_name (slice_index w 0) ≡ false
+        → cond b (are_digits 19 (drop 1 w) && nat_le (decimal_value (drop 1 w)) 9223372036854775808) (are_digits 19 w && nat_le (decimal_value w)
+        9223372036854775807) ≡ true → begins_name (slice_index w 0) ≡ false
     by true minus e = let first : slice_index w 0 ≡ 45 = grind (arith, nat_tests) in no_name (slice_index w 0) (omega arith)
     by false minus e = let d = digit_word 19 w (both (are_digits 19 w) (nat_le (decimal_value w) 9223372036854775807) e).0 in no_name (slice_index w 0) (first_digit w d.some d.digits).1
 

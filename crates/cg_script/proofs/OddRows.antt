@@ -19,7 +19,7 @@ use Rattle.cg_script.specs.Parts.{Known, parts_of, texts_from, with_text_if, val
 use Rattle.cg_script.specs.Commands.{flags_in, filled, binding, callback_filling, said_filled}
 use Rattle.cg_script.specs.Pieces.{word_is}
 use Rattle.cg_script.proofs.Ascii.{both}
-use Rattle.cg_script.proofs.Joined.{Graphic, EachSound, weight, and_both}
+use Rattle.cg_script.proofs.JoinedWords.{Graphic, EachSound, weight, and_both}
 use Rattle.cg_script.proofs.GoodLines.{Good}
 use Rattle.cg_script.proofs.NormalWords.{le_test}
 use Rattle.cg_script.proofs.Rows.{Given, Row, plain_row}
@@ -111,7 +111,8 @@ ref_four a y f good =
 
 module _ (known : Known) where
   ref_five : (a y f : List ℕ) → Given known forms.MakeRef (a ∷ codes "=" ∷ codes "ref" ∷ y ∷ f ∷ [])
-      → (let t = with_text_if (with_text known.texts a) (value_text (named atoms y) y) in (operand_or (named atoms f) t f ≡ operands.None) ⊎ (callback_filling (operand_or (named atoms f) t f) ≡ parts.Value (operand_or (named atoms f) t f) ∷ []))
+      → (let t = with_text_if (with_text known.texts a) (value_text (named atoms y) y) in (operand_or (named atoms f) t f ≡ operands.None)
+      ⊎ (callback_filling (operand_or (named atoms f) t f) ≡ parts.Value (operand_or (named atoms f) t f) ∷ []))
       → Row known forms.MakeRef (a ∷ codes "=" ∷ codes "ref" ∷ y ∷ f ∷ [])
   ref_five a y f given (inr other) =
       plain_row known forms.MakeRef (a ∷ codes "=" ∷ codes "ref" ∷ y ∷ f ∷ []) given
@@ -140,7 +141,10 @@ module _ (known : Known) where
   ref_row a (y ∷ f ∷ g ∷ rest) given = absurd (omega (arith, given.good.most))
 
 -- the flags by their bits
-all16 : (P : Bool → Bool → Bool → Bool → Type 0) → P true true true true → P true true true false → P true true false true → P true true false false → P true false true true → P true false true false → P true false false true → P true false false false → P false true true true → P false true true false → P false true false true → P false true false false → P false false true true → P false false true false → P false false false true → P false false false false → (a b c d : Bool) → P a b c d
+all16 : (P : Bool → Bool → Bool → Bool → Type 0) → P true true true true → P true true true false → P true true false true → P true true false false
+    → P true false true true → P true false true false → P true false false true → P true false false false → P false true true true → P false true true false
+    → P false true false true → P false true false false → P false false true true → P false false true false → P false false false true
+    → P false false false false → (a b c d : Bool) → P a b c d
 all16 P p0 p1 p2 p3 p4 p5 p6 p7 p8 p9 p10 p11 p12 p13 p14 p15 true true true true = p0
 all16 P p0 p1 p2 p3 p4 p5 p6 p7 p8 p9 p10 p11 p12 p13 p14 p15 true true true false = p1
 all16 P p0 p1 p2 p3 p4 p5 p6 p7 p8 p9 p10 p11 p12 p13 p14 p15 true true false true = p2
@@ -176,37 +180,79 @@ record Joins (m : ℕ) : Type 0 where
 no_flag : Joins 0
 no_flag = record {
   bits = record { stats = false; collectable = false; uncollectable = false; saveall = false; is = refl };
-  joins = λ a b c d. record { stats = a; collectable = b; uncollectable = c; saveall = d; is = all16 (λ a b c d. bit_or (value a b c d) 0 ≡ value a b c d) refl refl refl refl refl refl refl refl refl refl refl refl refl refl refl refl a b c d };
+  joins = λ a b c d. record {
+    stats = a;
+    collectable = b;
+    uncollectable = c;
+    saveall = d;
+    is = all16 (λ a b c d. bit_or (value a b c d) 0 ≡ value a b c d) refl
+        refl refl refl refl refl refl refl refl refl refl refl refl refl refl refl a b c d;
+  };
 }
 
 stats_flag : Joins 1
 stats_flag = record {
   bits = record { stats = true; collectable = false; uncollectable = false; saveall = false; is = refl };
-  joins = λ a b c d. record { stats = true; collectable = b; uncollectable = c; saveall = d; is = all16 (λ a b c d. bit_or (value a b c d) 1 ≡ value true b c d) refl refl refl refl refl refl refl refl refl refl refl refl refl refl refl refl a b c d };
+  joins = λ a b c d. record {
+    stats = true;
+    collectable = b;
+    uncollectable = c;
+    saveall = d;
+    is = all16 (λ a b c d. bit_or (value a b c d) 1 ≡ value true b c d)
+        refl refl refl refl refl refl refl refl refl refl refl refl refl refl refl refl a b c d;
+  };
 }
 
 collectable_flag : Joins 2
 collectable_flag = record {
   bits = record { stats = false; collectable = true; uncollectable = false; saveall = false; is = refl };
-  joins = λ a b c d. record { stats = a; collectable = true; uncollectable = c; saveall = d; is = all16 (λ a b c d. bit_or (value a b c d) 2 ≡ value a true c d) refl refl refl refl refl refl refl refl refl refl refl refl refl refl refl refl a b c d };
+  joins = λ a b c d. record {
+    stats = a;
+    collectable = true;
+    uncollectable = c;
+    saveall = d;
+    is = all16 (λ a b c d. bit_or (value a b c d) 2 ≡ value a true c d)
+        refl refl refl refl refl refl refl refl refl refl refl refl refl refl refl refl a b c d;
+  };
 }
 
 uncollectable_flag : Joins 4
 uncollectable_flag = record {
   bits = record { stats = false; collectable = false; uncollectable = true; saveall = false; is = refl };
-  joins = λ a b c d. record { stats = a; collectable = b; uncollectable = true; saveall = d; is = all16 (λ a b c d. bit_or (value a b c d) 4 ≡ value a b true d) refl refl refl refl refl refl refl refl refl refl refl refl refl refl refl refl a b c d };
+  joins = λ a b c d. record {
+    stats = a;
+    collectable = b;
+    uncollectable = true;
+    saveall = d;
+    is = all16 (λ a b c d. bit_or (value a b c d) 4 ≡ value a b true d)
+        refl refl refl refl refl refl refl refl refl refl refl refl refl refl refl refl a b c d;
+  };
 }
 
 saveall_flag : Joins 32
 saveall_flag = record {
   bits = record { stats = false; collectable = false; uncollectable = false; saveall = true; is = refl };
-  joins = λ a b c d. record { stats = a; collectable = b; uncollectable = c; saveall = true; is = all16 (λ a b c d. bit_or (value a b c d) 32 ≡ value a b c true) refl refl refl refl refl refl refl refl refl refl refl refl refl refl refl refl a b c d };
+  joins = λ a b c d. record {
+    stats = a;
+    collectable = b;
+    uncollectable = c;
+    saveall = true;
+    is = all16 (λ a b c d. bit_or (value a b c d) 32
+        ≡ value a b c true) refl refl refl refl refl refl refl refl refl refl refl refl refl refl refl refl a b c d;
+  };
 }
 
 leak_flag : Joins 38
 leak_flag = record {
   bits = record { stats = false; collectable = true; uncollectable = true; saveall = true; is = refl };
-  joins = λ a b c d. record { stats = a; collectable = true; uncollectable = true; saveall = true; is = all16 (λ a b c d. bit_or (value a b c d) 38 ≡ value a true true true) refl refl refl refl refl refl refl refl refl refl refl refl refl refl refl refl a b c d };
+  joins = λ a b c d. record {
+    stats = a;
+    collectable = true;
+    uncollectable = true;
+    saveall = true;
+    is = all16 (λ a b c d. bit_or (value a b c d) 38
+        ≡ value a true true true) refl refl refl refl refl refl refl refl refl refl refl refl refl refl refl refl a b c d;
+  };
 }
 
 JoinAll : List (List ℕ × ℕ) → Type 0
@@ -254,13 +300,15 @@ flag_line a b c d = codes "debug" ∷ (given a (codes "stats") ++ given b (codes
 flags_good : (a b c d : Bool) → Good forms.Flags (flag_line a b c d)
 unfolding flags openers
 flags_good a b c d =
-    let count : length (flag_line a b c d) ≤ 5 = le_test (length (flag_line a b c d)) 5 (all16 (λ a b c d. nat_le (length (flag_line a b c d)) 5 ≡ true) refl refl refl refl refl refl refl refl refl refl refl refl refl refl refl refl a b c d) in
+    let count : length (flag_line a b c d) ≤ 5 = le_test (length (flag_line a b c d)) 5 (all16 (λ a b c d. nat_le (length (flag_line a b c d)) 5 ≡ true) refl
+    refl refl refl refl refl refl refl refl refl refl refl refl refl refl refl a b c d) in
     record {
       fit = all16 (λ a b c d. all_fit forms.Flags 0 (flag_line a b c d) ≡ true) refl refl refl refl refl refl refl refl refl refl refl refl refl refl refl refl a b c d;
       single = refl;
       enough = omega arith;
       most = omega arith;
-      light = le_test (weight (flag_line a b c d)) 1025 (all16 (λ a b c d. nat_le (weight (flag_line a b c d)) 1025 ≡ true) refl refl refl refl refl refl refl refl refl refl refl refl refl refl refl refl a b c d);
+      light = le_test (weight (flag_line a b c d)) 1025 (all16 (λ a b c d. nat_le (weight (flag_line a b c d)) 1025 ≡ true) refl refl refl refl refl refl refl
+          refl refl refl refl refl refl refl refl refl a b c d);
       few_words = omega arith;
       sound = sound_from (flag_line a b c d) (all16 (λ a b c d. sound_test (flag_line a b c d) ≡ true) refl refl refl refl refl refl refl refl refl refl refl refl refl refl refl refl a b c d);
       picks = inl (all16 (λ a b c d. word_is (flag_line a b c d) 1 (codes "=") ≡ false) refl refl refl refl refl refl refl refl refl refl refl refl refl refl refl refl a b c d, refl);
@@ -269,10 +317,12 @@ flags_good a b c d =
 
 flags_read : (known : Known) (a b c d : Bool) → flags_in (parts_of known forms.Flags (flag_line a b c d)) ≡ value a b c d
 unfolding flags
-flags_read known a b c d = all16 (λ a b c d. flags_in (parts_of known forms.Flags (flag_line a b c d)) ≡ value a b c d) refl refl refl refl refl refl refl refl refl refl refl refl refl refl refl refl a b c d
+flags_read known a b c d = all16 (λ a b c d. flags_in (parts_of known forms.Flags (flag_line a b c d)) ≡ value a b c d) refl refl refl refl refl refl refl refl
+    refl refl refl refl refl refl refl refl a b c d
 
 flags_texts : (known : Known) (a b c d : Bool) → texts_from known.texts forms.Flags 0 (flag_line a b c d) ≡ known.texts
-flags_texts known a b c d = all16 (λ a b c d. texts_from known.texts forms.Flags 0 (flag_line a b c d) ≡ known.texts) refl refl refl refl refl refl refl refl refl refl refl refl refl refl refl refl a b c d
+flags_texts known a b c d = all16 (λ a b c d. texts_from known.texts forms.Flags 0 (flag_line a b c d) ≡ known.texts) refl refl refl refl refl refl refl refl
+    refl refl refl refl refl refl refl refl a b c d
 
 no_flag_texts : (known : Known) (w : List ℕ) (rest : List (List ℕ)) → length rest ≤ 5 → texts_from known.texts forms.Flags 0 (w ∷ rest) ≡ known.texts
 no_flag_texts known first [] h = refl
@@ -284,11 +334,14 @@ no_flag_texts known first (v ∷ w ∷ x ∷ y ∷ z ∷ []) h = refl
 no_flag_texts known first (v ∷ w ∷ x ∷ y ∷ z ∷ t ∷ rest) h = absurd (omega arith)
 
 flags_known : (known : Known) (a b c d : Bool) → has_unknown (parts_of known forms.Flags (flag_line a b c d)) ≡ false
-flags_known known a b c d = all16 (λ a b c d. has_unknown (parts_of known forms.Flags (flag_line a b c d)) ≡ false) refl refl refl refl refl refl refl refl refl refl refl refl refl refl refl refl a b c d
+flags_known known a b c d = all16 (λ a b c d. has_unknown (parts_of known forms.Flags (flag_line a b c d)) ≡ false) refl refl refl refl refl refl refl refl refl
+    refl refl refl refl refl refl refl a b c d
 
 flags_tidy : (known : Known) (a b c d : Bool) → said_filled (Does (commands.Flags (value a b c d))) ≡ filled forms.Flags (parts_of known forms.Flags (flag_line a b c d))
 unfolding flags
-flags_tidy known a b c d = all16 (λ a b c d. said_filled (Does (commands.Flags (value a b c d))) ≡ filled forms.Flags (parts_of known forms.Flags (flag_line a b c d))) refl refl refl refl refl refl refl refl refl refl refl refl refl refl refl refl a b c d
+flags_tidy known a b c d = all16 (λ a b c d. said_filled (Does (commands.Flags (value a b c d)))
+    ≡ filled forms.Flags (parts_of known forms.Flags (flag_line a b c d))) refl refl refl refl refl refl refl refl refl refl refl refl refl refl refl refl a b c
+    d
 
 pub flags_row : (known : Known) (ws : List (List ℕ)) → Given known forms.Flags ws → Row known forms.Flags ws
 flags_row known [] given = absurd (omega (arith, given.good.enough))

@@ -80,13 +80,15 @@ pub parts_end : (procs classes texts : List (List ℕ)) (form : Form) (ws : List
 parts_end procs classes texts form ws i done whole h inv =
     sym (ap (λ l. done ++ parts_from procs classes texts form i (texts_of l)) (drop_of_length-le ws h) ∙ append-nil done) ∙ inv
 
-pub texts_end : (texts : List (List ℕ)) (form : Form) (ws : List (Bor (List ℕ))) (i : ℕ) (whole : List (List ℕ)) → length ws ≤ i → texts_from texts form i (texts_of (drop i ws)) ≡ whole → texts ≡ whole
+pub texts_end : (texts : List (List ℕ)) (form : Form) (ws : List (Bor (List ℕ))) (i : ℕ) (whole : List (List ℕ)) → length ws ≤ i → texts_from texts form i
+    (texts_of (drop i ws)) ≡ whole → texts ≡ whole
 texts_end texts form ws i whole h inv = sym (ap (λ l. texts_from texts form i (texts_of l)) (drop_of_length-le ws h)) ∙ inv
 
 abbrev pub value_of_part : Part → Operand
 value_of_part part = value_or (Some part)
 
-pub values_more : (parts : List Part) (i : ℕ) (d : Part) (v : Operand) (done whole : List Operand) → i < length parts → v ≡ value_of_part (get_or parts i d) → done ++ map value_of_part (drop i parts) ≡ whole
+pub values_more : (parts : List Part) (i : ℕ) (d : Part) (v : Operand) (done whole : List Operand) → i < length parts → v ≡ value_of_part (get_or parts i d)
+    → done ++ map value_of_part (drop i parts) ≡ whole
     → (done ++ v ∷ []) ++ map value_of_part (drop (i + 1) parts) ≡ whole
 values_more parts i d v done whole h ev inv =
     append_assoc done (v ∷ []) (map value_of_part (drop (i + 1) parts))

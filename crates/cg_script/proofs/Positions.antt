@@ -176,7 +176,8 @@ at_number line items positions those n at stand is =
     some_of (slice_get items) (λ x. Some (line x)) (slice_get positions n) (slice_get those n) at is
     (sym (slice_get-map (slice_get items) positions n) ∙ ap (λ l. slice_get l n) stand ∙ slice_get-map (λ x. Some (line x)) those n)
 
-pub past_numbers : {A : Type 0} (line : A → Item) (items : List Item) (positions : List ℕ) (those : List A) (n : ℕ) → StandAt line items positions those → slice_get positions n ≡ None → slice_get those n ≡ None
+pub past_numbers : {A : Type 0} (line : A → Item) (items : List Item) (positions : List ℕ) (those : List A) (n : ℕ) → StandAt line items positions those
+    → slice_get positions n ≡ None → slice_get those n ≡ None
 past_numbers line items positions those n stand is =
     none_of (slice_get items) (λ x. Some (line x)) (slice_get positions n) (slice_get those n) is
     (sym (slice_get-map (slice_get items) positions n) ∙ ap (λ l. slice_get l n) stand ∙ slice_get-map (λ x. Some (line x)) those n)

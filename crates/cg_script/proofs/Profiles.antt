@@ -17,9 +17,9 @@ use Rattle.cg_script.specs.Commands.{count_at, said}
 use Rattle.cg_script.specs.Reading.{items_of, is_misplaced, lines_from, good}
 use Rattle.cg_script.specs.Spelled.{IsNoProfile}
 use Rattle.cg_script.proofs.Ascii.{both}
-use Rattle.cg_script.proofs.Grouped.{first_outside}
+use Rattle.cg_script.proofs.LinesAdded.{first_outside}
 use Rattle.cg_script.proofs.GoodLines.{faultless}
-use Rattle.cg_script.proofs.Walk.{each_line}
+use Rattle.cg_script.proofs.LinesInOrder.{each_line}
 
 pub profile_value : (word : List ℕ) → is_profile word ≡ true → (1 ≤ decimal_value word) × (decimal_value word ≤ 2)
 profile_value word fit =

@@ -18,10 +18,10 @@ use Rattle.cg_script.specs.Commands.{Filled, said, said_filled, IsSaidAgain}
 use Rattle.cg_script.specs.Reading.{nothing_known, is_misplaced, is_repeated, fault_in, says_or_bad, checked, meant, procs_after, classes_after, inside_after, known_after, Lines, good, spoilt, also_said, with_later, lines_from, body_of, items_of, spells, script_of, reading}
 use Rattle.cg_script.specs.Canonical.{Naming, text_of, command_words, filled_words, said_words, item_lines, procs_in, classes_in, naming_of, joined, line_of_words, canonical}
 use Rattle.cg_script.proofs.Lines.{passed_before_last, says_before_last}
-use Rattle.cg_script.proofs.Walk.{each_line}
-use Rattle.cg_script.proofs.Grouped.{ends_inside, first_outside}
-use Rattle.cg_script.proofs.Joined.{EachSound, EachLineSound, lines_of-written}
-use Rattle.cg_script.proofs.Shown.{Begins, Names, begins_self, begins_along, begins_texts, text_found, normal_from, shown_normal}
+use Rattle.cg_script.proofs.LinesInOrder.{each_line}
+use Rattle.cg_script.proofs.LinesAdded.{ends_inside, first_outside}
+use Rattle.cg_script.proofs.JoinedWords.{EachSound, EachLineSound, lines_of-written}
+use Rattle.cg_script.proofs.PrintedParts.{Begins, Names, begins_self, begins_along, begins_texts, text_found, normal_from, shown_normal}
 use Rattle.cg_script.proofs.GoodLines.{Same, Faultless, good_line, good_again, good_says, same_again, same_along, same_known, faultless, no_fault}
 use Rattle.cg_script.proofs.Keys.{keys_stand}
 use Rattle.cg_script.proofs.Rows.{Given, Row, three_first, fixed_row, list_row, tuple_row, func_row, threshold_row}
@@ -54,19 +54,22 @@ module _ (known : Known) where
   line_row forms.Class ws given = class_line_row ws given
   line_row form ws given = fixed_row known form ws refl given
 
-  pub said_again : (number : ℕ) (line : List ℕ) (form : Form) (ws : List (List ℕ)) → says form ws ≡ meaning number line → has_unknown (parts_of known form ws) ≡ false → IsSaidAgain (said form (parts_of known form ws))
+  pub said_again : (number : ℕ) (line : List ℕ) (form : Form) (ws : List (List ℕ)) → says form ws ≡ meaning number line → has_unknown (parts_of known form ws)
+      ≡ false → IsSaidAgain (said form (parts_of known form ws))
   said_again number line form ws m defined =
       let r = line_row form ws (record { good = good_line number line form ws m; defined = defined }) in
       ap (λ (l : Filled). said l.form l.filling) (ap said_filled (sym r.same.said_same) ∙ r.tidy) ∙ r.same.said_same
 
 module _ (n : Naming) (known : Known) (names : Names n known.procs known.classes) where
   -- what is said is printed by other words for the same, as they are printed
-  row_printed : (form : Form) (ws : List (List ℕ)) → Begins (texts_from known.texts form 0 ws) n.texts → (r : Row known form ws) → said_words n (said form (parts_of known form ws)) ≡ normal_from form 0 r.standing
+  row_printed : (form : Form) (ws : List (List ℕ)) → Begins (texts_from known.texts form 0 ws) n.texts → (r : Row known form ws)
+      → said_words n (said form (parts_of known form ws)) ≡ normal_from form 0 r.standing
   unfolding filled_words
   row_printed form ws begins r =
       ap (λ (s : Said). said_words n s) (sym r.same.said_same)
       ∙ ap (λ (l : Filled). filled_words n l) r.tidy
-      ∙ shown_normal n known.procs known.classes form r.standing known.texts 0 names (subst (λ ts. Begins ts n.texts) (sym r.same.texts_same) begins) r.same.none_unknown r.good.fit (keys_stand form r.standing r.good.picks)
+      ∙ shown_normal n known.procs known.classes form r.standing known.texts 0 names (subst (λ ts. Begins ts n.texts) (sym r.same.texts_same) begins)
+      r.same.none_unknown r.good.fit (keys_stand form r.standing r.good.picks)
 
   -- the printed line says the same, and leads to the same knowledge
   record Again (form : Form) (ws : List (List ℕ)) : Type 0 where
@@ -96,7 +99,8 @@ module _ (n : Naming) (known : Known) (names : Names n known.procs known.classes
   unfolding meant
   line_meant form words k line m clean = ap (checked known) m ∙ ap (λ (o : Option ℕ). says_or_bad o form words) clean
 
-  pub line_back : (form : Form) (ws : List (List ℕ)) → Begins (texts_from known.texts form 0 ws) n.texts → Given known form ws → Faultless known form ws → (k : ℕ) → (k == 400001) ≡ false → (rest : List (List ℕ))
+  pub line_back : (form : Form) (ws : List (List ℕ)) → Begins (texts_from known.texts form 0 ws) n.texts → Given known form ws → Faultless known form ws
+      → (k : ℕ) → (k == 400001) ≡ false → (rest : List (List ℕ))
       → lines_from known k (joined (said_words n (said form (parts_of known form ws))) ∷ rest) ≡ also_said (said form (parts_of known form ws)) (lines_from (known_after known form ws) (k + 1) rest)
   line_back form ws begins given clean k before rest =
       let a = again form ws begins given clean in
@@ -105,7 +109,8 @@ module _ (n : Naming) (known : Known) (names : Names n known.procs known.classes
       ∙ ap (λ (s : Said). also_said s (lines_from (known_after known form a.words) (k + 1) rest)) a.same.said_same
       ∙ ap (λ (b : Known). also_said (said form (parts_of known form ws)) (lines_from b (k + 1) rest)) (same_known known form ws a.words a.same)
 
-  pub line_sound : (form : Form) (ws : List (List ℕ)) → Begins (texts_from known.texts form 0 ws) n.texts → Given known form ws → Faultless known form ws → EachSound (said_words n (said form (parts_of known form ws)))
+  pub line_sound : (form : Form) (ws : List (List ℕ)) → Begins (texts_from known.texts form 0 ws) n.texts → Given known form ws → Faultless known form ws
+      → EachSound (said_words n (said form (parts_of known form ws)))
   line_sound form ws begins given clean = let a = again form ws begins given clean in subst (λ l. EachSound l) (sym a.printed) a.sound
 
 -- lines in which procedures open and close in turn, with declarations outside them
@@ -118,7 +123,8 @@ Nested inside (BeginsProc name ∷ later) = (inside ≡ false) × Nested true la
 Nested inside (Ends ∷ later) = (inside ≡ true) × Nested false later
 Nested inside (Does command ∷ later) = Nested inside later
 
-nested_step : (known : Known) (form : Form) (ps : List Part) (later : List Said) → is_misplaced known form ≡ false → Nested (inside_after known.inside form) later → Nested known.inside (said form ps ∷ later)
+nested_step : (known : Known) (form : Form) (ps : List Part) (later : List Said) → is_misplaced known form ≡ false → Nested (inside_after known.inside form)
+    later → Nested known.inside (said form ps ∷ later)
 nested_step known forms.Profile ps later e nested = ((first_outside known.inside known.started e).0, nested)
 nested_step known forms.Shutdown ps later e nested = (e, nested)
 nested_step known forms.Budget ps later e nested = (e, nested)
@@ -200,7 +206,8 @@ module _ (known : Known) (all : List (List ℕ)) where
   classes_step forms.Class (w ∷ []) later enough fresh begins = absurd (omega arith)
   classes_step forms.Class (w ∷ c ∷ ws) later enough fresh begins =
       define_step all known.classes (text_number known.texts c) c (declared later) fresh
-      (text_found all known.texts c (begins_along (with_text known.texts c) (texts_from (with_text known.texts c) forms.Class 2 ws) all (begins_texts forms.Class ws (with_text known.texts c) 2) begins))
+      (text_found all known.texts c (begins_along (with_text known.texts c) (texts_from (with_text known.texts c) forms.Class 2 ws) all
+      (begins_texts forms.Class ws (with_text known.texts c) 2) begins))
   classes_step form ws later enough fresh begins = refl
 
 -- What the lines from a number on say is read back from their printed form, from any number up to that one.
@@ -231,8 +238,10 @@ back_said number known line form words texts saids m f fact =
           } in
           let before = says_before_last number line form words m limit in
           let given : Given known form words = record { good = words_good; defined = clean.defined } in
-          let later = fact.back procs classes (ep ∙ procs_step known texts form words saids words_good.enough clean.fresh fact.begins) (ec ∙ classes_step known texts form words saids words_good.enough clean.fresh fact.begins) (k + 1) (omega arith) before in (
-            line_back n known names form words fact.begins given clean k (not_last k number h before) (map joined (map (said_words n) saids)) ∙ ap (also_said (said form (parts_of known form words))) later.0,
+          let later = fact.back procs classes (ep ∙ procs_step known texts form words saids words_good.enough clean.fresh fact.begins)
+          (ec ∙ classes_step known texts form words saids words_good.enough clean.fresh fact.begins) (k + 1) (omega arith) before in (
+            line_back n known names form words fact.begins given clean k (not_last k number h before) (map joined (map (said_words n) saids))
+                ∙ ap (also_said (said form (parts_of known form words))) later.0,
             (line_sound n known names form words fact.begins given clean, later.1),
           );
     }
@@ -255,7 +264,8 @@ canonical_lines : (texts : List (List ℕ)) (saids : List Said) → Back 1 nothi
 unfolding canonical
 canonical_lines texts saids fact =
     let n = naming_of texts (items_of false saids) in
-    let back = fact.back (procs_in (items_of false saids)) (classes_in (items_of false saids)) (ap (map (text_of texts)) (procs_in-items_of false saids)) (ap (map (text_of texts)) (classes_in-items_of false saids)) 1 (omega arith) (omega arith) in
+    let back = fact.back (procs_in (items_of false saids)) (classes_in (items_of false saids)) (ap (map (text_of texts)) (procs_in-items_of false saids))
+    (ap (map (text_of texts)) (classes_in-items_of false saids)) 1 (omega arith) (omega arith) in
     ap (λ (l : List (List (List ℕ))). lines_from nothing_known 1 (lines_of (flat_map line_of_words l))) (lines_said n false saids fact.nested)
     ∙ ap (λ (l : List (List ℕ)). lines_from nothing_known 1 l) (lines_of-written (map (said_words n) saids) back.1)
     ∙ back.0

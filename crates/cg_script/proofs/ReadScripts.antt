@@ -4,7 +4,7 @@ use Rattle.std.specs.List.{All}
 use Rattle.cg_script.specs.declared.item.Script.{Script}
 use Rattle.cg_script.specs.Texts.{TextsAreKnown}
 use Rattle.cg_script.specs.ReadScripts.{WasRead}
-use Rattle.cg_script.proofs.Each.{known_texts}
+use Rattle.cg_script.proofs.EachLine.{known_texts}
 use Rattle.cg_script.proofs.SpelledScripts.{short_texts}
 
 -- it uses its own texts

@@ -76,7 +76,8 @@ module _ (form : Form) (ws : List (Bor (List ℕ))) (enough : (row form).fewest 
   unfit_words e = sym (ap code_of (by_words ∙ ap (λ b. if not b || repeats_finalizer form (texts_of ws) then bad 4 else says form (texts_of ws)) (sym e)))
 
   pub alike_words : repeats_finalizer form (texts_of ws) ≡ true → Some 4 ≡ code_of (formed form (texts_of ws))
-  alike_words e = sym (ap code_of (by_words ∙ ap (λ b. if b then bad 4 else says form (texts_of ws)) (ap (λ b. not (all_fit form 0 (texts_of ws)) || b) e ∙ or_true (not (all_fit form 0 (texts_of ws))))))
+  alike_words e = sym (ap code_of (by_words ∙ ap (λ b. if b then bad 4 else says form (texts_of ws)) (ap (λ b. not (all_fit form 0 (texts_of ws)) || b) e
+      ∙ or_true (not (all_fit form 0 (texts_of ws))))))
 
   pub good_words : true ≡ all_fit form 0 (texts_of ws) → repeats_finalizer form (texts_of ws) ≡ false → None ≡ code_of (formed form (texts_of ws))
   good_words e single = sym (ap code_of (by_words ∙ (λ j. if not (sym e j) || single j then bad 4 else says form (texts_of ws))))
@@ -107,7 +108,15 @@ code_or (Some code) form words = refl
 
 -- the texts do not affect where a line may be, nor whether it is a duplicate
 misplaced_by : (texts : List (List ℕ)) (known : Known) (form : Form)
-    → is_misplaced (record { texts = texts; procs = known.procs; classes = known.classes; budget = known.budget; shutdown = known.shutdown; started = known.started; inside = known.inside }) form ≡ is_misplaced known form
+    → is_misplaced (record {
+      texts = texts;
+      procs = known.procs;
+      classes = known.classes;
+      budget = known.budget;
+      shutdown = known.shutdown;
+      started = known.started;
+      inside = known.inside;
+    }) form ≡ is_misplaced known form
 misplaced_by texts known forms.End = refl
 misplaced_by texts known forms.Def = refl
 misplaced_by texts known forms.Class = refl
@@ -117,7 +126,15 @@ misplaced_by texts known forms.Profile = refl
 misplaced_by texts known form = refl
 
 repeated_by : (texts : List (List ℕ)) (known : Known) (form : Form) (words : List (List ℕ))
-    → is_repeated (record { texts = texts; procs = known.procs; classes = known.classes; budget = known.budget; shutdown = known.shutdown; started = known.started; inside = known.inside }) form words ≡ is_repeated known form words
+    → is_repeated (record {
+      texts = texts;
+      procs = known.procs;
+      classes = known.classes;
+      budget = known.budget;
+      shutdown = known.shutdown;
+      started = known.started;
+      inside = known.inside;
+    }) form words ≡ is_repeated known form words
 repeated_by texts known forms.Def words = refl
 repeated_by texts known forms.Class words = refl
 repeated_by texts known forms.Budget words = refl
@@ -130,8 +147,24 @@ module _ (known : Known) (texts : List (List ℕ)) (form : Form) (words : List (
   code_so = ap (λ m. code_of (checked known m)) (formed_says form words good) ∙ code_or (fault_in known form words) form words
 
   pub fault_so : (misplaced repeated unknown : Bool)
-      → misplaced ≡ is_misplaced (record { texts = texts; procs = known.procs; classes = known.classes; budget = known.budget; shutdown = known.shutdown; started = known.started; inside = known.inside }) form
-      → repeated ≡ is_repeated (record { texts = texts; procs = known.procs; classes = known.classes; budget = known.budget; shutdown = known.shutdown; started = known.started; inside = known.inside }) form words
+      → misplaced ≡ is_misplaced (record {
+        texts = texts;
+        procs = known.procs;
+        classes = known.classes;
+        budget = known.budget;
+        shutdown = known.shutdown;
+        started = known.started;
+        inside = known.inside;
+      }) form
+      → repeated ≡ is_repeated (record {
+        texts = texts;
+        procs = known.procs;
+        classes = known.classes;
+        budget = known.budget;
+        shutdown = known.shutdown;
+        started = known.started;
+        inside = known.inside;
+      }) form words
       → unknown ≡ has_unknown (parts_of known form words)
       → (if misplaced then Some 7 else if repeated then Some 8 else if unknown then Some 6 else None) ≡ code_of (checked known (formed form words))
   fault_so misplaced repeated unknown m r u =

@@ -13,7 +13,7 @@ use Rattle.cg_script.specs.Tables.{named}
 use Rattle.cg_script.specs.Forms.{row, sort_at, word_of, binding_forms, bindings}
 use Rattle.cg_script.specs.Parts.{Known, part_of, parts_from, parts_of, text_in, with_text_if, numbered, defined_number, is_unknown, has_unknown}
 use Rattle.cg_script.specs.Commands.{value_or, count_or, said, filled, binding, said_filled}
-use Rattle.cg_script.proofs.Shown.{neither}
+use Rattle.cg_script.proofs.PrintedParts.{neither}
 use Rattle.cg_script.proofs.Found.{by_words-is}
 use Rattle.cg_script.proofs.GoodLines.{Good, Same, same_self}
 
@@ -73,7 +73,8 @@ values_tidy procs classes form (w ∷ ws) texts place values =
 
 module _ (known : Known) where
   -- forms of a fixed number of words
-  fixed_tidy : (form : Form) (w : ℕ → List ℕ) → (row form).fewest ≡ (row form).most → has_unknown (parts_of known form (spread (row form).fewest w)) ≡ false → Tidy form (parts_of known form (spread (row form).fewest w))
+  fixed_tidy : (form : Form) (w : ℕ → List ℕ) → (row form).fewest ≡ (row form).most → has_unknown (parts_of known form (spread (row form).fewest w)) ≡ false
+      → Tidy form (parts_of known form (spread (row form).fewest w))
   unfolding spread
   fixed_tidy forms.MakeList w fixed defined = absurd (omega arith)
   fixed_tidy forms.MakeTuple w fixed defined = absurd (omega arith)
@@ -101,14 +102,16 @@ module _ (known : Known) where
   list_row ws given =
       plain_row known forms.MakeList ws given
       (three_first (λ (l : List (List ℕ)). Tidy forms.MakeList (parts_of known forms.MakeList l)) ws given.good.enough
-      (λ a b c rest. ap (λ (l : List Part). binding forms.MakeList (text_number known.texts a) l) (values_tidy known.procs known.classes forms.MakeList rest (with_text known.texts a) 3 (λ i h. get_or_past (row forms.MakeList).places i Value h))))
+      (λ a b c rest. ap (λ (l : List Part). binding forms.MakeList (text_number known.texts a) l) (values_tidy known.procs known.classes forms.MakeList rest
+      (with_text known.texts a) 3 (λ i h. get_or_past (row forms.MakeList).places i Value h))))
 
   pub tuple_row : (ws : List (List ℕ)) → Given known forms.MakeTuple ws → Row known forms.MakeTuple ws
   tuple_row ws given =
       let enough = given.good.enough in
       plain_row known forms.MakeTuple ws given
       (three_first (λ (l : List (List ℕ)). Tidy forms.MakeTuple (parts_of known forms.MakeTuple l)) ws (omega arith)
-      (λ a b c rest. ap (λ (l : List Part). binding forms.MakeTuple (text_number known.texts a) l) (values_tidy known.procs known.classes forms.MakeTuple rest (with_text known.texts a) 3 (λ i h. get_or_past (row forms.MakeTuple).places i Value h))))
+      (λ a b c rest. ap (λ (l : List Part). binding forms.MakeTuple (text_number known.texts a) l) (values_tidy known.procs known.classes forms.MakeTuple rest
+      (with_text known.texts a) 3 (λ i h. get_or_past (row forms.MakeTuple).places i Value h))))
 
   pub func_row : (ws : List (List ℕ)) → Given known forms.MakeFunc ws → Row known forms.MakeFunc ws
   func_row [] given = absurd (omega (arith, given.good.enough))
@@ -119,8 +122,10 @@ module _ (known : Known) where
       let proc = numbered (defined_number known.procs p) in
       let values = parts_from known.procs known.classes (with_text known.texts a) forms.MakeFunc 4 rest in
       plain_row known forms.MakeFunc (a ∷ b ∷ c ∷ p ∷ rest) given
-      (ap (λ (q : Part). binding forms.MakeFunc (text_number known.texts a) (q ∷ map parts.Value (map (λ part. value_or (Some part)) values))) (numbered_tidy (defined_number known.procs p) (neither (is_unknown proc) (has_unknown values) given.defined).0)
-      ∙ ap (λ (l : List Part). binding forms.MakeFunc (text_number known.texts a) (proc ∷ l)) (values_tidy known.procs known.classes forms.MakeFunc rest (with_text known.texts a) 4 (λ i h. get_or_past (row forms.MakeFunc).places i Value h)))
+      (ap (λ (q : Part). binding forms.MakeFunc (text_number known.texts a) (q ∷ map parts.Value (map (λ part. value_or (Some part)) values)))
+      (numbered_tidy (defined_number known.procs p) (neither (is_unknown proc) (has_unknown values) given.defined).0)
+      ∙ ap (λ (l : List Part). binding forms.MakeFunc (text_number known.texts a) (proc ∷ l)) (values_tidy known.procs known.classes forms.MakeFunc rest
+      (with_text known.texts a) 4 (λ i h. get_or_past (row forms.MakeFunc).places i Value h)))
 
   pub threshold_row : (ws : List (List ℕ)) → Given known forms.Threshold ws → Row known forms.Threshold ws
   threshold_row [] given = absurd (omega (arith, given.good.enough))

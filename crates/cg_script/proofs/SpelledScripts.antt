@@ -21,11 +21,11 @@ use Rattle.cg_script.specs.Parts.{Known, parts_of}
 use Rattle.cg_script.specs.Commands.{value_or, values_from, said}
 use Rattle.cg_script.specs.Reading.{body_of, items_of, spells, reading}
 use Rattle.cg_script.proofs.Ascii.{both}
-use Rattle.cg_script.proofs.Below.{Below, below_all}
-use Rattle.cg_script.proofs.Says.{says_fits}
-use Rattle.cg_script.proofs.Known.{said_texts, length-parts_from}
+use Rattle.cg_script.proofs.TextNumbers.{Below, below_all}
+use Rattle.cg_script.proofs.GoodWords.{says_fits}
+use Rattle.cg_script.proofs.KnownTexts.{said_texts, length-parts_from}
 use Rattle.cg_script.proofs.Profiles.{profile_count, profile_is_first}
-use Rattle.cg_script.proofs.Each.{EachSaid, Holds, texts_hold, said_so}
+use Rattle.cg_script.proofs.EachLine.{EachSaid, Holds, texts_hold, said_so}
 
 -- a line has few words
 HasFew : Said → Type 0
@@ -120,7 +120,8 @@ items_spelled n inside [] few each = All-nil (IsSpelledItem n)
 items_spelled n inside (Declares item ∷ later) few each = All-cons (IsSpelledItem n) item (items_of inside later) each.0 (items_spelled n inside later (omega arith) each.1)
 items_spelled n inside (Begins name ∷ later) few each =
     let short = length-body_of later in
-    All-cons (IsSpelledItem n) (items.Def (record { name = name; body = body_of later })) (items_of true later) (omega arith, body_spelled n later each.1) (items_spelled n true later (omega arith) each.1)
+    All-cons (IsSpelledItem n) (items.Def (record { name = name; body = body_of later })) (items_of true later) (omega arith, body_spelled n later each.1)
+    (items_spelled n true later (omega arith) each.1)
 items_spelled n inside (Ends ∷ later) few each = items_spelled n false later (omega arith) each.1
 items_spelled n true (Does command ∷ later) few each = items_spelled n true later (omega arith) each.1
 items_spelled n false (Does command ∷ later) few each = All-cons (IsSpelledItem n) (items.Run command) (items_of false later) each.0 (items_spelled n false later (omega arith) each.1)
@@ -146,7 +147,8 @@ spelled_script bytes script e few_texts =
       few_texts = few_texts;
     }
 
-pub spelled_if : {E : Type 0} (bytes : List ℕ) (result : Result Script E) → IfOk result (λ script. reading bytes ≡ spells script.names script.items) → IfOk result (λ script. length script.names ≤ 25600000)
+pub spelled_if : {E : Type 0} (bytes : List ℕ) (result : Result Script E) → IfOk result (λ script. reading bytes ≡ spells script.names script.items)
+    → IfOk result (λ script. length script.names ≤ 25600000)
     → IfOk result IsSpelled
 spelled_if bytes (Ok script) e few = spelled_script bytes script e few
 spelled_if bytes (Err fault) e few = tt

@@ -102,7 +102,8 @@ module _ (words : List (Bor (List ℕ))) where
   pub none_found : (piece : List ℕ) → length words ≤ MOST_FOUND → length piece ≡ 0 → texts_of words ≡ take MOST_FOUND (texts_of words ++ filter has_bytes (piece ∷ []))
   none_found piece few e =
       let n = length-texts words in
-      sym (ap (λ t. take MOST_FOUND (texts_of words ++ cond t (piece ∷ []) [])) (empty_piece piece e) ∙ ap (take MOST_FOUND) (append-nil (texts_of words)) ∙ take_all MOST_FOUND (texts_of words) (omega (arith, n, few)))
+      sym (ap (λ t. take MOST_FOUND (texts_of words ++ cond t (piece ∷ []) [])) (empty_piece piece e) ∙ ap (take MOST_FOUND) (append-nil (texts_of words))
+      ∙ take_all MOST_FOUND (texts_of words) (omega (arith, n, few)))
 
   -- any other is one
   pub one_found : (now : List (Bor (List ℕ))) (piece : Bor (List ℕ)) → now ≡ words ++ piece ∷ [] → length words < MOST_FOUND → 0 < length piece.now

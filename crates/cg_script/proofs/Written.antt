@@ -28,14 +28,16 @@ module _ (n : Naming) (form : Form) where
   words_from-append [] ys place = let e : place ≡ place + 0 = omega arith in ap (λ k. words_from n form k ys) e
   words_from-append (x ∷ xs) ys place =
       let e : (place + 1) + length xs ≡ place + suc (length xs) = omega arith in
-      ap (λ (l : List (List ℕ)). part_word n (key_word form place) (sort_at form place) x ∷ l) (words_from-append xs ys (place + 1) ∙ ap (λ k. words_from n form (place + 1) xs ++ words_from n form k ys) e)
+      ap (λ (l : List (List ℕ)). part_word n (key_word form place) (sort_at form place) x ∷ l) (words_from-append xs ys (place + 1)
+      ∙ ap (λ k. words_from n form (place + 1) xs ++ words_from n form k ys) e)
 
   words_from-values : (values : List Operand) (place : ℕ) → words_from n form place (map parts.Value values) ≡ map (value_word n.texts) values
   words_from-values [] place = refl
   words_from-values (v ∷ vs) place = ap (λ (l : List (List ℕ)). value_word n.texts v ∷ l) (words_from-values vs (place + 1))
 
   -- a line: the word of its first part, those of other parts, its values, and the line feed
-  pub line_written : (first : Part) (keys ps : List Part) (values : List Operand) (o0 o1 o2 o3 o4 o5 : List ℕ) → o1 ≡ o0 ++ part_word n (key_word form 0) (sort_at form 0) first → o2 ≡ o1 ++ flat_map behind_space (words_from n form 1 keys)
+  pub line_written : (first : Part) (keys ps : List Part) (values : List Operand) (o0 o1 o2 o3 o4 o5 : List ℕ) → o1 ≡ o0 ++ part_word n (key_word form 0)
+      (sort_at form 0) first → o2 ≡ o1 ++ flat_map behind_space (words_from n form 1 keys)
       → o3 ≡ o2 ++ flat_map behind_space (words_from n form (1 + length keys) ps) → o4 ≡ o3 ++ flat_map (λ v. behind_space (value_word n.texts v)) values → o5 ≡ o4 ++ 10 ∷ []
       → o5 ≡ o0 ++ line_of_words (filled_words n (filled form (first ∷ (keys ++ (ps ++ map parts.Value values)))))
   unfolding filled_words
@@ -46,12 +48,14 @@ module _ (n : Naming) (form : Form) where
       let vs = map (value_word n.texts) values in
       let words : words_from n form 1 (keys ++ (ps ++ map parts.Value values)) ≡ ks ++ (ws ++ vs) =
       words_from-append keys (ps ++ map parts.Value values) 1
-      ∙ ap (λ (l : List (List ℕ)). ks ++ l) (words_from-append ps (map parts.Value values) (1 + length keys) ∙ ap (λ (l : List (List ℕ)). ws ++ l) (words_from-values values ((1 + length keys) + length ps))) in
+      ∙ ap (λ (l : List (List ℕ)). ks ++ l) (words_from-append ps (map parts.Value values) (1 + length keys) ∙ ap (λ (l : List (List ℕ)). ws ++ l)
+      (words_from-values values ((1 + length keys) + length ps))) in
       let bytes : flat_map behind_space (ks ++ (ws ++ vs)) ≡ flat_map behind_space ks ++ (flat_map behind_space ws ++ flat_map (λ v. behind_space (value_word n.texts v)) values) =
       flat_map-append behind_space ks (ws ++ vs)
       ∙ ap (λ l. flat_map behind_space ks ++ l) (flat_map-append behind_space ws vs ∙ ap (λ l. flat_map behind_space ws ++ l) (flat_map-map behind_space (value_word n.texts) values)) in
       e5
-      ∙ ap (λ l. l ++ 10 ∷ []) (e4 ∙ ap (λ l. l ++ flat_map (λ v. behind_space (value_word n.texts v)) values) (e3 ∙ ap (λ l. l ++ flat_map behind_space ws) (e2 ∙ ap (λ l. l ++ flat_map behind_space ks) e1)))
+      ∙ ap (λ l. l ++ 10 ∷ []) (e4 ∙ ap (λ l. l ++ flat_map (λ v. behind_space (value_word n.texts v)) values) (e3 ∙ ap (λ l. l ++ flat_map behind_space ws)
+      (e2 ∙ ap (λ l. l ++ flat_map behind_space ks) e1)))
       ∙ regroup o0 f (flat_map behind_space ks) (flat_map behind_space ws) (flat_map (λ v. behind_space (value_word n.texts v)) values) (10 ∷ [])
       ∙ sym (ap (λ (l : List (List ℕ)). o0 ++ ((f ++ flat_map behind_space l) ++ 10 ∷ [])) words ∙ ap (λ l. o0 ++ ((f ++ l) ++ 10 ∷ [])) bytes)
 
@@ -86,7 +90,8 @@ pub name_missing : {A : Type 0} (name : A → ℕ) (texts : List (List ℕ)) (th
 name_missing name texts those n is = name_by name texts those n ∙ ap (λ o. unwrap_or (option_map (λ y. text_of texts (name y)) o) []) is
 
 -- all lines of a script, after no bytes
-pub all_written : (texts : List (List ℕ)) (items : List Item) (start out : List ℕ) → start ≡ [] → out ≡ start ++ flat_map (λ item. flat_map line_of_words (item_lines (naming_of texts items) item)) items → out ≡ canonical texts items
+pub all_written : (texts : List (List ℕ)) (items : List Item) (start out : List ℕ) → start ≡ [] → out ≡ start
+    ++ flat_map (λ item. flat_map line_of_words (item_lines (naming_of texts items) item)) items → out ≡ canonical texts items
 unfolding canonical
 all_written texts items start out none e =
     e

@@ -23,8 +23,8 @@ pub enum Operand {
     Garbage,
 }
 
-/// A command, one variant for each row of the table of commands (docs/SCRIPT.md). Names, classes and procedures appear by
-/// number.
+/// A command, one variant for each row of the table of commands (docs/SCRIPT.md). Names, classes
+/// and procedures appear by number.
 #[derive(Drop)]
 pub enum Command {
     /// `x = list v*`: a new list of the values, bound to x.

@@ -60,7 +60,8 @@ pub(crate) fn empty(alloc: Global) -> Draft
     }
 }
 
-/// Whether a declaration is inside a procedure, `end` is outside one, or a profile follows another line.
+/// Whether a declaration is inside a procedure, `end` is outside one, or a profile follows another
+/// line.
 fn stands_wrong(draft: &Draft, form: Form) -> bool
     ensures { result ≡ is_misplaced (known_of draft.now) form }
 {
@@ -94,8 +95,10 @@ fn define(draft: &mut Draft, form: Form, words: &[&[u8]]) -> Result<(), AllocErr
     requires enough { (row form).fewest ≤ length words.now }
     requires procs { length draft.old.procs < 2 ^ 32 - 1 }
     requires classes { length draft.old.classes < 2 ^ 32 - 1 }
-    ensures procs { OnOk result (draft.new.procs ≡ procs_after draft.old.procs form (map (λ w. w.now) words.now)) }
-    ensures classes { OnOk result (draft.new.classes ≡ classes_after draft.old.classes form (map (λ w. w.now) words.now)) }
+    ensures procs { OnOk result (draft.new.procs ≡ procs_after draft.old.procs form
+        (map (λ w. w.now) words.now)) }
+    ensures classes { OnOk result (draft.new.classes ≡ classes_after draft.old.classes form
+        (map (λ w. w.now) words.now)) }
     ensures budget { OnOk result (draft.new.budget ≡ budget_after draft.old.budget form) }
     ensures shutdown { OnOk result (draft.new.shutdown ≡ shutdown_after draft.old.shutdown form) }
     ensures started { OnOk result (draft.new.started ≡ true) }
@@ -132,7 +135,8 @@ fn push_command(
     begun: &mut Option<Begun>,
     command: Command,
 ) -> Result<(), AllocError>
-    ensures grouped { OnOk result ((later : List AnySaid) → grouped items.new begun.new later ≡ grouped items.old begun.old (Does command ∷ later)) }
+    ensures grouped { OnOk result ((later : List AnySaid) → grouped items.new begun.new later
+        ≡ grouped items.old begun.old (Does command ∷ later)) }
     ensures inside { is_some begun.new ≡ is_some begun.old }
     ensures few { length items.new ≤ length items.old + 1 }
 {
@@ -149,7 +153,8 @@ fn push_command(
 /// Adds the open procedure to the items.
 fn close(items: &mut Items, begun: &mut Option<Begun>) -> Result<(), AllocError>
     requires { is_some begun.old ≡ true }
-    ensures grouped { OnOk result ((later : List AnySaid) → grouped items.new begun.new later ≡ grouped items.old begun.old (Ends ∷ later)) }
+    ensures grouped { OnOk result ((later : List AnySaid) → grouped items.new begun.new later
+        ≡ grouped items.old begun.old (Ends ∷ later)) }
     ensures outside { OnOk result (begun.new ≡ None) }
     ensures few { length items.new ≤ length items.old + 1 }
 {
@@ -173,7 +178,8 @@ fn push(
     what: Said,
 ) -> Result<(), AllocError>
     requires { is_placed what (is_some begun.old) ≡ true }
-    ensures grouped { OnOk result ((later : List AnySaid) → grouped items.new begun.new later ≡ grouped items.old begun.old (what ∷ later)) }
+    ensures grouped { OnOk result ((later : List AnySaid) → grouped items.new begun.new later
+        ≡ grouped items.old begun.old (what ∷ later)) }
     ensures inside { OnOk result (is_some begun.new ≡ inside_behind what (is_some begun.old)) }
     ensures few { length items.new ≤ length items.old + 1 }
 {
@@ -200,8 +206,8 @@ const DEFINED_TWICE: u8 = 8;
 /// A procedure or class that no earlier line defines.
 const NOT_DEFINED: u8 = 6;
 
-/// Takes words as a line of a form, or answers the code of what is wrong with them. `parts` is a buffer for their parts, empty
-/// before.
+/// Takes words as a line of a form, or answers the code of what is wrong with them. `parts` is a
+/// buffer for their parts, empty before.
 pub(crate) fn take_words(
     draft: &mut Draft,
     form: Form,
@@ -212,9 +218,11 @@ pub(crate) fn take_words(
     requires names { length draft.old.names + MOST_WORDS < 2 ^ 32 - 1 }
     requires procs { length draft.old.procs < 2 ^ 32 - 1 }
     requires classes { length draft.old.classes < 2 ^ 32 - 1 }
-    ensures fault { IfOk result (λ code. code ≡ code_of (checked (known_of draft.old) (formed form (map (λ w. w.now) words.now)))) }
+    ensures fault { IfOk result (λ code. code
+        ≡ code_of (checked (known_of draft.old) (formed form (map (λ w. w.now) words.now)))) }
     ensures takes { result ≡ Ok None → Takes draft.old form (map (λ w. w.now) words.now) draft.new }
-    ensures few_names { result ≡ Ok None → length draft.new.names ≤ length draft.old.names + MOST_WORDS }
+    ensures few_names { result ≡ Ok None → length draft.new.names ≤ length draft.old.names +
+        MOST_WORDS }
     ensures few_items { result ≡ Ok None → length draft.new.items ≤ length draft.old.items + 1 }
 {
     // The texts of a bad line may stay: no later line is read.

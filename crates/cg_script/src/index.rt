@@ -1,5 +1,5 @@
-//! What lines declare for the whole script, and the positions of its procedures and of its commands outside procedures, to find
-//! each by number.
+//! What lines declare for the whole script, and the positions of its procedures and of its commands
+//! outside procedures, to find each by number.
 ghost use Rattle.std.specs.Prelude.{◌≡◌, ◌||◌, ◌++◌, ◌∷◌, [], List, map, IfOk, OnOk, OnErr};
 ghost use Rattle.std.specs.Option.{option_or};
 ghost use Rattle.cg_script.specs.declared.item.Item.{Item as AnyItem};
@@ -42,9 +42,12 @@ impl Declared {
     /// Adds one more line.
     #[inline(always)]
     pub fn add(&mut self, item: &Item)
-        ensures profile { self.new.profile ≡ option_or self.old.profile (declared_profile (item.now ∷ [])) }
-        ensures budget { self.new.budget ≡ option_or self.old.budget (declared_budget (item.now ∷ [])) }
-        ensures shutdown { self.new.shutdown ≡ (self.old.shutdown || declares_shutdown (item.now ∷ [])) }
+        ensures profile { self.new.profile ≡ option_or self.old.profile
+            (declared_profile (item.now ∷ [])) }
+        ensures budget { self.new.budget ≡ option_or self.old.budget
+            (declared_budget (item.now ∷ [])) }
+        ensures shutdown { self.new.shutdown
+            ≡ (self.old.shutdown || declares_shutdown (item.now ∷ [])) }
     {
         match item {
             Item::Profile(profile) => self.profile = self.profile.or(Some(*profile)),
@@ -55,8 +58,8 @@ impl Declared {
     }
 }
 
-/// The classes among some lines, and the positions of their procedures and of their commands outside
-/// procedures.
+/// The classes among some lines, and the positions of their procedures and of their commands
+/// outside procedures.
 #[derive(Drop)]
 pub(crate) struct Index {
     pub classes: Vec<ClassDef>,
@@ -87,23 +90,26 @@ impl Index {
         Ok(index)
     }
 
-    /// Adds the line at a position, after those before it. Answers `AllocError` only if memory runs out; then the index is
-    /// unchanged.
+    /// Adds the line at a position, after those before it. Answers `AllocError` only if memory runs
+    /// out; then the index is unchanged.
     #[inline(always)]
     pub fn add(&mut self, at: usize, item: &Item) -> Result<(), AllocError>
-        ensures classes { OnOk result (self.new.classes.items ≡ self.old.classes.items ++ classes (item.now ∷ [])) }
+        ensures classes { OnOk result (self.new.classes.items ≡ self.old.classes.items
+            ++ classes (item.now ∷ [])) }
         ensures procedures { OnOk result (self.new.procedures.items
             ≡ self.old.procedures.items ++ map (λ p. at) (procedures (item.now ∷ []))) }
         ensures commands { OnOk result (self.new.commands.items
             ≡ self.old.commands.items ++ map (λ c. at) (commands_of (item.now ∷ []))) }
-        ensures err { OnErr result ((items : List AnyItem) → IsIndexOf items self.old → IsIndexOf items self.new) }
+        ensures err { OnErr result ((items : List AnyItem) → IsIndexOf items self.old
+            → IsIndexOf items self.new) }
     {
         match item {
             Item::Profile(_) | Item::Budget(_) | Item::Shutdown => {}
             Item::Class(class) => self.classes.push(*class)?,
             Item::Def(_) => self.procedures.push(at)?,
             Item::Run(_) => {
-                // Most lines are commands. In this form, the call that grows the list is made only when it is full.
+                // Most lines are commands. In this form, the call that grows the list is made only
+                // when it is full.
                 self.commands.reserve(1)?;
                 self.commands.push_reserved(at);
             }

@@ -13,8 +13,8 @@ const PLACES: usize = 1024;
 
 /// The slot of a variable that is this word. Words may share one; the last one read keeps it.
 ///
-/// Most names in a long script end in numbers: names that differ only in their last three digits, at most,
-/// never share a slot.
+/// Most names in a long script end in numbers: names that differ only in their last three digits,
+/// at most, never share a slot.
 #[inline(always)]
 fn place_of(word: &[u8]) -> usize
     ensures { result < PLACES }
@@ -28,12 +28,13 @@ fn place_of(word: &[u8]) -> usize
     mixed % PLACES
 }
 
-/// The texts of a script while it is read. Contracts see the list of their bytes, in the order of their numbers.
+/// The texts of a script while it is read. Contracts see the list of their bytes, in the order of
+/// their numbers.
 #[derive(Drop)]
 pub(crate) struct Lexicon {
     names: Names,
-    // Numbers of texts known to be variables, each in its slot. A word equal to such a text is a variable, without further
-    // checks.
+    // Numbers of texts known to be variables, each in its slot. A word equal to such a text is a
+    // variable, without further checks.
     variables: [Option<u32>; PLACES],
 }
 
@@ -60,7 +61,8 @@ impl Lexicon {
         }
     }
 
-    /// The number of this word, if it is a remembered variable. This compares it with one text only.
+    /// The number of this word, if it is a remembered variable. This compares it with one text
+    /// only.
     #[inline(always)]
     pub fn remembered(&self, word: &[u8]) -> Option<u32>
         ensures variable { IfSome result (λ number. is_variable word.now ≡ true) }
@@ -75,7 +77,8 @@ impl Lexicon {
         }
     }
 
-    /// The number of a variable, which is then remembered. Answers `AllocError` only if memory runs out.
+    /// The number of a variable, which is then remembered. Answers `AllocError` only if memory runs
+    /// out.
     pub fn learn(&mut self, word: &[u8]) -> Result<u32, AllocError>
         requires variable { is_variable word.now ≡ true }
         requires room { length self.old < 2 ^ 32 - 1 }

@@ -1,8 +1,9 @@
 //! Scripts as data, and how they are read from bytes.
 //!
-//! The layer above uses `parse`: it answers the script that the bytes spell by `specs/Reading`, or their first bad line.
-//! The machine and the interpreter use the fields: a `Script` is its items in order, and each text is identified by its
-//! position in `names`. `print` answers a script's canonical bytes.
+//! The layer above uses `parse`: it answers the script that the bytes spell by `specs/Reading`, or
+//! their first bad line. The machine and the interpreter use the fields: a `Script` is its items in
+//! order, and each text is identified by its position in `names`. `print` answers a script's
+//! canonical bytes.
 #![tactic(auto)]
 
 mod command;

@@ -81,7 +81,8 @@ fn is_passed_over(words: &[&[u8]]) -> bool
 /// Whether a line is too long, has too many words, or is one too many.
 fn is_too_long(number: u32, line: &[u8], words: &[&[u8]]) -> bool
     requires { map (λ w. w.now) words.now ≡ take MOST_FOUND (words_of line.now) }
-    ensures long { result ≡ (nat_lt MOST_LINE_BYTES (length line.now) || nat_lt MOST_WORDS (length (words_of line.now)) || (number == MOST_LINES + 1)) }
+    ensures long { result ≡ (nat_lt MOST_LINE_BYTES (length line.now)
+        || nat_lt MOST_WORDS (length (words_of line.now)) || (number == MOST_LINES + 1)) }
     ensures words { result ≡ false → map (λ w. w.now) words.now ≡ words_of line.now }
 {
     if words.len() > MOST_WORDS {
@@ -94,7 +95,8 @@ fn is_too_long(number: u32, line: &[u8], words: &[&[u8]]) -> bool
 #[tactic(auto, unfolding(crate::specs::Meanings::meaning))]
 pub(crate) fn read_line(number: u32, line: &[u8], printable: bool, words: &[&[u8]]) -> Line
     requires printable { printable ≡ list_all is_printable line.now }
-    requires words { printable ≡ true → map (λ w. w.now) words.now ≡ take MOST_FOUND (words_of line.now) }
+    requires words { printable ≡ true → map (λ w. w.now) words.now
+        ≡ take MOST_FOUND (words_of line.now) }
     ensures { meaning_of result (map (λ w. w.now) words.now) ≡ meaning number line.now }
 {
     if !printable {

@@ -14,7 +14,8 @@ use smallvec::SmallVec;
 use std::alloc::{AllocError, Global};
 use std::marker::Model;
 
-/// The operands of a command, in order. One operand is stored inline, so most lines allocate nothing.
+/// The operands of a command, in order. One operand is stored inline, so most lines allocate
+/// nothing.
 #[derive(Drop)]
 pub struct Operands {
     members: SmallVec<Operand, 1>,
@@ -87,8 +88,8 @@ impl Commands {
 
 /// The lines of a script, in order, with what they declare for the whole script.
 ///
-/// With an index, as a parsed script has one, a class, a procedure or a command outside procedures is found by number in constant
-/// time; without one, by a search through the lines.
+/// With an index, as a parsed script has one, a class, a procedure or a command outside procedures
+/// is found by number in constant time; without one, by a search through the lines.
 #[derive(Drop)]
 pub struct Items {
     members: Vec<Item>,
@@ -105,7 +106,8 @@ impl Model for Items {
 
     ghost view = { λ m. m.members.items };
 
-    ghost invariant = { λ m. AreDeclared m.members.items m.declared × IsIndexIfAny m.members.items m.index };
+    ghost invariant = { λ m. AreDeclared m.members.items m.declared × IsIndexIfAny m.members.items
+        m.index };
 }
 
 /// The position at a number, if any.
@@ -118,7 +120,8 @@ fn position_in(positions: &Vec<usize>, number: usize) -> Option<usize>
 
 /// The procedure in the line at a position, if it has one.
 fn procedure_at(items: &[Item], at: usize) -> Option<&Proc>
-    ensures { (p : AnyProc) → slice_get items.now at ≡ Some (Def p) → option_copied result ≡ Some p }
+    ensures { (p : AnyProc) → slice_get items.now at ≡ Some (Def p) → option_copied result
+        ≡ Some p }
 {
     match items.get(at) {
         Some(Item::Def(procedure)) => Some(procedure),
@@ -128,7 +131,8 @@ fn procedure_at(items: &[Item], at: usize) -> Option<&Proc>
 
 /// The command in the line at a position, if it has one.
 fn command_at(items: &[Item], at: usize) -> Option<&Command>
-    ensures { (c : AnyCommand) → slice_get items.now at ≡ Some (Run c) → option_copied result ≡ Some c }
+    ensures { (c : AnyCommand) → slice_get items.now at ≡ Some (Run c) → option_copied result
+        ≡ Some c }
 {
     match items.get(at) {
         Some(Item::Run(command)) => Some(command),
@@ -162,9 +166,11 @@ fn indexed_command<'a>(items: &'a [Item], index: &Index, number: usize) -> Optio
 /// Adds the line at a position to an index, if there is one.
 #[inline(always)]
 fn index_line(index: &mut Option<Index>, at: usize, item: &Item) -> Result<(), AllocError>
-    ensures ok { OnOk result ((items : List AnyItem) → at ≡ length items → IsIndexIfAny items index.old
+    ensures ok { OnOk result ((items : List AnyItem) → at ≡ length items
+        → IsIndexIfAny items index.old
         → IsIndexIfAny (items ++ item.now ∷ []) index.new) }
-    ensures err { OnErr result ((items : List AnyItem) → IsIndexIfAny items index.old → IsIndexIfAny items index.new) }
+    ensures err { OnErr result ((items : List AnyItem) → IsIndexIfAny items index.old
+        → IsIndexIfAny items index.new) }
 {
     if let Some(index) = index {
         index.add(at, item)?;
@@ -209,8 +215,8 @@ impl Items {
         }
     }
 
-    /// Appends a member, and adds it to the index while it is at hand. Answers `AllocError` only if memory runs out; then nothing
-    /// has changed.
+    /// Appends a member, and adds it to the index while it is at hand. Answers `AllocError` only if
+    /// memory runs out; then nothing has changed.
     #[inline(always)]
     pub(crate) fn push(&mut self, item: Item) -> Result<(), AllocError>
         ensures ok { OnOk result (self.new ≡ self.old ++ item ∷ []) }
@@ -251,7 +257,8 @@ impl Items {
         self.declared.shutdown
     }
 
-    /// The class with a number, if any. Classes are numbered from 0, in order. Constant time with an index.
+    /// The class with a number, if any. Classes are numbered from 0, in order. Constant time with
+    /// an index.
     pub fn class(&self, number: u32) -> Option<ClassDef>
         ensures { result ≡ slice_get (classes self.now) number }
     {
@@ -261,7 +268,8 @@ impl Items {
         }
     }
 
-    /// The procedure with a number, if any. Procedures are numbered from 0, in order. Constant time with an index.
+    /// The procedure with a number, if any. Procedures are numbered from 0, in order. Constant time
+    /// with an index.
     pub fn procedure(&self, number: u32) -> Option<&Proc>
         ensures { option_copied result ≡ slice_get (procedures self.now) number }
     {
@@ -271,7 +279,8 @@ impl Items {
         }
     }
 
-    /// The command outside procedures with a number, if any. They are numbered from 0, in order. Constant time with an index.
+    /// The command outside procedures with a number, if any. They are numbered from 0, in order.
+    /// Constant time with an index.
     pub fn command(&self, number: usize) -> Option<&Command>
         ensures found { option_copied result ≡ slice_get (commands_of self.now) number }
         // The number after it also fits.

@@ -65,8 +65,11 @@ pub(crate) type Parts = Vec<Part>;
 fn read_string(word: &[u8], names: &mut Lexicon) -> Result<Option<Operand>, AllocError>
     requires quoted { is_quoted word.now ≡ true }
     requires room { length names.old < 2 ^ 32 - 1 }
-    ensures operand { IfOk result (λ operand. operand ≡ (if list_all is_graphic word.now then Some (Str (text_number names.old (string_text word.now))) else None)) }
-    ensures texts { OnOk result (list_all is_graphic word.now ≡ true → names.new ≡ with_text names.old (string_text word.now)) }
+    ensures operand { IfOk result (λ operand. operand
+        ≡ (if list_all is_graphic word.now then Some
+        (Str (text_number names.old (string_text word.now))) else None)) }
+    ensures texts { OnOk result (list_all is_graphic word.now ≡ true → names.new
+        ≡ with_text names.old (string_text word.now)) }
 {
     if !is_graphic_text(word) {
         return Ok(None);
@@ -74,13 +77,16 @@ fn read_string(word: &[u8], names: &mut Lexicon) -> Result<Option<Operand>, Allo
     Ok(Some(Operand::Str(names.intern(text_of(&word[1..]))?)))
 }
 
-/// What a word that begins like a name and is no keyword for a value stands for, if it is a variable.
+/// What a word that begins like a name and is no keyword for a value stands for, if it is a
+/// variable.
 fn read_name(word: &[u8], names: &mut Lexicon) -> Result<Option<Operand>, AllocError>
     requires other { named_in atoms word.now ≡ None }
     requires begins { begins_name (slice_index word.now 0) ≡ true }
     requires room { length names.old < 2 ^ 32 - 1 }
-    ensures operand { IfOk result (λ operand. operand ≡ (if is_variable word.now then Some (NameOf (text_number names.old word.now)) else None)) }
-    ensures texts { OnOk result (is_variable word.now ≡ true → names.new ≡ with_text names.old word.now) }
+    ensures operand { IfOk result (λ operand. operand
+        ≡ (if is_variable word.now then Some (NameOf (text_number names.old word.now)) else None)) }
+    ensures texts { OnOk result (is_variable word.now ≡ true → names.new
+        ≡ with_text names.old word.now) }
 {
     if !is_free_name(word) {
         return Ok(None);
@@ -100,8 +106,11 @@ fn read_whole(word: &[u8]) -> Option<Operand>
 /// What a word stands for if it is a value; its text is added to the names.
 fn read_value(word: &[u8], names: &mut Lexicon) -> Result<Option<Operand>, AllocError>
     requires room { length names.old < 2 ^ 32 - 1 }
-    ensures operand { IfOk result (λ operand. operand ≡ (if is_value word.now then Some (operand_or (named_in atoms word.now) names.old word.now) else None)) }
-    ensures texts { OnOk result (is_value word.now ≡ true → names.new ≡ with_text_if names.old (value_text (named_in atoms word.now) word.now)) }
+    ensures operand { IfOk result (λ operand. operand
+        ≡ (if is_value word.now then Some (operand_or (named_in atoms word.now) names.old word.now)
+        else None)) }
+    ensures texts { OnOk result (is_value word.now ≡ true → names.new ≡ with_text_if names.old
+        (value_text (named_in atoms word.now) word.now)) }
 {
     if let Some(number) = names.remembered(word) {
         return Ok(Some(Operand::Name(number)));
@@ -121,7 +130,9 @@ fn read_value(word: &[u8], names: &mut Lexicon) -> Result<Option<Operand>, Alloc
 /// The number of a procedure or class, if the word may name one.
 #[inline(always)]
 fn read_defined(names: &Names, word: &[u8]) -> Option<Part>
-    ensures { result ≡ (if is_identifier word.now then Some (numbered (defined_number names.now word.now)) else None) }
+    ensures { result
+        ≡ (if is_identifier word.now then Some (numbered (defined_number names.now word.now)) else
+        None) }
 {
     if !is_identifier_word(word) {
         return None;
@@ -168,7 +179,9 @@ fn finalizer_in(procs: &Names, word: &[u8]) -> Part
 
 /// What a word stands for if it is `del=P` or `legacy=P`.
 fn read_finalizer(procs: &Names, word: &[u8]) -> Option<Part>
-    ensures { result ≡ (if fits Sort.Finalizer word.now then Some (finalizer_of procs.now (after_prefix (codes "del=") word.now) word.now) else None) }
+    ensures { result
+        ≡ (if fits Sort.Finalizer word.now then Some
+        (finalizer_of procs.now (after_prefix (codes "del=") word.now) word.now) else None) }
 {
     if !names_finalizer_word(word) && !names_legacy_word(word) {
         return None;
@@ -180,8 +193,10 @@ fn read_finalizer(procs: &Names, word: &[u8]) -> Option<Part>
 #[inline(always)]
 fn read_variable(word: &[u8], names: &mut Lexicon) -> Result<Option<Part>, AllocError>
     requires room { length names.old < 2 ^ 32 - 1 }
-    ensures part { IfOk result (λ part. part ≡ (if is_variable word.now then Some (Text (text_number names.old word.now)) else None)) }
-    ensures texts { OnOk result (is_variable word.now ≡ true → names.new ≡ with_text names.old word.now) }
+    ensures part { IfOk result (λ part. part
+        ≡ (if is_variable word.now then Some (Text (text_number names.old word.now)) else None)) }
+    ensures texts { OnOk result (is_variable word.now ≡ true → names.new
+        ≡ with_text names.old word.now) }
 {
     if let Some(number) = names.remembered(word) {
         return Ok(Some(Part::Text(number)));
@@ -192,12 +207,14 @@ fn read_variable(word: &[u8], names: &mut Lexicon) -> Result<Option<Part>, Alloc
     Ok(Some(Part::Text(names.learn(word)?)))
 }
 
-/// What a word stands for if it may name an attribute, a procedure or a class; its text is added to the
-/// names.
+/// What a word stands for if it may name an attribute, a procedure or a class; its text is added to
+/// the names.
 fn read_identifier(word: &[u8], names: &mut Lexicon) -> Result<Option<Part>, AllocError>
     requires room { length names.old < 2 ^ 32 - 1 }
-    ensures part { IfOk result (λ part. part ≡ (if is_identifier word.now then Some (Text (text_number names.old word.now)) else None)) }
-    ensures texts { OnOk result (is_identifier word.now ≡ true → names.new ≡ with_text names.old word.now) }
+    ensures part { IfOk result (λ part. part
+        ≡ (if is_identifier word.now then Some (Text (text_number names.old word.now)) else None)) }
+    ensures texts { OnOk result (is_identifier word.now ≡ true → names.new
+        ≡ with_text names.old word.now) }
 {
     if let Some(number) = names.remembered(word) {
         return Ok(Some(Part::Text(number)));
@@ -226,8 +243,11 @@ fn read_count(fits: bool, word: &[u8]) -> Option<Part>
 /// What a word stands for if it is a value.
 fn read_value_part(word: &[u8], names: &mut Lexicon) -> Result<Option<Part>, AllocError>
     requires room { length names.old < 2 ^ 32 - 1 }
-    ensures part { IfOk result (λ part. part ≡ (if is_value word.now then Some (ValueOf (operand_or (named_in atoms word.now) names.old word.now)) else None)) }
-    ensures texts { OnOk result (is_value word.now ≡ true → names.new ≡ with_text_if names.old (value_text (named_in atoms word.now) word.now)) }
+    ensures part { IfOk result (λ part. part
+        ≡ (if is_value word.now then Some (ValueOf (operand_or (named_in atoms word.now) names.old
+        word.now)) else None)) }
+    ensures texts { OnOk result (is_value word.now ≡ true → names.new ≡ with_text_if names.old
+        (value_text (named_in atoms word.now) word.now)) }
 {
     match read_value(word, names)? {
         Some(operand) => Ok(Some(Part::Value(operand))),
@@ -245,7 +265,8 @@ fn read_number(word: &[u8]) -> Option<Part>
 }
 
 fn read_flag(word: &[u8]) -> Option<Part>
-    ensures { result ≡ (if is_some (named_in flags word.now) then Some (CountOf (unwrap_or (named_in flags word.now) 0)) else None) }
+    ensures { result ≡ (if is_some (named_in flags word.now) then Some
+        (CountOf (unwrap_or (named_in flags word.now) 0)) else None) }
 {
     match flag(word) {
         Some(bits) => Some(Part::Count(bits)),
@@ -253,7 +274,8 @@ fn read_flag(word: &[u8]) -> Option<Part>
     }
 }
 
-/// What a word stands for at its place, if it has the form required there; its text is added to the names.
+/// What a word stands for at its place, if it has the form required there; its text is added to the
+/// names.
 fn read_part(
     sort: Sort,
     word: &[u8],
@@ -262,8 +284,11 @@ fn read_part(
     classes: &Names,
 ) -> Result<Option<Part>, AllocError>
     requires room { length names.old < 2 ^ 32 - 1 }
-    ensures part { IfOk result (λ part. part ≡ (if fits sort word.now then Some (part_of procs.now classes.now names.old sort word.now) else None)) }
-    ensures texts { OnOk result (fits sort word.now ≡ true → names.new ≡ with_text_if names.old (text_in sort word.now)) }
+    ensures part { IfOk result (λ part. part
+        ≡ (if fits sort word.now then Some (part_of procs.now classes.now names.old sort word.now)
+        else None)) }
+    ensures texts { OnOk result (fits sort word.now ≡ true → names.new ≡ with_text_if names.old
+        (text_in sort word.now)) }
 {
     match sort {
         Sort::Key => Ok(Some(Part::Bare)),
@@ -296,7 +321,8 @@ fn has_two_alike(form: Form, words: &[&[u8]]) -> bool
 /// A word has the wrong form for its place.
 const WORD_FORM: u8 = 4;
 
-/// Reads the parts of a line of this form into an empty list, or answers the code of what is wrong with its words in themselves.
+/// Reads the parts of a line of this form into an empty list, or answers the code of what is wrong
+/// with its words in themselves.
 pub(crate) fn read_parts(
     parts: &mut Parts,
     form: Form,
@@ -308,8 +334,10 @@ pub(crate) fn read_parts(
     requires empty { parts.old.items ≡ [] }
     requires room { length names.old + MOST_WORDS < 2 ^ 32 - 1 }
     ensures fault { IfOk result (λ code. code ≡ code_of (formed form (map (λ w. w.now) words.now))) }
-    ensures parts { result ≡ Ok None → parts.new.items ≡ parts_from procs.now classes.now names.old form 0 (map (λ w. w.now) words.now) }
-    ensures texts { result ≡ Ok None → names.new ≡ texts_from names.old form 0 (map (λ w. w.now) words.now) }
+    ensures parts { result ≡ Ok None → parts.new.items ≡ parts_from procs.now classes.now names.old
+        form 0 (map (λ w. w.now) words.now) }
+    ensures texts { result ≡ Ok None → names.new ≡ texts_from names.old form 0
+        (map (λ w. w.now) words.now) }
     ensures few_texts { result ≡ Ok None → length names.new ≤ length names.old + MOST_WORDS }
 {
     let row = row_for(form);
@@ -347,8 +375,8 @@ fn has_unknown_part(parts: &[Part]) -> bool
     parts.iter().any(|part| matches!(part, Part::Unknown))
 }
 
-/// Whether it names a procedure or class that no earlier line defines. Most lines have forms that cannot: their parts are not
-/// checked.
+/// Whether it names a procedure or class that no earlier line defines. Most lines have forms that
+/// cannot: their parts are not checked.
 pub(crate) fn names_unknown(form: Form, parts: &[Part]) -> bool
     ensures { result ≡ (names_defined form && has_unknown parts.now) }
 {

@@ -52,7 +52,8 @@ fn push_word<'a>(words: &mut Words<'a>, piece: &'a [u8])
     }
 }
 
-/// The first position of a byte that is not printable; a line feed is not. Puts the words before it into an empty list.
+/// The first position of a byte that is not printable; a line feed is not. Puts the words before it
+/// into an empty list.
 fn find_words<'a>(bytes: &'a [u8], words: &mut Words<'a>) -> Option<usize>
     requires empty { words.old.items ≡ [] }
     requires room { MOST_FOUND ≤ vec_capacity words.old }
@@ -80,8 +81,8 @@ fn find_words<'a>(bytes: &'a [u8], words: &mut Words<'a>) -> Option<usize>
     None
 }
 
-/// The first line, what follows its line feed, and whether all bytes of the line are printable. If so, puts its words into an
-/// empty list.
+/// The first line, what follows its line feed, and whether all bytes of the line are printable. If
+/// so, puts its words into an empty list.
 pub(crate) fn cut_line<'a>(bytes: &'a [u8], words: &mut Words<'a>) -> (&'a [u8], &'a [u8], bool)
     requires some { 0 < length bytes.now }
     requires empty { words.old.items ≡ [] }
@@ -90,7 +91,8 @@ pub(crate) fn cut_line<'a>(bytes: &'a [u8], words: &mut Words<'a>) -> (&'a [u8],
     ensures lines { lines_of bytes.now ≡ result.0.now ∷ lines_of result.1.now }
     ensures shorter { length result.1.now < length bytes.now }
     ensures printable { result.2 ≡ list_all is_printable result.0.now }
-    ensures words { result.2 ≡ true → map (λ w. w.now) words.new.items ≡ take MOST_FOUND (words_of result.0.now) }
+    ensures words { result.2 ≡ true → map (λ w. w.now) words.new.items
+        ≡ take MOST_FOUND (words_of result.0.now) }
 {
     match find_words(bytes, words) {
         Some(i) => {

@@ -21,7 +21,8 @@ use cg_value::Names;
 use itoa::Buffer;
 use std::alloc::{AllocError, Global};
 
-/// What the numbers in a script stand for: its texts, and its lines, which have the procedures and classes.
+/// What the numbers in a script stand for: its texts, and its lines, which have the procedures and
+/// classes.
 #[derive(Drop)]
 pub(crate) struct Named<'a> {
     pub names: &'a Names,
@@ -108,7 +109,8 @@ fn write_counted(
     sort: Sort,
     count: u32,
 ) -> Result<(), AllocError>
-    ensures { OnOk result (out.new.items ≡ out.old.items ++ count_word (names_by naming.now) sort count) }
+    ensures { OnOk result (out.new.items ≡ out.old.items ++ count_word (names_by naming.now) sort
+        count) }
 {
     match sort {
         Sort::Class => out.extend_from_slice(class_name(naming, count)),
@@ -126,7 +128,8 @@ fn write_part(
     sort: Sort,
     part: Part,
 ) -> Result<(), AllocError>
-    ensures { OnOk result (out.new.items ≡ out.old.items ++ part_word (names_by naming.now) key.now sort part) }
+    ensures { OnOk result (out.new.items ≡ out.old.items ++ part_word (names_by naming.now) key.now
+        sort part) }
 {
     let names = naming.names;
     match part {
@@ -156,7 +159,8 @@ fn write_place(
     place: usize,
     part: Part,
 ) -> Result<(), AllocError>
-    ensures { OnOk result (out.new.items ≡ out.old.items ++ part_word (names_by naming.now) (key_word form place) (sort_at form place) part) }
+    ensures { OnOk result (out.new.items ≡ out.old.items ++ part_word (names_by naming.now)
+        (key_word form place) (sort_at form place) part) }
 {
     let sort = sort_in(row_for(form).places, place);
     write_part(out, naming, key_at(form, place), sort, part)
@@ -171,7 +175,8 @@ fn write_places(
     parts: &[Part],
 ) -> Result<(), AllocError>
     requires { place + length parts.now < 2 ^ 64 }
-    ensures { OnOk result (out.new.items ≡ out.old.items ++ flat_map behind_space (words_from (names_by naming.now) form place parts.now)) }
+    ensures { OnOk result (out.new.items ≡ out.old.items ++ flat_map behind_space
+        (words_from (names_by naming.now) form place parts.now)) }
 {
     'parts: for at in 0..parts.len() {
         out.push(b' ')?;
@@ -182,7 +187,8 @@ fn write_places(
 
 /// Writes values, a space before each.
 fn write_values(out: &mut Vec<u8>, names: &Names, values: &[Operand]) -> Result<(), AllocError>
-    ensures { OnOk result (out.new.items ≡ out.old.items ++ flat_map (λ value. behind_space (value_word names.now value)) values.now) }
+    ensures { OnOk result (out.new.items ≡ out.old.items
+        ++ flat_map (λ value. behind_space (value_word names.now value)) values.now) }
 {
     'values: for value in values {
         out.push(b' ')?;
@@ -191,7 +197,8 @@ fn write_values(out: &mut Vec<u8>, names: &Names, values: &[Operand]) -> Result<
     Ok(())
 }
 
-/// Writes a line of a form: the word of its first part, those of other parts, and values behind them.
+/// Writes a line of a form: the word of its first part, those of other parts, and values behind
+/// them.
 fn write_line(
     out: &mut Vec<u8>,
     naming: &Named<'_>,
@@ -203,7 +210,8 @@ fn write_line(
 ) -> Result<(), AllocError>
     requires { length keys.now + length parts.now ≤ 8 }
     ensures { OnOk result (out.new.items ≡ out.old.items
-        ++ line_of_words (filled_words (names_by naming.now) (filled form (first ∷ (keys.now ++ (parts.now ++ map ValueOf values.now)))))) }
+        ++ line_of_words (filled_words (names_by naming.now)
+        (filled form (first ∷ (keys.now ++ (parts.now ++ map ValueOf values.now)))))) }
 {
     write_place(out, naming, form, 0, first)?;
     write_places(out, naming, form, 1, keys)?;
@@ -221,7 +229,8 @@ fn opening(
     parts: &[Part],
 ) -> Result<(), AllocError>
     requires { length parts.now ≤ 8 }
-    ensures { OnOk result (out.new.items ≡ out.old.items ++ line_of_words (filled_words (names_by naming.now) (opening_of form parts.now))) }
+    ensures { OnOk result (out.new.items ≡ out.old.items
+        ++ line_of_words (filled_words (names_by naming.now) (opening_of form parts.now))) }
 {
     write_line(out, naming, form, Part::Bare, &[], parts, &[])
 }
@@ -235,7 +244,8 @@ fn binding(
     parts: &[Part],
 ) -> Result<(), AllocError>
     requires { length parts.now ≤ 6 }
-    ensures { OnOk result (out.new.items ≡ out.old.items ++ line_of_words (filled_words (names_by naming.now) (binding_of form name parts.now))) }
+    ensures { OnOk result (out.new.items ≡ out.old.items
+        ++ line_of_words (filled_words (names_by naming.now) (binding_of form name parts.now))) }
 {
     listing(out, naming, form, name, parts, &[])
 }
@@ -251,7 +261,8 @@ fn listing(
 ) -> Result<(), AllocError>
     requires { length parts.now ≤ 6 }
     ensures { OnOk result (out.new.items ≡ out.old.items
-        ++ line_of_words (filled_words (names_by naming.now) (binding_of form name (parts.now ++ map ValueOf values.now)))) }
+        ++ line_of_words (filled_words (names_by naming.now) (binding_of form name (parts.now
+        ++ map ValueOf values.now)))) }
 {
     let first = Part::Text(name);
     write_line(
@@ -267,7 +278,8 @@ fn listing(
 
 /// Writes the line of a command.
 fn write_command(out: &mut Vec<u8>, naming: &Named<'_>, command: &Command) -> Result<(), AllocError>
-    ensures { OnOk result (out.new.items ≡ out.old.items ++ line_of_words (command_words (names_by naming.now) command.now)) }
+    ensures { OnOk result (out.new.items ≡ out.old.items
+        ++ line_of_words (command_words (names_by naming.now) command.now)) }
 {
     use Part::{Bare, Count, Number, Text, Value};
     match command {
@@ -394,7 +406,8 @@ fn write_reference(
     callback: Operand,
 ) -> Result<(), AllocError>
     ensures { OnOk result (out.new.items ≡ out.old.items
-        ++ line_of_words (command_words (names_by naming.now) (Command.MakeRef name target callback))) }
+        ++ line_of_words (command_words (names_by naming.now) (Command.MakeRef name target
+        callback))) }
 {
     use Part::Value;
     match callback {
@@ -417,7 +430,8 @@ fn write_threshold(
     third: Option<u32>,
 ) -> Result<(), AllocError>
     ensures { OnOk result (out.new.items ≡ out.old.items
-        ++ line_of_words (command_words (names_by naming.now) (Command.Threshold first second third))) }
+        ++ line_of_words (command_words (names_by naming.now) (Command.Threshold first second
+        third))) }
 {
     use Part::Count;
     let form = Form::Threshold;
@@ -449,7 +463,8 @@ fn push_flag(parts: &mut ArrayVec<Part, 4>, bits: u32, bit: u32)
 
 /// The debug flags whose bits are set.
 fn flag_parts(bits: u32) -> ArrayVec<Part, 4>
-    ensures { result.items ≡ flag_filling bits 1 ++ flag_filling bits 2 ++ flag_filling bits 4 ++ flag_filling bits 32 }
+    ensures { result.items ≡ flag_filling bits 1 ++ flag_filling bits 2 ++ flag_filling bits 4
+        ++ flag_filling bits 32 }
 {
     let mut parts = ArrayVec::new();
     push_flag(&mut parts, bits, 1);
@@ -460,7 +475,8 @@ fn flag_parts(bits: u32) -> ArrayVec<Part, 4>
 }
 
 fn write_class(out: &mut Vec<u8>, naming: &Named<'_>, class: &ClassDef) -> Result<(), AllocError>
-    ensures { OnOk result (out.new.items ≡ out.old.items ++ line_of_words (said_words (names_by naming.now) (Declares (ClassItem class.now)))) }
+    ensures { OnOk result (out.new.items ≡ out.old.items
+        ++ line_of_words (said_words (names_by naming.now) (Declares (ClassItem class.now)))) }
 {
     use Part::{Finalizer, Legacy, Text};
     let form = Form::Class;
@@ -477,7 +493,9 @@ fn write_class(out: &mut Vec<u8>, naming: &Named<'_>, class: &ClassDef) -> Resul
 
 /// Writes the lines of a procedure's commands.
 fn write_body(out: &mut Vec<u8>, naming: &Named<'_>, body: &[Command]) -> Result<(), AllocError>
-    ensures { OnOk result (out.new.items ≡ out.old.items ++ flat_map (λ command. line_of_words (command_words (names_by naming.now) command)) body.now) }
+    ensures { OnOk result (out.new.items ≡ out.old.items
+        ++ flat_map (λ command. line_of_words (command_words (names_by naming.now) command))
+        body.now) }
 {
     'commands: for command in body {
         write_command(out, naming, command)?;
@@ -493,7 +511,9 @@ fn write_proc(
     body: &[Command],
 ) -> Result<(), AllocError>
     ensures { OnOk result (out.new.items ≡ out.old.items
-        ++ flat_map line_of_words (said_words (names_by naming.now) (Begins name) ∷ (map (command_words (names_by naming.now)) body.now ++ said_words (names_by naming.now) Ends ∷ []))) }
+        ++ flat_map line_of_words (said_words (names_by naming.now) (Begins name)
+        ∷ (map (command_words (names_by naming.now)) body.now
+        ++ said_words (names_by naming.now) Ends ∷ []))) }
 {
     opening(out, naming, Form::Def, &[Part::Text(name)])?;
     write_body(out, naming, body)?;
@@ -503,7 +523,8 @@ fn write_proc(
 
 /// Writes the lines of an item.
 fn write_item(out: &mut Vec<u8>, naming: &Named<'_>, item: &Item) -> Result<(), AllocError>
-    ensures { OnOk result (out.new.items ≡ out.old.items ++ flat_map line_of_words (item_lines (names_by naming.now) item.now)) }
+    ensures { OnOk result (out.new.items ≡ out.old.items ++ flat_map line_of_words
+        (item_lines (names_by naming.now) item.now)) }
 {
     use Part::Count;
     match item {
@@ -520,7 +541,9 @@ fn write_item(out: &mut Vec<u8>, naming: &Named<'_>, item: &Item) -> Result<(), 
 
 /// Writes the lines of all items.
 fn write_items(out: &mut Vec<u8>, naming: &Named<'_>, items: &[Item]) -> Result<(), AllocError>
-    ensures { OnOk result (out.new.items ≡ out.old.items ++ flat_map (λ item. flat_map line_of_words (item_lines (names_by naming.now) item)) items.now) }
+    ensures { OnOk result (out.new.items ≡ out.old.items
+        ++ flat_map (λ item. flat_map line_of_words (item_lines (names_by naming.now) item))
+        items.now) }
 {
     'items: for item in items {
         write_item(out, naming, item)?;
@@ -528,12 +551,14 @@ fn write_items(out: &mut Vec<u8>, naming: &Named<'_>, items: &[Item]) -> Result<
     Ok(())
 }
 
-/// The canonical bytes of a script: its lines in order, each with a line feed, the words separated by one space.
+/// The canonical bytes of a script: its lines in order, each with a line feed, the words separated
+/// by one space.
 ///
-/// Numbers have no leading zeros, a callback none is left out, `del=` comes before `legacy=`, `collect` has its
-/// generation, and the flags of `debug` are in the order stats, collectable, uncollectable, saveall. The number of a text,
-/// procedure or class that the script lacks is printed as no bytes; a parsed script has no such number. Answers
-/// `AllocError` only if memory runs out.
+/// Numbers have no leading zeros, a callback none is left out, `del=` comes before `legacy=`,
+/// `collect` has its generation, and the flags of `debug` are in the order stats, collectable,
+/// uncollectable, saveall. The number of a text, procedure or class that the script lacks is
+/// printed as no bytes; a parsed script has no such number. Answers `AllocError` only if memory
+/// runs out.
 pub fn print(alloc: Global, script: &Script) -> Result<Vec<u8>, AllocError>
     ensures { IfOk result (λ bytes. bytes.items ≡ canonical script.now.names script.now.items) }
 {

@@ -21,7 +21,8 @@ use std::alloc::Global;
 /// A procedure without its `end`.
 const NO_END: u8 = 7;
 
-/// Takes the line with this number by its words; its bytes are all printable or not. All lines share one list for their parts.
+/// Takes the line with this number by its words; its bytes are all printable or not. All lines
+/// share one list for their parts.
 fn take_line(
     draft: &mut Draft,
     number: u32,
@@ -31,11 +32,14 @@ fn take_line(
     parts: &mut Parts,
 ) -> Result<(), ScriptFault>
     requires printable { printable ≡ list_all is_printable line.now }
-    requires words { printable ≡ true → map (λ w. w.now) words.now ≡ take MOST_FOUND (words_of line.now) }
+    requires words { printable ≡ true → map (λ w. w.now) words.now
+        ≡ take MOST_FOUND (words_of line.now) }
     requires small { IsSmall draft.old number }
-    ensures ok { OnOk result ((lines : List (List ℕ)) → reading_after draft.new (number + 1) lines ≡ reading_after draft.old number (line.now ∷ lines)) }
+    ensures ok { OnOk result ((lines : List (List ℕ)) → reading_after draft.new (number + 1) lines
+        ≡ reading_after draft.old number (line.now ∷ lines)) }
     ensures small { OnOk result (IsSmall draft.new (number + 1)) }
-    ensures fault { IfErr result (λ fault. (lines : List (List ℕ)) → IsFault fault (reading_after draft.old number (line.now ∷ lines))) }
+    ensures fault { IfErr result (λ fault. (lines : List (List ℕ))
+        → IsFault fault (reading_after draft.old number (line.now ∷ lines))) }
 {
     parts.clear();
     match read_line(number, line, printable, words) {
@@ -52,7 +56,8 @@ fn take_line(
 /// Takes all lines, and answers the number of the line after them.
 fn take_lines(draft: &mut Draft, bytes: &[u8]) -> Result<u32, ScriptFault>
     requires { IsSmall draft.old 1 }
-    ensures ok { IfOk result (λ number. reading_after draft.new number [] ≡ reading_after draft.old 1 (lines_of bytes.now)) }
+    ensures ok { IfOk result (λ number. reading_after draft.new number [] ≡ reading_after draft.old
+        1 (lines_of bytes.now)) }
     ensures small { IfOk result (λ number. IsSmall draft.new number) }
     ensures fault { IfErr result (λ fault. IsFault fault (reading_after draft.old 1 (lines_of bytes.now))) }
 {
@@ -80,7 +85,8 @@ fn take_lines(draft: &mut Draft, bytes: &[u8]) -> Result<u32, ScriptFault>
 /// The script, unless a procedure is still open.
 fn finish(draft: Draft, number: u32) -> Result<Script, ScriptFault>
     requires { IsSmall draft number }
-    ensures ok { IfOk result (λ script. reading_after draft number [] ≡ spells script.names script.items) }
+    ensures ok { IfOk result (λ script. reading_after draft number []
+        ≡ spells script.names script.items) }
     ensures fault { IfErr result (λ fault. IsFault fault (reading_after draft number [])) }
     ensures few_texts { IfOk result (λ script. length script.names ≤ MOST_TEXTS) }
     ensures few_items { IfOk result (λ script. length script.items ≤ MOST_LINES) }
@@ -99,11 +105,12 @@ fn finish(draft: Draft, number: u32) -> Result<Script, ScriptFault>
 
 /// The script that the bytes spell. Lines end with line feeds, and count from 1.
 ///
-/// `Bad` has the first bad line and its code: 1 if the line has a byte that is not printable ASCII, 5 if it is longer than 1,024
-/// bytes, has more than 64 words or the number 400,001, 2 if its form is unknown, 3 if it has the wrong number of words, 4 if a
-/// word has the wrong form for its place, 7 if a declaration is in the wrong place, a profile follows another line, or a
-/// procedure is open at the end, 8 if a procedure, a class, the budget or the shutdown exists already, 6 if no earlier line
-/// defines a procedure or class. `OutOfMemory` may come for any bytes. (Ours.)
+/// `Bad` has the first bad line and its code: 1 if the line has a byte that is not printable ASCII,
+/// 5 if it is longer than 1,024 bytes, has more than 64 words or the number 400,001, 2 if its form
+/// is unknown, 3 if it has the wrong number of words, 4 if a word has the wrong form for its place,
+/// 7 if a declaration is in the wrong place, a profile follows another line, or a procedure is open
+/// at the end, 8 if a procedure, a class, the budget or the shutdown exists already, 6 if no
+/// earlier line defines a procedure or class. `OutOfMemory` may come for any bytes. (Ours.)
 pub fn parse(alloc: Global, bytes: &[u8]) -> Result<Script, ScriptFault>
     // The script is exactly what the bytes spell, and the fault is that of their first bad line.
     ensures ok { IfOk result (λ script. reading bytes.now ≡ spells script.names script.items) }

@@ -267,8 +267,10 @@ pub(crate) fn said_of(alloc: Global, form: Form, parts: &[Part]) -> Result<Said,
 /// A class with its finalizers.
 fn class_of(parts: &[Part]) -> ClassDef
     ensures name { result.name ≡ text_in parts.now 1 }
-    ensures del { result.del ≡ option_or (del_if (part_at parts.now 2)) (del_if (part_at parts.now 3)) }
-    ensures legacy { result.legacy ≡ option_or (legacy_if (part_at parts.now 2)) (legacy_if (part_at parts.now 3)) }
+    ensures del { result.del ≡ option_or (del_if (part_at parts.now 2))
+        (del_if (part_at parts.now 3)) }
+    ensures legacy { result.legacy ≡ option_or (legacy_if (part_at parts.now 2))
+        (legacy_if (part_at parts.now 3)) }
 {
     ClassDef {
         name: text_at(parts, 1),

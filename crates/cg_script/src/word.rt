@@ -62,7 +62,8 @@ fn reserves(form: Option<Form>) -> bool
 /// Whether a word is the reserved one of a form.
 #[tactic(auto, using(crate::proofs::Found::reserved_by_word))]
 fn is_reserved_for_form(word: &[u8]) -> bool
-    ensures { result ≡ (reserves (named_in openers word.now) || reserves (named_in bindings word.now)) }
+    ensures { result ≡ (reserves (named_in openers word.now)
+        || reserves (named_in bindings word.now)) }
 {
     reserves(form_named(word))
 }
@@ -74,8 +75,8 @@ fn is_reserved_word(word: &[u8]) -> bool
     atom(word).is_some() || is_reserved_for_form(word)
 }
 
-/// Whether a word may name a variable: 1 to 32 letters, digits and `_`, not beginning with a digit, and not reserved.
-/// (Ours.)
+/// Whether a word may name a variable: 1 to 32 letters, digits and `_`, not beginning with a digit,
+/// and not reserved. (Ours.)
 #[inline(always)]
 pub fn is_variable(word: &[u8]) -> bool
     ensures { result ≡ is_variable word.now }
@@ -179,7 +180,8 @@ fn has_minus_sign(word: &[u8]) -> bool
 
 /// The number that 1 to 19 digits write, unless it exceeds this.
 fn digits_up_to(word: &[u8], most: u64) -> Option<u64>
-    ensures { result ≡ (if are_digits 19 word.now && nat_le (decimal_value word.now) most then Some (decimal_value word.now) else None) }
+    ensures { result ≡ (if are_digits 19 word.now && nat_le (decimal_value word.now) most then Some
+        (decimal_value word.now) else None) }
 {
     if !are_digits_word(word, MOST_DIGITS) {
         return None;
@@ -272,7 +274,8 @@ fn atoms_like(byte: u8, count: usize) -> &'static [(&'static [u8], Operand)]
     }
 }
 
-/// The value of a keyword, for a nonempty word. Compares the word only with those of the same first byte and length.
+/// The value of a keyword, for a nonempty word. Compares the word only with those of the same first
+/// byte and length.
 #[inline(always)]
 fn atom_among_like(word: &[u8]) -> Option<Operand>
     requires { 1 ≤ length word.now }
@@ -299,8 +302,8 @@ pub(crate) fn atom(word: &[u8]) -> Option<Operand>
     atom_among_like(word)
 }
 
-/// Whether a word stands for a value: `none`, `self`, `ref`, `garbage`, `c0` to `c7`, a string, a variable, or a whole number of
-/// 64 bits. A string contains no space. (Ours.)
+/// Whether a word stands for a value: `none`, `self`, `ref`, `garbage`, `c0` to `c7`, a string, a
+/// variable, or a whole number of 64 bits. A string contains no space. (Ours.)
 pub fn is_value(word: &[u8]) -> bool
     ensures { result ≡ is_value word.now }
 {

@@ -12,7 +12,7 @@ use Rattle.cg_graph.proofs.Members.{either, Includes-append_cases, Includes-appe
 use Rattle.cg_trial.specs.View.{View}
 use Rattle.cg_trial.specs.Sift.{Woken, IsLastZero, zeros}
 use Rattle.cg_trial.proofs.Entries.{next_same, rest_of}
-use Rattle.cg_trial.proofs.Waking.{woken_more, woken_none, woken_over}
+use Rattle.cg_trial.proofs.TakingBack.{woken_more, woken_none, woken_over}
 
 -- those from a place on, where there is one
 pub drop_here : (xs : List ℕ) (end : ℕ) → 0 < end → end ≤ length xs → drop (end - 1) xs ≡ get_or xs (end - 1) 0 ∷ drop end xs
@@ -130,8 +130,10 @@ waking_back-more o old mid new blocks before steps later so looks more = record 
   within = omega (arith, so.within, next_place);
   woken = woken_as (behind ++ block) (references (drop from es)) old new
       (woken_more behind block old mid new (subst (λ i. Woken (references (drop i es)) old mid) next_place so.woken) (subst (λ (l : List Entry). Woken (references l) mid new) same more))
-      (λ p h. subst (λ (l : List ℕ). Includes l p) (sym parts) (either (Includes-append_cases behind block p h) (λ i. Includes-append_right block behind p i) (λ i. Includes-append_left block behind p i)))
-      (λ p h. inl (either (Includes-append_cases block behind p (subst (λ (l : List ℕ). Includes l p) parts h)) (λ i. Includes-append_right behind block p i) (λ i. Includes-append_left behind block p i)));
+      (λ p h. subst (λ (l : List ℕ). Includes l p) (sym parts) (either (Includes-append_cases behind block p h) (λ i. Includes-append_right block behind p i)
+      (λ i. Includes-append_left block behind p i)))
+      (λ p h. inl (either (Includes-append_cases block behind p (subst (λ (l : List ℕ). Includes l p) parts h)) (λ i. Includes-append_right behind block p i)
+      (λ i. Includes-append_left behind block p i)));
   looks =
       let e : length (next_entries (mid.entries o) from) ≡ length (next_entries es from) = ap (λ (l : List Entry). length l) same in
       omega (arith, so.looks, so.within, looks, next_place, e, length-take AT_ONCE (drop from es), length-drop from es);

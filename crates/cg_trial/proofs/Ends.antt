@@ -17,8 +17,8 @@ use Rattle.cg_trial.specs.Sift.{IsSieved}
 use Rattle.cg_trial.specs.Split.{IsSplitPlace, kept_place, entry_number_at, IsSameNode, IsSameButPlaces}
 use Rattle.cg_trial.proofs.Lists.{occurs}
 use Rattle.cg_trial.proofs.Passes.{same_more}
-use Rattle.cg_trial.proofs.Placed.{once_at}
-use Rattle.cg_trial.proofs.Sifts.{in_lists, from_first}
+use Rattle.cg_trial.proofs.PlacesOfObjects.{once_at}
+use Rattle.cg_trial.proofs.WalkInvariant.{in_lists, from_first}
 use Rattle.cg_trial.proofs.Splits.{reached_same, same_back, entries_same}
 use Rattle.cg_trial.proofs.Objects.{members, paths, entries_there}
 
@@ -44,7 +44,8 @@ module _ (place kept : Place) (old mid new : Store) (listed : IsListed old) (is 
   counts o = sieved.sums (λ x. cond (x == o) 1 0) ∙ ap (occurrences o) candidates
 
   path_then : (o : ℕ) → Includes (list_at new kept) o → IsReachable old place o
-  path_then o h = (paths old listed place is o).0 (reached_same (view_of old) (view_of mid) (list_at old place) o same (subst (λ (xs : List ℕ). Reached (view_of mid) xs o) candidates (sieved.reached o h)))
+  path_then o h = (paths old listed place is o).0 (reached_same (view_of old) (view_of mid) (list_at old place) o same
+      (subst (λ (xs : List ℕ). Reached (view_of mid) xs o) candidates (sieved.reached o h)))
 
   kept_then : (o : ℕ) → IsReachable old place o → Includes (list_at new kept) o
   kept_then o r =

@@ -75,7 +75,8 @@ run_more xs from end o so behind within same =
     ∙ ap (λ (l : List ℕ). take from xs ++ l) (replicate_more (end - from) o)
     ∙ ap (λ n. take from xs ++ replicate n o) more
 
-pub run_room : (old mid : View) (xs : List ℕ) (from end o : ℕ) → take end xs ≡ take from xs ++ replicate (end - from) o → Lowered (take from xs) old mid → ((p : ℕ) → Includes (old.listed Cand) p → occurrences p xs ≤ old.number p)
+pub run_room : (old mid : View) (xs : List ℕ) (from end o : ℕ) → take end xs ≡ take from xs ++ replicate (end - from) o → Lowered (take from xs) old mid
+    → ((p : ℕ) → Includes (old.listed Cand) p → occurrences p xs ≤ old.number p)
     → Includes (mid.listed Cand) o → end - from ≤ mid.number o
 run_room old mid xs from end o run so room here =
     let parts : xs ≡ take from xs ++ (replicate (end - from) o ++ drop end xs) =
@@ -89,12 +90,14 @@ one_room old mid xs from within so room here =
     let o = get_or xs from 0 in
     omega (arith, occurs_often 1 o, room_next old mid (take from xs) (o ∷ []) (drop (from + 1) xs) xs so room (taken_parts xs from within) o here)
 
-pub lowered_run : (old mid new : View) (xs : List ℕ) (from end next times o : ℕ) → take end xs ≡ take from xs ++ replicate (end - from) o → next ≡ end → times ≡ end - from → Lowered (take from xs) old mid → Lowered (replicate times o) mid new
+pub lowered_run : (old mid new : View) (xs : List ℕ) (from end next times o : ℕ) → take end xs ≡ take from xs ++ replicate (end - from) o → next ≡ end → times
+    ≡ end - from → Lowered (take from xs) old mid → Lowered (replicate times o) mid new
     → Lowered (take next xs) old new
 lowered_run old mid new xs from end next times o run is often so more =
     subst (λ (r : List ℕ). Lowered r old new) (sym (ap (λ n. take n xs) is ∙ run ∙ ap (λ n. take from xs ++ replicate n o) (sym often))) (lowered_more old mid new (take from xs) _ so more)
 
-pub lowered_next : (old mid new : View) (xs : List ℕ) (from next : ℕ) → from < length xs → next ≡ from + 1 → Lowered (take from xs) old mid → Lowered (get_or xs from 0 ∷ []) mid new → Lowered (take next xs) old new
+pub lowered_next : (old mid new : View) (xs : List ℕ) (from next : ℕ) → from < length xs → next ≡ from + 1 → Lowered (take from xs) old mid
+    → Lowered (get_or xs from 0 ∷ []) mid new → Lowered (take next xs) old new
 lowered_next old mid new xs from next within is so more =
     subst (λ (r : List ℕ). Lowered r old new) (sym (ap (λ n. take n xs) is ∙ take_more xs from 0 within)) (lowered_more old mid new (take from xs) _ so more)
 
@@ -147,7 +150,8 @@ lowering_room o old mid from so room p h =
     (room_next old mid (references (take from es)) (references (next_entries es from)) (references (drop (from + length (next_entries es from)) es)) (references es) so.lowered room
     (references_parts es from ∙ append_assoc (references (take from es)) (references (next_entries es from)) _) p h)
 
-pub lowering_more : (o : ℕ) (old mid new : View) (from next : ℕ) → Lowering o old mid from → next ≡ from + length (next_entries (mid.entries o) from) → Lowered (references (next_entries (mid.entries o) from)) mid new → Lowering o old new next
+pub lowering_more : (o : ℕ) (old mid new : View) (from next : ℕ) → Lowering o old mid from → next ≡ from + length (next_entries (mid.entries o) from)
+    → Lowered (references (next_entries (mid.entries o) from)) mid new → Lowering o old new next
 lowering_more o old mid new from next so is more =
     let es = old.entries o in
     let same = next_same old mid o from so.lowered.rest.same in
@@ -159,7 +163,8 @@ lowering_more o old mid new from next so is more =
     }
 
 -- a short batch is the last
-pub few_last : (o : ℕ) (old mid : View) (from next : ℕ) → from ≤ length (old.entries o) → IsSame old mid → next ≡ from + length (next_entries (mid.entries o) from) → next < from + AT_ONCE → next ≡ length (old.entries o)
+pub few_last : (o : ℕ) (old mid : View) (from next : ℕ) → from ≤ length (old.entries o) → IsSame old mid → next
+    ≡ from + length (next_entries (mid.entries o) from) → next < from + AT_ONCE → next ≡ length (old.entries o)
 few_last o old mid from next within same is few =
     let e = ap (λ (ns : List Entry). length ns) (next_same old mid o from same) in
     omega (arith, is, few, e, next_last (old.entries o) from within (omega (arith, is, few, e)))
@@ -197,7 +202,8 @@ entries_of-push v front o = sum_by_push (λ p. length (v.entries p)) front o
 pub refs_same : (old mid : View) (o : ℕ) → IsSame old mid → references (mid.entries o) ≡ references (old.entries o)
 refs_same old mid o same = ap (λ (es : ℕ → List Entry). references (es o)) same.hold
 
-pub subtracting_room : (old mid : View) (o : ℕ) (before steps : ℕ) → Subtracting old mid (Some o) before steps → ((p : ℕ) → Includes (old.listed Cand) p → occurrences p (held_by old (old.listed Cand)) ≤ old.number p)
+pub subtracting_room : (old mid : View) (o : ℕ) (before steps : ℕ) → Subtracting old mid (Some o) before steps → ((p : ℕ) → Includes (old.listed Cand) p
+    → occurrences p (held_by old (old.listed Cand)) ≤ old.number p)
     → (p : ℕ) → Includes (mid.listed Cand) p → occurrences p (references (mid.entries o)) ≤ mid.number p
 subtracting_room old mid o before steps so room =
     let head = head_is so.back o so.at.at in
@@ -206,7 +212,8 @@ subtracting_room old mid o before steps so room =
     (room_next old mid (held_by old so.front) (references (old.entries o)) (held_by old head.0) (held_by old (old.listed Cand)) so.lowered room
     (ap (held_by old) here ∙ held_by-split old so.front o head.0))
 
-pub subtracting_more : (old mid new : View) (o : ℕ) (cursor : Option ℕ) (before steps later : ℕ) → Subtracting old mid (Some o) before steps → Lowered (references (mid.entries o)) mid new → later ≡ steps + length (mid.entries o)
+pub subtracting_more : (old mid new : View) (o : ℕ) (cursor : Option ℕ) (before steps later : ℕ) → Subtracting old mid (Some o) before steps
+    → Lowered (references (mid.entries o)) mid new → later ≡ steps + length (mid.entries o)
     → IsNext new o cursor → Subtracting old new cursor before later
 subtracting_more old mid new o cursor before steps later so more looked next =
     let lowered = lowered_more old mid new _ _ so.lowered (subst (λ (r : List ℕ). Lowered r mid new) (refs_same old mid o so.lowered.rest.same) more) in

@@ -15,9 +15,9 @@ use Rattle.cg_trial.specs.Sift.{AreOthersSame, Walk, starts, goes, IsNowhereElse
 use Rattle.cg_trial.proofs.Lists.{head_is, without-absent, once_before}
 use Rattle.cg_trial.proofs.Passes.{same_itself, same_more}
 use Rattle.cg_trial.proofs.Entries.{live_same}
-use Rattle.cg_trial.proofs.Placed.{one_place}
-use Rattle.cg_trial.proofs.Sifts.{without_middle}
-use Rattle.cg_trial.proofs.Waking.{member_within}
+use Rattle.cg_trial.proofs.PlacesOfObjects.{one_place}
+use Rattle.cg_trial.proofs.WalkInvariant.{without_middle}
+use Rattle.cg_trial.proofs.TakingBack.{member_within}
 
 -- Those with numbers have left the list of candidates up to a point; the others follow.
 pub record Exchanging (old now : View) (cursor : Option ℕ) : Type 0 where
@@ -128,7 +128,8 @@ exchanged_stop old now o so two is = exchanged old now (Some o) so (known so.res
     known (x ∷ xs) whole then =
         let e : Some o ≡ Some x = so.at ∙ ap head_of then in
         let same : o ≡ x = cc in
-        absurd (two.numbered x (subst (λ (ys : List ℕ). Includes ys x) (sym whole) (Includes-append_right so.gone (x ∷ xs) x (inl refl))) (sym (ap (λ (n : ℕ → ℕ). n x) so.numbers) ∙ ap now.number (sym same) ∙ is))
+        absurd (two.numbered x (subst (λ (ys : List ℕ). Includes ys x) (sym whole) (Includes-append_right so.gone (x ∷ xs) x (inl refl)))
+        (sym (ap (λ (n : ℕ → ℕ). n x) so.numbers) ∙ ap now.number (sym same) ∙ is))
 
 -- There is no next one.
 pub exchanged_all : (old now : View) (cursor : Option ℕ) → Exchanging old now cursor → cursor ≡ None → IsExchanged old now
@@ -172,7 +173,8 @@ module _ (old mid : View) (parted : IsParted old mid) where
   }
 
   -- the remaining ones go to the kept place, and those set aside become the candidates
-  module _ (kept : Place) (half new : View) (apart : kept ≢ Cand) (other : kept ≢ Back) (empty : old.listed kept ≡ []) (none : old.listed Back ≡ []) (first : Merged Cand kept mid half) (then : Merged Back Cand half new) where
+  module _ (kept : Place) (half new : View) (apart : kept ≢ Cand) (other : kept ≢ Back) (empty : old.listed kept ≡ []) (none : old.listed Back ≡ [])
+      (first : Merged Cand kept mid half) (then : Merged Back Cand half new) where
     kept_now : new.listed kept ≡ mid.listed Cand
     kept_now = then.others kept other apart ∙ first.joined ∙ ap (λ (xs : List ℕ). xs ++ mid.listed Cand) (parted.others kept apart other ∙ empty)
 

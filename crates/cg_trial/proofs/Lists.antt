@@ -45,13 +45,15 @@ pub without-cons_yes : (o x : ℕ) (xs : List ℕ) → x == o ≡ true → witho
 without-cons_yes o x xs e = ap (λ b. cond (not b) (x ∷ without_serial o xs) (without_serial o xs)) (eq-eqb o x (sym (eqb-true x o e)))
 
 pub without-cons_no : (o x : ℕ) (xs : List ℕ) → x == o ≡ false → without_serial o (x ∷ xs) ≡ x ∷ without_serial o xs
-without-cons_no o x xs e = ap (λ b. cond (not b) (x ∷ without_serial o xs) (without_serial o xs)) (ne_eqb o x (λ same. let t : x == o ≡ true = eq-eqb x o (sym same) in let f : true ≡ false = sym t ∙ e in cc))
+without-cons_no o x xs e = ap (λ b. cond (not b) (x ∷ without_serial o xs) (without_serial o xs))
+    (ne_eqb o x (λ same. let t : x == o ≡ true = eq-eqb x o (sym same) in let f : true ≡ false = sym t ∙ e in cc))
 
 pub sum_by-without : (f : ℕ → ℕ) (o : ℕ) (xs : List ℕ) → sum_by f (without_serial o xs) + occurrences o xs * f o ≡ sum_by f xs
 sum_by-without f o [] = omega arith
 sum_by-without f o (x ∷ xs) = go (cases_of (x == o)) (sum_by-without f o xs)
   where
-    go : (x == o ≡ true) ⊎ (x == o ≡ false) → sum_by f (without_serial o xs) + occurrences o xs * f o ≡ sum_by f xs → sum_by f (without_serial o (x ∷ xs)) + occurrences o (x ∷ xs) * f o ≡ sum_by f (x ∷ xs)
+    go : (x == o ≡ true) ⊎ (x == o ≡ false) → sum_by f (without_serial o xs) + occurrences o xs * f o ≡ sum_by f xs → sum_by f (without_serial o (x ∷ xs)) +
+        occurrences o (x ∷ xs) * f o ≡ sum_by f (x ∷ xs)
     go (inl e) rec =
         let same : f x ≡ f o = ap f (eqb-true x o e) in
         let one : occurrences o (x ∷ xs) ≡ 1 + occurrences o xs = occurrences-cons o x xs ∙ ap (λ b. cond b 1 0 + occurrences o xs) e in
@@ -172,7 +174,8 @@ sum_by-some f (m ∷ some) all once within =
     let one : occurrences m (m ∷ some) ≡ 1 + occurrences m some = occurrences-cons m m some ∙ ap (λ b. cond b 1 0 + occurrences m some) (eq-eqb m m refl) in
     let rest = sum_by-some f some (without_serial m all)
     (λ o. omega (arith, once o, occurrences-cons o m some))
-    (λ o h. Includes-without_in m all o (within o (inr h)) (λ e. let k = occurs some o h in let l = once m in let same : occurrences o some ≡ occurrences m some = ap (λ q. occurrences q some) e in absurd (omega arith))) in
+    (λ o h. Includes-without_in m all o (within o (inr h)) (λ e. let k = occurs some o h in let l = once m in let same : occurrences o some
+    ≡ occurrences m some = ap (λ q. occurrences q some) e in absurd (omega arith))) in
     let parts = sum_by-without f m all in
     let here = occurs all m (within m (inl refl)) in
     rw (sum_by-cons f m some) (at_least (occurrences m all) (f m) (sum_by f some) (sum_by f (without_serial m all)) (sum_by f all) here rest parts)

@@ -27,8 +27,8 @@ use Rattle.cg_trial.specs.View.{view_of}
 use Rattle.cg_trial.specs.Paths.{Reached, graph_in, entries_in as entries_among}
 use Rattle.cg_trial.specs.Split.{IsSplitPlace, entry_number_at}
 use Rattle.cg_trial.proofs.Lists.{occurs, occurrences-cons, sum_by-some}
-use Rattle.cg_trial.proofs.Counted.{occurrences-held_by}
-use Rattle.cg_trial.proofs.Placed.{once_at, where_is, is_there}
+use Rattle.cg_trial.proofs.CountBounds.{occurrences-held_by}
+use Rattle.cg_trial.proofs.PlacesOfObjects.{once_at, where_is, is_there}
 use Rattle.cg_trial.proofs.Splits.{arrow, edges_in, edges_out, holdings_of}
 
 -- the entries of a map have distinct keys
@@ -201,7 +201,8 @@ module _ (store : Store) (listed : IsListed store) (p : Place) (is : IsSplitPlac
   some_keys o [] = omega arith
   some_keys o (e ∷ es) = go (is_at p (object_from store.rows e.0 e.1)) (some_keys o es)
     where
-      go : (b : Bool) → occurrences o (serials (made_of es)) ≤ occurrences o (keys es) → occurrences o (serials (cond b (object_from store.rows e.0 e.1 ∷ made_of es) (made_of es))) ≤ occurrences o (keys (e ∷ es))
+      go : (b : Bool) → occurrences o (serials (made_of es)) ≤ occurrences o (keys es)
+          → occurrences o (serials (cond b (object_from store.rows e.0 e.1 ∷ made_of es) (made_of es))) ≤ occurrences o (keys (e ∷ es))
       go true h = omega (arith, h, occurrences-cons o e.0 (serials (made_of es)), occurrences-cons o e.0 (keys es))
       go false h = omega (arith, h, occurrences-cons o e.0 (keys es))
 
@@ -209,7 +210,8 @@ module _ (store : Store) (listed : IsListed store) (p : Place) (is : IsSplitPlac
   once_there o = omega (arith, some_keys o (fin.entries store.nodes), once_key store.nodes o)
 
   -- sums over all their entries
-  sum_there : (f : List Entry → ℕ) (objects : List Object) → ((x : Object) → Includes objects x → x.entries ≡ entries_of store x.serial) → sum_by (λ (x : Object). f x.entries) objects ≡ sum_by (λ o. f (entries_of store o)) (serials objects)
+  sum_there : (f : List Entry → ℕ) (objects : List Object) → ((x : Object) → Includes objects x → x.entries ≡ entries_of store x.serial)
+      → sum_by (λ (x : Object). f x.entries) objects ≡ sum_by (λ o. f (entries_of store o)) (serials objects)
   sum_there f [] same = refl
   sum_there f (x ∷ objects) same =
       let rest = sum_there f objects (λ y h. same y (inr h)) in

@@ -42,7 +42,8 @@ turn_of v xs o cursor front back same at next =
     let here : xs ≡ front ++ o ∷ head.0 = at.parts ∙ ap (λ (b : List ℕ). front ++ b) head.1 in
     (head.0, head.1, here, record { parts = here ∙ sym (append_assoc front (o ∷ []) head.0); at = next Cand front head.0 (same ∙ here) })
 
-pub turn_shorter : (xs : List ℕ) (o : ℕ) (cursor : Option ℕ) (front back rest : List ℕ) → ((p : ℕ) → occurrences p xs ≤ 1) → IsAt xs (Some o) front back → back ≡ o ∷ rest → IsAt xs cursor (front ++ o ∷ []) rest
+pub turn_shorter : (xs : List ℕ) (o : ℕ) (cursor : Option ℕ) (front back rest : List ℕ) → ((p : ℕ) → occurrences p xs ≤ 1) → IsAt xs (Some o) front back → back
+    ≡ o ∷ rest → IsAt xs cursor (front ++ o ∷ []) rest
     → length (ahead cursor xs) < length (ahead (Some o) xs)
 turn_shorter xs o cursor front back rest once at is then =
     rw (ahead_is xs (Some o) front back once at, ahead_is xs cursor (front ++ o ∷ []) rest once then, is) (omega arith)

@@ -17,26 +17,30 @@ pub fn is_candidate<B: Kind>(heap: &Heap<B>, object: u64, place: Place) -> bool
     requires live { IsTrue ((view_of heap.now).live object) }
     requires stands { place ≡ place_of heap.now object }
     ensures is { IsTrue result ↔ Includes ((view_of heap.now).listed Place.Cand) object }
-    ensures alone { IsTrue result → (p : Place) → Includes ((view_of heap.now).listed p) object → Place.Cand ≡ p }
+    ensures alone { IsTrue result → (p : Place) → Includes ((view_of heap.now).listed p) object
+        → Place.Cand ≡ p }
 {
     heap.sound();
     matches!(place, Place::Cand)
 }
 
-/// Whether the object, whose place this is, is set aside. If so it is there once, and in no other place.
+/// Whether the object, whose place this is, is set aside. If so it is there once, and in no other
+/// place.
 #[inline(always)]
 pub fn is_set_aside<B: Kind>(heap: &Heap<B>, object: u64, place: Place) -> bool
     requires live { IsTrue ((view_of heap.now).live object) }
     requires stands { place ≡ place_of heap.now object }
     ensures is { IsTrue result ↔ Includes ((view_of heap.now).listed Place.Back) object }
     ensures once { IsTrue result → occurrences object ((view_of heap.now).listed Place.Back) ≡ 1 }
-    ensures alone { IsTrue result → (p : Place) → p ≢ Place.Back → occurrences object ((view_of heap.now).listed p) ≡ 0 }
+    ensures alone { IsTrue result → (p : Place) → p ≢ Place.Back
+        → occurrences object ((view_of heap.now).listed p) ≡ 0 }
 {
     heap.sound();
     matches!(place, Place::Back)
 }
 
-/// The successor of an object in the list of its place, and its slot; takes a hint of the object's slot.
+/// The successor of an object in the list of its place, and its slot; takes a hint of the object's
+/// slot.
 #[inline(always)]
 pub fn following<B: Kind>(heap: &Heap<B>, object: u64, near: &mut Near) -> Option<u64>
     requires { IsTrue ((view_of heap.now).live object) }
@@ -62,7 +66,8 @@ pub fn set_number<B: Kind>(heap: &mut Heap<B>, object: u64, number: u32)
 pub fn number_by_degree<B: Kind>(heap: &mut Heap<B>, object: u64, near: Near)
     requires live { IsTrue ((view_of heap.old).live object) }
     requires candidate { Includes ((view_of heap.old).listed Place.Cand) object }
-    ensures { Numbered object ((view_of heap.old).degree object) (view_of heap.old) (view_of heap.new) }
+    ensures { Numbered object ((view_of heap.old).degree object) (view_of heap.old)
+        (view_of heap.new) }
 {
     heap.sound();
     heap.set_gc_to_refs(object, near);
@@ -72,7 +77,8 @@ pub fn number_by_degree<B: Kind>(heap: &mut Heap<B>, object: u64, near: Near)
 #[inline(always)]
 pub fn lower_number<B: Kind>(heap: &mut Heap<B>, object: u64)
     requires live { IsTrue ((view_of heap.old).live object) }
-    requires room { Includes ((view_of heap.old).listed Place.Cand) object → 0 < (view_of heap.old).number object }
+    requires room { Includes ((view_of heap.old).listed Place.Cand) object
+        → 0 < (view_of heap.old).number object }
     ensures { Lowered (object ∷ []) (view_of heap.old) (view_of heap.new) }
 {
     heap.sound();
@@ -83,7 +89,8 @@ pub fn lower_number<B: Kind>(heap: &mut Heap<B>, object: u64)
 #[inline(never)]
 pub fn lower_number_by<B: Kind>(heap: &mut Heap<B>, object: u64, times: usize)
     requires live { IsTrue ((view_of heap.old).live object) }
-    requires room { Includes ((view_of heap.old).listed Place.Cand) object → times ≤ (view_of heap.old).number object }
+    requires room { Includes ((view_of heap.old).listed Place.Cand) object
+        → times ≤ (view_of heap.old).number object }
     ensures { Lowered (replicate times object) (view_of heap.old) (view_of heap.new) }
 {
     let head = heap.head_of(object);

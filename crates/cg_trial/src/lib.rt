@@ -1,7 +1,8 @@
 //! Trial subtraction: finds the objects of a place that no path from outside reaches.
 //!
-//! It is the core of the collector. (Developer guide, "Identifying reference cycles".) The layer above uses only
-//! `split`: afterwards the unreachable objects of a place are the candidates, and the others stay in their place.
+//! It is the core of the collector. (Developer guide, "Identifying reference cycles".) The layer
+//! above uses only `split`: afterwards the unreachable objects of a place are the candidates, and
+//! the others stay in their place.
 //!
 //! - `candidates`: the calls that the search makes on the heap.
 //! - `subtraction`: the two passes.

@@ -26,7 +26,8 @@ use std::sync::ledger::Ledger;
 fn copy<B: Kind>(heap: &mut Heap<B>)
     requires ready { IsReadyView (view_of heap.old) }
     ensures same { IsSameButNumbers (view_of heap.old) (view_of heap.new) }
-    ensures copied { (o : ℕ) → Includes ((view_of heap.old).listed Place.Cand) o → (view_of heap.new).number o ≡ (view_of heap.old).degree o }
+    ensures copied { (o : ℕ) → Includes ((view_of heap.old).listed Place.Cand) o
+        → (view_of heap.new).number o ≡ (view_of heap.old).degree o }
 {
     let mut near = Near::default();
     let mut cursor = heap.first_near(Place::Cand, &mut near);
@@ -36,11 +37,13 @@ fn copy<B: Kind>(heap: &mut Heap<B>)
     }
 }
 
-/// The end of the run of objects equal to the one at `from`, as in a list that holds one object many times.
+/// The end of the run of objects equal to the one at `from`, as in a list that holds one object
+/// many times.
 #[inline(never)]
 fn end_of_run(objects: &[u64], from: usize) -> usize
     requires { from < length objects.now }
-    ensures run { take result objects.now ≡ take from objects.now ++ replicate (result - from) (slice_index objects.now from) }
+    ensures run { take result objects.now ≡ take from objects.now ++ replicate (result - from)
+        (slice_index objects.now from) }
     ensures behind { from < result }
     ensures within { result ≤ length objects.now }
 {
@@ -52,12 +55,13 @@ fn end_of_run(objects: &[u64], from: usize) -> usize
     end
 }
 
-/// Lowers the number of each candidate among these objects by its number of occurrences. A run of one object is looked
-/// up once; the object at `next` shows whether there is a run.
+/// Lowers the number of each candidate among these objects by its number of occurrences. A run of
+/// one object is looked up once; the object at `next` shows whether there is a run.
 #[inline(always)]
 fn lower_each<B: Kind>(heap: &mut Heap<B>, objects: &[u64])
     requires live { (o : ℕ) → Includes objects.now o → IsTrue ((view_of heap.old).live o) }
-    requires room { (o : ℕ) → Includes ((view_of heap.old).listed Place.Cand) o → occurrences o objects.now ≤ (view_of heap.old).number o }
+    requires room { (o : ℕ) → Includes ((view_of heap.old).listed Place.Cand) o
+        → occurrences o objects.now ≤ (view_of heap.old).number o }
     ensures { Lowered objects.now (view_of heap.old) (view_of heap.new) }
 {
     let mut next = 1;
@@ -77,8 +81,8 @@ fn lower_each<B: Kind>(heap: &mut Heap<B>, objects: &[u64])
     }
 }
 
-/// Lowers the numbers of candidates by one for each reference of an object's entries; takes a hint of its slot.
-/// `found` is a buffer for the references.
+/// Lowers the numbers of candidates by one for each reference of an object's entries; takes a hint
+/// of its slot. `found` is a buffer for the references.
 fn lower_all<B: Kind, L: Ledger>(
     heap: &mut Heap<B>,
     object: u64,
@@ -88,9 +92,12 @@ fn lower_all<B: Kind, L: Ledger>(
 )
     requires ready { IsReadyView (view_of heap.old) }
     requires live { IsTrue ((view_of heap.old).live object) }
-    requires room { (o : ℕ) → Includes ((view_of heap.old).listed Place.Cand) o → occurrences o (references ((view_of heap.old).entries object)) ≤ (view_of heap.old).number o }
+    requires room { (o : ℕ) → Includes ((view_of heap.old).listed Place.Cand) o
+        → occurrences o (references ((view_of heap.old).entries object)) ≤ (view_of heap.old).number
+        o }
     requires space { ROOM ≤ length found.old }
-    ensures lowered { Lowered (references ((view_of heap.old).entries object)) (view_of heap.old) (view_of heap.new) }
+    ensures lowered { Lowered (references ((view_of heap.old).entries object)) (view_of heap.old)
+        (view_of heap.new) }
     ensures looks { steps.new ≡ steps.old + length ((view_of heap.old).entries object) }
     ensures space { length found.new ≡ length found.old }
 {
@@ -108,9 +115,13 @@ fn lower_all<B: Kind, L: Ledger>(
 /// Lowers the numbers of candidates by one for each reference of the candidates' entries.
 fn subtract<B: Kind, L: Ledger>(heap: &mut Heap<B>, steps: &mut Steps<L>)
     requires ready { IsReadyView (view_of heap.old) }
-    requires room { (o : ℕ) → Includes ((view_of heap.old).listed Place.Cand) o → occurrences o (held_by (view_of heap.old) ((view_of heap.old).listed Place.Cand)) ≤ (view_of heap.old).number o }
-    ensures lowered { Lowered (held_by (view_of heap.old) ((view_of heap.old).listed Place.Cand)) (view_of heap.old) (view_of heap.new) }
-    ensures looks { steps.new ≡ steps.old + entries_in (view_of heap.old) ((view_of heap.old).listed Place.Cand) }
+    requires room { (o : ℕ) → Includes ((view_of heap.old).listed Place.Cand) o
+        → occurrences o (held_by (view_of heap.old) ((view_of heap.old).listed Place.Cand)) ≤
+        (view_of heap.old).number o }
+    ensures lowered { Lowered (held_by (view_of heap.old) ((view_of heap.old).listed Place.Cand))
+        (view_of heap.old) (view_of heap.new) }
+    ensures looks { steps.new ≡ steps.old + entries_in (view_of heap.old) ((view_of heap.old).listed
+        Place.Cand) }
 {
     let mut found = [0; ROOM];
     let mut near = Near::default();
@@ -121,14 +132,15 @@ fn subtract<B: Kind, L: Ledger>(heap: &mut Heap<B>, steps: &mut Steps<L>)
     }
 }
 
-/// The first of these objects with number 0: its position and its place. It writes nothing, so the heap's slot table
-/// is read once for all of them.
+/// The first of these objects with number 0: its position and its place. It writes nothing, so the
+/// heap's slot table is read once for all of them.
 #[inline(always)]
 fn first_to_wake<B: Kind>(heap: &Heap<B>, objects: &[u64]) -> Option<(usize, Place)>
     requires { (o : ℕ) → Includes objects.now o → IsTrue ((view_of heap.now).live o) }
     ensures first { IfSome result (λ r. IsFirstZero (view_of heap.now) objects.now r.0) }
     ensures place { IfSome result (λ r. r.1 ≡ place_of heap.now (slice_index objects.now r.0)) }
-    ensures none { result ≡ None → (o : ℕ) → Includes objects.now o → (view_of heap.now).number o ≢ 0 }
+    ensures none { result ≡ None → (o : ℕ) → Includes objects.now o → (view_of heap.now).number o ≢
+        0 }
 {
     let mut at = 0;
     'objects: while at < objects.len() {
@@ -147,7 +159,8 @@ fn last_to_wake<B: Kind>(heap: &Heap<B>, objects: &[u64]) -> Option<(usize, Plac
     requires { (o : ℕ) → Includes objects.now o → IsTrue ((view_of heap.now).live o) }
     ensures last { IfSome result (λ r. IsLastZero (view_of heap.now) objects.now r.0) }
     ensures place { IfSome result (λ r. r.1 ≡ place_of heap.now (slice_index objects.now r.0)) }
-    ensures none { result ≡ None → (o : ℕ) → Includes objects.now o → (view_of heap.now).number o ≢ 0 }
+    ensures none { result ≡ None → (o : ℕ) → Includes objects.now o → (view_of heap.now).number o ≢
+        0 }
 {
     let mut end = objects.len();
     'objects: while end > 0 {
@@ -160,8 +173,9 @@ fn last_to_wake<B: Kind>(heap: &Heap<B>, objects: &[u64]) -> Option<(usize, Plac
     None
 }
 
-/// An object with the number 0 in this place gets the number 1, if it is a candidate, and where it was set aside, the last
-/// place in the list, so that the walk comes to it. One less is then left of those with the number 0.
+/// An object with the number 0 in this place gets the number 1, if it is a candidate, and where it
+/// was set aside, the last place in the list, so that the walk comes to it. One less is then left
+/// of those with the number 0.
 #[inline(never)]
 fn wake<B: Kind>(heap: &mut Heap<B>, object: u64, place: Place, left: &mut u64)
     requires live { IsTrue ((view_of heap.old).live object) }
@@ -211,9 +225,10 @@ fn take_back_each_from_last<B: Kind>(heap: &mut Heap<B>, objects: &[u64], left: 
     }
 }
 
-/// What the entries of an object that is near refer to is taken back, as far as something is left to be taken back. References
-/// are written to `found` on the way. The order is CPython's, and no contract states it: `tp_traverse` of a list or a tuple
-/// goes from the last item to the first, and that of any other kind from the first entry to the last.
+/// What the entries of an object that is near refer to is taken back, as far as something is left
+/// to be taken back. References are written to `found` on the way. The order is CPython's, and no
+/// contract states it: `tp_traverse` of a list or a tuple goes from the last item to the first, and
+/// that of any other kind from the first entry to the last.
 #[inline(always)]
 fn take_back_all<B: Kind, L: Ledger>(
     heap: &mut Heap<B>,
@@ -228,7 +243,8 @@ fn take_back_all<B: Kind, L: Ledger>(
     requires live { IsTrue ((view_of heap.old).live object) }
     requires space { ROOM ≤ length found.old }
     requires left { zeros (view_of heap.old) ≤ left.old }
-    ensures woken { Woken (references ((view_of heap.old).entries object)) (view_of heap.old) (view_of heap.new) }
+    ensures woken { Woken (references ((view_of heap.old).entries object)) (view_of heap.old)
+        (view_of heap.new) }
     ensures left { zeros (view_of heap.new) ≤ left.new }
     ensures later { steps.old ≤ steps.new }
     ensures looks { steps.new ≤ steps.old + length ((view_of heap.old).entries object) }
@@ -241,8 +257,8 @@ fn take_back_all<B: Kind, L: Ledger>(
     }
 }
 
-/// The same, from the last entry to the first. The entries are looked at in blocks that are counted from the first, so that
-/// none is looked at twice.
+/// The same, from the last entry to the first. The entries are looked at in blocks that are counted
+/// from the first, so that none is looked at twice.
 fn take_back_from_last<B: Kind, L: Ledger>(
     heap: &mut Heap<B>,
     object: u64,
@@ -255,7 +271,8 @@ fn take_back_from_last<B: Kind, L: Ledger>(
     requires live { IsTrue ((view_of heap.old).live object) }
     requires space { ROOM ≤ length found.old }
     requires left { zeros (view_of heap.old) ≤ left.old }
-    ensures woken { Woken (references ((view_of heap.old).entries object)) (view_of heap.old) (view_of heap.new) }
+    ensures woken { Woken (references ((view_of heap.old).entries object)) (view_of heap.old)
+        (view_of heap.new) }
     ensures left { zeros (view_of heap.new) ≤ left.new }
     ensures later { steps.old ≤ steps.new }
     ensures looks { steps.new ≤ steps.old + length ((view_of heap.old).entries object) }
@@ -282,7 +299,8 @@ fn take_back_from_first<B: Kind, L: Ledger>(
     requires live { IsTrue ((view_of heap.old).live object) }
     requires space { ROOM ≤ length found.old }
     requires left { zeros (view_of heap.old) ≤ left.old }
-    ensures woken { Woken (references ((view_of heap.old).entries object)) (view_of heap.old) (view_of heap.new) }
+    ensures woken { Woken (references ((view_of heap.old).entries object)) (view_of heap.old)
+        (view_of heap.new) }
     ensures left { zeros (view_of heap.new) ≤ left.new }
     ensures later { steps.old ≤ steps.new }
     ensures looks { steps.new ≤ steps.old + length ((view_of heap.old).entries object) }
@@ -319,8 +337,8 @@ fn count_zeros<B: Kind>(heap: &Heap<B>) -> u64
     zeros
 }
 
-/// The candidates with a number and what they lead to stay; the others are set aside. At most `left` have number 0: at
-/// 0 all have been reached, and no more references are looked at.
+/// The candidates with a number and what they lead to stay; the others are set aside. At most
+/// `left` have number 0: at 0 all have been reached, and no more references are looked at.
 fn set_aside<B: Kind, L: Ledger>(heap: &mut Heap<B>, left: u64, steps: &mut Steps<L>)
     requires ready { IsReadyView (view_of heap.old) }
     requires alone { IsNowhereElse (view_of heap.old) }
@@ -328,7 +346,8 @@ fn set_aside<B: Kind, L: Ledger>(heap: &mut Heap<B>, left: u64, steps: &mut Step
     requires left { zeros (view_of heap.old) ≤ left }
     ensures parted { IsParted (view_of heap.old) (view_of heap.new) }
     ensures later { steps.old ≤ steps.new }
-    ensures looks { steps.new ≤ steps.old + entries_in (view_of heap.old) ((view_of heap.old).listed Place.Cand) }
+    ensures looks { steps.new ≤ steps.old + entries_in (view_of heap.old) ((view_of heap.old).listed
+        Place.Cand) }
 {
     let mut left = left;
     let mut found = [0; ROOM];
@@ -375,7 +394,8 @@ fn take_out<B: Kind, L: Ledger>(heap: &mut Heap<B>, kept: Place, steps: &mut Ste
     requires none { (view_of heap.old).listed Place.Back ≡ [] }
     ensures sifted { IsSifted kept (view_of heap.old) (view_of heap.new) }
     ensures later { steps.old ≤ steps.new }
-    ensures looks { steps.new ≤ steps.old + entries_in (view_of heap.old) ((view_of heap.old).listed Place.Cand) }
+    ensures looks { steps.new ≤ steps.old + entries_in (view_of heap.old) ((view_of heap.old).listed
+        Place.Cand) }
 {
     let zeros = count_zeros(heap);
     if zeros < heap.size(Place::Cand) {
@@ -398,8 +418,10 @@ fn sift<B: Kind, L: Ledger>(heap: &mut Heap<B>, kept: Place, steps: &mut Steps<L
     requires none { list_at heap.old Place.Back ≡ [] }
     ensures sifted { IsSieved kept (view_of heap.old) (view_of heap.new) }
     ensures listed { IsListed heap.new }
-    ensures least { steps.old + entries_in (view_of heap.old) (list_at heap.old Place.Cand) ≤ steps.new }
-    ensures most { steps.new ≤ steps.old + 2 * entries_in (view_of heap.old) (list_at heap.old Place.Cand) }
+    ensures least { steps.old + entries_in (view_of heap.old) (list_at heap.old Place.Cand) ≤
+        steps.new }
+    ensures most { steps.new ≤ steps.old + 2 * entries_in (view_of heap.old)
+        (list_at heap.old Place.Cand) }
 {
     heap.sound();
     copy(heap);
@@ -408,25 +430,29 @@ fn sift<B: Kind, L: Ledger>(heap: &mut Heap<B>, kept: Place, steps: &mut Steps<L
     heap.sound();
 }
 
-/// Makes the unreachable objects of a place the candidates; the reachable ones stay in that place, or go to `Back` if
-/// they were candidates. The order in both lists is unspecified.
+/// Makes the unreachable objects of a place the candidates; the reachable ones stay in that place,
+/// or go to `Back` if they were candidates. The order in both lists is unspecified.
 ///
-/// An object of the place is reachable if a path of objects of the place leads to it from one that is held more often
-/// than entries of the place's objects hold it: by a name, by an object of another place, or from outside. (Developer
-/// guide, "Identifying reference cycles".)
+/// An object of the place is reachable if a path of objects of the place leads to it from one that
+/// is held more often than entries of the place's objects hold it: by a name, by an object of
+/// another place, or from outside. (Developer guide, "Identifying reference cycles".)
 ///
-/// The place is a generation, 0 to 2, with no candidates present, or `Cand`; `Back` is empty. The counter rises by at
-/// least the number of entries of these objects, and by at most twice that number. It does not allocate.
+/// The place is a generation, 0 to 2, with no candidates present, or `Cand`; `Back` is empty. The
+/// counter rises by at least the number of entries of these objects, and by at most twice that
+/// number. It does not allocate.
 pub fn split<B: Kind, L: Ledger>(heap: &mut Heap<B>, from: Place, steps: &mut Steps<L>)
     requires from { IsSplitPlace from }
     requires back { list_at heap.old Place.Back ≡ [] }
     requires candidates { from ≢ Place.Cand → list_at heap.old Place.Cand ≡ [] }
 
-    ensures unreachable { (o : ℕ) → Includes (list_at heap.new Place.Cand) o ↔ IsUnreachable heap.old from o }
-    ensures reachable { (o : ℕ) → Includes (list_at heap.new (kept_place from)) o ↔ IsReachable heap.old from o }
+    ensures unreachable { (o : ℕ) → Includes (list_at heap.new Place.Cand) o ↔ IsUnreachable
+        heap.old from o }
+    ensures reachable { (o : ℕ) → Includes (list_at heap.new (kept_place from)) o ↔ IsReachable
+        heap.old from o }
 
     // Nothing else changes except the collector's numbers.
-    ensures others { (p : Place) → p ≢ Place.Cand → p ≢ kept_place from → list_at heap.new p ≡ list_at heap.old p }
+    ensures others { (p : Place) → p ≢ Place.Cand → p ≢ kept_place from → list_at heap.new p
+        ≡ list_at heap.old p }
     ensures same { IsSameButPlaces heap.old heap.new }
     ensures listed { IsListed heap.new }
 

@@ -6,8 +6,8 @@ use Rattle.cg_graph.proofs.Members.{either, Includes-append_cases}
 use Rattle.cg_script.specs.Canonical.{joined}
 use Rattle.cg_script.specs.Meanings.{is_passed}
 use Rattle.cg_script.specs.Pieces.{words_of, word_at, word_is}
-use Rattle.cg_script.proofs.Joined.{sound_words, words_of-joined}
-use Rattle.cg_script.proofs.Shown.{neither}
+use Rattle.cg_script.proofs.JoinedWords.{sound_words, words_of-joined}
+use Rattle.cg_script.proofs.PrintedParts.{neither}
 use Rattle.cg_weakcoll.specs.declared.form.Form.{Form}
 use Rattle.cg_weakcoll.specs.Expansion.{fault_by, fault_of, first_bad_from, binding_form, form_fault, form_lines, form_of, inside_after, is_kept, name_fault, opening_form, written, written_by, written_from}
 use Rattle.cg_weakcoll.proofs.ExitNames.{IsElse, clear_lines, clear_word, each_clear}

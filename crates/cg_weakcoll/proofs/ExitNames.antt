@@ -8,7 +8,7 @@ use Rattle.std.proofs.lemmas.List.{take-append-drop}
 use Rattle.std.proofs.lemmas.Slice.Eq.{bytes_eq-Decides}
 use Rattle.cg_graph.specs.Member.{Includes}
 use Rattle.cg_script.specs.Words.{after_prefix, is_digit}
-use Rattle.cg_script.proofs.Shown.{neither}
+use Rattle.cg_script.proofs.PrintedParts.{neither}
 use Rattle.cg_weakcoll.specs.declared.form.Form.{Form}
 use Rattle.cg_script.specs.Pieces.{word_at}
 use Rattle.cg_weakcoll.specs.Expansion.{begins_with, exit_name, form_lines, function_name, is_kept, object_name, proc_name, watch_name, weak_name, word_count}

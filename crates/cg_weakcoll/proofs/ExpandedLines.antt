@@ -9,7 +9,7 @@ use Rattle.cg_script.specs.Pieces.{pieces, onto, lines_of, words_of}
 use Rattle.cg_script.specs.Words.{is_printable}
 use Rattle.cg_script.specs.Canonical.{joined}
 use Rattle.cg_script.proofs.Ascii.{both}
-use Rattle.cg_script.proofs.Joined.{all_printable, sound_words}
+use Rattle.cg_script.proofs.JoinedWords.{all_printable, sound_words}
 use Rattle.cg_graph.specs.Member.{Includes}
 use Rattle.cg_graph.proofs.Members.{either, Includes-append_cases, Includes-map_cases}
 use Rattle.cg_laws.proofs.LinesNameLive.{reversed_back}

@@ -10,7 +10,7 @@ use Rattle.cg_script.specs.Forms.{bindings, openers}
 use Rattle.cg_script.specs.Canonical.{joined}
 use Rattle.cg_script.proofs.Ascii.{both}
 use Rattle.cg_graph.proofs.Members.{or_right}
-use Rattle.cg_script.proofs.Joined.{and_both, words_of-joined}
+use Rattle.cg_script.proofs.JoinedWords.{and_both, words_of-joined}
 use Rattle.cg_weakcoll.specs.declared.form.Form.TheVariants.{Get, Set}
 use Rattle.cg_weakcoll.specs.Expansion.{is_value_beside, expansion, final_lines, weak_name, written_from}
 use Rattle.cg_weakcoll.specs.MapLines.{ExpandedLooksAreCommands, ExpandedStoresAreCommands, HasLines}

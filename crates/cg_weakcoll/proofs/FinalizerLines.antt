@@ -24,7 +24,7 @@ use Rattle.cg_script.specs.Texts.{operand_names}
 use Rattle.cg_script.specs.Canonical.{joined, text_of}
 use Rattle.cg_script.proofs.GoodLines.{Faultless, faultless}
 use Rattle.cg_script.proofs.Rows.{binding_is}
-use Rattle.cg_script.proofs.Shown.{Begins, text_found}
+use Rattle.cg_script.proofs.PrintedParts.{Begins, text_found}
 use Rattle.cg_weakcoll.specs.Exits.{Exit, exit_body, exit_commands}
 use Rattle.cg_weakcoll.specs.Expansion.{call_line, exit_name, finalize_lines, function_name, object_name, proc_name, watch_name}
 use Rattle.cg_weakcoll.specs.MapLines.{WordStandsFor}

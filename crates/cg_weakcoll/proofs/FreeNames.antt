@@ -20,8 +20,8 @@ use Rattle.cg_script.specs.Forms.{row, sort_at}
 use Rattle.cg_script.specs.Parts.{with_text_if, text_in, value_text, operand_or, numbered, defined_number, finalizer, legacy, legacy_of, finalizer_of, part_of, parts_from, texts_from}
 use Rattle.cg_script.specs.Commands.{text_or, text_at, said}
 use Rattle.cg_script.specs.Canonical.{text_of}
-use Rattle.cg_script.proofs.Walked.{AllHold, is_text, PartHolds, EachPart, said_by, said_holds}
-use Rattle.cg_script.proofs.Shown.{Begins, begins_along, begins_texts, text_found}
+use Rattle.cg_script.proofs.NumbersOfWords.{AllHold, is_text, PartHolds, EachPart, said_by, said_holds}
+use Rattle.cg_script.proofs.PrintedParts.{Begins, begins_along, begins_texts, text_found}
 
 -- a word is free of some names: it is none of them, and no `del=` or `legacy=` with one
 pub record IsClear (Free : List ℕ → Type 0) (word : List ℕ) : Type 0 where

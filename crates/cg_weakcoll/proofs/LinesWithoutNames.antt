@@ -23,10 +23,10 @@ use Rattle.std.specs.Option.{option_or}
 use Rattle.cg_script.specs.Commands.{count_or, del_if, legacy_if, said}
 use Rattle.cg_script.specs.Reading.{nothing_known, is_repeated, procs_after, known_after, good, lines_from}
 use Rattle.cg_script.specs.Canonical.{text_of}
-use Rattle.cg_script.proofs.Grouped.{inside_said}
+use Rattle.cg_script.proofs.LinesAdded.{inside_said}
 use Rattle.cg_script.proofs.GoodLines.{faultless, good_line}
-use Rattle.cg_script.proofs.Says.{says_of_line}
-use Rattle.cg_script.proofs.Shown.{Begins, begins_along, begins_texts, name_found, neither, text_found}
+use Rattle.cg_script.proofs.GoodWords.{says_of_line}
+use Rattle.cg_script.proofs.PrintedParts.{Begins, begins_along, begins_texts, name_found, neither, text_found}
 use Rattle.cg_weakcoll.proofs.ReadLines.{First, Passes, Says, first_line}
 use Rattle.cg_weakcoll.proofs.LookLines.{all_begin}
 use Rattle.cg_weakcoll.proofs.ItemsOfLines.{IsPlain, begun, begun_by, through}

@@ -18,7 +18,7 @@ use Rattle.cg_script.specs.Forms.{bindings, openers}
 use Rattle.cg_script.specs.Parts.{Known, texts_from, with_text_if, value_text, operand_or}
 use Rattle.cg_script.specs.Reading.{known_after, Lines, good, spoilt, lines_from, nothing_known, items_of, script_of, reading, spells}
 use Rattle.cg_script.proofs.Ascii.{both}
-use Rattle.cg_script.proofs.Shown.{Begins, begins_along, begins_self, begins_texts, text_found}
+use Rattle.cg_script.proofs.PrintedParts.{Begins, begins_along, begins_self, begins_texts, text_found}
 use Rattle.cg_weakcoll.specs.MapLines.{Atom, Counted, Named, Quoted, WordStandsFor}
 use Rattle.cg_weakcoll.proofs.ReadLines.{First, Passes, Says, first_line}
 

@@ -19,7 +19,7 @@ use Rattle.cg_script.specs.Reading.{fault_in, says_or_bad, checked, meant, known
 use Rattle.cg_script.specs.Views.{is_placed, inside_behind}
 use Rattle.cg_script.proofs.Ascii.{both}
 use Rattle.cg_script.proofs.GoodLines.{faultless}
-use Rattle.cg_script.proofs.Grouped.{placed, inside_said}
+use Rattle.cg_script.proofs.LinesAdded.{placed, inside_said}
 use Rattle.cg_weakcoll.specs.MapLines.{StandTogether, Outside, InProcedure}
 
 -- what the first of some good lines says, by its form and its words

@@ -23,8 +23,8 @@ use Rattle.cg_script.specs.Parts.{Known, operand_or, part_of, parts_from, text_i
 use Rattle.cg_script.specs.Commands.{said}
 use Rattle.cg_script.specs.Reading.{classes_after, fault_in, good, items_of, known_after, lines_from, nothing_known, procs_after, reading, spells}
 use Rattle.cg_script.specs.Canonical.{joined}
-use Rattle.cg_script.proofs.Joined.{words_of-joined}
-use Rattle.cg_script.proofs.Shown.{Begins, begins_along, begins_self, begins_texts}
+use Rattle.cg_script.proofs.JoinedWords.{words_of-joined}
+use Rattle.cg_script.proofs.PrintedParts.{Begins, begins_along, begins_self, begins_texts}
 use Rattle.cg_weakcoll.specs.MapLines.{StandTogether}
 use Rattle.cg_weakcoll.proofs.SoundWords.{EachLine, IsSound, each_sound}
 use Rattle.cg_weakcoll.proofs.ReadLines.{AllFit, AreNested, does_all, nested, one_line, stand_together}

@@ -9,7 +9,7 @@ use Rattle.std.proofs.lemmas.Int.Digits.{all_below_base_digits_of}
 use Rattle.cg_script.specs.Pieces.{word_at}
 use Rattle.cg_script.specs.Words.{is_digit}
 use Rattle.cg_script.proofs.Ascii.{both}
-use Rattle.cg_script.proofs.Joined.{EachSound, Graphic, and_both}
+use Rattle.cg_script.proofs.JoinedWords.{EachSound, Graphic, and_both}
 use Rattle.cg_weakcoll.specs.declared.form.Form.{Form}
 use Rattle.cg_weakcoll.specs.declared.form.Form.TheVariants.{MakeMap, Set, Get, Remove, Finalize}
 use Rattle.cg_weakcoll.specs.Expansion.{exit_name, form_lines, is_kept, weak_name, word_count}

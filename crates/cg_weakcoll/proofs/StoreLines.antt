@@ -15,7 +15,7 @@ use Rattle.cg_script.specs.Forms.{bindings, openers}
 use Rattle.cg_script.specs.Meanings.{Meaning, is_passed, bad, binding_form, fits, formed, formed_if, worded}
 use Rattle.cg_script.specs.Parts.{operand_or}
 use Rattle.cg_script.proofs.GoodLines.{never_sign}
-use Rattle.cg_script.proofs.Shown.{text_found}
+use Rattle.cg_script.proofs.PrintedParts.{text_found}
 use Rattle.cg_weakcoll.specs.Maps.{wget_commands, wset_commands}
 use Rattle.cg_weakcoll.specs.MapLines.{HasLines, LookLinesAreCommands, StoreLinesAreCommands}
 use Rattle.cg_weakcoll.proofs.LookLines.{name_of_variable, name_stands, no_comment, stands_for}

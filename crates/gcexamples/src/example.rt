@@ -1,7 +1,8 @@
 //! One example: its files, its run, and its result.
 //!
-//! Next to `NAME.script` or `NAME.records` are `NAME.expected`, the expected text; `NAME.args`, one argument a line, if it is
-//! not run with the usual ones; and `NAME.status`, if its status is not 0.
+//! Next to `NAME.script` or `NAME.records` are `NAME.expected`, the expected text; `NAME.args`, one
+//! argument a line, if it is not run with the usual ones; and `NAME.status`, if its status is not
+//! 0.
 ghost use Rattle.std.specs.Prelude.{◌≡◌, ◌↔◌};
 
 use cg_any_kind::six;
@@ -46,7 +47,8 @@ struct Given {
 
 /// Compares what was found with what is stored.
 fn compare(found: &Given, stored: &Given) -> Outcome
-    ensures same { (result ≡ Outcome.AsStored) ↔ ((found.now.text.items ≡ stored.now.text.items) × (found.now.status ≡ stored.now.status)) }
+    ensures same { (result ≡ Outcome.AsStored) ↔ ((found.now.text.items ≡ stored.now.text.items)
+        × (found.now.status ≡ stored.now.status)) }
 {
     if found.text.as_slice() != stored.text.as_slice() {
         Outcome::OtherText
@@ -122,7 +124,8 @@ fn compared(rt: &HostRuntime, path: &str) -> io::Result<Outcome> {
     Ok(compare(&found, &stored_for(rt, name)?))
 }
 
-/// The result of the example at the path, given the text of the index. Fails if one of its files cannot be read.
+/// The result of the example at the path, given the text of the index. Fails if one of its files
+/// cannot be read.
 pub fn outcome_of(rt: &HostRuntime, path: &str, index: &str) -> io::Result<Outcome> {
     if index.contains(format!(in rt.alloc(); "({path})")?.as_str()) {
         compared(rt, path)

@@ -1,5 +1,6 @@
-//! `gcexamples`, run in the folder `data`, which is `examples/` of the repository. Runs each example from its files, and
-//! writes a line for each, `ok` if it gives what is stored. Ends with status 1 if one does not.
+//! `gcexamples`, run in the folder `data`, which is `examples/` of the repository. Runs each
+//! example from its files, and writes a line for each, `ok` if it gives what is stored. Ends with
+//! status 1 if one does not.
 #![tactic(auto)]
 
 mod example;

@@ -78,8 +78,8 @@ fn boxed<K: Kind>(alloc: Global, kind: K) -> Result<Box<K>, AllocError>
     Ok(Box::new(alloc, kind)?)
 }
 
-/// Does what the arguments ask for, with six kinds without objects, in the order of their codes. Answers `AllocError` if
-/// memory for them was refused; then nothing was read or written.
+/// Does what the arguments ask for, with six kinds without objects, in the order of their codes.
+/// Answers `AllocError` if memory for them was refused; then nothing was read or written.
 pub fn run_over_kinds<S: Source, K: Sink>(
     alloc: Global,
     words: &[String],

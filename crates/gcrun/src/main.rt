@@ -1,5 +1,5 @@
-//! `gcrun run < SCRIPT`: runs a script, writes the text of the run, and ends with the status as its exit status.
-//! `gcrun generate N`: runs the script of N blocks, and writes its summary.
+//! `gcrun run < SCRIPT`: runs a script, writes the text of the run, and ends with the status as its
+//! exit status. `gcrun generate N`: runs the script of N blocks, and writes its summary.
 #![tactic(auto)]
 
 mod kinds;
@@ -13,7 +13,8 @@ use cg_io::{ReadSource, WriteSink};
 use std::io::{BufWriter, Write};
 use std::process::ExitCode;
 
-/// Runs with standard input and output. Flushes the output at the end; a failure there is one of the sink.
+/// Runs with standard input and output. Flushes the output at the end; a failure there is one of
+/// the sink.
 fn run(rt: &HostRuntime, words: &[String]) -> Status {
     let Ok(mut output) = BufWriter::new(rt.alloc(), rt.stdout()) else {
         return Status::OutOfMemory;

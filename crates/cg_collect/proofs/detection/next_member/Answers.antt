@@ -1,9 +1,9 @@
 use Rattle.std.proofs.Common.{◌+◌, ◌≤◌, None, Some, refl, ap, subst, sym, inl, inr, arith}
 use Rattle.cg_value.specs.declared.Place.TheVariants.{Cand}
-use Rattle.cg_trial.proofs.Placed.{where_is}
+use Rattle.cg_trial.proofs.PlacesOfObjects.{where_is}
 use Rattle.cg_collect.specs.declared.phase.Phase.TheVariants as phase_of
 use Rattle.cg_collect.specs.Ready.{IsMemberWalk}
-use Rattle.cg_collect.proofs.Keeping.{keeps_all}
+use Rattle.cg_collect.proofs.NothingIsMade.{keeps_all}
 use Rattle.cg_collect.proofs.TakingTurns.{at_phase, goes_on}
 use Rattle.cg_collect.proofs.Unlinking.{ahead, looks, unlink_next, unlink_nearer, turn-next, turn-all_unlinked}
 use Rattle.cg_collect.specs.Looks.{looks_left, most_looks}
@@ -42,10 +42,12 @@ returns-in-Some-clause-looks g c =
     let weak = c.newest_beside.result in
     subst
     (λ m. c.newest_beside.new.steps + looks_left (phase_of.Unlinking m None) c.to.result.phase store ≤ c.args.steps.now + most_looks 0 (phase_of.Unlinking m None) store) (sym c.in-Some.is)
-    (walk_on (phase_of.Unlinking (Some c.in-Some.object) None) (phase_of.Unlinking next weak) c.to.result.phase store c.newest_beside.new.steps c.args.steps.now 2 (most_looks 0 (phase_of.Unlinking (Some c.in-Some.object) None) store)
+    (walk_on (phase_of.Unlinking (Some c.in-Some.object) None) (phase_of.Unlinking next weak) c.to.result.phase store c.newest_beside.new.steps c.args.steps.now
+    2 (most_looks 0 (phase_of.Unlinking (Some c.in-Some.object) None) store)
     (phase_is _ _ c.to.ensures) c.newest_beside.ensures.looks (unlinking_next store c.in-Some.object next weak
     (ahead store c.sound.ensures.listed c.sound.ensures.rows c.in-Some.object walk next weak c.next.ensures c.newest_beside.ensures.newest)
     (looks store c.sound.ensures.listed c.sound.ensures.rows c.in-Some.object walk next weak c.next.ensures c.newest_beside.ensures.newest)))
 
 pub returns-in-None-clause-looks : goal.returns-in-None-clause-looks
-returns-in-None-clause-looks g c = walk_over (phase_of.Unlinking c.args.member None) phase_of.Turns c.to-in-None.result.phase c.args.heap.now c.args.steps.now (most_looks 0 (phase_of.Unlinking c.args.member None) c.args.heap.now) (phase_is _ _ c.to-in-None.ensures) refl
+returns-in-None-clause-looks g c = walk_over (phase_of.Unlinking c.args.member None) phase_of.Turns c.to-in-None.result.phase c.args.heap.now c.args.steps.now
+    (most_looks 0 (phase_of.Unlinking c.args.member None) c.args.heap.now) (phase_is _ _ c.to-in-None.ensures) refl

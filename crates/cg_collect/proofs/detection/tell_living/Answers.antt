@@ -2,14 +2,14 @@ use Rattle.std.proofs.Common.{refl, inl, subst, sym, ap, ◌∙◌, arith}
 use Rattle.cg_value.specs.declared.Place.TheVariants.{Gen, Cand}
 use Rattle.cg_graph.specs.Member.{Includes}
 use Rattle.cg_graph.specs.Store.{list_at}
-use Rattle.cg_trial.proofs.Placed.{where_is}
+use Rattle.cg_trial.proofs.PlacesOfObjects.{where_is}
 use Rattle.cg_machine.specs.Collect.{older}
 use Rattle.cg_collect.specs.declared.phase.Phase.TheVariants as phase_of
 use Rattle.cg_collect.specs.Phases.{from_on}
 use Rattle.cg_collect.specs.Ready.{IsAt}
-use Rattle.cg_collect.proofs.Keeping.{keeps_all}
+use Rattle.cg_collect.proofs.NothingIsMade.{keeps_all}
 use Rattle.cg_collect.proofs.TakingTurns.{at_phase, goes_on, tells}
-use Rattle.cg_collect.proofs.Telling.{from_first, at_first}
+use Rattle.cg_collect.proofs.StartLines.{from_first, at_first}
 use Rattle.cg_collect.proofs.Stopping.{next_from, next_at}
 use Rattle.cg_collect.proofs.Detecting.{turn-living, turn-all_living}
 use Rattle.cg_collect.proofs.detection.tell_living.Goals as goal
@@ -23,7 +23,8 @@ pub returns-in-Some : goal.returns-in-Some
 returns-in-Some g c = λ script policy.
     let there = subst (λ n. IsAt n (list_at c.args.heap.now (Gen (older c.args.facts.generation)))) c.in-Some.is c.requires.ready.1 in
     at_phase (ap phase_of.Living c.in-Some.is) (tells c.tells.ensures
-    (turn-living script c.args.facts c.args.heap.now policy c.in-Some.object c.next.result (next_from c.args.heap.now c.sound.ensures.listed (Gen (older c.args.facts.generation)) c.in-Some.object there c.next.result c.next.ensures))
+    (turn-living script c.args.facts c.args.heap.now policy c.in-Some.object c.next.result (next_from c.args.heap.now c.sound.ensures.listed
+    (Gen (older c.args.facts.generation)) c.in-Some.object there c.next.result c.next.ensures))
     (c.requires.ready.0, next_at c.args.heap.now c.sound.ensures.listed (Gen (older c.args.facts.generation)) c.in-Some.object there c.next.result c.next.ensures)
     tt (λ n few. few) (omega arith, refl) (keeps_all c.args.heap.now))
 

@@ -13,11 +13,13 @@ returns-in-None-clause-takes g c = λ script facts policy. at_phase (ap (phase_o
 pub returns-in-Some-clause-looks : goal.returns-in-Some-clause-looks
 returns-in-Some-clause-looks g c =
     subst
-    (λ w. c.look_at.new.steps + looks_left (phase_of.Unlinking c.args.member w) c.look_at.result.phase c.look_at.new.heap ≤ c.args.steps.now + most_looks 0 (phase_of.Unlinking c.args.member w) c.args.heap.now)
+    (λ w. c.look_at.new.steps + looks_left (phase_of.Unlinking c.args.member w) c.look_at.result.phase c.look_at.new.heap ≤ c.args.steps.now + most_looks 0
+    (phase_of.Unlinking c.args.member w) c.args.heap.now)
     (sym c.in-Some.is) c.look_at.ensures.looks
 
 pub returns-in-None-clause-looks : goal.returns-in-None-clause-looks
 returns-in-None-clause-looks g c =
     subst
-    (λ w. c.next_member.new.steps + looks_left (phase_of.Unlinking c.args.member w) c.next_member.result.phase c.next_member.new.heap ≤ c.args.steps.now + most_looks 0 (phase_of.Unlinking c.args.member w) c.args.heap.now)
+    (λ w. c.next_member.new.steps + looks_left (phase_of.Unlinking c.args.member w) c.next_member.result.phase c.next_member.new.heap ≤ c.args.steps.now +
+    most_looks 0 (phase_of.Unlinking c.args.member w) c.args.heap.now)
     (sym c.in-None.is) c.next_member.ensures.looks

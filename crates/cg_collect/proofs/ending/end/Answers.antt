@@ -13,8 +13,8 @@ use Rattle.cg_machine.specs.Collect.{older}
 use Rattle.cg_policy.specs.Flagset.{bits_of}
 use Rattle.cg_collect.specs.Saving.{with_saved, kept_aside}
 use Rattle.cg_collect.specs.Turns.{KeepsObjects}
-use Rattle.cg_collect.proofs.Keeping.{keeps_then, keeps-rewritten, keeps-merged}
-use Rattle.cg_collect.proofs.Apart.{list_few}
+use Rattle.cg_collect.proofs.NothingIsMade.{keeps_then, keeps-rewritten, keeps-merged}
+use Rattle.cg_collect.proofs.UnreachablePlaces.{list_few}
 use Rattle.cg_collect.proofs.TakingTurns.{in_heap, in_policy, goes_on}
 use Rattle.cg_collect.proofs.Stopping.{turn-ended, turn-ended_told, first_at}
 use Rattle.cg_collect.proofs.ending.end.Goals as goal
@@ -32,9 +32,11 @@ returns-then-intersects g c =
     let facts = c.args.facts in
     let store = c.args.heap.now in
     let kept : Store = with_saved (kept_aside script (bits_of facts.flags) store) store in
-    let is : c.merge.new.self ≡ merged Legacy (Gen (older facts.generation)) kept = c.merge.ensures ∙ ap (λ k. merged Legacy (Gen k) c.save_legacy.new.heap) c.older.ensures ∙ ap (merged Legacy (Gen (older facts.generation))) c.save_legacy.ensures in
+    let is : c.merge.new.self ≡ merged Legacy (Gen (older facts.generation)) kept = c.merge.ensures ∙ ap (λ k. merged Legacy (Gen k) c.save_legacy.new.heap)
+    c.older.ensures ∙ ap (merged Legacy (Gen (older facts.generation))) c.save_legacy.ensures in
     let root : IsLive store 1 = live_of_kind store 1 ListKind c.sound.ensures.root in
-    let there = first_at script facts store root c.sound.ensures.listed (subst IsListed c.save_legacy.ensures c.sound-2.ensures.listed) (subst IsListed is c.sound-3.ensures.listed) c.first-first.result c.first-first.ensures in
+    let there = first_at script facts store root c.sound.ensures.listed (subst IsListed c.save_legacy.ensures c.sound-2.ensures.listed)
+    (subst IsListed is c.sound-3.ensures.listed) c.first-first.result c.first-first.ensures in
     in_heap is (in_policy c.ended.ensures (goes_on c.to.ensures
     (turn-ended_told script facts store root c.sound.ensures.listed (subst IsListed c.save_legacy.ensures c.sound-2.ensures.listed) (subst IsListed is c.sound-3.ensures.listed) c.args.policy.now
     c.first-first.result c.first-first.ensures c.size-number.result c.size-number.ensures (sym (c.intersects.ensures tt) ∙ c.if-intersects.true))
@@ -48,9 +50,11 @@ returns-else-intersects g c =
     let facts = c.args.facts in
     let store = c.args.heap.now in
     let kept : Store = with_saved (kept_aside script (bits_of facts.flags) store) store in
-    let is : c.merge.new.self ≡ merged Legacy (Gen (older facts.generation)) kept = c.merge.ensures ∙ ap (λ k. merged Legacy (Gen k) c.save_legacy.new.heap) c.older.ensures ∙ ap (merged Legacy (Gen (older facts.generation))) c.save_legacy.ensures in
+    let is : c.merge.new.self ≡ merged Legacy (Gen (older facts.generation)) kept = c.merge.ensures ∙ ap (λ k. merged Legacy (Gen k) c.save_legacy.new.heap)
+    c.older.ensures ∙ ap (merged Legacy (Gen (older facts.generation))) c.save_legacy.ensures in
     let root : IsLive store 1 = live_of_kind store 1 ListKind c.sound.ensures.root in
-    let there = first_at script facts store root c.sound.ensures.listed (subst IsListed c.save_legacy.ensures c.sound-2.ensures.listed) (subst IsListed is c.sound-3.ensures.listed) c.first-first.result c.first-first.ensures in
+    let there = first_at script facts store root c.sound.ensures.listed (subst IsListed c.save_legacy.ensures c.sound-2.ensures.listed)
+    (subst IsListed is c.sound-3.ensures.listed) c.first-first.result c.first-first.ensures in
     in_heap is (in_policy c.ended.ensures (goes_on c.to-else-intersects.ensures
     (turn-ended script facts store root c.sound.ensures.listed (subst IsListed c.save_legacy.ensures c.sound-2.ensures.listed) (subst IsListed is c.sound-3.ensures.listed) c.args.policy.now
     c.first-first.result c.first-first.ensures c.size-number.result c.size-number.ensures (sym (c.intersects.ensures tt) ∙ c.if-intersects.false))

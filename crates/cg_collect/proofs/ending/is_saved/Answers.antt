@@ -6,7 +6,8 @@ use Rattle.cg_machine.specs.Program.{legacy_of}
 use Rattle.cg_collect.proofs.ending.is_saved.Goals as goal
 
 pub returns-then-intersects : goal.returns-then-intersects
-returns-then-intersects g c = ap (λ b. b || is_some (option_and_then (legacy_of c.args.script.now) (object_at (objects_of c.args.heap.now) c.args.object))) (sym (sym (c.intersects.ensures tt) ∙ c.if-intersects.true))
+returns-then-intersects g c = ap (λ b. b || is_some (option_and_then (legacy_of c.args.script.now) (object_at (objects_of c.args.heap.now) c.args.object)))
+    (sym (sym (c.intersects.ensures tt) ∙ c.if-intersects.true))
 
 pub returns : goal.returns
 returns g c =

@@ -3,7 +3,7 @@ use Rattle.cg_value.specs.declared.Place.TheVariants.{Legacy}
 use Rattle.cg_graph.specs.Store.{list_at}
 use Rattle.cg_policy.specs.Flagset.{bits_of}
 use Rattle.cg_trial.proofs.Lists.{ahead}
-use Rattle.cg_collect.proofs.Saved.{Saving}
+use Rattle.cg_collect.proofs.SavedObjects.{Saving}
 use Rattle.cg_collect.proofs.ending.save_legacy.Given as goal
 
 abbrev pub invariant-objects : goal.invariant-objects

@@ -1,5 +1,5 @@
 use Rattle.std.proofs.Common.{refl, arith}
-use Rattle.cg_collect.proofs.Keeping.{keeps_all}
+use Rattle.cg_collect.proofs.NothingIsMade.{keeps_all}
 use Rattle.cg_collect.proofs.Stopping.{turn-stopped}
 use Rattle.cg_collect.proofs.TakingTurns.{tells}
 use Rattle.cg_collect.proofs.ending.tell_end.Goals as goal

@@ -1,11 +1,11 @@
 use Rattle.std.proofs.Common.{inl, inr, refl, ap, subst, sym, ◌∙◌, arith}
 use Rattle.cg_value.specs.declared.Place.TheVariants.{Gen}
 use Rattle.cg_graph.specs.Store.{list_at}
-use Rattle.cg_trial.proofs.Placed.{where_is}
+use Rattle.cg_trial.proofs.PlacesOfObjects.{where_is}
 use Rattle.cg_machine.specs.Collect.{older}
 use Rattle.cg_collect.specs.declared.phase.Phase.TheVariants as phase_of
 use Rattle.cg_collect.specs.Ready.{IsAt}
-use Rattle.cg_collect.proofs.Keeping.{keeps_all}
+use Rattle.cg_collect.proofs.NothingIsMade.{keeps_all}
 use Rattle.cg_collect.proofs.Stopping.{turn-saved_told, turn-not_saved, turn-stopping, next_from, next_at, around_shorter}
 use Rattle.cg_collect.proofs.TakingTurns.{at_phase, goes_on, tells}
 use Rattle.cg_collect.proofs.ending.tell_saved.Goals as goal

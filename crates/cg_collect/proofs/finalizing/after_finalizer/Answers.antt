@@ -1,6 +1,6 @@
 use Rattle.std.proofs.Common.{refl, ap, inr, length, arith}
-use Rattle.cg_collect.proofs.Keeping.{keeps_all}
-use Rattle.cg_collect.proofs.Looking.{turn-given_up}
+use Rattle.cg_collect.proofs.NothingIsMade.{keeps_all}
+use Rattle.cg_collect.proofs.FinalizerPhase.{turn-given_up}
 use Rattle.cg_collect.proofs.TakingTurns.{gives_up}
 use Rattle.cg_collect.proofs.finalizing.after_finalizer.Goals as goal
 

@@ -1,8 +1,8 @@
 use Rattle.std.proofs.Common.{refl, sym, inr, arith}
 use Rattle.cg_value.specs.declared.Place.TheVariants.{Seen}
 use Rattle.cg_heap.specs.Calls.{marked}
-use Rattle.cg_collect.proofs.Keeping.{keeps-moved, keeps-own_frame}
-use Rattle.cg_collect.proofs.Looking.{condemned, turn-looked, turn-runs, apart_looked, fewer_left}
+use Rattle.cg_collect.proofs.NothingIsMade.{keeps-moved, keeps-own_frame}
+use Rattle.cg_collect.proofs.FinalizerPhase.{condemned, turn-looked, turn-runs, apart_looked, fewer_left}
 use Rattle.cg_collect.proofs.TakingTurns.{in_heap, goes_on, runs}
 use Rattle.cg_collect.proofs.finalizing.look_at.Goals as goal
 

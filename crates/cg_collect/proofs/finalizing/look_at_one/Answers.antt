@@ -1,7 +1,7 @@
 use Rattle.std.proofs.Common.{refl, inl, sym, arith}
 use Rattle.cg_value.specs.declared.Place.TheVariants.{Cand, Seen}
-use Rattle.cg_collect.proofs.Keeping.{keeps-merged}
-use Rattle.cg_collect.proofs.Looking.{turn-all_looked, apart_again}
+use Rattle.cg_collect.proofs.NothingIsMade.{keeps-merged}
+use Rattle.cg_collect.proofs.FinalizerPhase.{turn-all_looked, apart_again}
 use Rattle.cg_collect.proofs.TakingTurns.{in_heap, goes_on}
 use Rattle.cg_collect.proofs.finalizing.look_at_one.Goals as goal
 

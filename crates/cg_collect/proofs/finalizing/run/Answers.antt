@@ -17,7 +17,8 @@ set_finalized-requires g c =
 pub hold-requires-clause-live : goal.hold-requires-clause-live
 hold-requires-clause-live g c =
     subst (λ st. IsLive st c.args.object) (sym (c.set_finalized.ensures ∙ ap (with_node marked c.args.object) c.move_to.ensures))
-    (lives_on (moved c.args.object Seen c.args.heap.now) (with_node marked c.args.object (moved c.args.object Seen c.args.heap.now)) (kinds-with_node marked (λ n. refl) c.args.object (moved c.args.object Seen c.args.heap.now)) c.args.object
+    (lives_on (moved c.args.object Seen c.args.heap.now) (with_node marked c.args.object (moved c.args.object Seen c.args.heap.now))
+    (kinds-with_node marked (λ n. refl) c.args.object (moved c.args.object Seen c.args.heap.now)) c.args.object
     (lives_on c.args.heap.now (moved c.args.object Seen c.args.heap.now) (kinds-moved c.args.object Seen c.args.heap.now) c.args.object c.requires.live))
 
 pub hold-requires-clause-few : goal.hold-requires-clause-few
@@ -26,4 +27,9 @@ hold-requires-clause-few g c =
     (omega (arith, c.requires.few, total-moved c.args.object Seen c.args.heap.now, total-with_node marked (λ n. refl) c.args.object (moved c.args.object Seen c.args.heap.now)))
 
 pub returns-clause-turn : goal.returns-clause-turn
-returns-clause-turn g c = c.runs.ensures ∙ ap (λ (f : FrameSpec). record { phase = phase_of.AfterFinalizing c.args.object; release = None; collected = 0; answer = answer_of.Frame f }) c.finalizer_frame-frame.ensures
+returns-clause-turn g c = c.runs.ensures ∙ ap (λ (f : FrameSpec). record {
+  phase = phase_of.AfterFinalizing c.args.object;
+  release = None;
+  collected = 0;
+  answer = answer_of.Frame f;
+}) c.finalizer_frame-frame.ensures

@@ -1,5 +1,5 @@
-use Rattle.cg_collect.proofs.Standing.{live_on}
-use Rattle.cg_collect.proofs.Aside.{closing_live, closing_looked, closing_looks, closing_shorter, closing_done, closing_over}
+use Rattle.cg_collect.proofs.PlacesOfObjects.{live_on}
+use Rattle.cg_collect.proofs.Uncollectable.{closing_live, closing_looked, closing_looks, closing_shorter, closing_done, closing_over}
 use Rattle.cg_collect.proofs.legacy.close.Goals as goal
 
 pub set_references_aside-requires : goal.set_references_aside-requires

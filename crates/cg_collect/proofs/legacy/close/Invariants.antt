@@ -2,7 +2,7 @@ use Rattle.std.proofs.Common.{◌+◌, length}
 use Rattle.cg_value.specs.declared.Place.TheVariants.{Cand, Legacy}
 use Rattle.cg_graph.specs.Store.{list_at}
 use Rattle.cg_trial.proofs.Lists.{ahead}
-use Rattle.cg_collect.proofs.Aside.{ClosingLooked}
+use Rattle.cg_collect.proofs.Uncollectable.{ClosingLooked}
 use Rattle.cg_collect.proofs.legacy.close.Given as goal
 
 abbrev pub invariant-objects : goal.invariant-objects

@@ -6,7 +6,7 @@ use Rattle.cg_value.specs.declared.Place.TheVariants.{Cand}
 use Rattle.cg_graph.specs.Store.{Store, place_of, IsLive}
 use Rattle.cg_trial.specs.View.{targets}
 use Rattle.cg_collect.specs.Starting.{SetsReferencesAside}
-use Rattle.cg_collect.proofs.Aside.{aside_one}
+use Rattle.cg_collect.proofs.Uncollectable.{aside_one}
 use Rattle.cg_collect.proofs.legacy.set_aside.Goals as goal
 
 pub returns-then-eq : goal.returns-then-eq

@@ -1,4 +1,4 @@
-use Rattle.cg_collect.proofs.Aside.{SettingLooked}
+use Rattle.cg_collect.proofs.Uncollectable.{SettingLooked}
 use Rattle.cg_collect.proofs.legacy.set_aside_from_first.Given as goal
 
 abbrev pub invariant-entries : goal.invariant-entries

@@ -1,7 +1,7 @@
 use Rattle.cg_graph.specs.Store.{entries_of}
 use Rattle.std.specs.Prelude.{slice_get, Some}
 use Rattle.std.proofs.Common.{◌≡◌, ◌+◌, ◌-◌, sym, ◌∙◌, ap, subst, arith}
-use Rattle.cg_collect.proofs.Standing.{live_on, entries_on}
+use Rattle.cg_collect.proofs.PlacesOfObjects.{live_on, entries_on}
 use Rattle.cg_collect.proofs.Moving.{value_lives, key_lives}
 use Rattle.cg_collect.proofs.AsideBackward.{SettingBack, setting_back-first, setting_back-more, setting_back-all}
 use Rattle.cg_collect.proofs.legacy.set_aside_from_last.Goals as goal
@@ -13,15 +13,18 @@ pub set_aside-requires : goal.set_aside-requires
 set_aside-requires g c =
     let old = c.args.heap.now in
     let so = c.entries.invariant.so_far.same in
-    let at : slice_get (entries_of old c.args.object) (c.entries.end - 1) ≡ Some c.look-entry.result = ap (λ es. slice_get es (c.entries.end - 1)) (sym (entries_on old c.entries.heap so c.args.object)) ∙ c.look-entry.ensures.entry in
+    let at : slice_get (entries_of old c.args.object) (c.entries.end - 1) ≡ Some c.look-entry.result = ap (λ es. slice_get es (c.entries.end - 1))
+    (sym (entries_on old c.entries.heap so c.args.object)) ∙ c.look-entry.ensures.entry in
     λ s is. live_on old c.entries.heap so s (value_lives old c.sound.ensures.live c.args.object (c.entries.end - 1) c.look-entry.result at s is)
 
 pub set_aside-requires-in-entries : goal.set_aside-requires-in-entries
 set_aside-requires-in-entries g c =
     let old = c.args.heap.now in
     let so = c.entries.invariant.so_far.same in
-    let at : slice_get (entries_of old c.args.object) (c.entries.end - 1) ≡ Some c.look-entry.result = ap (λ es. slice_get es (c.entries.end - 1)) (sym (entries_on old c.entries.heap so c.args.object)) ∙ c.look-entry.ensures.entry in
-    λ s is. live_on c.entries.heap c.set_aside.new.heap c.set_aside.ensures.same s (live_on old c.entries.heap so s (key_lives old c.sound.ensures.live c.args.object (c.entries.end - 1) c.look-entry.result at s is))
+    let at : slice_get (entries_of old c.args.object) (c.entries.end - 1) ≡ Some c.look-entry.result = ap (λ es. slice_get es (c.entries.end - 1))
+    (sym (entries_on old c.entries.heap so c.args.object)) ∙ c.look-entry.ensures.entry in
+    λ s is. live_on c.entries.heap c.set_aside.new.heap c.set_aside.ensures.same s (live_on old c.entries.heap so s (key_lives old c.sound.ensures.live
+    c.args.object (c.entries.end - 1) c.look-entry.result at s is))
 
 pub entries-preserved : goal.entries-preserved
 entries-preserved g c =

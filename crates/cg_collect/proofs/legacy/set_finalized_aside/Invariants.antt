@@ -2,7 +2,7 @@ use Rattle.std.proofs.Common.{length}
 use Rattle.cg_value.specs.declared.Place.TheVariants.{Cand}
 use Rattle.cg_graph.specs.Store.{list_at}
 use Rattle.cg_trial.proofs.Lists.{ahead}
-use Rattle.cg_collect.proofs.Aside.{Finding}
+use Rattle.cg_collect.proofs.Uncollectable.{Finding}
 use Rattle.cg_collect.proofs.legacy.set_finalized_aside.Given as goal
 
 abbrev pub invariant-objects : goal.invariant-objects

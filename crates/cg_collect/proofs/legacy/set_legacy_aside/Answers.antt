@@ -1,4 +1,4 @@
-use Rattle.cg_collect.proofs.Aside.{both_aside}
+use Rattle.cg_collect.proofs.Uncollectable.{both_aside}
 use Rattle.cg_collect.proofs.legacy.set_legacy_aside.Goals as goal
 
 pub returns : goal.returns

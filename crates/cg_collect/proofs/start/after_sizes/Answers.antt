@@ -2,7 +2,7 @@ use Rattle.std.proofs.Common.{◌≡◌, sym, ◌∙◌, ap, false}
 use Rattle.cg_machine.specs.Collect.{has_flag, collectable}
 use Rattle.cg_policy.specs.Flagset.{bits_of}
 use Rattle.cg_collect.specs.Starting.{told_if}
-use Rattle.cg_collect.proofs.Telling.{collectable_at}
+use Rattle.cg_collect.proofs.StartLines.{collectable_at}
 use Rattle.cg_collect.proofs.start.after_sizes.Goals as goal
 
 pub returns-else-contains : goal.returns-else-contains

@@ -2,9 +2,9 @@ use Rattle.std.proofs.Common.{refl, inl, sym, arith}
 use Rattle.cg_value.specs.declared.Place.TheVariants.{Cand}
 use Rattle.cg_graph.specs.Store.{list_at}
 use Rattle.cg_death.proofs.Clearing.{none_first}
-use Rattle.cg_collect.proofs.Keeping.{keeps_all}
+use Rattle.cg_collect.proofs.NothingIsMade.{keeps_all}
 use Rattle.cg_collect.proofs.TakingTurns.{goes_on}
-use Rattle.cg_collect.proofs.Turning.{turn-ending}
+use Rattle.cg_collect.proofs.ClearingTurns.{turn-ending}
 use Rattle.cg_collect.proofs.turns.take_turn.Goals as goal
 
 pub returns-in-None : goal.returns-in-None

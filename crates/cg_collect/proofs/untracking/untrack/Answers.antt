@@ -12,7 +12,13 @@ returns-then-generation-eq2 g c = record {
     dictionaries = λ e. subst (λ (n : ℕ). Untracks n Dict c.untrack_kind.new.heap c.untrack_kind-then-generation-eq2.new.heap) e c.untrack_kind-then-generation-eq2.ensures.untracks;
     younger = λ differs. absurd (differs c.if-generation-eq2.true);
   };
-  looks = omega (arith, c.untrack_kind.ensures.looks, c.untrack_kind-then-generation-eq2.ensures.looks, untracked_fewer c.args.generation Tuple c.args.heap.now c.untrack_kind.new.heap c.sound.ensures.listed c.sound-2.ensures.listed c.untrack_kind.ensures.untracks);
+  looks = omega (
+    arith,
+    c.untrack_kind.ensures.looks,
+    c.untrack_kind-then-generation-eq2.ensures.looks,
+    untracked_fewer c.args.generation Tuple c.args.heap.now
+        c.untrack_kind.new.heap c.sound.ensures.listed c.sound-2.ensures.listed c.untrack_kind.ensures.untracks,
+  );
 }
 
 pub returns-else-generation-eq2 : goal.returns-else-generation-eq2

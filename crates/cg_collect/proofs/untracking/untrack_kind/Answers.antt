@@ -6,18 +6,23 @@ pub objects-init : goal.objects-init
 objects-init g c = untracking_looked c.args.generation c.args.kind c.args.heap.now c.first_near-next.result c.args.steps.now c.first_near-next.ensures
 
 pub next_near-next-requires : goal.next_near-next-requires
-next_near-next-requires g c = untracking_live c.args.generation c.args.kind c.args.heap.now c.objects.heap c.objects.next c.in-Some.object c.sound-in-Some.ensures.listed c.objects.invariant.walk c.in-Some.is
+next_near-next-requires g c = untracking_live c.args.generation c.args.kind c.args.heap.now c.objects.heap c.objects.next c.in-Some.object
+    c.sound-in-Some.ensures.listed c.objects.invariant.walk c.in-Some.is
 
 pub untrack_one-requires : goal.untrack_one-requires
-untrack_one-requires g c = untracking_live c.args.generation c.args.kind c.args.heap.now c.objects.heap c.objects.next c.in-Some.object c.sound-in-Some.ensures.listed c.objects.invariant.walk c.in-Some.is
+untrack_one-requires g c = untracking_live c.args.generation c.args.kind c.args.heap.now c.objects.heap c.objects.next c.in-Some.object
+    c.sound-in-Some.ensures.listed c.objects.invariant.walk c.in-Some.is
 
 pub objects-smaller : goal.objects-smaller
-objects-smaller g c = untracking_shorter c.args.generation c.args.kind c.args.heap.now c.objects.heap c.objects.next c.in-Some.object c.sound-in-Some.ensures.listed c.objects.invariant.walk c.in-Some.is
+objects-smaller g c = untracking_shorter c.args.generation c.args.kind c.args.heap.now c.objects.heap c.objects.next c.in-Some.object
+    c.sound-in-Some.ensures.listed c.objects.invariant.walk c.in-Some.is
     c.next_near-next.result c.next_near-next.ensures c.untrack_one.new.heap c.untrack_one.ensures.untracks
 
 pub objects-preserved : goal.objects-preserved
-objects-preserved g c = untracking_looks c.args.generation c.args.kind c.args.heap.now c.objects.heap c.objects.next c.in-Some.object c.sound-in-Some.ensures.listed c.objects.invariant.walk c.in-Some.is
-    c.next_near-next.result c.next_near-next.ensures c.untrack_one.new.heap _ c.objects.steps c.untrack_one.new.steps c.untrack_one.ensures.untracks c.objects.invariant.looked c.untrack_one.ensures.looks
+objects-preserved g c = untracking_looks c.args.generation c.args.kind c.args.heap.now c.objects.heap c.objects.next c.in-Some.object
+    c.sound-in-Some.ensures.listed c.objects.invariant.walk c.in-Some.is
+    c.next_near-next.result c.next_near-next.ensures c.untrack_one.new.heap _ c.objects.steps c.untrack_one.new.steps c.untrack_one.ensures.untracks
+    c.objects.invariant.looked c.untrack_one.ensures.looks
 
 pub returns : goal.returns
 returns g c = record {

@@ -1,7 +1,7 @@
 use Rattle.std.proofs.Common.{refl, ap, inr, length, arith}
 use Rattle.cg_value.specs.declared.Place.TheVariants.{Pend}
 use Rattle.cg_graph.specs.Store.{list_at}
-use Rattle.cg_collect.proofs.Keeping.{keeps_all}
+use Rattle.cg_collect.proofs.NothingIsMade.{keeps_all}
 use Rattle.cg_collect.proofs.Pending.{turn-released, first_left}
 use Rattle.cg_collect.proofs.TakingTurns.{gives_up}
 use Rattle.cg_collect.proofs.weak.after_callback.Goals as goal

@@ -4,7 +4,7 @@ use Rattle.cg_value.specs.declared.Place.TheVariants.{Gen, Pend}
 use Rattle.cg_graph.specs.Store.{list_at}
 use Rattle.cg_graph.specs.Changes.{moved}
 use Rattle.cg_machine.specs.Collect.{older}
-use Rattle.cg_collect.proofs.Keeping.{keeps_all, keeps-moved}
+use Rattle.cg_collect.proofs.NothingIsMade.{keeps_all, keeps-moved}
 use Rattle.cg_collect.proofs.Pending.{turn-died, turn-aged, older_place, apart_away, callbacks_away, others_are_all, all_have_callbacks, others_wait, no_more_wait}
 use Rattle.cg_collect.proofs.TakingTurns.{in_heap, goes_on}
 use Rattle.cg_collect.proofs.weak.after_release.Goals as goal
@@ -23,7 +23,8 @@ returns-then-has g c = λ script policy.
       apart_away c.args.heap.now c.sound.ensures.listed c.args.weak live (Gen (older c.args.facts.generation)) place c.requires.ready.2 (λ e. cc) (λ e. cc) (λ e. cc) (λ e. cc) c.requires.ready.0,
       callbacks_away c.args.heap.now c.sound.ensures.listed c.args.weak live (Gen (older c.args.facts.generation)) place (λ e. cc) c.requires.ready.1,
     )
-    tt (inr (refl, omega (arith, no_more_wait c.args.heap.now c.args.weak c.sound.ensures.listed live c.args.facts.generation c.requires.generation))) (λ n few. omega (arith, few, wait)) (omega arith, refl)
+    tt (inr (refl, omega (arith, no_more_wait c.args.heap.now c.args.weak c.sound.ensures.listed live c.args.facts.generation c.requires.generation)))
+    (λ n few. omega (arith, few, wait)) (omega arith, refl)
     (keeps-moved c.args.weak (Gen (older c.args.facts.generation)) c.args.heap.now))
 
 -- One that has died is counted.

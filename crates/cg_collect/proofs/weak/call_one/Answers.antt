@@ -1,10 +1,10 @@
 use Rattle.std.proofs.Common.{refl, inl, sym, arith}
 use Rattle.cg_value.specs.declared.Place.TheVariants.{Pend}
 use Rattle.cg_graph.specs.Store.{list_at}
-use Rattle.cg_trial.proofs.Placed.{where_is}
+use Rattle.cg_trial.proofs.PlacesOfObjects.{where_is}
 use Rattle.cg_death.proofs.RowSplits.{head_in}
 use Rattle.cg_collect.proofs.Garbage.{not_garbage}
-use Rattle.cg_collect.proofs.Keeping.{keeps_all}
+use Rattle.cg_collect.proofs.NothingIsMade.{keeps_all}
 use Rattle.cg_collect.proofs.Pending.{turn-called, turn-all_called}
 use Rattle.cg_collect.proofs.TakingTurns.{goes_on, runs}
 use Rattle.cg_collect.proofs.weak.call_one.Goals as goal

@@ -8,4 +8,5 @@ use Rattle.cg_collect.proofs.weak.lose.Goals as goal
 pub move_to-requires-clause-live : goal.move_to-requires-clause-live
 move_to-requires-clause-live g c =
     subst (λ st. IsLive st c.args.weak) (sym (c.hold.ensures ∙ ap (held (c.args.weak ∷ [])) c.clear_weak.ensures))
-    (lives_on (cleared_weak c.args.weak false c.args.heap.now) (held (c.args.weak ∷ []) (cleared_weak c.args.weak false c.args.heap.now)) (kinds-held (c.args.weak ∷ []) (cleared_weak c.args.weak false c.args.heap.now)) c.args.weak c.requires.live)
+    (lives_on (cleared_weak c.args.weak false c.args.heap.now) (held (c.args.weak ∷ []) (cleared_weak c.args.weak false c.args.heap.now))
+    (kinds-held (c.args.weak ∷ []) (cleared_weak c.args.weak false c.args.heap.now)) c.args.weak c.requires.live)

@@ -40,7 +40,8 @@ set_item-requires-clause-known g c =
 pub returns-in-SetItem : goal.returns-in-SetItem
 returns-in-SetItem g c = λ policy.
     plainly c.args.heap.now policy c.args.locals.now false c.args.command.now _ c.in-SetItem.is tt c.set_item.new.heap (gives c.set_item.result)
-    (subst (λ z. PerformsOnHeap c.args.heap.now c.args.locals.now (λ w. effect w (command.SetItem c.in-SetItem.list z c.in-SetItem.value)) c.set_item.new.heap (gives c.set_item.result)) (read_back c.number.result c.number.type_inv ∙ c.number.ensures) c.set_item.ensures) refl
+    (subst (λ z. PerformsOnHeap c.args.heap.now c.args.locals.now (λ w. effect w (command.SetItem c.in-SetItem.list z c.in-SetItem.value)) c.set_item.new.heap
+    (gives c.set_item.result)) (read_back c.number.result c.number.type_inv ∙ c.number.ensures) c.set_item.ensures) refl
 
 pub del_item-requires-clause-known : goal.del_item-requires-clause-known
 del_item-requires-clause-known g c =
@@ -49,7 +50,8 @@ del_item-requires-clause-known g c =
 pub returns-in-DelItem : goal.returns-in-DelItem
 returns-in-DelItem g c = λ policy.
     plainly c.args.heap.now policy c.args.locals.now false c.args.command.now _ c.in-DelItem.is tt c.del_item.new.heap (gives c.del_item.result)
-    (subst (λ z. PerformsOnHeap c.args.heap.now c.args.locals.now (λ w. effect w (command.DelItem c.in-DelItem.list z)) c.del_item.new.heap (gives c.del_item.result)) (read_back c.number-in-DelItem.result c.number-in-DelItem.type_inv ∙ c.number-in-DelItem.ensures) c.del_item.ensures) refl
+    (subst (λ z. PerformsOnHeap c.args.heap.now c.args.locals.now (λ w. effect w (command.DelItem c.in-DelItem.list z)) c.del_item.new.heap
+    (gives c.del_item.result)) (read_back c.number-in-DelItem.result c.number-in-DelItem.type_inv ∙ c.number-in-DelItem.ensures) c.del_item.ensures) refl
 
 pub put-requires-clause-known : goal.put-requires-clause-known
 put-requires-clause-known g c =
@@ -90,7 +92,8 @@ item-requires-clause-known g c =
 pub returns-in-Item : goal.returns-in-Item
 returns-in-Item g c = λ policy.
     plainly c.args.heap.now policy c.args.locals.now false c.args.command.now _ c.in-Item.is tt c.item.new.heap (gives c.item.result)
-    (subst (λ z. PerformsOnHeap c.args.heap.now c.args.locals.now (λ w. effect w (command.Item c.in-Item.name c.in-Item.list z)) c.item.new.heap (gives c.item.result)) (read_back c.number-in-Item.result c.number-in-Item.type_inv ∙ c.number-in-Item.ensures) c.item.ensures) refl
+    (subst (λ z. PerformsOnHeap c.args.heap.now c.args.locals.now (λ w. effect w (command.Item c.in-Item.name c.in-Item.list z)) c.item.new.heap
+    (gives c.item.result)) (read_back c.number-in-Item.result c.number-in-Item.type_inv ∙ c.number-in-Item.ensures) c.item.ensures) refl
 
 pub get-requires-clause-known : goal.get-requires-clause-known
 get-requires-clause-known g c =

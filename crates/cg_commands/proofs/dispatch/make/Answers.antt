@@ -16,8 +16,11 @@ make_dict-made-requires-clause-known g c =
 
 pub returns-in-MakeDict : goal.returns-in-MakeDict
 returns-in-MakeDict g c =
-    let done = made_and_counted c.args.heap.now c.args.policy.now c.args.locals.now c.args.room c.args.command.now _ c.in-MakeDict.is tt c.make_dict-made.new.heap c.make_dict-made.result c.make_dict-made.ensures.performs refl c.make_dict-made.ensures.room c.count-in-MakeDict.new.policy c.count-in-MakeDict.ensures.counts in
-    subst (Attempts c.args.heap.now c.args.policy.now c.args.locals.now c.args.room c.args.command.now c.make_dict-made.new.heap c.count-in-MakeDict.new.policy) (sym c.count-in-MakeDict.ensures.same) done
+    let done = made_and_counted c.args.heap.now c.args.policy.now c.args.locals.now c.args.room c.args.command.now _ c.in-MakeDict.is tt
+    c.make_dict-made.new.heap c.make_dict-made.result c.make_dict-made.ensures.performs refl c.make_dict-made.ensures.room c.count-in-MakeDict.new.policy
+    c.count-in-MakeDict.ensures.counts in
+    subst (Attempts c.args.heap.now c.args.policy.now c.args.locals.now c.args.room c.args.command.now c.make_dict-made.new.heap c.count-in-MakeDict.new.policy)
+    (sym c.count-in-MakeDict.ensures.same) done
 
 pub make_instance-made-requires-clause-known : goal.make_instance-made-requires-clause-known
 make_instance-made-requires-clause-known g c =
@@ -25,8 +28,11 @@ make_instance-made-requires-clause-known g c =
 
 pub returns-in-MakeInst : goal.returns-in-MakeInst
 returns-in-MakeInst g c =
-    let done = made_and_counted c.args.heap.now c.args.policy.now c.args.locals.now c.args.room c.args.command.now _ c.in-MakeInst.is tt c.make_instance-made.new.heap c.make_instance-made.result c.make_instance-made.ensures.performs refl c.make_instance-made.ensures.room c.count-in-MakeInst.new.policy c.count-in-MakeInst.ensures.counts in
-    subst (Attempts c.args.heap.now c.args.policy.now c.args.locals.now c.args.room c.args.command.now c.make_instance-made.new.heap c.count-in-MakeInst.new.policy) (sym c.count-in-MakeInst.ensures.same) done
+    let done = made_and_counted c.args.heap.now c.args.policy.now c.args.locals.now c.args.room c.args.command.now _ c.in-MakeInst.is tt
+    c.make_instance-made.new.heap c.make_instance-made.result c.make_instance-made.ensures.performs refl c.make_instance-made.ensures.room
+    c.count-in-MakeInst.new.policy c.count-in-MakeInst.ensures.counts in
+    subst (Attempts c.args.heap.now c.args.policy.now c.args.locals.now c.args.room c.args.command.now c.make_instance-made.new.heap
+    c.count-in-MakeInst.new.policy) (sym c.count-in-MakeInst.ensures.same) done
 
 pub make_weak-made-requires-clause-known : goal.make_weak-made-requires-clause-known
 make_weak-made-requires-clause-known g c =
@@ -34,8 +40,11 @@ make_weak-made-requires-clause-known g c =
 
 pub returns-in-MakeRef : goal.returns-in-MakeRef
 returns-in-MakeRef g c =
-    let done = made_and_counted c.args.heap.now c.args.policy.now c.args.locals.now c.args.room c.args.command.now _ c.in-MakeRef.is tt c.make_weak-made.new.heap c.make_weak-made.result c.make_weak-made.ensures.performs refl c.make_weak-made.ensures.room c.count-in-MakeRef.new.policy c.count-in-MakeRef.ensures.counts in
-    subst (Attempts c.args.heap.now c.args.policy.now c.args.locals.now c.args.room c.args.command.now c.make_weak-made.new.heap c.count-in-MakeRef.new.policy) (sym c.count-in-MakeRef.ensures.same) done
+    let done = made_and_counted c.args.heap.now c.args.policy.now c.args.locals.now c.args.room c.args.command.now _ c.in-MakeRef.is tt
+    c.make_weak-made.new.heap c.make_weak-made.result c.make_weak-made.ensures.performs refl c.make_weak-made.ensures.room c.count-in-MakeRef.new.policy
+    c.count-in-MakeRef.ensures.counts in
+    subst (Attempts c.args.heap.now c.args.policy.now c.args.locals.now c.args.room c.args.command.now c.make_weak-made.new.heap c.count-in-MakeRef.new.policy)
+    (sym c.count-in-MakeRef.ensures.same) done
 
 pub make_list-made-requires-clause-known : goal.make_list-made-requires-clause-known
 make_list-made-requires-clause-known g c =
@@ -48,7 +57,11 @@ make_list-made-requires-clause-count g c =
 
 pub returns-in-MakeList : goal.returns-in-MakeList
 returns-in-MakeList g c =
-    let done = made_and_counted c.args.heap.now c.args.policy.now c.args.locals.now c.args.room c.args.command.now _ c.in-MakeList.is tt c.make_list-made.new.heap c.make_list-made.result (subst (λ ops. PerformsOnHeap c.args.heap.now c.args.locals.now (λ w. effect w (command.MakeList c.in-MakeList.name ops)) c.make_list-made.new.heap c.make_list-made.result) c.as_slice.ensures c.make_list-made.ensures.performs) refl c.make_list-made.ensures.room c.count.new.policy c.count.ensures.counts in
+    let done = made_and_counted c.args.heap.now c.args.policy.now c.args.locals.now c.args.room c.args.command.now _ c.in-MakeList.is tt
+    c.make_list-made.new.heap c.make_list-made.result
+    (subst (λ ops. PerformsOnHeap c.args.heap.now c.args.locals.now (λ w. effect w (command.MakeList c.in-MakeList.name ops)) c.make_list-made.new.heap
+    c.make_list-made.result) c.as_slice.ensures c.make_list-made.ensures.performs) refl c.make_list-made.ensures.room c.count.new.policy
+    c.count.ensures.counts in
     subst (Attempts c.args.heap.now c.args.policy.now c.args.locals.now c.args.room c.args.command.now c.make_list-made.new.heap c.count.new.policy) (sym c.count.ensures.same) done
 
 pub make_tuple-made-requires-clause-known : goal.make_tuple-made-requires-clause-known
@@ -62,8 +75,13 @@ make_tuple-made-requires-clause-count g c =
 
 pub returns-in-MakeTuple : goal.returns-in-MakeTuple
 returns-in-MakeTuple g c =
-    let done = made_and_counted c.args.heap.now c.args.policy.now c.args.locals.now c.args.room c.args.command.now _ c.in-MakeTuple.is tt c.make_tuple-made.new.heap c.make_tuple-made.result (subst (λ ops. PerformsOnHeap c.args.heap.now c.args.locals.now (λ w. effect w (command.MakeTuple c.in-MakeTuple.name ops)) c.make_tuple-made.new.heap c.make_tuple-made.result) c.as_slice-in-MakeTuple.ensures c.make_tuple-made.ensures.performs) refl c.make_tuple-made.ensures.room c.count-in-MakeTuple.new.policy c.count-in-MakeTuple.ensures.counts in
-    subst (Attempts c.args.heap.now c.args.policy.now c.args.locals.now c.args.room c.args.command.now c.make_tuple-made.new.heap c.count-in-MakeTuple.new.policy) (sym c.count-in-MakeTuple.ensures.same) done
+    let done = made_and_counted c.args.heap.now c.args.policy.now c.args.locals.now c.args.room c.args.command.now _ c.in-MakeTuple.is tt
+    c.make_tuple-made.new.heap c.make_tuple-made.result
+    (subst (λ ops. PerformsOnHeap c.args.heap.now c.args.locals.now (λ w. effect w (command.MakeTuple c.in-MakeTuple.name ops)) c.make_tuple-made.new.heap
+    c.make_tuple-made.result) c.as_slice-in-MakeTuple.ensures c.make_tuple-made.ensures.performs) refl c.make_tuple-made.ensures.room
+    c.count-in-MakeTuple.new.policy c.count-in-MakeTuple.ensures.counts in
+    subst (Attempts c.args.heap.now c.args.policy.now c.args.locals.now c.args.room c.args.command.now c.make_tuple-made.new.heap
+    c.count-in-MakeTuple.new.policy) (sym c.count-in-MakeTuple.ensures.same) done
 
 pub make_function-made-requires-clause-known : goal.make_function-made-requires-clause-known
 make_function-made-requires-clause-known g c =
@@ -76,5 +94,10 @@ make_function-made-requires-clause-count g c =
 
 pub returns-in-MakeFunc : goal.returns-in-MakeFunc
 returns-in-MakeFunc g c =
-    let done = made_and_counted c.args.heap.now c.args.policy.now c.args.locals.now c.args.room c.args.command.now _ c.in-MakeFunc.is tt c.make_function-made.new.heap c.make_function-made.result (subst (λ ops. PerformsOnHeap c.args.heap.now c.args.locals.now (λ w. effect w (command.MakeFunc c.in-MakeFunc.name c.in-MakeFunc.proc ops)) c.make_function-made.new.heap c.make_function-made.result) c.as_slice-in-MakeFunc.ensures c.make_function-made.ensures.performs) refl c.make_function-made.ensures.room c.count-in-MakeFunc.new.policy c.count-in-MakeFunc.ensures.counts in
-    subst (Attempts c.args.heap.now c.args.policy.now c.args.locals.now c.args.room c.args.command.now c.make_function-made.new.heap c.count-in-MakeFunc.new.policy) (sym c.count-in-MakeFunc.ensures.same) done
+    let done = made_and_counted c.args.heap.now c.args.policy.now c.args.locals.now c.args.room c.args.command.now _ c.in-MakeFunc.is tt
+    c.make_function-made.new.heap c.make_function-made.result
+    (subst (λ ops. PerformsOnHeap c.args.heap.now c.args.locals.now (λ w. effect w (command.MakeFunc c.in-MakeFunc.name c.in-MakeFunc.proc ops))
+    c.make_function-made.new.heap c.make_function-made.result) c.as_slice-in-MakeFunc.ensures c.make_function-made.ensures.performs) refl
+    c.make_function-made.ensures.room c.count-in-MakeFunc.new.policy c.count-in-MakeFunc.ensures.counts in
+    subst (Attempts c.args.heap.now c.args.policy.now c.args.locals.now c.args.room c.args.command.now c.make_function-made.new.heap
+    c.count-in-MakeFunc.new.policy) (sym c.count-in-MakeFunc.ensures.same) done

@@ -10,7 +10,7 @@ use Rattle.cg_commands.specs.declared.done.Refusal.TheVariants as refusal
 use Rattle.cg_commands.specs.declared.operands.Wanted.TheVariants as wanted
 use Rattle.cg_commands.specs.Refusals.{number_of}
 use Rattle.cg_commands.specs.Objects.{test_of, refusal_of}
-use Rattle.cg_commands.proofs.Chains.{stops, stops_second, goes_on, of_ok, of_value, of_err}
+use Rattle.cg_commands.proofs.FirstRefusal.{stops, stops_second, goes_on, of_ok, of_value, of_err}
 use Rattle.cg_heap.specs.declared.fault.HeapFault.TheVariants as fault
 use Rattle.cg_heap.specs.Calls.{value_in, entry_number}
 use Rattle.cg_commands.proofs.Steps.{reads-object, reads-key}
@@ -46,11 +46,15 @@ returns-in_err-val g c =
 
 pub value_near-requires-clause-known : goal.value_near-requires-clause-known
 value_near-requires-clause-known g c =
-    all_left (λ n. n < length c.args.heap.now.names) (operand_texts c.args.dict.now) (operand_texts c.args.key.now) (all_left (λ n. n < length c.args.heap.now.names) (operand_texts c.args.dict.now ++ operand_texts c.args.key.now) (operand_texts c.args.operand.now) c.requires.known)
+    all_left (λ n. n < length c.args.heap.now.names) (operand_texts c.args.dict.now) (operand_texts c.args.key.now)
+    (all_left (λ n. n < length c.args.heap.now.names) (operand_texts c.args.dict.now ++ operand_texts c.args.key.now) (operand_texts c.args.operand.now)
+    c.requires.known)
 
 pub value-requires-clause-known : goal.value-requires-clause-known
 value-requires-clause-known g c =
-    all_right (λ n. n < length c.args.heap.now.names) (operand_texts c.args.dict.now) (operand_texts c.args.key.now) (all_left (λ n. n < length c.args.heap.now.names) (operand_texts c.args.dict.now ++ operand_texts c.args.key.now) (operand_texts c.args.operand.now) c.requires.known)
+    all_right (λ n. n < length c.args.heap.now.names) (operand_texts c.args.dict.now) (operand_texts c.args.key.now)
+    (all_left (λ n. n < length c.args.heap.now.names) (operand_texts c.args.dict.now ++ operand_texts c.args.key.now) (operand_texts c.args.operand.now)
+    c.requires.known)
 
 pub value_located-requires-clause-known : goal.value_located-requires-clause-known
 value_located-requires-clause-known g c =
@@ -73,9 +77,21 @@ returns-in-Some-Ok g c =
     (goes_on c.args.heap.now c.put_if.new.self c.args.locals.now (λ w. value w c.args.dict.now) c.in_ok-dict.dict _ (Ok (done.Changed None c.given_up.result)) c.in_ok-dict.ensures.ok
     (goes_on c.args.heap.now c.put_if.new.self c.args.locals.now (λ w. value w c.args.key.now) c.in_ok-key.key _ (Ok (done.Changed None c.given_up.result)) c.in_ok-key.ensures.ok
     (goes_on c.args.heap.now c.put_if.new.self c.args.locals.now (λ w. value w c.args.operand.now) c.in_ok-val.val _ (Ok (done.Changed None c.given_up.result)) c.in_ok-val.ensures.ok
-    (goes_on c.args.heap.now c.put_if.new.self c.args.locals.now (λ w. object w (test_of wanted.Dict) (number_of (refusal_of wanted.Dict)) c.in_ok-dict.dict) (object_from c.args.heap.now.rows c.in_ok-target.target (refers_by_code c.args.heap.now wanted.Dict tt c.in_ok-dict.dict c.in_ok-target.target c.in_ok-target.ensures.ok c.in-Some-Ok.ensures.kind).node) _ (Ok (done.Changed None c.given_up.result)) (reads-object c.args.heap.now c.args.locals.now (test_of wanted.Dict) c.in_ok-dict.dict c.in_ok-target.target (refers_by_code c.args.heap.now wanted.Dict tt c.in_ok-dict.dict c.in_ok-target.target c.in_ok-target.ensures.ok c.in-Some-Ok.ensures.kind) (number_of (refusal_of wanted.Dict)))
-    (goes_on c.args.heap.now c.put_if.new.self c.args.locals.now (λ w. unless (is_hashable w c.in_ok-key.key) unhashable) tt _ (Ok (done.Changed None c.given_up.result)) (reads-key c.args.heap.now c.args.locals.now c.in_ok-key.key true c.in_ok-target.ensures.key refl)
-    (puts-performs c.args.heap.now c.sound.ensures c.args.locals.now (test_of wanted.Dict) c.in_ok-dict.dict c.in_ok-target.target (refers_by_code c.args.heap.now wanted.Dict tt c.in_ok-dict.dict c.in_ok-target.target c.in_ok-target.ensures.ok c.in-Some-Ok.ensures.kind) (inl (code_passes c.args.heap.now wanted.Dict tt c.in_ok-dict.dict c.in_ok-target.target (refers_by_code c.args.heap.now wanted.Dict tt c.in_ok-dict.dict c.in_ok-target.target c.in_ok-target.ensures.ok c.in-Some-Ok.ensures.kind))) c.in_ok-key.key c.in_ok-val.val c.in-Some-Ok.old c.given_up.result c.put_if.new.self (of_ok c.in-Some-Ok.field-0 _ c.in-Some-Ok.field-0-is c.in-Some-Ok.ensures.ok) (of_value _ c.in-Some-Ok.field-0 _ c.in-Some-Ok.field-0-is c.in-Some-Ok.ensures.replaced) c.given_up.ensures (subst (λ r. (r ≡ Err fault.EntryLimit) ↔ ((value_in c.args.heap.now c.in_ok-target.target c.in_ok-key.key ≡ None) × (4000000 ≤ entry_number c.args.heap.now))) c.in-Some-Ok.field-0-is c.in-Some-Ok.ensures.limit)))))))
+    (goes_on c.args.heap.now c.put_if.new.self c.args.locals.now (λ w. object w (test_of wanted.Dict) (number_of (refusal_of wanted.Dict)) c.in_ok-dict.dict)
+    (object_from c.args.heap.now.rows c.in_ok-target.target (refers_by_code c.args.heap.now wanted.Dict tt c.in_ok-dict.dict c.in_ok-target.target
+    c.in_ok-target.ensures.ok c.in-Some-Ok.ensures.kind).node) _ (Ok (done.Changed None c.given_up.result)) (reads-object c.args.heap.now c.args.locals.now
+    (test_of wanted.Dict) c.in_ok-dict.dict c.in_ok-target.target (refers_by_code c.args.heap.now wanted.Dict tt c.in_ok-dict.dict c.in_ok-target.target
+    c.in_ok-target.ensures.ok c.in-Some-Ok.ensures.kind) (number_of (refusal_of wanted.Dict)))
+    (goes_on c.args.heap.now c.put_if.new.self c.args.locals.now (λ w. unless (is_hashable w c.in_ok-key.key) unhashable) tt _
+    (Ok (done.Changed None c.given_up.result)) (reads-key c.args.heap.now c.args.locals.now c.in_ok-key.key true c.in_ok-target.ensures.key refl)
+    (puts-performs c.args.heap.now c.sound.ensures c.args.locals.now (test_of wanted.Dict) c.in_ok-dict.dict c.in_ok-target.target
+    (refers_by_code c.args.heap.now wanted.Dict tt c.in_ok-dict.dict c.in_ok-target.target c.in_ok-target.ensures.ok c.in-Some-Ok.ensures.kind)
+    (inl (code_passes c.args.heap.now wanted.Dict tt c.in_ok-dict.dict c.in_ok-target.target (refers_by_code c.args.heap.now wanted.Dict tt
+    c.in_ok-dict.dict c.in_ok-target.target c.in_ok-target.ensures.ok c.in-Some-Ok.ensures.kind))) c.in_ok-key.key c.in_ok-val.val c.in-Some-Ok.old
+    c.given_up.result c.put_if.new.self (of_ok c.in-Some-Ok.field-0 _ c.in-Some-Ok.field-0-is c.in-Some-Ok.ensures.ok) (of_value _ c.in-Some-Ok.field-0 _
+    c.in-Some-Ok.field-0-is c.in-Some-Ok.ensures.replaced) c.given_up.ensures (subst (λ r. (r ≡ Err fault.EntryLimit) ↔
+    ((value_in c.args.heap.now c.in_ok-target.target c.in_ok-key.key ≡ None) × (4000000 ≤ entry_number c.args.heap.now))) c.in-Some-Ok.field-0-is
+    c.in-Some-Ok.ensures.limit)))))))
 
 pub returns-in-Some-Err : goal.returns-in-Some-Err
 returns-in-Some-Err g c =
@@ -83,9 +99,19 @@ returns-in-Some-Err g c =
     (goes_on c.args.heap.now c.put_if.new.self c.args.locals.now (λ w. value w c.args.dict.now) c.in_ok-dict.dict _ (Err (refusal_by c.in-Some-Err.fault)) c.in_ok-dict.ensures.ok
     (goes_on c.args.heap.now c.put_if.new.self c.args.locals.now (λ w. value w c.args.key.now) c.in_ok-key.key _ (Err (refusal_by c.in-Some-Err.fault)) c.in_ok-key.ensures.ok
     (goes_on c.args.heap.now c.put_if.new.self c.args.locals.now (λ w. value w c.args.operand.now) c.in_ok-val.val _ (Err (refusal_by c.in-Some-Err.fault)) c.in_ok-val.ensures.ok
-    (goes_on c.args.heap.now c.put_if.new.self c.args.locals.now (λ w. object w (test_of wanted.Dict) (number_of (refusal_of wanted.Dict)) c.in_ok-dict.dict) (object_from c.args.heap.now.rows c.in_ok-target.target (refers_by_code c.args.heap.now wanted.Dict tt c.in_ok-dict.dict c.in_ok-target.target c.in_ok-target.ensures.ok c.in-Some-Err.ensures.kind).node) _ (Err (refusal_by c.in-Some-Err.fault)) (reads-object c.args.heap.now c.args.locals.now (test_of wanted.Dict) c.in_ok-dict.dict c.in_ok-target.target (refers_by_code c.args.heap.now wanted.Dict tt c.in_ok-dict.dict c.in_ok-target.target c.in_ok-target.ensures.ok c.in-Some-Err.ensures.kind) (number_of (refusal_of wanted.Dict)))
-    (goes_on c.args.heap.now c.put_if.new.self c.args.locals.now (λ w. unless (is_hashable w c.in_ok-key.key) unhashable) tt _ (Err (refusal_by c.in-Some-Err.fault)) (reads-key c.args.heap.now c.args.locals.now c.in_ok-key.key true c.in_ok-target.ensures.key refl)
-    (puts-refused c.args.heap.now c.sound.ensures c.args.locals.now (test_of wanted.Dict) c.in_ok-dict.dict c.in_ok-target.target (refers_by_code c.args.heap.now wanted.Dict tt c.in_ok-dict.dict c.in_ok-target.target c.in_ok-target.ensures.ok c.in-Some-Err.ensures.kind) (inl (code_passes c.args.heap.now wanted.Dict tt c.in_ok-dict.dict c.in_ok-target.target (refers_by_code c.args.heap.now wanted.Dict tt c.in_ok-dict.dict c.in_ok-target.target c.in_ok-target.ensures.ok c.in-Some-Err.ensures.kind))) c.in_ok-key.key c.in_ok-val.val c.in-Some-Err.fault c.in-Some-Err.field-0 c.in-Some-Err.field-0-is c.in-Some-Err.ensures.limit c.in-Some-Err.ensures.objects c.in-Some-Err.ensures.present c.put_if.new.self (of_err c.in-Some-Err.field-0 _ c.in-Some-Err.field-0-is c.in-Some-Err.ensures.err)))))))
+    (goes_on c.args.heap.now c.put_if.new.self c.args.locals.now (λ w. object w (test_of wanted.Dict) (number_of (refusal_of wanted.Dict)) c.in_ok-dict.dict)
+    (object_from c.args.heap.now.rows c.in_ok-target.target (refers_by_code c.args.heap.now wanted.Dict tt c.in_ok-dict.dict c.in_ok-target.target
+    c.in_ok-target.ensures.ok c.in-Some-Err.ensures.kind).node) _ (Err (refusal_by c.in-Some-Err.fault)) (reads-object c.args.heap.now c.args.locals.now
+    (test_of wanted.Dict) c.in_ok-dict.dict c.in_ok-target.target (refers_by_code c.args.heap.now wanted.Dict tt c.in_ok-dict.dict c.in_ok-target.target
+    c.in_ok-target.ensures.ok c.in-Some-Err.ensures.kind) (number_of (refusal_of wanted.Dict)))
+    (goes_on c.args.heap.now c.put_if.new.self c.args.locals.now (λ w. unless (is_hashable w c.in_ok-key.key) unhashable) tt _
+    (Err (refusal_by c.in-Some-Err.fault)) (reads-key c.args.heap.now c.args.locals.now c.in_ok-key.key true c.in_ok-target.ensures.key refl)
+    (puts-refused c.args.heap.now c.sound.ensures c.args.locals.now (test_of wanted.Dict) c.in_ok-dict.dict c.in_ok-target.target
+    (refers_by_code c.args.heap.now wanted.Dict tt c.in_ok-dict.dict c.in_ok-target.target c.in_ok-target.ensures.ok c.in-Some-Err.ensures.kind)
+    (inl (code_passes c.args.heap.now wanted.Dict tt c.in_ok-dict.dict c.in_ok-target.target (refers_by_code c.args.heap.now wanted.Dict tt
+    c.in_ok-dict.dict c.in_ok-target.target c.in_ok-target.ensures.ok c.in-Some-Err.ensures.kind))) c.in_ok-key.key c.in_ok-val.val c.in-Some-Err.fault
+    c.in-Some-Err.field-0 c.in-Some-Err.field-0-is c.in-Some-Err.ensures.limit c.in-Some-Err.ensures.objects c.in-Some-Err.ensures.present c.put_if.new.self
+    (of_err c.in-Some-Err.field-0 _ c.in-Some-Err.field-0-is c.in-Some-Err.ensures.err)))))))
 
 pub returns-in-None : goal.returns-in-None
 returns-in-None g c =
@@ -93,7 +119,9 @@ returns-in-None g c =
     (goes_on c.args.heap.now c.args.heap.now c.args.locals.now (λ w. value w c.args.dict.now) c.in_ok-dict.dict _ (Err refusal.WrongKind) c.in_ok-dict.ensures.ok
     (goes_on c.args.heap.now c.args.heap.now c.args.locals.now (λ w. value w c.args.key.now) c.in_ok-key.key _ (Err refusal.WrongKind) c.in_ok-key.ensures.ok
     (goes_on c.args.heap.now c.args.heap.now c.args.locals.now (λ w. value w c.args.operand.now) c.in_ok-val.val _ (Err refusal.WrongKind) c.in_ok-val.ensures.ok
-    (stops c.args.heap.now c.args.locals.now (λ w. object w (test_of wanted.Dict) (number_of (refusal_of wanted.Dict)) c.in_ok-dict.dict) _ refusal.WrongKind (λ w s. other_by_code c.args.heap.now wanted.Dict tt c.in_ok-dict.dict c.in_ok-target.target c.in_ok-target.ensures.ok (c.in_ok-dict.ensures.live c.in_ok-target.target c.in_ok-target.ensures.ok) c.in-None.ensures.other.0 w s.represents)))))
+    (stops c.args.heap.now c.args.locals.now (λ w. object w (test_of wanted.Dict) (number_of (refusal_of wanted.Dict)) c.in_ok-dict.dict) _ refusal.WrongKind
+    (λ w s. other_by_code c.args.heap.now wanted.Dict tt c.in_ok-dict.dict c.in_ok-target.target c.in_ok-target.ensures.ok
+    (c.in_ok-dict.ensures.live c.in_ok-target.target c.in_ok-target.ensures.ok) c.in-None.ensures.other.0 w s.represents)))))
 
 pub returns-in_err-target : goal.returns-in_err-target
 returns-in_err-target g c =
@@ -101,4 +129,5 @@ returns-in_err-target g c =
     (goes_on c.args.heap.now c.args.heap.now c.args.locals.now (λ w. value w c.args.dict.now) c.in_ok-dict.dict _ (Err c.in_err-target.field-0.0) c.in_ok-dict.ensures.ok
     (goes_on c.args.heap.now c.args.heap.now c.args.locals.now (λ w. value w c.args.key.now) c.in_ok-key.key _ (Err c.in_err-target.field-0.0) c.in_ok-key.ensures.ok
     (goes_on c.args.heap.now c.args.heap.now c.args.locals.now (λ w. value w c.args.operand.now) c.in_ok-val.val _ (Err c.in_err-target.field-0.0) c.in_ok-val.ensures.ok
-    (stops_second c.args.heap.now c.args.locals.now (λ w. object w (test_of wanted.Dict) (number_of (refusal_of wanted.Dict)) c.in_ok-dict.dict) (λ w. unless (is_hashable w c.in_ok-key.key) unhashable) _ c.in_err-target.field-0.0 (λ w s. c.in_err-target.ensures.err w s.represents)))))
+    (stops_second c.args.heap.now c.args.locals.now (λ w. object w (test_of wanted.Dict) (number_of (refusal_of wanted.Dict)) c.in_ok-dict.dict)
+    (λ w. unless (is_hashable w c.in_ok-key.key) unhashable) _ c.in_err-target.field-0.0 (λ w s. c.in_err-target.ensures.err w s.represents)))))

@@ -2,7 +2,7 @@ use Rattle.std.proofs.Common.{Ok}
 use Rattle.std.proofs.lemmas.Result.{err_from_is_err_and}
 use Rattle.cg_machine.specs.Operands.{value}
 use Rattle.cg_commands.specs.declared.done.Done.TheVariants as done
-use Rattle.cg_commands.proofs.Chains.{stops, goes_on}
+use Rattle.cg_commands.proofs.FirstRefusal.{stops, goes_on}
 use Rattle.cg_commands.proofs.QueryLemmas.{quits-performs, stays-performs}
 use Rattle.cg_commands.proofs.frames.quit.Goals as goal
 

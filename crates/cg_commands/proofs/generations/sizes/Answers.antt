@@ -1,7 +1,7 @@
 use Rattle.std.proofs.Common.{◌∙◌, arith}
 use Rattle.cg_value.specs.declared.Place.TheVariants.{Gen, Frozen}
 use Rattle.cg_machine.specs.declared.event.Event.TheVariants.{Gens}
-use Rattle.cg_commands.proofs.Sizing.{size_is}
+use Rattle.cg_commands.proofs.PlaceSizes.{size_is}
 use Rattle.cg_commands.proofs.generations.sizes.Goals as goal
 
 pub returns : goal.returns

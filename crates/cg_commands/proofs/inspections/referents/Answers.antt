@@ -24,5 +24,7 @@ returns-in_default-listing g c =
 
 pub returns : goal.returns
 returns g c =
-    lists_lines c.args.heap.now c.args.running c.args.locals.now c.args.operand.now (λ w x. lists w event.Referent (references x.entries)) c.in_ok-target.target c.in_ok-target.ensures.ok c.in-Ok-listing.lines
-    (λ w s. lists_these w event.Referent (references c.in_ok-target.ensures.ok.node.entries) c.deref.result.now (c.deref.ensures.value ∙ c.in-Ok.ensures ∙ ap (λ n. references (entries_in n)) c.in_ok-target.ensures.ok.found) c.in-Ok-listing.lines c.in-Ok-listing.ensures)
+    lists_lines c.args.heap.now c.args.running c.args.locals.now c.args.operand.now (λ w x. lists w event.Referent (references x.entries)) c.in_ok-target.target
+    c.in_ok-target.ensures.ok c.in-Ok-listing.lines
+    (λ w s. lists_these w event.Referent (references c.in_ok-target.ensures.ok.node.entries) c.deref.result.now (c.deref.ensures.value ∙ c.in-Ok.ensures
+    ∙ ap (λ n. references (entries_in n)) c.in_ok-target.ensures.ok.found) c.in-Ok-listing.lines c.in-Ok-listing.ensures)

@@ -25,5 +25,7 @@ returns-in_default-listing g c =
 
 pub returns : goal.returns
 returns g c =
-    lists_lines c.args.heap.now c.args.running c.args.locals.now c.args.operand.now (λ w x. lists w event.Referrer (referrers w x.serial)) c.in_ok-target.target c.in_ok-target.ensures.ok c.in-Ok-listing.lines
-    (λ w s. lists_these w event.Referrer (referrers w c.in_ok-target.target) c.deref.result.now (c.deref.ensures.value ∙ c.in-Ok.ensures ∙ ap (λ objects. serials (filter (refers_to c.in_ok-target.target) objects)) s.represents.objects) c.in-Ok-listing.lines c.in-Ok-listing.ensures)
+    lists_lines c.args.heap.now c.args.running c.args.locals.now c.args.operand.now (λ w x. lists w event.Referrer (referrers w x.serial)) c.in_ok-target.target
+    c.in_ok-target.ensures.ok c.in-Ok-listing.lines
+    (λ w s. lists_these w event.Referrer (referrers w c.in_ok-target.target) c.deref.result.now (c.deref.ensures.value ∙ c.in-Ok.ensures
+    ∙ ap (λ objects. serials (filter (refers_to c.in_ok-target.target) objects)) s.represents.objects) c.in-Ok-listing.lines c.in-Ok-listing.ensures)

@@ -10,7 +10,7 @@ use Rattle.cg_commands.specs.declared.done.Refusal.TheVariants as refusal
 use Rattle.cg_commands.specs.declared.operands.Wanted.TheVariants as wanted
 use Rattle.cg_commands.specs.Refusals.{number_of}
 use Rattle.cg_commands.specs.Objects.{test_of, refusal_of}
-use Rattle.cg_commands.proofs.Chains.{stops, goes_on}
+use Rattle.cg_commands.proofs.FirstRefusal.{stops, goes_on}
 use Rattle.cg_commands.proofs.Steps.{reads-object, reads-value_at, no-value_at}
 use Rattle.cg_commands.proofs.EntryLemmas.{refers_by_code, other_by_code}
 use Rattle.cg_commands.proofs.Reading.{live-value_at}
@@ -26,7 +26,8 @@ pub returns-in_err-target : goal.returns-in_err-target
 returns-in_err-target g c =
     let p = err_from_is_err_and c.from_residual-in_err-target.result c.from_residual-in_err-target.ensures.1 in rw (p.1, p.2)
     (goes_on c.args.heap.now c.args.heap.now c.args.locals.now (λ w. value w c.args.instance.now) c.in_ok-val.val _ (Err c.in_err-target.field-0.0) c.in_ok-val.ensures.ok
-    (stops c.args.heap.now c.args.locals.now (λ w. object w (test_of wanted.Inst) (number_of (refusal_of wanted.Inst)) c.in_ok-val.val) _ c.in_err-target.field-0.0 (λ w s. c.in_err-target.ensures.err c.args.heap.now w s.represents)))
+    (stops c.args.heap.now c.args.locals.now (λ w. object w (test_of wanted.Inst) (number_of (refusal_of wanted.Inst)) c.in_ok-val.val) _
+    c.in_err-target.field-0.0 (λ w s. c.in_err-target.ensures.err c.args.heap.now w s.represents)))
 
 pub value_if-requires : goal.value_if-requires
 value_if-requires g c =
@@ -39,17 +40,36 @@ bind_to-requires-clause-live g c =
 pub returns-in-Some-Some : goal.returns-in-Some-Some
 returns-in-Some-Some g c =
     (goes_on c.args.heap.now c.bind_to.new.heap c.args.locals.now (λ w. value w c.args.instance.now) c.in_ok-val.val _ (gives c.bind_to.result) c.in_ok-val.ensures.ok
-    (goes_on c.args.heap.now c.bind_to.new.heap c.args.locals.now (λ w. object w (test_of wanted.Inst) (number_of (refusal_of wanted.Inst)) c.in_ok-val.val) (object_from c.args.heap.now.rows c.in_ok-target.target (refers_by_code c.args.heap.now wanted.Inst tt c.in_ok-val.val c.in_ok-target.target c.in_ok-target.ensures.ok c.in-Some-Some.ensures.kind).node) _ (gives c.bind_to.result) (reads-object c.args.heap.now c.args.locals.now (test_of wanted.Inst) c.in_ok-val.val c.in_ok-target.target (refers_by_code c.args.heap.now wanted.Inst tt c.in_ok-val.val c.in_ok-target.target c.in_ok-target.ensures.ok c.in-Some-Some.ensures.kind) (number_of (refusal_of wanted.Inst)))
-    (goes_on c.args.heap.now c.bind_to.new.heap c.args.locals.now (λ w. ok_or (value_at (refers_by_code c.args.heap.now wanted.Inst tt c.in_ok-val.val c.in_ok-target.target c.in_ok-target.ensures.ok c.in-Some-Some.ensures.kind).node.entries (val.Str c.args.attr)) no_attribute) c.in-Some-Some.found _ (gives c.bind_to.result) (reads-value_at c.args.heap.now c.args.locals.now (test_of wanted.Inst) c.in_ok-val.val c.in_ok-target.target (refers_by_code c.args.heap.now wanted.Inst tt c.in_ok-val.val c.in_ok-target.target c.in_ok-target.ensures.ok c.in-Some-Some.ensures.kind) (val.Str c.args.attr) c.in-Some-Some.found (sym c.in-Some-Some.field-0-is ∙ c.in-Some-Some.ensures.value) no_attribute)
+    (goes_on c.args.heap.now c.bind_to.new.heap c.args.locals.now (λ w. object w (test_of wanted.Inst) (number_of (refusal_of wanted.Inst)) c.in_ok-val.val)
+    (object_from c.args.heap.now.rows c.in_ok-target.target (refers_by_code c.args.heap.now wanted.Inst tt c.in_ok-val.val c.in_ok-target.target
+    c.in_ok-target.ensures.ok c.in-Some-Some.ensures.kind).node) _ (gives c.bind_to.result) (reads-object c.args.heap.now c.args.locals.now (test_of
+    wanted.Inst) c.in_ok-val.val c.in_ok-target.target (refers_by_code c.args.heap.now wanted.Inst tt c.in_ok-val.val c.in_ok-target.target
+    c.in_ok-target.ensures.ok c.in-Some-Some.ensures.kind) (number_of (refusal_of wanted.Inst)))
+    (goes_on c.args.heap.now c.bind_to.new.heap c.args.locals.now
+    (λ w. ok_or (value_at (refers_by_code c.args.heap.now wanted.Inst tt c.in_ok-val.val c.in_ok-target.target c.in_ok-target.ensures.ok
+    c.in-Some-Some.ensures.kind).node.entries (val.Str c.args.attr)) no_attribute) c.in-Some-Some.found _ (gives c.bind_to.result) (reads-value_at
+    c.args.heap.now c.args.locals.now (test_of wanted.Inst) c.in_ok-val.val c.in_ok-target.target (refers_by_code c.args.heap.now wanted.Inst tt
+    c.in_ok-val.val c.in_ok-target.target c.in_ok-target.ensures.ok c.in-Some-Some.ensures.kind) (val.Str c.args.attr) c.in-Some-Some.found (sym
+    c.in-Some-Some.field-0-is ∙ c.in-Some-Some.ensures.value) no_attribute)
     c.bind_to.ensures)))
 
 pub returns-in-Some-None : goal.returns-in-Some-None
 returns-in-Some-None g c =
     (goes_on c.args.heap.now c.args.heap.now c.args.locals.now (λ w. value w c.args.instance.now) c.in_ok-val.val _ (Err refusal.NoAttribute) c.in_ok-val.ensures.ok
-    (goes_on c.args.heap.now c.args.heap.now c.args.locals.now (λ w. object w (test_of wanted.Inst) (number_of (refusal_of wanted.Inst)) c.in_ok-val.val) (object_from c.args.heap.now.rows c.in_ok-target.target (refers_by_code c.args.heap.now wanted.Inst tt c.in_ok-val.val c.in_ok-target.target c.in_ok-target.ensures.ok c.in-Some-None.ensures.kind).node) _ (Err refusal.NoAttribute) (reads-object c.args.heap.now c.args.locals.now (test_of wanted.Inst) c.in_ok-val.val c.in_ok-target.target (refers_by_code c.args.heap.now wanted.Inst tt c.in_ok-val.val c.in_ok-target.target c.in_ok-target.ensures.ok c.in-Some-None.ensures.kind) (number_of (refusal_of wanted.Inst)))
-    (stops c.args.heap.now c.args.locals.now (λ w. ok_or (value_at (refers_by_code c.args.heap.now wanted.Inst tt c.in_ok-val.val c.in_ok-target.target c.in_ok-target.ensures.ok c.in-Some-None.ensures.kind).node.entries (val.Str c.args.attr)) no_attribute) _ refusal.NoAttribute (no-value_at c.args.heap.now c.args.locals.now (test_of wanted.Inst) c.in_ok-val.val c.in_ok-target.target (refers_by_code c.args.heap.now wanted.Inst tt c.in_ok-val.val c.in_ok-target.target c.in_ok-target.ensures.ok c.in-Some-None.ensures.kind) (val.Str c.args.attr) (sym c.in-Some-None.field-0-is ∙ c.in-Some-None.ensures.value) no_attribute))))
+    (goes_on c.args.heap.now c.args.heap.now c.args.locals.now (λ w. object w (test_of wanted.Inst) (number_of (refusal_of wanted.Inst)) c.in_ok-val.val)
+    (object_from c.args.heap.now.rows c.in_ok-target.target (refers_by_code c.args.heap.now wanted.Inst tt c.in_ok-val.val c.in_ok-target.target
+    c.in_ok-target.ensures.ok c.in-Some-None.ensures.kind).node) _ (Err refusal.NoAttribute) (reads-object c.args.heap.now c.args.locals.now (test_of
+    wanted.Inst) c.in_ok-val.val c.in_ok-target.target (refers_by_code c.args.heap.now wanted.Inst tt c.in_ok-val.val c.in_ok-target.target
+    c.in_ok-target.ensures.ok c.in-Some-None.ensures.kind) (number_of (refusal_of wanted.Inst)))
+    (stops c.args.heap.now c.args.locals.now (λ w. ok_or (value_at (refers_by_code c.args.heap.now wanted.Inst tt c.in_ok-val.val c.in_ok-target.target
+    c.in_ok-target.ensures.ok c.in-Some-None.ensures.kind).node.entries (val.Str c.args.attr)) no_attribute) _ refusal.NoAttribute (no-value_at
+    c.args.heap.now c.args.locals.now (test_of wanted.Inst) c.in_ok-val.val c.in_ok-target.target (refers_by_code c.args.heap.now wanted.Inst tt
+    c.in_ok-val.val c.in_ok-target.target c.in_ok-target.ensures.ok c.in-Some-None.ensures.kind) (val.Str c.args.attr) (sym c.in-Some-None.field-0-is
+    ∙ c.in-Some-None.ensures.value) no_attribute))))
 
 pub returns-in-None : goal.returns-in-None
 returns-in-None g c =
     (goes_on c.args.heap.now c.args.heap.now c.args.locals.now (λ w. value w c.args.instance.now) c.in_ok-val.val _ (Err refusal.WrongKind) c.in_ok-val.ensures.ok
-    (stops c.args.heap.now c.args.locals.now (λ w. object w (test_of wanted.Inst) (number_of (refusal_of wanted.Inst)) c.in_ok-val.val) _ refusal.WrongKind (λ w s. other_by_code c.args.heap.now wanted.Inst tt c.in_ok-val.val c.in_ok-target.target c.in_ok-target.ensures.ok (c.in_ok-val.ensures.live c.in_ok-target.target c.in_ok-target.ensures.ok) c.in-None.ensures.other w s.represents)))
+    (stops c.args.heap.now c.args.locals.now (λ w. object w (test_of wanted.Inst) (number_of (refusal_of wanted.Inst)) c.in_ok-val.val) _ refusal.WrongKind
+    (λ w s. other_by_code c.args.heap.now wanted.Inst tt c.in_ok-val.val c.in_ok-target.target c.in_ok-target.ensures.ok
+    (c.in_ok-val.ensures.live c.in_ok-target.target c.in_ok-target.ensures.ok) c.in-None.ensures.other w s.represents)))

@@ -9,4 +9,5 @@ returns-in_default g c =
 
 pub returns : goal.returns
 returns g c =
-    subst (λ v. IsKey c.args.heap.now v c.admits.result) (sym c.in-Ref.is) (key-object c.args.heap.now c.in-Ref.target c.kind_of.result c.admits.result (c.requires c.in-Ref.target c.in-Ref.is) c.kind_of.ensures c.admits.ensures)
+    subst (λ v. IsKey c.args.heap.now v c.admits.result) (sym c.in-Ref.is) (key-object c.args.heap.now c.in-Ref.target c.kind_of.result c.admits.result
+    (c.requires c.in-Ref.target c.in-Ref.is) c.kind_of.ensures c.admits.ensures)

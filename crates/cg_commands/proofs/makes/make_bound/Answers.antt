@@ -8,7 +8,8 @@ use Rattle.cg_commands.proofs.makes.make_bound.Goals as goal
 
 pub bind_new-old-requires-clause-held : goal.bind_new-old-requires-clause-held
 bind_new-old-requires-clause-held g c =
-    held_at c.args.heap.now c.sound.ensures None c.args.name c.args.object.code c.args.object.class c.args.parts.now c.args.object.referent c.make_where_room.new.heap c.in-Ok.serial c.in-Ok.ensures.ok c.in-Ok.ensures.serial
+    held_at c.args.heap.now c.sound.ensures None c.args.name c.args.object.code c.args.object.class c.args.parts.now c.args.object.referent
+    c.make_where_room.new.heap c.in-Ok.serial c.in-Ok.ensures.ok c.in-Ok.ensures.serial
 
 pub bind_new-old-requires-clause-few : goal.bind_new-old-requires-clause-few
 bind_new-old-requires-clause-few g c =
@@ -27,7 +28,9 @@ returns-in-Ok g c = record {
 pub returns-in-Err : goal.returns-in-Err
 returns-in-Err g c = record {
   performs = λ locals.
-      subst (λ r. PerformsOnHeap c.args.heap.now locals (λ w. makes w c.args.name c.args.object.code c.args.object.class c.args.parts.now c.args.object.referent) c.make_where_room.new.heap (Err r)) (sym c.refusal_by.ensures)
-      (makes-refused c.args.heap.now c.sound.ensures locals c.args.name c.args.object.code c.args.object.class c.args.parts.now c.args.object.referent c.in-Err.fault (Err c.in-Err.fault) refl c.in-Err.ensures.object_limit c.in-Err.ensures.entry_limit c.make_where_room.new.heap c.in-Err.ensures.err);
+      subst (λ r. PerformsOnHeap c.args.heap.now locals (λ w. makes w c.args.name c.args.object.code c.args.object.class c.args.parts.now
+      c.args.object.referent) c.make_where_room.new.heap (Err r)) (sym c.refusal_by.ensures)
+      (makes-refused c.args.heap.now c.sound.ensures locals c.args.name c.args.object.code c.args.object.class c.args.parts.now c.args.object.referent
+      c.in-Err.fault (Err c.in-Err.fault) refl c.in-Err.ensures.object_limit c.in-Err.ensures.entry_limit c.make_where_room.new.heap c.in-Err.ensures.err);
   room = tt;
 }

@@ -5,7 +5,7 @@ use Rattle.cg_kind.specs.Calls.{IsParts}
 use Rattle.std.proofs.lemmas.List.Elements.{All-head}
 use Rattle.std.proofs.lemmas.Result.{err_from_is_err_and}
 use Rattle.cg_machine.specs.Operands.{values}
-use Rattle.cg_commands.proofs.Chains.{stops, goes_on}
+use Rattle.cg_commands.proofs.FirstRefusal.{stops, goes_on}
 use Rattle.std.proofs.lemmas.List.Elements.{All-tail}
 use Rattle.cg_commands.specs.Answers.{PerformsOnHeap}
 use Rattle.cg_machine.specs.Effects.{makes}
@@ -21,7 +21,14 @@ returns-in_err-parts g c =
     }
 
 pub gather-requires : goal.gather-requires
-gather-requires g c = (omega (arith, c.requires.most), (All-tail (λ n. n < length c.args.heap.now.names) c.args.name (operands_texts c.args.items.now) c.requires.known, (c.requires.locals, c.requires.count)))
+gather-requires g c = (
+  omega (arith, c.requires.most),
+  (
+    All-tail (λ n. n < length c.args.heap.now.names) c.args.name (operands_texts c.args.items.now)
+        c.requires.known,
+    (c.requires.locals, c.requires.count),
+  ),
+)
 
 pub make_bound-requires-clause-name : goal.make_bound-requires-clause-name
 make_bound-requires-clause-name g c =
@@ -38,7 +45,8 @@ pub returns : goal.returns
 returns g c = record {
   performs =
       (goes_on c.args.heap.now c.make_bound.new.heap c.args.locals.now (λ w. values w c.args.items.now) c.in_ok-parts.ensures.ok.vals _ c.make_bound.result c.in_ok-parts.ensures.ok.reads
-      (subst (λ ps. PerformsOnHeap c.args.heap.now c.args.locals.now (λ w. makes w c.args.name c.args.code c.args.class ps None) c.make_bound.new.heap c.make_bound.result) (c.as_slice.ensures ∙ c.in_ok-parts.ensures.ok.items) (c.make_bound.ensures.performs c.args.locals.now)));
+      (subst (λ ps. PerformsOnHeap c.args.heap.now c.args.locals.now (λ w. makes w c.args.name c.args.code c.args.class ps None) c.make_bound.new.heap
+      c.make_bound.result) (c.as_slice.ensures ∙ c.in_ok-parts.ensures.ok.items) (c.make_bound.ensures.performs c.args.locals.now)));
   room = c.make_bound.ensures.room;
 }
 

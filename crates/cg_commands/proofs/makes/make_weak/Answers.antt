@@ -7,7 +7,7 @@ use Rattle.cg_machine.specs.Operands.{value, object}
 use Rattle.cg_commands.specs.declared.operands.Wanted.TheVariants as wanted
 use Rattle.cg_commands.specs.Refusals.{number_of}
 use Rattle.cg_commands.specs.Objects.{test_of, refusal_of}
-use Rattle.cg_commands.proofs.Chains.{stops, goes_on}
+use Rattle.cg_commands.proofs.FirstRefusal.{stops, goes_on}
 use Rattle.cg_commands.proofs.Steps.{reads-object}
 use Rattle.cg_commands.proofs.PartLemmas.{items-are}
 use Rattle.cg_commands.specs.Answers.{PerformsOnHeap}
@@ -47,7 +47,8 @@ returns-in_err-referent g c =
       performs = rw (p.1, p.2)
           (goes_on c.args.heap.now c.args.heap.now c.args.locals.now (λ w. value w c.args.target.now) c.in_ok-val.val _ (Err c.in_err-referent.field-0.0) c.in_ok-val.ensures.ok
           (goes_on c.args.heap.now c.args.heap.now c.args.locals.now (λ w. value w c.args.callback.now) c.in_ok-callback.callback _ (Err c.in_err-referent.field-0.0) c.in_ok-callback.ensures.ok
-          (stops c.args.heap.now c.args.locals.now (λ w. object w (test_of wanted.Referable) (number_of (refusal_of wanted.Referable)) c.in_ok-val.val) _ c.in_err-referent.field-0.0 (λ w s. c.in_err-referent.ensures.err w s.represents))));
+          (stops c.args.heap.now c.args.locals.now (λ w. object w (test_of wanted.Referable) (number_of (refusal_of wanted.Referable)) c.in_ok-val.val) _
+          c.in_err-referent.field-0.0 (λ w s. c.in_err-referent.ensures.err w s.represents))));
       room = rw p.1 tt;
     }
 
@@ -57,7 +58,10 @@ returns-in_err-parts g c =
       performs = rw (p.1, p.2)
           (goes_on c.args.heap.now c.args.heap.now c.args.locals.now (λ w. value w c.args.target.now) c.in_ok-val.val _ (Err c.in_err-parts.field-0.0) c.in_ok-val.ensures.ok
           (goes_on c.args.heap.now c.args.heap.now c.args.locals.now (λ w. value w c.args.callback.now) c.in_ok-callback.callback _ (Err c.in_err-parts.field-0.0) c.in_ok-callback.ensures.ok
-          (goes_on c.args.heap.now c.args.heap.now c.args.locals.now (λ w. object w (test_of wanted.Referable) (number_of (refusal_of wanted.Referable)) c.in_ok-val.val) (object_from c.args.heap.now.rows c.in_ok-referent.referent c.in_ok-referent.ensures.ok.node) _ (Err c.in_err-parts.field-0.0) (reads-object c.args.heap.now c.args.locals.now (test_of wanted.Referable) c.in_ok-val.val c.in_ok-referent.referent c.in_ok-referent.ensures.ok (number_of (refusal_of wanted.Referable)))
+          (goes_on c.args.heap.now c.args.heap.now c.args.locals.now (λ w. object w (test_of wanted.Referable) (number_of (refusal_of wanted.Referable))
+          c.in_ok-val.val) (object_from c.args.heap.now.rows c.in_ok-referent.referent c.in_ok-referent.ensures.ok.node) _ (Err c.in_err-parts.field-0.0)
+          (reads-object c.args.heap.now c.args.locals.now (test_of wanted.Referable) c.in_ok-val.val c.in_ok-referent.referent c.in_ok-referent.ensures.ok
+          (number_of (refusal_of wanted.Referable)))
           (stops c.args.heap.now c.args.locals.now (λ w. callback_entries w c.in_ok-callback.callback) _ c.in_err-parts.field-0.0 c.in_err-parts.ensures.err))));
       room = rw p.1 tt;
     }
@@ -67,16 +71,23 @@ make_bound-requires-clause-name g c =
     All-head (λ n. n < length c.args.heap.now.names) c.args.name (operand_texts c.args.target.now ++ operand_texts c.args.callback.now) c.requires.known
 
 pub make_bound-requires-clause-parts : goal.make_bound-requires-clause-parts
-make_bound-requires-clause-parts g c =
-    (items-are c.in_ok-parts.ensures.ok.vals c.as_slice.result.now (c.as_slice.ensures ∙ c.in_ok-parts.ensures.ok.items), few_cells c.as_slice.result.now c.in_ok-parts.parts c.as_slice.ensures refl c.in_ok-parts.ensures.ok.single)
+make_bound-requires-clause-parts g c = (
+  items-are c.in_ok-parts.ensures.ok.vals c.as_slice.result.now (c.as_slice.ensures ∙ c.in_ok-parts.ensures.ok.items),
+  few_cells c.as_slice.result.now
+      c.in_ok-parts.parts c.as_slice.ensures refl c.in_ok-parts.ensures.ok.single,
+)
 
 pub returns : goal.returns
 returns g c = record {
   performs =
       (goes_on c.args.heap.now c.make_bound.new.heap c.args.locals.now (λ w. value w c.args.target.now) c.in_ok-val.val _ c.make_bound.result c.in_ok-val.ensures.ok
       (goes_on c.args.heap.now c.make_bound.new.heap c.args.locals.now (λ w. value w c.args.callback.now) c.in_ok-callback.callback _ c.make_bound.result c.in_ok-callback.ensures.ok
-      (goes_on c.args.heap.now c.make_bound.new.heap c.args.locals.now (λ w. object w (test_of wanted.Referable) (number_of (refusal_of wanted.Referable)) c.in_ok-val.val) (object_from c.args.heap.now.rows c.in_ok-referent.referent c.in_ok-referent.ensures.ok.node) _ c.make_bound.result (reads-object c.args.heap.now c.args.locals.now (test_of wanted.Referable) c.in_ok-val.val c.in_ok-referent.referent c.in_ok-referent.ensures.ok (number_of (refusal_of wanted.Referable)))
+      (goes_on c.args.heap.now c.make_bound.new.heap c.args.locals.now (λ w. object w (test_of wanted.Referable) (number_of (refusal_of wanted.Referable))
+      c.in_ok-val.val) (object_from c.args.heap.now.rows c.in_ok-referent.referent c.in_ok-referent.ensures.ok.node) _ c.make_bound.result (reads-object
+      c.args.heap.now c.args.locals.now (test_of wanted.Referable) c.in_ok-val.val c.in_ok-referent.referent c.in_ok-referent.ensures.ok
+      (number_of (refusal_of wanted.Referable)))
       (goes_on c.args.heap.now c.make_bound.new.heap c.args.locals.now (λ w. callback_entries w c.in_ok-callback.callback) c.in_ok-parts.parts _ c.make_bound.result c.in_ok-parts.ensures.ok.reads
-      (subst (λ ps. PerformsOnHeap c.args.heap.now c.args.locals.now (λ w. makes w c.args.name kind.Weak None ps (Some c.in_ok-referent.referent)) c.make_bound.new.heap c.make_bound.result) c.as_slice.ensures (c.make_bound.ensures.performs c.args.locals.now))))));
+      (subst (λ ps. PerformsOnHeap c.args.heap.now c.args.locals.now (λ w. makes w c.args.name kind.Weak None ps (Some c.in_ok-referent.referent))
+      c.make_bound.new.heap c.make_bound.result) c.as_slice.ensures (c.make_bound.ensures.performs c.args.locals.now))))));
   room = c.make_bound.ensures.room;
 }

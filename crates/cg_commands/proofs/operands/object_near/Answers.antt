@@ -14,4 +14,5 @@ pub returns-else-admits-clause-err : goal.returns-else-admits-clause-err
 returns-else-admits-clause-err g c =
     subst (λ r. HasNoObject c.args.heap.now (test_of c.args.wanted) (number_of (refusal_of c.args.wanted)) c.args.val r) (sym c.refusal.ensures)
     (subst (λ v. HasNoObject c.args.heap.now (test_of c.args.wanted) (number_of (refusal_of c.args.wanted)) v (refusal_of c.args.wanted)) (sym c.in_ok-object.ensures.ok)
-    (object-other c.args.heap.now c.args.wanted c.in_ok-object.object c.locate.result (c.requires c.in_ok-object.object c.in_ok-object.ensures.ok) c.locate.ensures (sym c.admits.ensures ∙ c.if-admits.false)))
+    (object-other c.args.heap.now c.args.wanted c.in_ok-object.object c.locate.result (c.requires c.in_ok-object.object c.in_ok-object.ensures.ok)
+    c.locate.ensures (sym c.admits.ensures ∙ c.if-admits.false)))

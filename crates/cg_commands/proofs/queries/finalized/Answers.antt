@@ -2,7 +2,7 @@ use Rattle.std.proofs.Common.{Ok}
 use Rattle.std.proofs.lemmas.Result.{err_from_is_err_and}
 use Rattle.cg_machine.specs.Operands.{value}
 use Rattle.cg_machine.specs.declared.event.Event.TheVariants as event
-use Rattle.cg_commands.proofs.Chains.{stops, goes_on}
+use Rattle.cg_commands.proofs.FirstRefusal.{stops, goes_on}
 use Rattle.cg_commands.proofs.QueryLemmas.{prints-told}
 use Rattle.cg_commands.proofs.queries.finalized.Goals as goal
 

@@ -9,4 +9,5 @@ returns-in_default g c =
 
 pub returns : goal.returns
 returns g c =
-    subst (λ v. Tells c.args.heap.now (λ x. x.finalized) v c.is_finalized.result) (sym c.in-Ref.is) (tells-object c.args.heap.now (λ x. x.finalized) c.in-Ref.target c.is_finalized.result (c.requires c.in-Ref.target c.in-Ref.is) c.is_finalized.ensures)
+    subst (λ v. Tells c.args.heap.now (λ x. x.finalized) v c.is_finalized.result) (sym c.in-Ref.is) (tells-object c.args.heap.now (λ x. x.finalized)
+    c.in-Ref.target c.is_finalized.result (c.requires c.in-Ref.target c.in-Ref.is) c.is_finalized.ensures)

@@ -11,4 +11,6 @@ returns-in_default g c =
 
 pub returns : goal.returns
 returns g c =
-    subst (λ v. Tells c.args.heap.now is_tracked v (not c.is_untracked.result)) (sym c.in-Ref.is) (tells-object c.args.heap.now is_tracked c.in-Ref.target (not c.is_untracked.result) (c.requires c.in-Ref.target c.in-Ref.is) (tracked_told c.args.heap.now c.in-Ref.target c.place_of.result c.is_untracked.result c.place_of.ensures c.is_untracked.ensures))
+    subst (λ v. Tells c.args.heap.now is_tracked v (not c.is_untracked.result)) (sym c.in-Ref.is) (tells-object c.args.heap.now is_tracked c.in-Ref.target
+    (not c.is_untracked.result) (c.requires c.in-Ref.target c.in-Ref.is) (tracked_told c.args.heap.now c.in-Ref.target c.place_of.result
+    c.is_untracked.result c.place_of.ensures c.is_untracked.ensures))

@@ -1,4 +1,4 @@
-use Rattle.cg_trial.proofs.Along.{along_live}
+use Rattle.cg_trial.proofs.WalksOverLists.{along_live}
 use Rattle.cg_inspect.proofs.Objects.{along_all, along_next}
 use Rattle.cg_inspect.proofs.live.append_place.Goals as goal
 

@@ -1,7 +1,7 @@
 use Rattle.std.proofs.Common.{false, [], ◌∷◌}
 use Rattle.cg_interp.specs.declared.activity.Activity.TheVariants as activity_of
 use Rattle.cg_interp.specs.Quietly.{CameSoFar}
-use Rattle.cg_interp.proofs.Falling.{way_left}
+use Rattle.cg_interp.proofs.MeasureOfTurns.{way_left}
 use Rattle.cg_interp.proofs.collecting.collect_on.Given as goal
 
 -- the collection has come this far

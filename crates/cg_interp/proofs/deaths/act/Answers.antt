@@ -1,7 +1,7 @@
 use Rattle.std.proofs.Common.{refl, subst, arith}
 use Rattle.cg_death.specs.Deaths.{IsGoingAfter}
 use Rattle.cg_death.proofs.ObjectNumbers.{none_then}
-use Rattle.cg_interp.proofs.Acting.{came_nowhere, acting_now, act_few, act_held, act_ready, act_falls, came_on, last_action}
+use Rattle.cg_interp.proofs.DeathActions.{came_nowhere, acting_now, act_few, act_held, act_ready, act_falls, came_on, last_action}
 use Rattle.cg_interp.proofs.Sizes.{small}
 use Rattle.cg_interp.proofs.deaths.act.Goals as goal
 
@@ -10,15 +10,18 @@ actions-init g c = record { came = came_nowhere c.args.script.now c.args.heap.no
 
 pub step-requires-clause-few : goal.step-requires-clause-few
 step-requires-clause-few g c =
-    act_few c.args.script.now c.actions.heap c.actions.death c.sound.ensures (acting_now c.args.script.now c.args.heap.now c.actions.heap c.args.death.now c.actions.death c.actions.invariant.came c.requires.stands)
+    act_few c.args.script.now c.actions.heap c.actions.death c.sound.ensures (acting_now c.args.script.now c.args.heap.now c.actions.heap c.args.death.now
+    c.actions.death c.actions.invariant.came c.requires.stands)
 
 pub step-requires-clause-held : goal.step-requires-clause-held
 step-requires-clause-held g c =
-    act_held c.args.script.now c.actions.heap c.actions.death c.sound.ensures (acting_now c.args.script.now c.args.heap.now c.actions.heap c.args.death.now c.actions.death c.actions.invariant.came c.requires.stands)
+    act_held c.args.script.now c.actions.heap c.actions.death c.sound.ensures (acting_now c.args.script.now c.args.heap.now c.actions.heap c.args.death.now
+    c.actions.death c.actions.invariant.came c.requires.stands)
 
 pub step-requires-clause-ready : goal.step-requires-clause-ready
 step-requires-clause-ready g c =
-    act_ready c.args.script.now c.actions.heap c.actions.death c.sound.ensures (acting_now c.args.script.now c.args.heap.now c.actions.heap c.args.death.now c.actions.death c.actions.invariant.came c.requires.stands)
+    act_ready c.args.script.now c.actions.heap c.actions.death c.sound.ensures (acting_now c.args.script.now c.args.heap.now c.actions.heap c.args.death.now
+    c.actions.death c.actions.invariant.came c.requires.stands)
 
 pub actions-smaller : goal.actions-smaller
 actions-smaller g c =
@@ -26,12 +29,14 @@ actions-smaller g c =
 
 pub actions-preserved : goal.actions-preserved
 actions-preserved g c = record {
-  came = came_on c.args.script.now c.args.heap.now c.actions.heap c.args.death.now c.actions.death c.actions.invariant.came c.step.new.heap c.step.new.self c.step.result c.step.ensures.steps c.step.ensures.settled c.step.ensures.object c.step.ensures.falls c.sound.ensures.rows
+  came = came_on c.args.script.now c.args.heap.now c.actions.heap c.args.death.now c.actions.death c.actions.invariant.came c.step.new.heap c.step.new.self
+      c.step.result c.step.ensures.steps c.step.ensures.settled c.step.ensures.object c.step.ensures.falls c.sound.ensures.rows
       c.in-Continue.is (subst (λ a. IsGoingAfter a c.step.new.self) c.in-Continue.is c.step.ensures.going refl) c.sound-in-Continue.ensures.rows;
   objects = none_then _ _ _ c.actions.invariant.objects c.step.ensures.objects;
 }
 
 pub returns-in_default-clause-acts : goal.returns-in_default-clause-acts
 returns-in_default-clause-acts g c =
-    last_action c.args.script.now c.args.heap.now c.actions.heap c.args.death.now c.actions.death c.actions.invariant.came c.step.new.heap c.step.new.self c.step.result c.step.ensures.steps c.step.ensures.settled c.step.ensures.object c.step.ensures.falls c.sound.ensures.rows
+    last_action c.args.script.now c.args.heap.now c.actions.heap c.args.death.now c.actions.death c.actions.invariant.came c.step.new.heap c.step.new.self
+    c.step.result c.step.ensures.steps c.step.ensures.settled c.step.ensures.object c.step.ensures.falls c.sound.ensures.rows
     c.step.ensures.cause

@@ -1,5 +1,5 @@
 use Rattle.cg_death.specs.Answers.{MakesNone}
-use Rattle.cg_interp.proofs.Acting.{CameTo, actions_left}
+use Rattle.cg_interp.proofs.DeathActions.{CameTo, actions_left}
 use Rattle.cg_interp.proofs.deaths.act.Given as goal
 
 -- the death has come this far

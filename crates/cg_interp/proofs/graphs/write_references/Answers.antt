@@ -12,17 +12,20 @@ write_reference-requires-in-entries g c = key_lives c.args.heap.now c.sound.ensu
 
 pub returns-in_err-write_reference-clause-err : goal.returns-in_err-write_reference-clause-err
 returns-in_err-write_reference-clause-err g c =
-    given_err _ _ (value_cut c.args.heap.now c.args.detection (entries_of c.args.heap.now c.args.object) c.entries.i c.entry_near-entry.result c.entry_near-entry.ensures _ _ _ c.entries.invariant.wrote c.in_err-write_reference.ensures.err)
+    given_err _ _ (value_cut c.args.heap.now c.args.detection (entries_of c.args.heap.now c.args.object) c.entries.i c.entry_near-entry.result
+    c.entry_near-entry.ensures _ _ _ c.entries.invariant.wrote c.in_err-write_reference.ensures.err)
 
 pub returns-in_err-write_reference-2-clause-err : goal.returns-in_err-write_reference-2-clause-err
 returns-in_err-write_reference-2-clause-err g c =
     given_err _ _
-    (key_cut c.args.heap.now c.args.detection (entries_of c.args.heap.now c.args.object) c.entries.i c.entry_near-entry.result c.entry_near-entry.ensures _ _ _ _ c.entries.invariant.wrote c.in_ok-write_reference.ensures.ok c.in_err-write_reference-2.ensures.err)
+    (key_cut c.args.heap.now c.args.detection (entries_of c.args.heap.now c.args.object) c.entries.i c.entry_near-entry.result c.entry_near-entry.ensures _ _ _
+    _ c.entries.invariant.wrote c.in_ok-write_reference.ensures.ok c.in_err-write_reference-2.ensures.err)
 
 pub entries-preserved : goal.entries-preserved
 entries-preserved g c = record {
   wrote =
-      entry_more c.args.heap.now c.args.detection (entries_of c.args.heap.now c.args.object) c.entries.i c.entry_near-entry.result c.entry_near-entry.ensures _ _ _ _ c.entries.invariant.wrote c.in_ok-write_reference.ensures.ok
+      entry_more c.args.heap.now c.args.detection (entries_of c.args.heap.now c.args.object) c.entries.i c.entry_near-entry.result c.entry_near-entry.ensures _
+      _ _ _ c.entries.invariant.wrote c.in_ok-write_reference.ensures.ok
       c.in_ok-write_reference-2.ensures.ok;
   later = omega (arith, c.entries.invariant.later, c.write_reference.ensures.cause.later, c.write_reference-in-entries.ensures.cause.later);
 }

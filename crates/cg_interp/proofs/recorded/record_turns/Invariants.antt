@@ -1,7 +1,7 @@
 use Rattle.std.proofs.Common.{◌≤◌}
 use Rattle.cg_interp.specs.Turns.{StaysFit}
 use Rattle.cg_interp.specs.Recording.{RecordedSo}
-use Rattle.cg_interp.proofs.Falling.{falling}
+use Rattle.cg_interp.proofs.MeasureOfTurns.{falling}
 use Rattle.cg_interp.proofs.recorded.record_turns.Given as goal
 
 -- the records of the run so far were written, and the engine represents the world after it

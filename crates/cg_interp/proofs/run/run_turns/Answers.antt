@@ -1,5 +1,5 @@
 use Rattle.std.proofs.Common.{arith}
-use Rattle.cg_interp.proofs.Keeping.{fit_here, fit_then}
+use Rattle.cg_interp.proofs.RoomStays.{fit_here, fit_then}
 use Rattle.cg_interp.proofs.Sizes.{small}
 use Rattle.cg_interp.proofs.RunLemmas.{turn_may_be_taken, ran_on, ran_to_end, ran_out, ran_cut, falls_on, ran_start}
 use Rattle.cg_interp.proofs.run.run_turns.Goals as goal
@@ -8,10 +8,14 @@ pub turns-init : goal.turns-init
 turns-init g c = record { ran = ran_start c.args.script.now _ _ _ c.requires.may.opens; fit = fit_here _; later = omega arith }
 
 pub turn_and_write-requires : goal.turn_and_write-requires
-turn_and_write-requires g c = record { may = turn_may_be_taken _ _ _ _ _ c.turns.invariant.ran c.requires.may.laws c.turns.invariant.fit.first_budget c.requires.may.spelled (c.turns.invariant.fit.fit c.args.script.now c.requires.may.fit) }
+turn_and_write-requires g c = record {
+  may = turn_may_be_taken _ _ _ _ _ c.turns.invariant.ran c.requires.may.laws c.turns.invariant.fit.first_budget
+      c.requires.may.spelled (c.turns.invariant.fit.fit c.args.script.now c.requires.may.fit);
+}
 
 pub turns-smaller : goal.turns-smaller
-turns-smaller g c = falls_on _ _ _ _ _ c.turns.invariant.ran c.requires.may.laws c.turns.invariant.fit.first_budget _ _ _ (small _ c.turn_and_write.ensures.sound) c.in-Ok-Running.field-0-is c.in-Ok-Running.ensures.ok
+turns-smaller g c = falls_on _ _ _ _ _ c.turns.invariant.ran c.requires.may.laws c.turns.invariant.fit.first_budget _ _ _
+    (small _ c.turn_and_write.ensures.sound) c.in-Ok-Running.field-0-is c.in-Ok-Running.ensures.ok
 
 pub turns-preserved : goal.turns-preserved
 turns-preserved g c = record {

@@ -1,7 +1,7 @@
 use Rattle.std.proofs.Common.{◌≤◌}
 use Rattle.cg_interp.specs.Turns.{StaysFit}
 use Rattle.cg_interp.specs.Running.{Ran}
-use Rattle.cg_interp.proofs.Falling.{falling}
+use Rattle.cg_interp.proofs.MeasureOfTurns.{falling}
 use Rattle.cg_interp.proofs.run.run_turns.Given as goal
 
 -- the text of the run so far was written, and the engine represents the world after it

@@ -8,7 +8,13 @@ write_answer-requires g c =
     told_printable c.args.script.now _ at.world at.left _ c.turn-answer.result (c.turn-answer.ensures.turns at.world at.left at.stands at.kept) c.requires.may.printable
 
 pub returns-in-Ok-clause-ok : goal.returns-in-Ok-clause-ok
-returns-in-Ok-clause-ok g c = λ w left stands kept. record { answer = c.turn-answer.result; is = sym c.standing.ensures; turns = c.turn-answer.ensures.turns w left stands kept; written = c.in-Ok.ensures.ok }
+returns-in-Ok-clause-ok g c = λ w left stands kept. record {
+  answer = c.turn-answer.result;
+  is = sym c.standing.ensures;
+  turns = c.turn-answer.ensures.turns w
+      left stands kept;
+  written = c.in-Ok.ensures.ok;
+}
 
 pub returns-clause-err : goal.returns-clause-err
 returns-clause-err g c = λ w left stands kept. record { answer = c.turn-answer.result; turns = c.turn-answer.ensures.turns w left stands kept; written = c.in-Err.ensures.err }

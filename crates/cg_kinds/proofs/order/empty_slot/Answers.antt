@@ -9,7 +9,8 @@ pub index_mut-requires : goal.index_mut-requires
 index_mut-requires c =
     let slots = c.args.slots.now in
     let pair = pair_read slots c.args.slot c.in-Some.index c.index-slots-slot.result c.index.result (pair_of slots c.args.slot c.requires.there).within c.index.ensures.index c.in-Some.is in
-    let within = other_within slots c.args.homes.now.items c.requires.homes c.take_last-moved.new.self.items c.take_last-moved.result c.take_last-moved.ensures.items c.args.slot c.in-Some.index pair c.if-moved-slot.false in
+    let within = other_within slots c.args.homes.now.items c.requires.homes c.take_last-moved.new.self.items c.take_last-moved.result
+    c.take_last-moved.ensures.items c.args.slot c.in-Some.index pair c.if-moved-slot.false in
     omega (arith, within)
 
 pub bounds-slots-moved : goal.bounds-slots-moved
@@ -33,7 +34,8 @@ returns-then-moved-slot-clause-rest c =
     let slots = c.args.slots.now in
     let pair = pair_read slots c.args.slot c.in-Some.index c.index-slots-slot.result c.index.result (pair_of slots c.args.slot c.requires.there).within c.index.ensures.index c.in-Some.is in
     let last = last_is slots c.args.homes.now.items c.requires.homes c.take_last-moved.new.self.items c.take_last-moved.result c.take_last-moved.ensures.items in
-    let index = (taken_last slots c.args.homes.now.items c.requires.homes c.take_last-moved.new.self.items c.take_last-moved.result c.take_last-moved.ensures.items c.args.slot c.in-Some.index pair c.if-moved-slot.true).0 in
+    let index = (taken_last slots c.args.homes.now.items c.requires.homes c.take_last-moved.new.self.items c.take_last-moved.result
+    c.take_last-moved.ensures.items c.args.slot c.in-Some.index pair c.if-moved-slot.true).0 in
     let e : length c.args.homes.now.items - 1 ≡ c.in-Some.index = last ∙ sym index in
     ap (λ o. indexes (set slots c.args.slot o)) c.gap.ensures
     ∙ indexes-gap slots c.args.slot c.in-Some.index pair

@@ -9,7 +9,16 @@ before-requires-clause-small c =
 
 pub overflow_add-result : goal.overflow_add-result
 overflow_add-result c =
-    omega (arith, ints, c.before-2.ensures, c.count_pairs.ensures, block_and_rest c.args.slots.now c.args.counts.now c.requires.counts c.args.slot c.requires.within, few_before c.args.slots.now c.args.slot, c.ranges.slot.fits)
+    omega (
+      arith,
+      ints,
+      c.before-2.ensures,
+      c.count_pairs.ensures,
+      block_and_rest c.args.slots.now c.args.counts.now c.requires.counts c.args.slot
+          c.requires.within,
+      few_before c.args.slots.now c.args.slot,
+      c.ranges.slot.fits,
+    )
 
 pub returns : goal.returns
 returns c = omega (arith, c.before-2.ensures, c.count_pairs.ensures, block_and_rest c.args.slots.now c.args.counts.now c.requires.counts c.args.slot c.requires.within)

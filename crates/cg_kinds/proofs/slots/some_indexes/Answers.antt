@@ -20,14 +20,16 @@ slots-preserved c =
           let pair = pair_read slots slot w.in-Some.index c.index-slots-slot.result c.index.result (omega (arith, c.slots-test.true)) told w.in-Some.is in
           let items = ap (λ s. s.items) w.some-is ∙ w.push.ensures.items in
           record {
-            some = items ∙ ap (λ (l : List ℕ). l ++ w.in-Some.index ∷ []) c.slots.invariant.some ∙ sym (indexes_more slots first slot (Some w.in-Some.index) (omega (arith, c.slots.auto.slot)) (omega (arith, c.slots-test.true)) pair);
+            some = items ∙ ap (λ (l : List ℕ). l ++ w.in-Some.index ∷ []) c.slots.invariant.some ∙ sym (indexes_more slots first slot (Some w.in-Some.index)
+                (omega (arith, c.slots.auto.slot)) (omega (arith, c.slots-test.true)) pair);
             few = let long = ap length items in omega (arith, long, length-append c.slots.some.items (w.in-Some.index ∷ []), c.slots.invariant.few, c.if-len-eq-AT_ONCE.false, c.len.ensures);
           }
       | in_default w ↦
           let same = get_or_default slots slot None c.index-slots-slot.result (omega (arith, c.slots-test.true)) in
           let gap = none_told (get_or slots slot None) (λ k is. w.in_default.not-Some k (told ∙ sym same ∙ is)) in
           record {
-            some = ap (λ s. s.items) w.some-is ∙ c.slots.invariant.some ∙ sym (append-nil _) ∙ sym (indexes_more slots first slot None (omega (arith, c.slots.auto.slot)) (omega (arith, c.slots-test.true)) gap);
+            some = ap (λ s. s.items) w.some-is ∙ c.slots.invariant.some ∙ sym (append-nil _)
+                ∙ sym (indexes_more slots first slot None (omega (arith, c.slots.auto.slot)) (omega (arith, c.slots-test.true)) gap);
             few = let long = ap (λ s. length s.items) w.some-is in omega (arith, long, c.slots.invariant.few);
           }
     ]

@@ -7,10 +7,24 @@ use Rattle.cg_kinds.proofs.SumLemmas.{sum_here, sum_here_part, part_taken}
 use Rattle.cg_kinds.proofs.sums.sum_parts.Goals as goal
 
 pub sum_of-requires : goal.sum_of-requires
-sum_of-requires c = omega (arith, part_taken c.args.numbers.now c.parts.rest.now c.split_at.result.0.now c.parts.part c.min.result c.split_at.ensures.front c.min.ensures c.parts.invariant.rest, sum_here_part c.args.numbers.now c.parts.part, c.requires.small)
+sum_of-requires c = omega (
+  arith,
+  part_taken c.args.numbers.now c.parts.rest.now c.split_at.result.0.now c.parts.part c.min.result c.split_at.ensures.front
+      c.min.ensures c.parts.invariant.rest,
+  sum_here_part c.args.numbers.now c.parts.part,
+  c.requires.small,
+)
 
 pub overflow_cast-sums : goal.overflow_cast-sums
-overflow_cast-sums c = omega (arith, ints, c.sum_of.ensures, part_taken c.args.numbers.now c.parts.rest.now c.split_at.result.0.now c.parts.part c.min.result c.split_at.ensures.front c.min.ensures c.parts.invariant.rest, sum_here_part c.args.numbers.now c.parts.part, c.requires.small)
+overflow_cast-sums c = omega (
+  arith,
+  ints,
+  c.sum_of.ensures,
+  part_taken c.args.numbers.now c.parts.rest.now c.split_at.result.0.now c.parts.part c.min.result
+      c.split_at.ensures.front c.min.ensures c.parts.invariant.rest,
+  sum_here_part c.args.numbers.now c.parts.part,
+  c.requires.small,
+)
 
 pub parts-preserved : goal.parts-preserved
 parts-preserved c =
@@ -29,7 +43,8 @@ parts-preserved c =
           ∙ ap (λ n. drop n numbers) n;
       summed = λ part below. elim (cases_eq part at) [
         | inl same ↦
-            let s : get_or (set c.parts.sums at c.sum_of.result) part 0 ≡ c.sum_of.result = ap (λ n. get_or (set c.parts.sums at c.sum_of.result) n 0) same ∙ get_or-set_same c.parts.sums at c.sum_of.result 0 (omega (arith, c.parts-test.true, c.parts.auto.sums)) in
+            let s : get_or (set c.parts.sums at c.sum_of.result) part 0 ≡ c.sum_of.result = ap (λ n. get_or (set c.parts.sums at c.sum_of.result) n 0) same
+            ∙ get_or-set_same c.parts.sums at c.sum_of.result 0 (omega (arith, c.parts-test.true, c.parts.auto.sums)) in
             let t : sum (take 16 (drop (16 * part) numbers)) ≡ sum (take 16 (drop (16 * at) numbers)) = ap (λ n. sum (take 16 (drop (16 * n) numbers))) same in
             omega (arith, s, t, sum_here numbers part, c.sum_of.ensures, here)
         | inr differs ↦

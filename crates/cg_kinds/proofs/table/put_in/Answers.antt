@@ -25,7 +25,9 @@ returns-in-Ok-Occupied-clause-replaced c =
 pub returns-in-Ok-Vacant-clause-ok : goal.returns-in-Ok-Vacant-clause-ok
 returns-in-Ok-Vacant-clause-ok c =
     let packed = c.new-packed.result in
-    ap (λ m. pairs_of m.entries) (c.map-in-Ok-Vacant-1.given.1 (sym (c.insert_entry.ensures.0 ∙ ap (λ e. (entry_map_ref e).ghost_name) (sym c.in-Ok-Vacant.field-0-is) ∙ c.in-Ok-Vacant.ensures.same_map)) ∙ c.insert_entry.ensures.1)
+    ap (λ m. pairs_of m.entries)
+    (c.map-in-Ok-Vacant-1.given.1 (sym (c.insert_entry.ensures.0 ∙ ap (λ e. (entry_map_ref e).ghost_name) (sym c.in-Ok-Vacant.field-0-is)
+    ∙ c.in-Ok-Vacant.ensures.same_map)) ∙ c.insert_entry.ensures.1)
     ∙ ap (λ e. pairs_of (map_with_value e packed).entries) (sym c.in-Ok-Vacant.field-0-is)
     ∙ ap pairs_of (c.in-Ok-Vacant.ensures.update.1 packed)
     ∙ insert-packed c.args.key c.new.result c.args.val packed c.new.ensures c.new-packed.ensures c.args.map.now.entries

@@ -7,4 +7,5 @@ returns-then-are_references-clause-references c =
     let sorts = c.args.sorts.now in
     let numbers = c.args.numbers.now in
     c.note_all.ensures.numbers
-    ∙ sym (all-references sorts numbers (length-sorts sorts numbers c.requires.words ∙ sym (length-numbers sorts numbers c.requires.words)) c.args.from (c.args.next - c.args.from) (c.are_references.ensures c.if-are_references.true))
+    ∙ sym (all-references sorts numbers (length-sorts sorts numbers c.requires.words ∙ sym (length-numbers sorts numbers c.requires.words)) c.args.from
+    (c.args.next - c.args.from) (c.are_references.ensures c.if-are_references.true))

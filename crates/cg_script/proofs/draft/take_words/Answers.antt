@@ -2,9 +2,9 @@ use Rattle.std.proofs.Common.{ap, sym, subst, ◌∙◌, ◌∷◌, ◌≤◌, �
 use Rattle.cg_script.specs.Parts.{has_unknown, names_defined}
 use Rattle.cg_script.specs.Commands.{count_at, said}
 use Rattle.cg_script.specs.Views.{known_of, grouped, inside_behind}
-use Rattle.cg_script.proofs.Grouped.{inside_said, known_so}
+use Rattle.cg_script.proofs.LinesAdded.{inside_said, known_so}
 use Rattle.cg_script.proofs.Profiles.{few_profiles}
-use Rattle.cg_script.proofs.Says.{formed_fits}
+use Rattle.cg_script.proofs.GoodWords.{formed_fits}
 use Rattle.cg_script.proofs.ReadWords.{formed_says, fault_so}
 use Rattle.cg_script.proofs.Unknowns.{unknown_where_asked}
 use Rattle.cg_script.proofs.draft.take_words.Goals as goal
@@ -21,7 +21,8 @@ returns-clause-fault c =
     let words : List (List ℕ) = map (λ w. w.now) c.args.words.now in
     fault_so (known_of c.args.draft.now) c.read_parts.new.names c.args.form words (sym c.in_default.is ∙ c.in_ok-code.ensures.fault) false false false
     (sym c.if-stands_wrong.false ∙ c.stands_wrong.ensures) (sym c.if-defines_again.false ∙ c.defines_again.ensures)
-    (sym c.if-names_unknown.false ∙ c.names_unknown.ensures ∙ ap (λ parts. names_defined c.args.form && has_unknown parts) (c.as_slice.ensures.value ∙ c.in_ok-code.ensures.parts (ap Ok c.in_default.is))
+    (sym c.if-names_unknown.false ∙ c.names_unknown.ensures ∙ ap (λ parts. names_defined c.args.form && has_unknown parts) (c.as_slice.ensures.value
+    ∙ c.in_ok-code.ensures.parts (ap Ok c.in_default.is))
     ∙ unknown_where_asked c.args.draft.now.procs c.args.draft.now.classes c.args.draft.now.names c.args.form words)
 
 pub returns-clause-takes : goal.returns-clause-takes
@@ -31,6 +32,7 @@ returns-clause-takes c = λ e.
     let what = c.in-Ok.ensures ∙ ap (said c.args.form) (c.as_slice-2.ensures.value ∙ c.in_ok-code.ensures.parts read) in
     let inside = c.in_ok-push-in-Ok.ensures.inside ∙ (λ j. inside_behind (what j) (is_some (d.begun j))) ∙ inside_said c.args.form _ (is_some c.args.draft.now.begun) in
     record {
-      known = known_so (known_of c.args.draft.now) c.args.form (map (λ w. w.now) c.args.words.now) _ _ _ _ _ _ _ (d.names ∙ c.in_ok-code.ensures.texts read) d.procs d.classes d.budget d.shutdown d.started inside;
+      known = known_so (known_of c.args.draft.now) c.args.form (map (λ w. w.now) c.args.words.now) _ _ _ _ _ _ _ (d.names ∙ c.in_ok-code.ensures.texts read)
+          d.procs d.classes d.budget d.shutdown d.started inside;
       items = λ later. c.in_ok-push-in-Ok.ensures.grouped later ∙ (λ j. grouped (d.items j) (d.begun j) (what j ∷ later));
     }

@@ -3,7 +3,7 @@ use Rattle.std.proofs.lemmas.Bool.Decides.{nat_tests}
 use Rattle.cg_script.specs.declared.form.Form.{Form}
 use Rattle.cg_script.specs.Tables.{named}
 use Rattle.cg_script.specs.Forms.{word_of, by_words}
-use Rattle.cg_script.proofs.Alike.{none_alike}
+use Rattle.cg_script.proofs.RowsByLength.{none_alike}
 use Rattle.cg_script.proofs.Found.{named_from_like}
 use Rattle.cg_script.proofs.form.form_named.Goals as goal
 

@@ -45,7 +45,8 @@ places-preserved c =
     record {
       fit = fit_more f ws i d c.places-test.true s sort true _ (sym read.0) refl c.places.invariant.fit;
       parts = ap (λ ps. ps ++ parts_from c.args.procs.now c.args.classes.now c.read_part.new.names f (i + 1) (texts_of (drop (i + 1) ws))) items
-          ∙ parts_more f ws i d c.places-test.true s sort c.args.procs.now c.args.classes.now c.places.names c.read_part.new.names texts c.in-Some.part c.places.parts.items _ read.1 c.places.invariant.parts;
+          ∙ parts_more f ws i d c.places-test.true s sort c.args.procs.now c.args.classes.now c.places.names c.read_part.new.names texts c.in-Some.part
+          c.places.parts.items _ read.1 c.places.invariant.parts;
       texts = texts_more f ws i d c.places-test.true s sort c.args.procs.now c.args.classes.now c.places.names c.read_part.new.names texts _ c.places.invariant.texts;
       few_texts = omega (arith, room_more f ws i d c.places-test.true s sort c.args.procs.now c.args.classes.now c.places.names c.read_part.new.names texts, c.places.invariant.few_texts);
     }
@@ -67,7 +68,8 @@ returns-clause-fault c =
     good_words f ws enough few (fit_all f ws c.places.place _ c.places-test.false c.places.invariant.fit) (sym c.has_two_alike.ensures ∙ c.if-has_two_alike.false)
 
 pub returns-clause-parts : goal.returns-clause-parts
-returns-clause-parts c = λ e. parts_end c.args.procs.now c.args.classes.now c.places.names c.args.form c.args.words.now c.places.place c.places.parts.items _ c.places-test.false c.places.invariant.parts
+returns-clause-parts c = λ e. parts_end c.args.procs.now c.args.classes.now c.places.names c.args.form c.args.words.now c.places.place c.places.parts.items _
+    c.places-test.false c.places.invariant.parts
 
 pub returns-clause-texts : goal.returns-clause-texts
 returns-clause-texts c = λ e. texts_end c.places.names c.args.form c.args.words.now c.places.place _ c.places-test.false c.places.invariant.texts

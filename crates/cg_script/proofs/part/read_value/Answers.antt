@@ -9,7 +9,8 @@ returns-then-begins_as_name-clause-texts c =
     let no_atom = sym c.atom.ensures ∙ c.in_default-atom.is in
     let unquoted = sym c.is_quoted_word.ensures ∙ c.if-is_quoted_word.false in
     let begins = sym c.begins_as_name.ensures ∙ c.if-begins_as_name.true in
-    on_ok_weaker c.read_name.result (λ f e. f (sym (name_value c.args.word.now no_atom unquoted begins) ∙ e) ∙ ap (with_text_if c.args.names.now) (sym (name_text c.args.word.now no_atom unquoted begins)))
+    on_ok_weaker c.read_name.result (λ f e. f (sym (name_value c.args.word.now no_atom unquoted begins) ∙ e) ∙ ap (with_text_if c.args.names.now)
+    (sym (name_text c.args.word.now no_atom unquoted begins)))
     c.read_name.ensures.texts
 
 pub returns-clause-operand : goal.returns-clause-operand

@@ -5,7 +5,7 @@ use Rattle.cg_script.specs.Faults.{IsFault}
 use Rattle.cg_script.specs.Reading.{Reading, reading}
 use Rattle.cg_script.specs.Views.{reading_after}
 use Rattle.cg_script.proofs.Lines.{reads_all}
-use Rattle.cg_script.proofs.Each.{known_texts}
+use Rattle.cg_script.proofs.EachLine.{known_texts}
 use Rattle.cg_script.proofs.SpelledScripts.{spelled_if}
 use Rattle.cg_script.proofs.reader.parse.Goals as goal
 

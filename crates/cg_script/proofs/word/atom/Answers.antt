@@ -1,5 +1,5 @@
 use Rattle.std.proofs.Common.{arith}
-use Rattle.cg_script.proofs.Alike.{short_no_atom}
+use Rattle.cg_script.proofs.RowsByLength.{short_no_atom}
 use Rattle.cg_script.proofs.word.atom.Goals as goal
 
 pub returns-then-word-lt-FEWEST_ATOM_BYTES : goal.returns-then-word-lt-FEWEST_ATOM_BYTES

@@ -3,7 +3,7 @@ use Rattle.std.proofs.lemmas.Bool.Decides.{nat_tests}
 use Rattle.cg_script.specs.declared.command.Operand.{Operand}
 use Rattle.cg_script.specs.Tables.{named}
 use Rattle.cg_script.specs.Words.{atoms}
-use Rattle.cg_script.proofs.Alike.{named_like, none_alike}
+use Rattle.cg_script.proofs.RowsByLength.{named_like, none_alike}
 use Rattle.cg_script.proofs.word.atom_among_like.Goals as goal
 
 pub returns-then-is_empty : goal.returns-then-is_empty

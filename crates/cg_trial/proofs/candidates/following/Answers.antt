@@ -1,4 +1,4 @@
-use Rattle.cg_trial.proofs.Placed.{next_is}
+use Rattle.cg_trial.proofs.PlacesOfObjects.{next_is}
 use Rattle.cg_trial.proofs.candidates.following.Goals as goal
 
 pub returns : goal.returns

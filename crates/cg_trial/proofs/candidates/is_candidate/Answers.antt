@@ -1,6 +1,6 @@
 use Rattle.std.proofs.Common.{sym, ◌∙◌, refl}
 use Rattle.cg_value.specs.declared.Place.TheVariants.{Cand}
-use Rattle.cg_trial.proofs.Placed.{where_is, is_there}
+use Rattle.cg_trial.proofs.PlacesOfObjects.{where_is, is_there}
 use Rattle.cg_trial.proofs.candidates.is_candidate.Goals as goal
 
 pub returns-in-Cand : goal.returns-in-Cand

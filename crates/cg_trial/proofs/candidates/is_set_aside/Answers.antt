@@ -2,7 +2,7 @@ use Rattle.std.proofs.Common.{sym, ◌∙◌, refl, arith}
 use Rattle.cg_value.specs.declared.Place.TheVariants.{Back}
 use Rattle.cg_trial.proofs.Lists.{occurs}
 use Rattle.cg_graph.specs.Store.{list_at}
-use Rattle.cg_trial.proofs.Placed.{where_is, is_there, once_at, apart}
+use Rattle.cg_trial.proofs.PlacesOfObjects.{where_is, is_there, once_at, apart}
 use Rattle.cg_trial.proofs.candidates.is_set_aside.Goals as goal
 
 pub returns-in-Back : goal.returns-in-Back

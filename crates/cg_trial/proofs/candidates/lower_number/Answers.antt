@@ -1,4 +1,4 @@
-use Rattle.cg_trial.proofs.Views.{lowered_view}
+use Rattle.cg_trial.proofs.EffectsOfCalls.{lowered_view}
 use Rattle.cg_trial.proofs.candidates.lower_number.Goals as goal
 
 pub returns : goal.returns

@@ -1,5 +1,5 @@
-use Rattle.cg_trial.proofs.Placed.{one_place}
-use Rattle.cg_trial.proofs.Views.{merged_view}
+use Rattle.cg_trial.proofs.PlacesOfObjects.{one_place}
+use Rattle.cg_trial.proofs.EffectsOfCalls.{merged_view}
 use Rattle.cg_trial.proofs.candidates.move_all.Goals as goal
 
 pub merge-requires-clause-differ : goal.merge-requires-clause-differ

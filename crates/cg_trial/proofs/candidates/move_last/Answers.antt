@@ -1,4 +1,4 @@
-use Rattle.cg_trial.proofs.Views.{moved_view}
+use Rattle.cg_trial.proofs.EffectsOfCalls.{moved_view}
 use Rattle.cg_trial.proofs.candidates.move_last.Goals as goal
 
 pub returns : goal.returns

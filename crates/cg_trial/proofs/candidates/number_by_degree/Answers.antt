@@ -1,5 +1,5 @@
-use Rattle.cg_trial.proofs.Placed.{takes_number}
-use Rattle.cg_trial.proofs.Views.{numbered}
+use Rattle.cg_trial.proofs.PlacesOfObjects.{takes_number}
+use Rattle.cg_trial.proofs.EffectsOfCalls.{numbered}
 use Rattle.cg_trial.proofs.candidates.number_by_degree.Goals as goal
 
 pub set_gc_to_refs-requires-clause-place : goal.set_gc_to_refs-requires-clause-place

@@ -3,8 +3,8 @@ use Rattle.std.specs.Prelude.{◌==◌}
 use Rattle.std.proofs.lemmas.Bool.{ne_eqb}
 use Rattle.cg_trial.specs.View.{view_of}
 use Rattle.cg_trial.specs.Sift.{is_zero}
-use Rattle.cg_trial.proofs.Views.{number_told}
-use Rattle.cg_trial.proofs.Sifts.{counting_first, counting_at, counting_live, counting_few, counting_more, counting_shorter, counting_end}
+use Rattle.cg_trial.proofs.EffectsOfCalls.{number_told}
+use Rattle.cg_trial.proofs.WalkInvariant.{counting_first, counting_at, counting_live, counting_few, counting_more, counting_shorter, counting_end}
 use Rattle.cg_trial.proofs.subtraction.count_zeros.Goals as goal
 use Rattle.cg_trial.proofs.subtraction.count_zeros.Goals.{then-head_near-eq0, else-head_near-eq0}
 

@@ -2,7 +2,7 @@ use Rattle.cg_trial.specs.View.{view_of}
 use Rattle.std.proofs.Common.{length}
 use Rattle.cg_value.specs.declared.Place.TheVariants.{Cand}
 use Rattle.cg_trial.proofs.Lists.{ahead}
-use Rattle.cg_trial.proofs.Sifts.{Counting}
+use Rattle.cg_trial.proofs.WalkInvariant.{Counting}
 use Rattle.cg_trial.proofs.subtraction.count_zeros.Given as goal
 
 abbrev pub invariant-objects : goal.invariant-objects

@@ -1,8 +1,8 @@
 use Rattle.std.proofs.Common.{◌∙◌, arith}
 use Rattle.cg_trial.specs.View.{view_of}
 use Rattle.cg_trial.proofs.Entries.{one_of}
-use Rattle.cg_trial.proofs.Views.{number_told}
-use Rattle.cg_trial.proofs.Waking.{awake_next}
+use Rattle.cg_trial.proofs.EffectsOfCalls.{number_told}
+use Rattle.cg_trial.proofs.TakingBack.{awake_next}
 use Rattle.cg_trial.proofs.subtraction.first_to_wake.Goals as goal
 
 pub head_of-head-requires : goal.head_of-head-requires

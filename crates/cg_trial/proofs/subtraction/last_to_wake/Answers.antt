@@ -1,7 +1,7 @@
 use Rattle.std.proofs.Common.{◌-◌, ◌∙◌, arith}
 use Rattle.cg_trial.specs.View.{view_of}
 use Rattle.cg_trial.proofs.Entries.{one_of}
-use Rattle.cg_trial.proofs.Views.{number_told}
+use Rattle.cg_trial.proofs.EffectsOfCalls.{number_told}
 use Rattle.cg_trial.proofs.Backward.{none_behind, awake_before}
 use Rattle.cg_trial.proofs.subtraction.last_to_wake.Goals as goal
 

@@ -9,7 +9,12 @@ pub note_near-noted-requires-clause-live : goal.note_near-noted-requires-clause-
 note_near-noted-requires-clause-live g c = live_same (view_of c.args.heap.now) (view_of c.entries.heap) c.args.object c.entries.invariant.lowering.lowered.rest.same c.requires.live
 
 pub note_near-noted-requires-clause-within : goal.note_near-noted-requires-clause-within
-note_near-noted-requires-clause-within g c = omega (arith, c.entries.invariant.lowering.within, length_same (view_of c.args.heap.now) (view_of c.entries.heap) c.args.object c.entries.invariant.lowering.lowered.rest.same)
+note_near-noted-requires-clause-within g c = omega (
+  arith,
+  c.entries.invariant.lowering.within,
+  length_same (view_of c.args.heap.now) (view_of c.entries.heap)
+      c.args.object c.entries.invariant.lowering.lowered.rest.same,
+)
 
 pub lower_each-requires-clause-live : goal.lower_each-requires-clause-live
 lower_each-requires-clause-live g c = λ p h.
@@ -24,8 +29,14 @@ lower_each-requires-clause-room g c = λ p h.
 pub returns-then-noted-from-lt-AT_ONCE-clause-lowered : goal.returns-then-noted-from-lt-AT_ONCE-clause-lowered
 returns-then-noted-from-lt-AT_ONCE-clause-lowered g c =
     lowering_all c.args.object (view_of c.args.heap.now) (view_of c.lower_each.new.heap) c.note_near-noted.result.next
-    (few_last c.args.object (view_of c.args.heap.now) (view_of c.entries.heap) c.entries.from c.note_near-noted.result.next c.entries.invariant.lowering.within c.entries.invariant.lowering.lowered.rest.same c.note_near-noted.ensures.next (omega (arith, c.note_near-noted.ensures.next, c.if-noted-from-lt-AT_ONCE.true)))
-    (lowering_more c.args.object (view_of c.args.heap.now) (view_of c.entries.heap) (view_of c.lower_each.new.heap) c.entries.from c.note_near-noted.result.next c.entries.invariant.lowering c.note_near-noted.ensures.next
+    (few_last c.args.object (view_of c.args.heap.now) (view_of c.entries.heap) c.entries.from c.note_near-noted.result.next c.entries.invariant.lowering.within
+    c.entries.invariant.lowering.lowered.rest.same c.note_near-noted.ensures.next (omega (
+      arith,
+      c.note_near-noted.ensures.next,
+      c.if-noted-from-lt-AT_ONCE.true,
+    )))
+    (lowering_more c.args.object (view_of c.args.heap.now) (view_of c.entries.heap) (view_of c.lower_each.new.heap) c.entries.from c.note_near-noted.result.next
+    c.entries.invariant.lowering c.note_near-noted.ensures.next
     (subst (λ (xs : List ℕ). Lowered xs (view_of c.entries.heap) (view_of c.lower_each.new.heap)) c.note_near-noted.ensures.references c.lower_each.ensures))
 
 pub returns-then-noted-from-lt-AT_ONCE-clause-looks : goal.returns-then-noted-from-lt-AT_ONCE-clause-looks
@@ -35,18 +46,25 @@ returns-then-noted-from-lt-AT_ONCE-clause-looks g c =
       c.entries.invariant.looks,
       c.note_near-noted.ensures.steps,
       c.note_near-noted.ensures.next,
-      few_last c.args.object (view_of c.args.heap.now) (view_of c.entries.heap) c.entries.from c.note_near-noted.result.next c.entries.invariant.lowering.within c.entries.invariant.lowering.lowered.rest.same c.note_near-noted.ensures.next (omega (arith, c.note_near-noted.ensures.next, c.if-noted-from-lt-AT_ONCE.true)),
+      few_last c.args.object (view_of c.args.heap.now) (view_of c.entries.heap) c.entries.from c.note_near-noted.result.next c.entries.invariant.lowering.within
+          c.entries.invariant.lowering.lowered.rest.same c.note_near-noted.ensures.next (omega (
+            arith,
+            c.note_near-noted.ensures.next,
+            c.if-noted-from-lt-AT_ONCE.true,
+          )),
     )
 
 pub entries-smaller : goal.entries-smaller
 entries-smaller g c =
-    let so = lowering_more c.args.object (view_of c.args.heap.now) (view_of c.entries.heap) (view_of c.lower_each.new.heap) c.entries.from c.note_near-noted.result.next c.entries.invariant.lowering c.note_near-noted.ensures.next
+    let so = lowering_more c.args.object (view_of c.args.heap.now) (view_of c.entries.heap) (view_of c.lower_each.new.heap) c.entries.from
+    c.note_near-noted.result.next c.entries.invariant.lowering c.note_near-noted.ensures.next
     (subst (λ (xs : List ℕ). Lowered xs (view_of c.entries.heap) (view_of c.lower_each.new.heap)) c.note_near-noted.ensures.references c.lower_each.ensures) in
     omega (arith, so.within, c.if-noted-from-lt-AT_ONCE.false, c.note_near-noted.ensures.next)
 
 pub entries-preserved : goal.entries-preserved
 entries-preserved g c = record {
-  lowering = lowering_more c.args.object (view_of c.args.heap.now) (view_of c.entries.heap) (view_of c.lower_each.new.heap) c.entries.from c.note_near-noted.result.next c.entries.invariant.lowering c.note_near-noted.ensures.next
+  lowering = lowering_more c.args.object (view_of c.args.heap.now) (view_of c.entries.heap) (view_of c.lower_each.new.heap) c.entries.from
+      c.note_near-noted.result.next c.entries.invariant.lowering c.note_near-noted.ensures.next
       (subst (λ (xs : List ℕ). Lowered xs (view_of c.entries.heap) (view_of c.lower_each.new.heap)) c.note_near-noted.ensures.references c.lower_each.ensures);
   looks = omega (arith, c.entries.invariant.looks, c.note_near-noted.ensures.steps, c.note_near-noted.ensures.next);
   space = omega (arith, c.note_near-noted.ensures.room, c.entries.invariant.space);

@@ -13,12 +13,14 @@ lower_number_by-requires-clause-live g c =
 
 pub lower_number_by-requires-clause-room : goal.lower_number_by-requires-clause-room
 lower_number_by-requires-clause-room g c = λ here.
-    let room = run_room (view_of c.args.heap.now) (view_of c.runs.heap) c.args.objects.now (c.runs.next - 1) c.end_of_run-end.result _ c.end_of_run-end.ensures.run c.runs.invariant.lowered c.requires.room here in
+    let room = run_room (view_of c.args.heap.now) (view_of c.runs.heap) c.args.objects.now (c.runs.next - 1) c.end_of_run-end.result _
+    c.end_of_run-end.ensures.run c.runs.invariant.lowered c.requires.room here in
     omega (arith, room, c.runs.invariant.behind)
 
 pub runs-preserved-then-object-objects : goal.runs-preserved-then-object-objects
 runs-preserved-then-object-objects g c = record {
-  lowered = lowered_run (view_of c.args.heap.now) (view_of c.runs.heap) (view_of c.lower_number_by.new.heap) c.args.objects.now (c.runs.next - 1) c.end_of_run-end.result (c.end_of_run-end.result + 1 - 1) (c.end_of_run-end.result + 1 - c.runs.next) _
+  lowered = lowered_run (view_of c.args.heap.now) (view_of c.runs.heap) (view_of c.lower_number_by.new.heap) c.args.objects.now (c.runs.next - 1)
+      c.end_of_run-end.result (c.end_of_run-end.result + 1 - 1) (c.end_of_run-end.result + 1 - c.runs.next) _
       c.end_of_run-end.ensures.run (omega arith) (omega (arith, c.runs.invariant.behind)) c.runs.invariant.lowered c.lower_number_by.ensures;
   within = omega (arith, c.end_of_run-end.ensures.within);
   behind = omega arith;
@@ -47,7 +49,8 @@ lower_number-requires-then-next-objects-clause-live g c =
 
 pub lower_number-requires-then-next-objects-clause-room : goal.lower_number-requires-then-next-objects-clause-room
 lower_number-requires-then-next-objects-clause-room g c =
-    one_room (view_of c.args.heap.now) (view_of c.runs.heap) c.args.objects.now (c.runs.next - 1) (omega (arith, c.if-next-objects.true, c.runs.invariant.behind)) c.runs.invariant.lowered c.requires.room
+    one_room (view_of c.args.heap.now) (view_of c.runs.heap) c.args.objects.now (c.runs.next - 1)
+    (omega (arith, c.if-next-objects.true, c.runs.invariant.behind)) c.runs.invariant.lowered c.requires.room
 
 pub returns-then-next-objects : goal.returns-then-next-objects
 returns-then-next-objects g c =

@@ -2,9 +2,9 @@ use Rattle.std.proofs.Common.{sym, ◌∙◌, arith}
 use Rattle.cg_graph.specs.Value.{references}
 use Rattle.cg_graph.specs.Store.{entries_of}
 use Rattle.cg_trial.specs.View.{view_of}
-use Rattle.cg_trial.proofs.Views.{number_told}
+use Rattle.cg_trial.proofs.EffectsOfCalls.{number_told}
 use Rattle.cg_trial.proofs.Passes.{stands}
-use Rattle.cg_trial.proofs.Sifts.{member_old, sifting_at, sifting_first, sifting_ready, sifting_live, sifting_aside, aside_lighter, sifting_pass, pass_lighter, sifting_alive, aside_zeros, sifting_done, sifting_end, sifting_over, looks_within}
+use Rattle.cg_trial.proofs.WalkInvariant.{member_old, sifting_at, sifting_first, sifting_ready, sifting_live, sifting_aside, aside_lighter, sifting_pass, pass_lighter, sifting_alive, aside_zeros, sifting_done, sifting_end, sifting_over, looks_within}
 use Rattle.std.proofs.Common.{inl}
 use Rattle.cg_trial.proofs.subtraction.set_aside.Goals as goal
 
@@ -27,7 +27,8 @@ pub objects-smaller-then-head-eq0 : goal.objects-smaller-then-head-eq0
 objects-smaller-then-head-eq0 g c = let so = sifting_at (view_of c.args.heap.now) (view_of c.objects.heap) _ _ _ _ c.objects.invariant.sifting c.in-Some.is in
     let live = sifting_live _ _ _ _ _ c.requires.ready so in
     let in_old = member_old _ _ _ _ _ so c.in-Some.object (inl (stands _ _ so.front so.back so.at)) in
-    aside_lighter _ _ (view_of c.move_last.new.heap) _ _ _ _ c.requires.ready so (sym (number_told c.objects.heap _ _ live c.head_near-head.ensures.number) ∙ c.if-head-eq0.true) c.following-cursor.ensures c.move_last.ensures
+    aside_lighter _ _ (view_of c.move_last.new.heap) _ _ _ _ c.requires.ready so (sym (number_told c.objects.heap _ _ live c.head_near-head.ensures.number)
+    ∙ c.if-head-eq0.true) c.following-cursor.ensures c.move_last.ensures
     (λ q h. c.requires.alone q _ h in_old) _ c.in-Some.is
 
 pub objects-preserved-then-head-eq0 : goal.objects-preserved-then-head-eq0
@@ -49,18 +50,21 @@ take_back_all-requires-clause-live g c = let so = sifting_at (view_of c.args.hea
 
 pub following-cursor-requires-else-head-eq0 : goal.following-cursor-requires-else-head-eq0
 following-cursor-requires-else-head-eq0 g c = let so = sifting_at (view_of c.args.heap.now) (view_of c.objects.heap) _ _ _ _ c.objects.invariant.sifting c.in-Some.is in
-    sifting_alive (view_of c.args.heap.now) (view_of c.objects.heap) (view_of c.take_back_all.new.heap) c.in-Some.object _ _ (references (entries_of c.objects.heap c.in-Some.object)) c.requires.ready so c.take_back_all.ensures.woken
+    sifting_alive (view_of c.args.heap.now) (view_of c.objects.heap) (view_of c.take_back_all.new.heap) c.in-Some.object _ _
+    (references (entries_of c.objects.heap c.in-Some.object)) c.requires.ready so c.take_back_all.ensures.woken
 
 pub objects-smaller : goal.objects-smaller
 objects-smaller g c = let so = sifting_at (view_of c.args.heap.now) (view_of c.objects.heap) _ _ _ _ c.objects.invariant.sifting c.in-Some.is in
     let live = sifting_live _ _ _ _ _ c.requires.ready so in
-    pass_lighter _ _ _ _ _ _ _ _ c.requires.ready so (λ z. c.if-head-eq0.false (number_told c.objects.heap _ _ live c.head_near-head.ensures.number ∙ z)) c.take_back_all.ensures.woken c.following-cursor-else-head-eq0.ensures c.take_back_all.ensures.later c.take_back_all.ensures.looks _ c.in-Some.is
+    pass_lighter _ _ _ _ _ _ _ _ c.requires.ready so (λ z. c.if-head-eq0.false (number_told c.objects.heap _ _ live c.head_near-head.ensures.number ∙ z))
+    c.take_back_all.ensures.woken c.following-cursor-else-head-eq0.ensures c.take_back_all.ensures.later c.take_back_all.ensures.looks _ c.in-Some.is
 
 pub objects-preserved : goal.objects-preserved
 objects-preserved g c = let so = sifting_at (view_of c.args.heap.now) (view_of c.objects.heap) _ _ _ _ c.objects.invariant.sifting c.in-Some.is in
     let live = sifting_live _ _ _ _ _ c.requires.ready so in
     record {
-      sifting = sifting_pass _ _ _ _ _ _ _ _ c.requires.ready so (λ z. c.if-head-eq0.false (number_told c.objects.heap _ _ live c.head_near-head.ensures.number ∙ z)) c.take_back_all.ensures.woken c.following-cursor-else-head-eq0.ensures c.take_back_all.ensures.later c.take_back_all.ensures.looks;
+      sifting = sifting_pass _ _ _ _ _ _ _ _ c.requires.ready so (λ z. c.if-head-eq0.false (number_told c.objects.heap _ _ live c.head_near-head.ensures.number
+          ∙ z)) c.take_back_all.ensures.woken c.following-cursor-else-head-eq0.ensures c.take_back_all.ensures.later c.take_back_all.ensures.looks;
       left = c.take_back_all.ensures.left;
     }
 

@@ -1,7 +1,7 @@
 use Rattle.cg_trial.specs.View.{view_of}
 use Rattle.std.proofs.Common.{◌≤◌}
 use Rattle.cg_trial.specs.Sift.{zeros}
-use Rattle.cg_trial.proofs.Sifts.{Sifting, weight}
+use Rattle.cg_trial.proofs.WalkInvariant.{Sifting, weight}
 use Rattle.cg_trial.proofs.subtraction.set_aside.Given as goal
 
 abbrev pub invariant-objects : goal.invariant-objects

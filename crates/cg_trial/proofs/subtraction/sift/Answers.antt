@@ -2,7 +2,7 @@ use Rattle.std.proofs.Common.{arith}
 use Rattle.cg_value.specs.declared.Place.TheVariants.{Cand, Back}
 use Rattle.cg_graph.specs.Store.{list_at}
 use Rattle.cg_trial.specs.View.{view_of}
-use Rattle.cg_trial.proofs.Counted.{is_ready, is_counted, is_apart}
+use Rattle.cg_trial.proofs.CountBounds.{is_ready, is_counted, is_apart}
 use Rattle.cg_trial.proofs.Passes.{but_numbers_more, ready_same, cand_same}
 use Rattle.cg_trial.proofs.Splits.{sieved_of, counted_room, apart_same, empty_same, entries_same}
 use Rattle.cg_trial.proofs.subtraction.sift.Goals as goal
@@ -20,10 +20,12 @@ pub take_out-requires-clause-ready : goal.take_out-requires-clause-ready
 take_out-requires-clause-ready g c = ready_same _ _ (is_ready c.args.heap.now c.sound.ensures) (but_numbers_more c.copy.ensures.same c.subtract.ensures.lowered.rest)
 
 pub take_out-requires-clause-alone : goal.take_out-requires-clause-alone
-take_out-requires-clause-alone g c = apart_same (view_of c.args.heap.now) (view_of c.subtract.new.heap) (but_numbers_more c.copy.ensures.same c.subtract.ensures.lowered.rest) (is_apart c.args.heap.now c.sound.ensures)
+take_out-requires-clause-alone g c = apart_same (view_of c.args.heap.now) (view_of c.subtract.new.heap) (but_numbers_more c.copy.ensures.same
+    c.subtract.ensures.lowered.rest) (is_apart c.args.heap.now c.sound.ensures)
 
 pub take_out-requires-clause-empty : goal.take_out-requires-clause-empty
-take_out-requires-clause-empty g c = empty_same c.args.kept (view_of c.args.heap.now) (view_of c.subtract.new.heap) (but_numbers_more c.copy.ensures.same c.subtract.ensures.lowered.rest) c.requires.empty
+take_out-requires-clause-empty g c = empty_same c.args.kept (view_of c.args.heap.now) (view_of c.subtract.new.heap) (but_numbers_more c.copy.ensures.same
+    c.subtract.ensures.lowered.rest) c.requires.empty
 
 pub take_out-requires-clause-none : goal.take_out-requires-clause-none
 take_out-requires-clause-none g c = empty_same Back (view_of c.args.heap.now) (view_of c.subtract.new.heap) (but_numbers_more c.copy.ensures.same c.subtract.ensures.lowered.rest) c.requires.none

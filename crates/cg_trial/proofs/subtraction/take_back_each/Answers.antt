@@ -4,7 +4,7 @@ use Rattle.cg_graph.specs.Member.{Includes}
 use Rattle.cg_trial.specs.View.{view_of}
 use Rattle.cg_trial.specs.Sift.{IsFirstZero}
 use Rattle.cg_trial.proofs.Entries.{live_same, one_of, rest_of}
-use Rattle.cg_trial.proofs.Waking.{woken_none, woken_next, woken_rest}
+use Rattle.cg_trial.proofs.TakingBack.{woken_none, woken_next, woken_rest}
 use Rattle.cg_trial.proofs.subtraction.take_back_each.Goals as goal
 
 pub zeros-init : goal.zeros-init
@@ -17,7 +17,8 @@ first_to_wake-requires g c = λ p h.
 
 pub wake-requires-clause-live : goal.wake-requires-clause-live
 wake-requires-clause-live g c =
-    live_same (view_of c.args.heap.now) (view_of c.zeros.heap) _ c.zeros.invariant.woken.same (c.requires.live _ (one_of c.args.objects.now (c.zeros.from + c.in-Some.at) (omega (arith, c.in-Some.ensures.first.within))))
+    live_same (view_of c.args.heap.now) (view_of c.zeros.heap) _ c.zeros.invariant.woken.same
+    (c.requires.live _ (one_of c.args.objects.now (c.zeros.from + c.in-Some.at) (omega (arith, c.in-Some.ensures.first.within))))
 
 pub wake-requires-clause-left : goal.wake-requires-clause-left
 wake-requires-clause-left g c = c.zeros.invariant.left

@@ -3,7 +3,7 @@ use Rattle.cg_graph.specs.Member.{Includes}
 use Rattle.cg_trial.specs.View.{view_of}
 use Rattle.cg_trial.specs.Sift.{Woken}
 use Rattle.cg_trial.proofs.Entries.{live_same, length_same, next_live, few_last}
-use Rattle.cg_trial.proofs.Waking.{waking_first, waking_more, waking_all, waking_over}
+use Rattle.cg_trial.proofs.TakingBack.{waking_first, waking_more, waking_all, waking_over}
 use Rattle.cg_trial.proofs.subtraction.take_back_from_first.Goals as goal
 
 pub entries-init : goal.entries-init
@@ -13,7 +13,12 @@ pub note_near-noted-requires-clause-live : goal.note_near-noted-requires-clause-
 note_near-noted-requires-clause-live g c = live_same (view_of c.args.heap.now) (view_of c.entries.heap) c.args.object c.entries.invariant.waking.woken.same c.requires.live
 
 pub note_near-noted-requires-clause-within : goal.note_near-noted-requires-clause-within
-note_near-noted-requires-clause-within g c = omega (arith, c.entries.invariant.waking.within, length_same (view_of c.args.heap.now) (view_of c.entries.heap) c.args.object c.entries.invariant.waking.woken.same)
+note_near-noted-requires-clause-within g c = omega (
+  arith,
+  c.entries.invariant.waking.within,
+  length_same (view_of c.args.heap.now) (view_of c.entries.heap)
+      c.args.object c.entries.invariant.waking.woken.same,
+)
 
 pub take_back_each-requires-clause-left : goal.take_back_each-requires-clause-left
 take_back_each-requires-clause-left g c = c.entries.invariant.left
@@ -26,8 +31,10 @@ take_back_each-requires-clause-live g c = λ p h.
 pub returns-then-noted-from-lt-AT_ONCE-clause-woken : goal.returns-then-noted-from-lt-AT_ONCE-clause-woken
 returns-then-noted-from-lt-AT_ONCE-clause-woken g c =
     waking_all c.args.object (view_of c.args.heap.now) (view_of c.take_back_each.new.heap) c.note_near-noted.result.next
-    (few_last c.args.object (view_of c.args.heap.now) (view_of c.entries.heap) c.entries.from c.note_near-noted.result.next c.entries.invariant.waking.within c.entries.invariant.waking.woken.same c.note_near-noted.ensures.next (omega (arith, c.note_near-noted.ensures.next, c.if-noted-from-lt-AT_ONCE.true)))
-    (waking_more c.args.object (view_of c.args.heap.now) (view_of c.entries.heap) (view_of c.take_back_each.new.heap) c.entries.from c.note_near-noted.result.next c.entries.invariant.waking c.note_near-noted.ensures.next
+    (few_last c.args.object (view_of c.args.heap.now) (view_of c.entries.heap) c.entries.from c.note_near-noted.result.next c.entries.invariant.waking.within
+    c.entries.invariant.waking.woken.same c.note_near-noted.ensures.next (omega (arith, c.note_near-noted.ensures.next, c.if-noted-from-lt-AT_ONCE.true)))
+    (waking_more c.args.object (view_of c.args.heap.now) (view_of c.entries.heap) (view_of c.take_back_each.new.heap) c.entries.from
+    c.note_near-noted.result.next c.entries.invariant.waking c.note_near-noted.ensures.next
     (subst (λ (xs : List ℕ). Woken xs (view_of c.entries.heap) (view_of c.take_back_each.new.heap)) c.note_near-noted.ensures.references c.take_back_each.ensures.woken))
 
 pub returns-then-noted-from-lt-AT_ONCE-clause-looks : goal.returns-then-noted-from-lt-AT_ONCE-clause-looks
@@ -37,18 +44,21 @@ returns-then-noted-from-lt-AT_ONCE-clause-looks g c =
       c.entries.invariant.looks,
       c.note_near-noted.ensures.steps,
       c.note_near-noted.ensures.next,
-      few_last c.args.object (view_of c.args.heap.now) (view_of c.entries.heap) c.entries.from c.note_near-noted.result.next c.entries.invariant.waking.within c.entries.invariant.waking.woken.same c.note_near-noted.ensures.next (omega (arith, c.note_near-noted.ensures.next, c.if-noted-from-lt-AT_ONCE.true)),
+      few_last c.args.object (view_of c.args.heap.now) (view_of c.entries.heap) c.entries.from c.note_near-noted.result.next c.entries.invariant.waking.within
+          c.entries.invariant.waking.woken.same c.note_near-noted.ensures.next (omega (arith, c.note_near-noted.ensures.next, c.if-noted-from-lt-AT_ONCE.true)),
     )
 
 pub entries-smaller : goal.entries-smaller
 entries-smaller g c =
-    let so = waking_more c.args.object (view_of c.args.heap.now) (view_of c.entries.heap) (view_of c.take_back_each.new.heap) c.entries.from c.note_near-noted.result.next c.entries.invariant.waking c.note_near-noted.ensures.next
+    let so = waking_more c.args.object (view_of c.args.heap.now) (view_of c.entries.heap) (view_of c.take_back_each.new.heap) c.entries.from
+    c.note_near-noted.result.next c.entries.invariant.waking c.note_near-noted.ensures.next
     (subst (λ (xs : List ℕ). Woken xs (view_of c.entries.heap) (view_of c.take_back_each.new.heap)) c.note_near-noted.ensures.references c.take_back_each.ensures.woken) in
     omega (arith, so.within, c.if-noted-from-lt-AT_ONCE.false, c.note_near-noted.ensures.next)
 
 pub entries-preserved : goal.entries-preserved
 entries-preserved g c = record {
-  waking = waking_more c.args.object (view_of c.args.heap.now) (view_of c.entries.heap) (view_of c.take_back_each.new.heap) c.entries.from c.note_near-noted.result.next c.entries.invariant.waking c.note_near-noted.ensures.next
+  waking = waking_more c.args.object (view_of c.args.heap.now) (view_of c.entries.heap) (view_of c.take_back_each.new.heap) c.entries.from
+      c.note_near-noted.result.next c.entries.invariant.waking c.note_near-noted.ensures.next
       (subst (λ (xs : List ℕ). Woken xs (view_of c.entries.heap) (view_of c.take_back_each.new.heap)) c.note_near-noted.ensures.references c.take_back_each.ensures.woken);
   looks = omega (arith, c.entries.invariant.looks, c.note_near-noted.ensures.steps, c.note_near-noted.ensures.next);
   left = c.take_back_each.ensures.left;
@@ -56,7 +66,8 @@ entries-preserved g c = record {
 }
 
 pub returns-clause-woken : goal.returns-clause-woken
-returns-clause-woken g c = waking_over c.args.object (view_of c.args.heap.now) (view_of c.entries.heap) c.entries.from (omega (arith, c.entries.invariant.left, c.entries-test.false)) c.entries.invariant.waking
+returns-clause-woken g c = waking_over c.args.object (view_of c.args.heap.now) (view_of c.entries.heap) c.entries.from
+    (omega (arith, c.entries.invariant.left, c.entries-test.false)) c.entries.invariant.waking
 
 pub returns-clause-left : goal.returns-clause-left
 returns-clause-left g c = c.entries.invariant.left

@@ -1,7 +1,7 @@
 use Rattle.cg_trial.specs.View.{view_of}
 use Rattle.std.proofs.Common.{◌≡◌, ◌≤◌, ◌+◌, ◌-◌, length}
 use Rattle.cg_trial.specs.Sift.{zeros}
-use Rattle.cg_trial.proofs.Waking.{Waking}
+use Rattle.cg_trial.proofs.TakingBack.{Waking}
 use Rattle.cg_trial.proofs.subtraction.take_back_from_first.Given as goal
 
 abbrev pub invariant-entries : goal.invariant-entries

@@ -41,7 +41,8 @@ entries-preserved g c =
     }
 
 pub returns-else-blocks-gt0-clause-woken : goal.returns-else-blocks-gt0-clause-woken
-returns-else-blocks-gt0-clause-woken g c = waking_back-all c.args.object (view_of c.args.heap.now) (view_of c.entries.heap) c.entries.blocks _ _ (omega (arith, c.if-blocks-gt0.false)) c.entries.invariant.waking
+returns-else-blocks-gt0-clause-woken g c = waking_back-all c.args.object (view_of c.args.heap.now) (view_of c.entries.heap) c.entries.blocks _ _
+    (omega (arith, c.if-blocks-gt0.false)) c.entries.invariant.waking
 
 pub returns-after-entries-clause-woken : goal.returns-after-entries-clause-woken
 returns-after-entries-clause-woken g c =

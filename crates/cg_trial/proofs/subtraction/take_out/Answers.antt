@@ -4,7 +4,7 @@ use Rattle.cg_value.specs.declared.Place.{Place}
 use Rattle.cg_trial.specs.View.{view_of}
 use Rattle.cg_value.specs.declared.Place.TheVariants.{Cand}
 use Rattle.cg_trial.specs.Sift.{IsSifted, is_zero}
-use Rattle.cg_trial.proofs.Waking.{all_zero}
+use Rattle.cg_trial.proofs.TakingBack.{all_zero}
 use Rattle.cg_trial.proofs.Exchanges.{parted_twofold, sifted_exchanged, sifted_merged, sifted_none}
 use Rattle.cg_trial.proofs.subtraction.take_out.Goals as goal
 

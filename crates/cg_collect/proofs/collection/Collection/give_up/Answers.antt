@@ -17,7 +17,8 @@ returns-in_default g c =
         heap = c.step-answer.ensures.rest;
         collection = went.0 ∙ ap (once_given_up c.args.self.now c.step-answer.new.self) c.step-answer.ensures.answer;
         told = went.1 ∙ ap give_up_answer c.step-answer.ensures.answer;
-        steps = subst (λ a. Rattle.cg_death.specs.Answers.ReleaseSteps c.args.heap.now (references_left c.in-Some.release) c.step-answer.new.heap (references_left c.step-answer.new.self) a) c.step-answer.ensures.answer c.step-answer.ensures.steps;
+        steps = subst (λ a. Rattle.cg_death.specs.Answers.ReleaseSteps c.args.heap.now (references_left c.in-Some.release) c.step-answer.new.heap
+            (references_left c.step-answer.new.self) a) c.step-answer.ensures.answer c.step-answer.ensures.steps;
         unheld = tt;
       };
     }

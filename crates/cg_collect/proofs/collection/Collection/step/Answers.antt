@@ -3,9 +3,9 @@ use Rattle.std.proofs.lemmas.Grind.{common_steps}
 use Rattle.cg_heap.specs.Calls.{HasFewHolds}
 use Rattle.cg_collect.specs.declared.collection.Collection.{Collection}
 use Rattle.cg_collect.specs.Ready.{GivesUpIn}
-use Rattle.cg_collect.proofs.Staging.{TakesStep, also-ready, also-step}
+use Rattle.cg_collect.proofs.Stages.{TakesStep, also-ready, also-step}
 use Rattle.cg_collect.proofs.GivingUp.{gives_up-step}
-use Rattle.cg_collect.proofs.Stepping.{given_up_held, ready_on, held_on, looks_on, none_left, turned}
+use Rattle.cg_collect.proofs.StepsOfPhases.{given_up_held, ready_on, held_on, looks_on, none_left, turned}
 use Rattle.cg_collect.proofs.collection.Collection.step.Goals as goal
 
 pub give_up-requires : goal.give_up-requires
@@ -36,7 +36,8 @@ returns-in-Some g c =
       onward = s.onward;
       objects = s.keeps.objects;
       names = s.keeps.names;
-      looks = let none = none_left was.phase now.phase c.in-Some.ensures.some.before c.give_up.new.heap (subst (GivesUpIn was.phase) c.in-Some.ensures.some.had c.requires.ready.gives_up) in omega (arith, none);
+      looks = let none = none_left was.phase now.phase c.in-Some.ensures.some.before c.give_up.new.heap (subst (GivesUpIn was.phase) c.in-Some.ensures.some.had
+          c.requires.ready.gives_up) in omega (arith, none);
     }
 
 -- Its phase had a turn.
@@ -44,7 +45,8 @@ pub turn-turn-requires : goal.turn-turn-requires
 turn-turn-requires g c =
     let old : Collection = record c.args.self.now { detected = c.detection-self.result } in
     let same = c.in_default.ensures.none in
-    let ready = ready_on old c.give_up.new.self c.args.heap.now c.give_up.new.heap same c.args.script.now (also-ready c.detection-self.result c.args.script.now c.args.self.now c.args.heap.now c.requires.ready) in
+    let ready = ready_on old c.give_up.new.self c.args.heap.now c.give_up.new.heap same c.args.script.now (also-ready c.detection-self.result c.args.script.now
+    c.args.self.now c.args.heap.now c.requires.ready) in
     record {
       generation = ready.generation;
       ready = ready.phase;

@@ -26,7 +26,8 @@ pub returns-in-WeakCalling-clause-takes : goal.returns-in-WeakCalling-clause-tak
 returns-in-WeakCalling-clause-takes g c = at_phase c.in-WeakCalling.is (c.call_one.ensures.takes c.args.script.now (facts_of c.args.self.now) c.args.policy.now)
 
 pub returns-in-AfterCallback-clause-takes : goal.returns-in-AfterCallback-clause-takes
-returns-in-AfterCallback-clause-takes g c = at_phase c.in-AfterCallback.is (c.after_callback.ensures c.args.script.now (facts_of c.args.self.now) c.args.heap.now c.args.policy.now (ready_at c.args.heap.now c.args.self.now.generation c.in-AfterCallback.is c.requires.ready))
+returns-in-AfterCallback-clause-takes g c = at_phase c.in-AfterCallback.is (c.after_callback.ensures c.args.script.now (facts_of c.args.self.now)
+    c.args.heap.now c.args.policy.now (ready_at c.args.heap.now c.args.self.now.generation c.in-AfterCallback.is c.requires.ready))
 
 pub returns-in-AfterRelease-clause-takes : goal.returns-in-AfterRelease-clause-takes
 returns-in-AfterRelease-clause-takes g c = at_phase c.in-AfterRelease.is (c.after_release.ensures c.args.script.now c.args.policy.now)
@@ -35,7 +36,8 @@ pub returns-in-Finalizing-clause-takes : goal.returns-in-Finalizing-clause-takes
 returns-in-Finalizing-clause-takes g c = at_phase c.in-Finalizing.is (c.look_at_one.ensures (facts_of c.args.self.now) c.args.policy.now)
 
 pub returns-in-AfterFinalizing-clause-takes : goal.returns-in-AfterFinalizing-clause-takes
-returns-in-AfterFinalizing-clause-takes g c = at_phase c.in-AfterFinalizing.is (c.after_finalizer.ensures c.args.script.now (facts_of c.args.self.now) c.args.heap.now c.args.policy.now (ready_at c.args.heap.now c.args.self.now.generation c.in-AfterFinalizing.is c.requires.ready))
+returns-in-AfterFinalizing-clause-takes g c = at_phase c.in-AfterFinalizing.is (c.after_finalizer.ensures c.args.script.now (facts_of c.args.self.now)
+    c.args.heap.now c.args.policy.now (ready_at c.args.heap.now c.args.self.now.generation c.in-AfterFinalizing.is c.requires.ready))
 
 pub returns-in-Split-clause-takes : goal.returns-in-Split-clause-takes
 returns-in-Split-clause-takes g c = at_phase c.in-Split.is (c.detect.ensures.takes c.args.script.now c.args.policy.now)
@@ -86,25 +88,33 @@ empty_one-requires-clause-held g c = one_held c.args.heap.now c.in-Turn.object (
 
 -- the reachability passes
 pub returns-in-Start-clause-looks : goal.returns-in-Start-clause-looks
-returns-in-Start-clause-looks g c = subst (λ (p : Phase). c.start.new.steps + looks_left p c.start.result.phase c.start.new.heap ≤ c.args.steps.now + most_looks c.args.self.now.generation p c.args.heap.now) (sym c.in-Start.is) (let looks = c.start.ensures.looks in omega (arith, looks))
+returns-in-Start-clause-looks g c = subst (λ (p : Phase). c.start.new.steps + looks_left p c.start.result.phase c.start.new.heap ≤ c.args.steps.now + most_looks
+    c.args.self.now.generation p c.args.heap.now) (sym c.in-Start.is) (let looks = c.start.ensures.looks in omega (arith, looks))
 
 pub returns-in-Split-clause-looks : goal.returns-in-Split-clause-looks
-returns-in-Split-clause-looks g c = subst (λ (p : Phase). c.detect.new.steps + looks_left p c.detect.result.phase c.detect.new.heap ≤ c.args.steps.now + most_looks c.args.self.now.generation p c.args.heap.now) (sym c.in-Split.is) (let looks = c.detect.ensures.looks in omega (arith, looks))
+returns-in-Split-clause-looks g c = subst (λ (p : Phase). c.detect.new.steps + looks_left p c.detect.result.phase c.detect.new.heap ≤ c.args.steps.now +
+    most_looks c.args.self.now.generation p c.args.heap.now) (sym c.in-Split.is) (let looks = c.detect.ensures.looks in omega (arith, looks))
 
 pub returns-in-Turn-clause-looks : goal.returns-in-Turn-clause-looks
-returns-in-Turn-clause-looks g c = subst (λ (p : Phase). c.empty_one.new.steps + looks_left p c.empty_one.result.phase c.empty_one.new.heap ≤ c.args.steps.now + most_looks c.args.self.now.generation p c.args.heap.now) (sym c.in-Turn.is) (let looks = c.empty_one.ensures.looks in omega (arith, looks))
+returns-in-Turn-clause-looks g c = subst (λ (p : Phase). c.empty_one.new.steps + looks_left p c.empty_one.result.phase c.empty_one.new.heap ≤ c.args.steps.now +
+    most_looks c.args.self.now.generation p c.args.heap.now) (sym c.in-Turn.is) (let looks = c.empty_one.ensures.looks in omega (arith, looks))
 
 pub returns-in-WeakClearing-clause-looks : goal.returns-in-WeakClearing-clause-looks
-returns-in-WeakClearing-clause-looks g c = subst (λ (p : Phase). c.clear_one.new.steps + looks_left p c.clear_one.result.phase c.clear_one.new.heap ≤ c.args.steps.now + most_looks c.args.self.now.generation p c.args.heap.now) (sym c.in-WeakClearing.is) c.clear_one.ensures.looks
+returns-in-WeakClearing-clause-looks g c = subst (λ (p : Phase). c.clear_one.new.steps + looks_left p c.clear_one.result.phase c.clear_one.new.heap ≤
+    c.args.steps.now + most_looks c.args.self.now.generation p c.args.heap.now) (sym c.in-WeakClearing.is) c.clear_one.ensures.looks
 
 pub returns-in-WeakCalling-clause-looks : goal.returns-in-WeakCalling-clause-looks
-returns-in-WeakCalling-clause-looks g c = subst (λ (p : Phase). c.call_one.new.steps + looks_left p c.call_one.result.phase c.call_one.new.heap ≤ c.args.steps.now + most_looks c.args.self.now.generation p c.args.heap.now) (sym c.in-WeakCalling.is) (let looks = c.call_one.ensures.looks in omega (arith, looks))
+returns-in-WeakCalling-clause-looks g c = subst (λ (p : Phase). c.call_one.new.steps + looks_left p c.call_one.result.phase c.call_one.new.heap ≤
+    c.args.steps.now + most_looks c.args.self.now.generation p c.args.heap.now) (sym c.in-WeakCalling.is) (let looks = c.call_one.ensures.looks
+    in omega (arith, looks))
 
 pub returns-in-Detaching-clause-looks : goal.returns-in-Detaching-clause-looks
-returns-in-Detaching-clause-looks g c = subst (λ (p : Phase). c.detach_one.new.steps + looks_left p c.detach_one.result.phase c.detach_one.new.heap ≤ c.args.steps.now + most_looks c.args.self.now.generation p c.args.heap.now) (sym c.in-Detaching.is) c.detach_one.ensures.looks
+returns-in-Detaching-clause-looks g c = subst (λ (p : Phase). c.detach_one.new.steps + looks_left p c.detach_one.result.phase c.detach_one.new.heap ≤
+    c.args.steps.now + most_looks c.args.self.now.generation p c.args.heap.now) (sym c.in-Detaching.is) c.detach_one.ensures.looks
 
 pub returns-in-Unlinking-clause-looks : goal.returns-in-Unlinking-clause-looks
-returns-in-Unlinking-clause-looks g c = subst (λ (p : Phase). c.unlink_one.new.steps + looks_left p c.unlink_one.result.phase c.unlink_one.new.heap ≤ c.args.steps.now + most_looks c.args.self.now.generation p c.args.heap.now) (sym c.in-Unlinking.is) c.unlink_one.ensures.looks
+returns-in-Unlinking-clause-looks g c = subst (λ (p : Phase). c.unlink_one.new.steps + looks_left p c.unlink_one.result.phase c.unlink_one.new.heap ≤
+    c.args.steps.now + most_looks c.args.self.now.generation p c.args.heap.now) (sym c.in-Unlinking.is) c.unlink_one.ensures.looks
 
 -- the start comes before no other pass
 pub returns-in-Start-clause-apart : goal.returns-in-Start-clause-apart

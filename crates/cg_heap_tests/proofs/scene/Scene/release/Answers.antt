@@ -3,7 +3,8 @@ use Rattle.cg_heap_tests.proofs.Scenes.{has_hold, backed_unheld}
 use Rattle.cg_heap_tests.proofs.scene.Scene.release.Goals as goal
 
 pub unhold-requires : goal.unhold-requires
-unhold-requires g c = has_hold c.self.inside.heap c.self.inside.held.items c.self.inside.count c.self.inside.names c.in-Some.i c.args.object c.self.invariant (ap (λ xs. slice_get xs c.in-Some.i) (sym c.deref.ensures.value) ∙ c.in-Some.ensures)
+unhold-requires g c = has_hold c.self.inside.heap c.self.inside.held.items c.self.inside.count c.self.inside.names c.in-Some.i c.args.object c.self.invariant
+    (ap (λ xs. slice_get xs c.in-Some.i) (sym c.deref.ensures.value) ∙ c.in-Some.ensures)
 
 pub invariant_of-self : goal.invariant_of-self
 invariant_of-self g c =

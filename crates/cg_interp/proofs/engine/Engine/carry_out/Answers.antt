@@ -4,8 +4,8 @@ use Rattle.cg_commands.specs.Stands.{LocalsLive}
 use Rattle.cg_interp.specs.Engines.{State}
 use Rattle.cg_interp.proofs.AnswerLemmas.{stand_here, policy_here, performed_by}
 use Rattle.cg_interp.proofs.CollectMoves.{engine_of}
-use Rattle.cg_interp.proofs.Fitting.{fit_after}
-use Rattle.cg_interp.proofs.Keeping.{still_fit, fit_then}
+use Rattle.cg_interp.proofs.RoomForDeaths.{fit_after}
+use Rattle.cg_interp.proofs.RoomStays.{still_fit, fit_then}
 use Rattle.cg_interp.proofs.engine.Engine.carry_out.Goals as goal
 
 pub perform-done-requires-clause-locals : goal.perform-done-requires-clause-locals
@@ -27,7 +27,8 @@ answer-requires-clause-performed g c =
         before = c.self.inside.heap;
         was = c.self.inside.policy;
         few = subst (λ (e : State). HasFewHolds e.store) (sym c.self.view_is) c.requires.may.few;
-        performed = performed_by script c.args.caller.now c.args.locals.now inside c.args.self.now w c.args.command.now c.self.view_is c.requires.own at c.perform-done.new.heap c.perform-done.new.policy c.perform-done.result c.perform-done.ensures.performs;
+        performed = performed_by script c.args.caller.now c.args.locals.now inside c.args.self.now w c.args.command.now c.self.view_is c.requires.own at
+            c.perform-done.new.heap c.perform-done.new.policy c.perform-done.result c.perform-done.ensures.performs;
       },
     )
 
@@ -35,7 +36,8 @@ pub returns-clause-does : goal.returns-clause-does
 returns-clause-does g c = λ script w at.
     let inside : State = engine_of c.self.inside.heap c.self.inside.policy c.self.inside.stack c.self.inside.budget c.self.inside.first_budget in
     c.answer.ensures.does script w c.args.command.now c.self.inside.heap c.self.inside.policy
-    (performed_by script c.args.caller.now c.args.locals.now inside c.args.self.now w c.args.command.now c.self.view_is c.requires.own at c.perform-done.new.heap c.perform-done.new.policy c.perform-done.result c.perform-done.ensures.performs)
+    (performed_by script c.args.caller.now c.args.locals.now inside c.args.self.now w c.args.command.now c.self.view_is c.requires.own at
+    c.perform-done.new.heap c.perform-done.new.policy c.perform-done.result c.perform-done.ensures.performs)
 
 pub returns-clause-fit : goal.returns-clause-fit
 returns-clause-fit g c =

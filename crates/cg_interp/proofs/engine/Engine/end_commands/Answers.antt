@@ -11,7 +11,8 @@ returns-then-shutdown-clause-ends g c = λ next w is none stood.
     let e : State = engine_of c.self.inside.heap c.self.inside.policy c.self.inside.stack c.self.inside.budget c.self.inside.first_budget in
     let new : State = engine_of c.self.inside.heap c.self.inside.policy c.push.new.self c.self.inside.budget c.self.inside.first_budget in
     let stands = subst (λ s. StandsFor c.args.script.now (under (activity_of.Script next) s) w) (sym c.self.view_is) stood in
-    commands_end c.args.script.now e next w stands none is true (sym c.shutdown.ensures ∙ c.if-shutdown.true) new turned_of.Quiet (refl, shutdown_stands c.args.script.now e next w stands new is refl refl c.push.ensures.top refl)
+    commands_end c.args.script.now e next w stands none is true (sym c.shutdown.ensures ∙ c.if-shutdown.true) new turned_of.Quiet
+    (refl, shutdown_stands c.args.script.now e next w stands new is refl refl c.push.ensures.top refl)
 
 pub returns-else-shutdown-clause-ends : goal.returns-else-shutdown-clause-ends
 returns-else-shutdown-clause-ends g c = λ next w is none stands.

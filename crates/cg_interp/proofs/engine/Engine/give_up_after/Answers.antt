@@ -5,7 +5,7 @@ use Rattle.cg_interp.specs.Callers.{caller_activity, releasing, Changes}
 use Rattle.cg_interp.proofs.AnswerLemmas.{change_stands}
 use Rattle.cg_interp.proofs.CollectMoves.{engine_of}
 use Rattle.cg_interp.proofs.GivingUp.{release_detects_none}
-use Rattle.cg_interp.proofs.Quietly.{quietly}
+use Rattle.cg_interp.proofs.SilentTurns.{quietly}
 use Rattle.cg_interp.proofs.ReleaseLemmas.{still_sound}
 use Rattle.cg_interp.proofs.engine.Engine.give_up_after.Goals as goal
 
@@ -14,7 +14,16 @@ give_up-requires g c =
     let (script, after, changes, sound) = c.requires.stands in
     let top = caller_activity c.args.caller.now in
     let e : State = engine_of c.self.inside.heap c.self.inside.policy c.self.inside.stack c.self.inside.budget c.self.inside.first_budget in
-    record { stands = (script, under top e, releasing c.args.given_up after, change_stands script top e c.args.given_up c.new-release.result after c.new-release.ensures (subst (λ s. Changes script top s c.args.given_up after) (sym c.self.view_is) changes), sound) }
+    record {
+      stands = (
+        script,
+        under top e,
+        releasing c.args.given_up after,
+        change_stands script top e c.args.given_up c.new-release.result after
+            c.new-release.ensures (subst (λ s. Changes script top s c.args.given_up after) (sym c.self.view_is) changes),
+        sound,
+      );
+    }
 
 pub die_above-requires-clause-stands : goal.die_above-requires-clause-stands
 die_above-requires-clause-stands g c =
@@ -38,7 +47,8 @@ returns-in-Some-clause-gives_up g c = λ script after changes sound.
       c.told.ensures,
       record {
         after = begin_death c.in-Some.object gives.before;
-        goes = quietly script (releasing c.args.given_up after) (begin_death c.in-Some.object gives.before) (release_detects_none script c.new-release.result (under top e) (releasing c.args.given_up after) stood) gives.goes;
+        goes = quietly script (releasing c.args.given_up after) (begin_death c.in-Some.object gives.before) (release_detects_none script c.new-release.result
+            (under top e) (releasing c.args.given_up after) stood) gives.goes;
         stands = c.die_above.ensures.begins script gives.before gives.stands;
       },
     )

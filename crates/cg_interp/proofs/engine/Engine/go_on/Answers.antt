@@ -2,8 +2,8 @@ use Rattle.std.proofs.Common.{refl, sym, ap, subst, ◌∙◌, Some, None}
 use Rattle.cg_interp.specs.declared.activity.Activity.TheVariants as activity_of
 use Rattle.cg_interp.specs.Telling.{IsAtTurn}
 use Rattle.cg_interp.specs.Callers.{caller_activity, caller_locals, script_caller, with_next, ComesNext, StepsFrom}
-use Rattle.cg_interp.proofs.Keeping.{fit_here, fit_then}
-use Rattle.cg_interp.proofs.Quietly.{comes_here, at_turn_then, comes_from_then, turns_from_then}
+use Rattle.cg_interp.proofs.RoomStays.{fit_here, fit_then}
+use Rattle.cg_interp.proofs.SilentTurns.{comes_here, at_turn_then, comes_from_then, turns_from_then}
 use Rattle.cg_interp.proofs.StepLemmas.{caller_detects_none}
 use Rattle.cg_interp.proofs.engine.Engine.go_on.Goals as goal
 
@@ -19,7 +19,8 @@ step-requires g c =
         c.args.script.now,
         subst (λ k. ComesNext c.args.script.now k c.commands.next c.in-Some.command.now) (sym gone) c.in-Some.ensures.some,
         subst (λ k. IsAtTurn c.args.script.now (caller_activity (with_next c.commands.next k)) c.commands.self) (sym gone)
-            (at_turn_then c.args.script.now (activity_of.Script c.args.next) (activity_of.Script c.commands.next) c.args.self.now c.commands.self c.commands.invariant.comes c.commands.invariant.fit c.requires.stands),
+            (at_turn_then c.args.script.now (activity_of.Script c.args.next) (activity_of.Script c.commands.next) c.args.self.now c.commands.self
+            c.commands.invariant.comes c.commands.invariant.fit c.requires.stands),
       );
     }
 
@@ -39,7 +40,8 @@ pub commands-preserved : goal.commands-preserved
 commands-preserved g c =
     let gone = c.go_on_from.ensures ∙ ap (with_next (Some c.in-Some.after)) c.commands.invariant.caller in
     record {
-      comes = comes_from_then c.args.script.now (activity_of.Script c.args.next) (activity_of.Script c.commands.next) c.args.self.now c.commands.self c.commands.invariant.comes c.commands.invariant.fit
+      comes = comes_from_then c.args.script.now (activity_of.Script c.args.next) (activity_of.Script c.commands.next) c.args.self.now c.commands.self
+          c.commands.invariant.comes c.commands.invariant.fit
           (activity_of.Script (Some c.in-Some.after)) c.step.new.self
           (subst (λ k. StepsFrom c.args.script.now k c.commands.next c.commands.self c.step.new.self None) gone
           (c.in-None-step.ensures.steps c.args.script.now
@@ -50,7 +52,8 @@ commands-preserved g c =
 
 pub end-requires-clause-stands : goal.end-requires-clause-stands
 end-requires-clause-stands g c =
-    at_turn_then c.args.script.now (activity_of.Script c.args.next) (activity_of.Script c.commands.next) c.args.self.now c.commands.self c.commands.invariant.comes c.commands.invariant.fit c.requires.stands
+    at_turn_then c.args.script.now (activity_of.Script c.args.next) (activity_of.Script c.commands.next) c.args.self.now c.commands.self
+    c.commands.invariant.comes c.commands.invariant.fit c.requires.stands
 
 pub returns-in-None-clause-turns : goal.returns-in-None-clause-turns
 returns-in-None-clause-turns g c =

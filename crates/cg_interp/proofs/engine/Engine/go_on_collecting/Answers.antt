@@ -18,7 +18,10 @@ start-requires-clause-few g c = λ is.
     let mid : State = engine_of c.collect_on-answer.new.heap c.collect_on-answer.new.policy c.push-in-Frame.new.self c.self.inside.budget c.self.inside.first_budget in
     let last = c.in-Frame.ensures.last in
     let next = subst (λ s. CollectsNext c.args.script.now c.args.asked c.args.collection s) (sym c.self.view_is) c.requires.stands in
-    frame_has_few c.args.script.now c.args.asked last.before (before_last c.args.script.now c.args.asked c.args.collection e c.collect_on-answer.new.collection mid (answer_of.Frame c.in-Frame.spec) last) c.collect_on-answer.new.collection mid c.push-in-Frame.ensures.top refl c.in-Frame.spec c.in-Frame.ensures.ready.0 last.steps (next_at_last c.args.script.now c.args.asked c.args.collection e c.collect_on-answer.new.collection mid (answer_of.Frame c.in-Frame.spec) last next) c.sound.ensures
+    frame_has_few c.args.script.now c.args.asked last.before (before_last c.args.script.now c.args.asked c.args.collection e c.collect_on-answer.new.collection
+    mid (answer_of.Frame c.in-Frame.spec) last) c.collect_on-answer.new.collection mid c.push-in-Frame.ensures.top refl c.in-Frame.spec
+    c.in-Frame.ensures.ready.0 last.steps (next_at_last c.args.script.now c.args.asked c.args.collection e c.collect_on-answer.new.collection mid
+    (answer_of.Frame c.in-Frame.spec) last next) c.sound.ensures
 
 pub start-requires-clause-live : goal.start-requires-clause-live
 start-requires-clause-live g c = λ some is.
@@ -26,7 +29,10 @@ start-requires-clause-live g c = λ some is.
     let mid : State = engine_of c.collect_on-answer.new.heap c.collect_on-answer.new.policy c.push-in-Frame.new.self c.self.inside.budget c.self.inside.first_budget in
     let last = c.in-Frame.ensures.last in
     let next = subst (λ s. CollectsNext c.args.script.now c.args.asked c.args.collection s) (sym c.self.view_is) c.requires.stands in
-    frame_function_lives c.args.script.now c.args.asked last.before (before_last c.args.script.now c.args.asked c.args.collection e c.collect_on-answer.new.collection mid (answer_of.Frame c.in-Frame.spec) last) c.collect_on-answer.new.collection mid c.push-in-Frame.ensures.top refl c.in-Frame.spec c.in-Frame.ensures.ready.0 last.steps (next_at_last c.args.script.now c.args.asked c.args.collection e c.collect_on-answer.new.collection mid (answer_of.Frame c.in-Frame.spec) last next) some
+    frame_function_lives c.args.script.now c.args.asked last.before (before_last c.args.script.now c.args.asked c.args.collection e
+    c.collect_on-answer.new.collection mid (answer_of.Frame c.in-Frame.spec) last) c.collect_on-answer.new.collection mid c.push-in-Frame.ensures.top refl
+    c.in-Frame.spec c.in-Frame.ensures.ready.0 last.steps (next_at_last c.args.script.now c.args.asked c.args.collection e
+    c.collect_on-answer.new.collection mid (answer_of.Frame c.in-Frame.spec) last next) some
 
 pub die-requires-clause-stands : goal.die-requires-clause-stands
 die-requires-clause-stands g c =
@@ -34,7 +40,10 @@ die-requires-clause-stands g c =
     let mid : State = engine_of c.collect_on-answer.new.heap c.collect_on-answer.new.policy c.push-in-Died.new.self c.self.inside.budget c.self.inside.first_budget in
     let last = c.in-Died.ensures.last in
     let next = subst (λ s. CollectsNext c.args.script.now c.args.asked c.args.collection s) (sym c.self.view_is) c.requires.stands in
-    death_stands c.args.script.now c.args.asked last.before (before_last c.args.script.now c.args.asked c.args.collection e c.collect_on-answer.new.collection mid (answer_of.Died c.in-Died.object) last) c.collect_on-answer.new.collection mid c.push-in-Died.ensures.top refl c.in-Died.object c.in-Died.ensures.ready.0 last.steps (next_at_last c.args.script.now c.args.asked c.args.collection e c.collect_on-answer.new.collection mid (answer_of.Died c.in-Died.object) last next)
+    death_stands c.args.script.now c.args.asked last.before (before_last c.args.script.now c.args.asked c.args.collection e c.collect_on-answer.new.collection
+    mid (answer_of.Died c.in-Died.object) last) c.collect_on-answer.new.collection mid c.push-in-Died.ensures.top refl c.in-Died.object
+    c.in-Died.ensures.ready.0 last.steps (next_at_last c.args.script.now c.args.asked c.args.collection e c.collect_on-answer.new.collection mid
+    (answer_of.Died c.in-Died.object) last next)
 
 pub overflow_add-collected : goal.overflow_add-collected
 overflow_add-collected g c = let few = c.in-Finished.ensures.ready.1 in omega (arith, few)
@@ -46,7 +55,8 @@ returns-in-Continue-clause-turns g c =
     let last = c.in-Continue.ensures.last in
     subst (λ s. CollectTurns c.args.script.now c.args.asked c.args.collection s mid turned.Quiet) c.self.view_is
     (turns_at_last c.args.script.now c.args.asked c.args.collection e c.collect_on-answer.new.collection mid answer_of.Continue last mid turned.Quiet
-    (turns_quietly c.args.script.now c.args.asked last.before (before_last c.args.script.now c.args.asked c.args.collection e c.collect_on-answer.new.collection mid answer_of.Continue last) c.collect_on-answer.new.collection mid c.push.ensures.top refl c.in-Continue.ensures.ready (last.falls refl) last.steps))
+    (turns_quietly c.args.script.now c.args.asked last.before (before_last c.args.script.now c.args.asked c.args.collection e c.collect_on-answer.new.collection
+    mid answer_of.Continue last) c.collect_on-answer.new.collection mid c.push.ensures.top refl c.in-Continue.ensures.ready (last.falls refl) last.steps))
 
 pub returns-in-Emit-clause-turns : goal.returns-in-Emit-clause-turns
 returns-in-Emit-clause-turns g c =
@@ -55,7 +65,9 @@ returns-in-Emit-clause-turns g c =
     let last = c.in-Emit.ensures.last in
     subst (λ s. CollectTurns c.args.script.now c.args.asked c.args.collection s mid (turned.Line c.in-Emit.event)) c.self.view_is
     (turns_at_last c.args.script.now c.args.asked c.args.collection e c.collect_on-answer.new.collection mid (answer_of.Emit c.in-Emit.event) last mid (turned.Line c.in-Emit.event)
-    (turns_telling c.args.script.now c.args.asked last.before (before_last c.args.script.now c.args.asked c.args.collection e c.collect_on-answer.new.collection mid (answer_of.Emit c.in-Emit.event) last) c.collect_on-answer.new.collection mid c.push-in-Emit.ensures.top refl c.in-Emit.event c.in-Emit.ensures.ready last.steps))
+    (turns_telling c.args.script.now c.args.asked last.before (before_last c.args.script.now c.args.asked c.args.collection e c.collect_on-answer.new.collection
+    mid (answer_of.Emit c.in-Emit.event) last) c.collect_on-answer.new.collection mid c.push-in-Emit.ensures.top refl c.in-Emit.event
+    c.in-Emit.ensures.ready last.steps))
 
 pub returns-in-Frame-clause-turns : goal.returns-in-Frame-clause-turns
 returns-in-Frame-clause-turns g c =
@@ -64,7 +76,9 @@ returns-in-Frame-clause-turns g c =
     let last = c.in-Frame.ensures.last in
     subst (λ s. CollectTurns c.args.script.now c.args.asked c.args.collection s c.start.new.self c.start.result) c.self.view_is
     (turns_at_last c.args.script.now c.args.asked c.args.collection e c.collect_on-answer.new.collection mid (answer_of.Frame c.in-Frame.spec) last c.start.new.self c.start.result
-    (turns_with_frame c.args.script.now c.args.asked last.before (before_last c.args.script.now c.args.asked c.args.collection e c.collect_on-answer.new.collection mid (answer_of.Frame c.in-Frame.spec) last) c.collect_on-answer.new.collection mid c.push-in-Frame.ensures.top refl c.in-Frame.spec c.in-Frame.ensures.ready.0 last.steps
+    (turns_with_frame c.args.script.now c.args.asked last.before (before_last c.args.script.now c.args.asked c.args.collection e
+    c.collect_on-answer.new.collection mid (answer_of.Frame c.in-Frame.spec) last) c.collect_on-answer.new.collection mid c.push-in-Frame.ensures.top refl
+    c.in-Frame.spec c.in-Frame.ensures.ready.0 last.steps
     c.start.new.self c.start.result (λ w stands. c.start.ensures.starts c.args.script.now w stands)))
 
 pub returns-in-Died-clause-turns : goal.returns-in-Died-clause-turns
@@ -74,7 +88,9 @@ returns-in-Died-clause-turns g c =
     let last = c.in-Died.ensures.last in
     subst (λ s. CollectTurns c.args.script.now c.args.asked c.args.collection s c.die.new.self turned.Quiet) c.self.view_is
     (turns_at_last c.args.script.now c.args.asked c.args.collection e c.collect_on-answer.new.collection mid (answer_of.Died c.in-Died.object) last c.die.new.self turned.Quiet
-    (turns_with_death c.args.script.now c.args.asked last.before (before_last c.args.script.now c.args.asked c.args.collection e c.collect_on-answer.new.collection mid (answer_of.Died c.in-Died.object) last) c.collect_on-answer.new.collection mid c.push-in-Died.ensures.top refl c.in-Died.object c.in-Died.ensures.ready.0 last.steps
+    (turns_with_death c.args.script.now c.args.asked last.before (before_last c.args.script.now c.args.asked c.args.collection e
+    c.collect_on-answer.new.collection mid (answer_of.Died c.in-Died.object) last) c.collect_on-answer.new.collection mid c.push-in-Died.ensures.top refl
+    c.in-Died.object c.in-Died.ensures.ready.0 last.steps
     c.in-Died.ensures.ready.1 c.die.new.self (λ w stands. c.die.ensures.begins c.args.script.now w stands)))
 
 pub returns-in-Finished-clause-turns : goal.returns-in-Finished-clause-turns
@@ -83,5 +99,8 @@ returns-in-Finished-clause-turns g c =
     let mid : State = engine_of c.collect_on-answer.new.heap c.collect_on-answer.new.policy c.self.inside.stack c.self.inside.budget c.self.inside.first_budget in
     let last = c.in-Finished.ensures.last in
     subst (λ s. CollectTurns c.args.script.now c.args.asked c.args.collection s mid c.answered.result) c.self.view_is
-    (turns_at_last c.args.script.now c.args.asked c.args.collection e c.collect_on-answer.new.collection mid (answer_of.Finished c.in-Finished.collected c.in-Finished.uncollectable) last mid c.answered.result
-    (turns_to_end c.args.script.now c.args.asked last.before (before_last c.args.script.now c.args.asked c.args.collection e c.collect_on-answer.new.collection mid (answer_of.Finished c.in-Finished.collected c.in-Finished.uncollectable) last) c.collect_on-answer.new.collection mid c.in-Finished.collected c.in-Finished.uncollectable c.answered.result refl refl last.steps c.answered.ensures.asked c.answered.ensures.not))
+    (turns_at_last c.args.script.now c.args.asked c.args.collection e c.collect_on-answer.new.collection mid (answer_of.Finished c.in-Finished.collected
+    c.in-Finished.uncollectable) last mid c.answered.result
+    (turns_to_end c.args.script.now c.args.asked last.before (before_last c.args.script.now c.args.asked c.args.collection e c.collect_on-answer.new.collection
+    mid (answer_of.Finished c.in-Finished.collected c.in-Finished.uncollectable) last) c.collect_on-answer.new.collection mid c.in-Finished.collected
+    c.in-Finished.uncollectable c.answered.result refl refl last.steps c.answered.ensures.asked c.answered.ensures.not))

@@ -2,8 +2,8 @@ use Rattle.std.proofs.Common.{ap, [], arith}
 use Rattle.cg_machine.specs.Program.{body_of}
 use Rattle.cg_interp.specs.declared.activity.Activity.TheVariants as activity_of
 use Rattle.cg_interp.specs.Engines.{commands_from}
-use Rattle.cg_interp.proofs.Lawfully.{has_room}
-use Rattle.cg_interp.proofs.Telling.{turns_plainly}
+use Rattle.cg_interp.proofs.LawsOfEngines.{has_room}
+use Rattle.cg_interp.proofs.AnswersOfTurns.{turns_plainly}
 use Rattle.cg_interp.proofs.engine.Engine.go_on_in.Goals as goal
 
 pub leave-requires : goal.leave-requires

@@ -4,7 +4,7 @@ use Rattle.cg_interp.specs.Engines.{State, StandsFor, under}
 use Rattle.cg_interp.specs.Turns.{TurnKeeps}
 use Rattle.cg_interp.proofs.CollectMoves.{engine_of}
 use Rattle.cg_interp.proofs.ReleaseLemmas.{death_begun, still_sound}
-use Rattle.cg_interp.proofs.Keeping.{keeps_then, keeps_over}
+use Rattle.cg_interp.proofs.RoomStays.{keeps_then, keeps_over}
 use Rattle.cg_interp.proofs.engine.Engine.go_on_releasing.Goals as goal
 
 pub give_up-requires : goal.give_up-requires

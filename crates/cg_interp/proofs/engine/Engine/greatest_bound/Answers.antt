@@ -2,7 +2,7 @@ use Rattle.std.proofs.Common.{◌∙◌, ap}
 use Rattle.cg_machine.specs.Shutdown.{greatest_from}
 use Rattle.cg_interp.specs.Engines.{State}
 use Rattle.cg_interp.proofs.CollectMoves.{engine_of}
-use Rattle.cg_interp.proofs.Shutting.{greatest_is}
+use Rattle.cg_interp.proofs.ShutdownTurns.{greatest_is}
 use Rattle.cg_interp.proofs.engine.Engine.greatest_bound.Goals as goal
 
 pub returns-clause-same : goal.returns-clause-same

@@ -3,8 +3,8 @@ use Rattle.cg_policy.specs.Policy.{due_of}
 use Rattle.cg_interp.specs.declared.activity.Activity.TheVariants as activity_of
 use Rattle.cg_interp.specs.Callers.{caller_activity, caller_locals, with_next, StepsFrom, frame_caller}
 use Rattle.cg_interp.specs.Telling.{IsAtTurn}
-use Rattle.cg_interp.proofs.Keeping.{fit_then}
-use Rattle.cg_interp.proofs.Quietly.{at_turn_then, comes_from_then, turns_from_then}
+use Rattle.cg_interp.proofs.RoomStays.{fit_then}
+use Rattle.cg_interp.proofs.SilentTurns.{at_turn_then, comes_from_then, turns_from_then}
 use Rattle.cg_interp.proofs.StepLemmas.{caller_detects_none, comes_next_at}
 use Rattle.cg_interp.proofs.engine.Engine.make_changes_from.Goals as goal
 
@@ -21,13 +21,15 @@ step_change-requires-clause-stands g c =
       Some c.commands.at,
       (comes_next_at script c.args.locals c.args.procedure c.commands.at c.commands.command.now c.args.body.now _ frame is c.commands.invariant.there),
       subst (λ k. IsAtTurn script (caller_activity (with_next (Some c.commands.at) k)) c.commands.self) (sym frame)
-          (at_turn_then script (activity_of.Frame c.args.locals c.args.procedure (Some c.args.number.now)) (activity_of.Frame c.args.locals c.args.procedure (Some c.commands.at)) c.args.self.now c.commands.self (c.commands.invariant.comes script is) c.commands.invariant.fit at),
+          (at_turn_then script (activity_of.Frame c.args.locals c.args.procedure (Some c.args.number.now)) (activity_of.Frame c.args.locals c.args.procedure
+          (Some c.commands.at)) c.args.self.now c.commands.self (c.commands.invariant.comes script is) c.commands.invariant.fit at),
     )
 
 pub returns-in-Some-clause-steps : goal.returns-in-Some-clause-steps
 returns-in-Some-clause-steps g c = λ script is.
     let frame = c.go_on_from.ensures ∙ ap (with_next (Some (c.commands.at + 1))) c.commands.invariant.caller in
-    turns_from_then script (activity_of.Frame c.args.locals c.args.procedure (Some c.args.number.now)) (activity_of.Frame c.args.locals c.args.procedure (Some c.commands.at)) c.args.self.now c.commands.self (c.commands.invariant.comes script is) c.commands.invariant.fit
+    turns_from_then script (activity_of.Frame c.args.locals c.args.procedure (Some c.args.number.now)) (activity_of.Frame c.args.locals c.args.procedure
+    (Some c.commands.at)) c.args.self.now c.commands.self (c.commands.invariant.comes script is) c.commands.invariant.fit
     (λ w. caller_detects_none script c.commands.self w (frame_caller c.args.locals c.args.procedure (Some c.commands.at))) _ _
     (subst (λ k. StepsFrom script k (Some c.commands.at) c.commands.self c.step_change.new.self (Some c.in-Some.answer)) frame
     (c.in-Some.ensures.steps script (Some c.commands.at)
@@ -41,7 +43,8 @@ returns-in-Some-clause-left g c =
 pub returns-in-None-next_change-clause-steps : goal.returns-in-None-next_change-clause-steps
 returns-in-None-next_change-clause-steps g c = λ script is.
     let frame = c.go_on_from.ensures ∙ ap (with_next (Some (c.commands.at + 1))) c.commands.invariant.caller in
-    comes_from_then script (activity_of.Frame c.args.locals c.args.procedure (Some c.args.number.now)) (activity_of.Frame c.args.locals c.args.procedure (Some c.commands.at)) c.args.self.now c.commands.self (c.commands.invariant.comes script is) c.commands.invariant.fit
+    comes_from_then script (activity_of.Frame c.args.locals c.args.procedure (Some c.args.number.now)) (activity_of.Frame c.args.locals c.args.procedure
+    (Some c.commands.at)) c.args.self.now c.commands.self (c.commands.invariant.comes script is) c.commands.invariant.fit
     (activity_of.Frame c.args.locals c.args.procedure (Some (c.commands.at + 1))) c.step_change.new.self
     (subst (λ k. StepsFrom script k (Some c.commands.at) c.commands.self c.step_change.new.self None) frame
     (c.in-None.ensures.steps script (Some c.commands.at)
@@ -62,7 +65,8 @@ commands-preserved g c =
     let so_far = c.commands.invariant.left in
     record {
       comes = λ script is.
-          comes_from_then script (activity_of.Frame c.args.locals c.args.procedure (Some c.args.number.now)) (activity_of.Frame c.args.locals c.args.procedure (Some c.commands.at)) c.args.self.now c.commands.self (c.commands.invariant.comes script is) c.commands.invariant.fit
+          comes_from_then script (activity_of.Frame c.args.locals c.args.procedure (Some c.args.number.now)) (activity_of.Frame c.args.locals c.args.procedure
+          (Some c.commands.at)) c.args.self.now c.commands.self (c.commands.invariant.comes script is) c.commands.invariant.fit
           (activity_of.Frame c.args.locals c.args.procedure (Some (c.commands.at + 1))) c.step_change.new.self
           (subst (λ k. StepsFrom script k (Some c.commands.at) c.commands.self c.step_change.new.self None) frame
           (c.in-None.ensures.steps script (Some c.commands.at)

@@ -13,7 +13,8 @@ use Rattle.cg_interp.proofs.engine.Engine.make_changes_from.Given as goal
 -- the commands so far were done quietly, the next one is current, and no collection is due before it
 abbrev pub invariant-commands : goal.invariant-commands
 invariant-commands g l = record {
-  comes : (script : Script) → l.body ≡ body_of script l.procedure → ComesFrom script (activity_of.Frame l.fn.locals l.procedure (Some l.initial.at)) l.fn.self (activity_of.Frame l.fn.locals l.procedure (Some l.at)) l.self;
+  comes : (script : Script) → l.body ≡ body_of script l.procedure → ComesFrom script (activity_of.Frame l.fn.locals l.procedure (Some l.initial.at)) l.fn.self
+      (activity_of.Frame l.fn.locals l.procedure (Some l.at)) l.self;
   fit : StaysFit l.fn.self l.self;
   none : due_of l.self.policy ≡ None;
   caller : l.caller ≡ frame_caller l.fn.locals l.fn.procedure (Some l.at);

@@ -1,6 +1,6 @@
 use Rattle.std.proofs.Common.{◌∙◌, ap, ◌∷◌, Some, arith}
 use Rattle.cg_interp.specs.declared.activity.Activity.TheVariants.{Script}
-use Rattle.cg_interp.proofs.Opens.{opening_stands, opening_fit}
+use Rattle.cg_interp.proofs.FirstEngine.{opening_stands, opening_fit}
 use Rattle.cg_interp.proofs.engine.Engine.new.Goals as goal
 
 pub returns-clause-stands : goal.returns-clause-stands

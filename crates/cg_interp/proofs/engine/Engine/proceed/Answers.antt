@@ -17,7 +17,8 @@ give_up_after-requires-clause-stands g c =
 pub returns-in-Changed-clause-does : goal.returns-in-Changed-clause-does
 returns-in-Changed-clause-does g c = λ script w command before was performed.
     let p = subst (λ d. IsPerformed script (caller_activity c.args.caller.now) c.args.self.now w command before was (Ok d)) c.in-Changed.is performed in
-    change_runs script c.args.self.now (caller_activity c.args.caller.now) w command before was c.in-Changed.line c.in-Changed.given_up p c.give_up_after.new.self c.give_up_after.result c.give_up_after.ensures.gives_up
+    change_runs script c.args.self.now (caller_activity c.args.caller.now) w command before was c.in-Changed.line c.in-Changed.given_up p
+    c.give_up_after.new.self c.give_up_after.result c.give_up_after.ensures.gives_up
 
 pub call-requires-clause-few : goal.call-requires-clause-few
 call-requires-clause-few g c =
@@ -50,13 +51,23 @@ pub collect_if_idle-requires-clause-stands : goal.collect_if_idle-requires-claus
 collect_if_idle-requires-clause-stands g c =
     let (script, spelled, fit, performed) = c.requires.performed in
     let has = subst (λ d. HasPerformed script (caller_activity c.args.caller.now) c.args.self.now (Ok d)) c.in-Collects.is performed in
-    let p = has.performed in
-    (script, spelled, fit, has.command, has.world, as_before script c.args.self.now (caller_activity c.args.caller.now) has.world has.command has.before has.was p.stood p.answers.heap.2 p.answers.policy, p.answers.heap.0, p.kept)
+    let p = has.performed in (
+      script,
+      spelled,
+      fit,
+      has.command,
+      has.world,
+      as_before script c.args.self.now (caller_activity c.args.caller.now) has.world has.command has.before has.was
+          p.stood p.answers.heap.2 p.answers.policy,
+      p.answers.heap.0,
+      p.kept,
+    )
 
 pub returns-in-Collects-clause-does : goal.returns-in-Collects-clause-does
 returns-in-Collects-clause-does g c = λ script w command before was performed.
     let p = subst (λ d. IsPerformed script (caller_activity c.args.caller.now) c.args.self.now w command before was (Ok d)) c.in-Collects.is performed in
-    c.collect_if_idle.ensures.does script command w (as_before script c.args.self.now (caller_activity c.args.caller.now) w command before was p.stood p.answers.heap.2 p.answers.policy) p.answers.heap.0
+    c.collect_if_idle.ensures.does script command w (as_before script c.args.self.now (caller_activity c.args.caller.now) w command before was p.stood
+    p.answers.heap.2 p.answers.policy) p.answers.heap.0
 
 pub returns-in-Tells-clause-does : goal.returns-in-Tells-clause-does
 returns-in-Tells-clause-does g c = λ script w command before was performed.

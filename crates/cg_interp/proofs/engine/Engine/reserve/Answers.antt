@@ -1,5 +1,5 @@
 use Rattle.std.proofs.Common.{◌∙◌, sym}
-use Rattle.cg_interp.proofs.Fitting.{room_for_one_more, when_ok}
+use Rattle.cg_interp.proofs.RoomForDeaths.{room_for_one_more, when_ok}
 use Rattle.cg_interp.proofs.engine.Engine.reserve.Goals as goal
 
 pub returns-clause-one_more : goal.returns-clause-one_more

@@ -5,13 +5,14 @@ use Rattle.cg_machine.specs.Shutdown.{greatest_from}
 use Rattle.cg_interp.specs.declared.activity.Activity.TheVariants as activity_of
 use Rattle.cg_interp.specs.Engines.{State, StandsFor, under}
 use Rattle.cg_interp.proofs.CollectBegins.{IsAtStart}
-use Rattle.cg_interp.proofs.Shutting.{greatest_below, none_runs, starts_last, last_stands, last_steps}
+use Rattle.cg_interp.proofs.ShutdownTurns.{greatest_below, none_runs, starts_last, last_stands, last_steps}
 use Rattle.cg_interp.proofs.StepLemmas.{kept_after, begins_collection}
-use Rattle.cg_interp.proofs.Telling.{turns_plainly}
+use Rattle.cg_interp.proofs.AnswersOfTurns.{turns_plainly}
 use Rattle.cg_interp.proofs.engine.Engine.shut_down.Goals as goal
 
 pub give_up-requires-clause-name : goal.give_up-requires-clause-name
-give_up-requires-clause-name g c = greatest_below c.greatest_bound.new.self.store.names c.in-Some.name (ap (λ (e : State). greatest_from 0 e.store.names) c.greatest_bound.ensures.same ∙ sym (sym c.in-Some.is ∙ c.greatest_bound.ensures.greatest))
+give_up-requires-clause-name g c = greatest_below c.greatest_bound.new.self.store.names c.in-Some.name (ap (λ (e : State). greatest_from 0 e.store.names)
+    c.greatest_bound.ensures.same ∙ sym (sym c.in-Some.is ∙ c.greatest_bound.ensures.greatest))
 
 pub collect-requires-clause-idle : goal.collect-requires-clause-idle
 collect-requires-clause-idle g c =
@@ -44,4 +45,5 @@ returns-in-None-clause-turns g c = λ script w stands kept.
     let last : World = starts_last script c.args.self.now w stands in
     let back = sym c.greatest_bound.ensures.same in
     let begins = subst (λ e. StandsFor script (under (activity_of.Shutdown true) e) last) back (last_stands script c.args.self.now w stands) in
-    begins_collection script w (push (new_collection 2 false last) last) stands.running c.collect.new.self (last_steps script c.args.self.now w stands none) (c.collect.ensures.begins script last begins)
+    begins_collection script w (push (new_collection 2 false last) last) stands.running c.collect.new.self (last_steps script c.args.self.now w stands none)
+    (c.collect.ensures.begins script last begins)

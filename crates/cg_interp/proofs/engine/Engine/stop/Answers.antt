@@ -6,4 +6,5 @@ use Rattle.cg_interp.proofs.engine.Engine.stop.Goals as goal
 
 pub returns-clause-stops : goal.returns-clause-stops
 returns-clause-stops g c =
-    λ script w stands. stops script _ _ w c.args.caller.now (subst (λ e. StandsFor script (under (caller_activity c.args.caller.now) e) w) (sym c.self.view_is) stands) refl refl (c.push.ensures.top ∙ ap (λ a. a ∷ c.self.inside.stack.activities) (c.activity.ensures ∙ ap caller_activity c.with_next.ensures)) refl
+    λ script w stands. stops script _ _ w c.args.caller.now (subst (λ e. StandsFor script (under (caller_activity c.args.caller.now) e) w) (sym c.self.view_is)
+    stands) refl refl (c.push.ensures.top ∙ ap (λ a. a ∷ c.self.inside.stack.activities) (c.activity.ensures ∙ ap caller_activity c.with_next.ensures)) refl

@@ -1,7 +1,7 @@
 use Rattle.std.proofs.Common.{◌∙◌, ap}
 use Rattle.cg_heap.specs.Calls.{object_number}
 use Rattle.cg_interp.specs.Engines.{State}
-use Rattle.cg_interp.proofs.Shutting.{tells_left}
+use Rattle.cg_interp.proofs.ShutdownTurns.{tells_left}
 use Rattle.cg_interp.proofs.engine.Engine.tell_left.Goals as goal
 
 pub returns : goal.returns

@@ -18,12 +18,14 @@ returns-in-Frame-clause-turns g c =
 pub returns-in-Releasing-clause-turns : goal.returns-in-Releasing-clause-turns
 returns-in-Releasing-clause-turns g c =
     subst (λ top. TurnsAny c.args.script.now (under top c.args.self.now) c.turn_of_release.new.self c.turn_of_release.result) (sym c.in-Releasing.is)
-    (turns_any c.args.script.now (activity_of.Releasing c.in-Releasing.release) c.args.self.now c.turn_of_release.new.self c.turn_of_release.result refl (c.turn_of_release.ensures.turns c.args.script.now))
+    (turns_any c.args.script.now (activity_of.Releasing c.in-Releasing.release) c.args.self.now c.turn_of_release.new.self c.turn_of_release.result refl
+    (c.turn_of_release.ensures.turns c.args.script.now))
 
 pub returns-in-Shutdown-clause-turns : goal.returns-in-Shutdown-clause-turns
 returns-in-Shutdown-clause-turns g c =
     subst (λ top. TurnsAny c.args.script.now (under top c.args.self.now) c.turn_of_shutdown.new.self c.turn_of_shutdown.result) (sym c.in-Shutdown.is)
-    (turns_any c.args.script.now (activity_of.Shutdown c.in-Shutdown.started) c.args.self.now c.turn_of_shutdown.new.self c.turn_of_shutdown.result refl (c.turn_of_shutdown.ensures.turns c.args.script.now))
+    (turns_any c.args.script.now (activity_of.Shutdown c.in-Shutdown.started) c.args.self.now c.turn_of_shutdown.new.self c.turn_of_shutdown.result refl
+    (c.turn_of_shutdown.ensures.turns c.args.script.now))
 
 pub returns-in-Dying-clause-turns : goal.returns-in-Dying-clause-turns
 returns-in-Dying-clause-turns g c =

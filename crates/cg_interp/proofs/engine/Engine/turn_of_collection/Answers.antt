@@ -1,6 +1,6 @@
 use Rattle.std.proofs.Common.{subst, []}
 use Rattle.cg_heap.specs.Calls.{IsSound}
-use Rattle.cg_interp.proofs.Keeping.{still_fit}
+use Rattle.cg_interp.proofs.RoomStays.{still_fit}
 use Rattle.cg_interp.proofs.CollectTurns.{collects}
 use Rattle.cg_interp.proofs.CollectMoves.{room_for_step}
 use Rattle.cg_interp.proofs.engine.Engine.turn_of_collection.Goals as goal
@@ -23,7 +23,8 @@ go_on_collecting-requires-clause-room g c = room_for_step c.args.script.now c.ar
 
 pub returns-clause-turns : goal.returns-clause-turns
 returns-clause-turns g c = λ w left stands stays.
-    c.go_on_collecting.ensures.turns w left (collects c.args.script.now c.args.asked c.args.collection c.args.self.now left w (subst (λ e. IsSound e.store) c.self.view_is c.sound.ensures) (stays [] tt) stands) stays
+    c.go_on_collecting.ensures.turns w left (collects c.args.script.now c.args.asked c.args.collection c.args.self.now left w
+    (subst (λ e. IsSound e.store) c.self.view_is c.sound.ensures) (stays [] tt) stands) stays
 
 pub returns-clause-fit : goal.returns-clause-fit
 returns-clause-fit g c = still_fit c.args.self.now c.go_on_collecting.new.self c.go_on_collecting.ensures.keeps

@@ -1,8 +1,8 @@
 use Rattle.std.proofs.Common.{arith, []}
 use Rattle.cg_interp.specs.declared.activity.Activity.TheVariants as activity_of
-use Rattle.cg_interp.proofs.Keeping.{still_fit}
-use Rattle.cg_interp.proofs.Lawfully.{has_room}
-use Rattle.cg_interp.proofs.Telling.{turns_plainly}
+use Rattle.cg_interp.proofs.RoomStays.{still_fit}
+use Rattle.cg_interp.proofs.LawsOfEngines.{has_room}
+use Rattle.cg_interp.proofs.AnswersOfTurns.{turns_plainly}
 use Rattle.cg_interp.proofs.engine.Engine.turn_of_death.Goals as goal
 
 pub go_on_dying-requires-clause-room : goal.go_on_dying-requires-clause-room

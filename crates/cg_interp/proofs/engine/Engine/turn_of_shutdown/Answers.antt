@@ -1,10 +1,10 @@
 use Rattle.std.proofs.Common.{subst, arith, []}
 use Rattle.cg_heap.specs.Calls.{IsSound}
 use Rattle.cg_interp.specs.declared.activity.Activity.TheVariants as activity_of
-use Rattle.cg_interp.proofs.Lawfully.{has_room, few_holds, few_objects}
+use Rattle.cg_interp.proofs.LawsOfEngines.{has_room, few_holds, few_objects}
 use Rattle.cg_interp.specs.Engines.{StandsFor, under}
-use Rattle.cg_interp.proofs.Keeping.{still_fit, fit_here}
-use Rattle.cg_interp.proofs.Telling.{turns_plainly}
+use Rattle.cg_interp.proofs.RoomStays.{still_fit, fit_here}
+use Rattle.cg_interp.proofs.AnswersOfTurns.{turns_plainly}
 use Rattle.cg_interp.proofs.engine.Engine.turn_of_shutdown.Goals as goal
 
 pub shut_down-requires-clause-few : goal.shut_down-requires-clause-few
@@ -20,8 +20,16 @@ shut_down-requires-clause-room g c =
 
 pub shut_down-requires-clause-stands : goal.shut_down-requires-clause-stands
 shut_down-requires-clause-stands g c =
-    let (script, at) = c.requires.stands in
-    (script, record { spelled = at.spelled; fit = at.fit; world = at.world; stands = subst (λ b. StandsFor script (under (activity_of.Shutdown b) c.args.self.now) at.world) c.if-started.false at.stands; kept = at.kept })
+    let (script, at) = c.requires.stands in (
+      script,
+      record {
+        spelled = at.spelled;
+        fit = at.fit;
+        world = at.world;
+        stands = subst (λ b. StandsFor script (under (activity_of.Shutdown b) c.args.self.now) at.world) c.if-started.false at.stands;
+        kept = at.kept;
+      },
+    )
 
 pub returns-then-started-clause-turns : goal.returns-then-started-clause-turns
 returns-then-started-clause-turns g c = λ script w stands kept.

@@ -2,7 +2,7 @@ use Rattle.std.proofs.Common.{sym, ◌∙◌, ap, subst, ◌∷◌}
 use Rattle.std.specs.Prelude.{map, reverse}
 use Rattle.cg_interp.specs.Stacks.{Stacked}
 use Rattle.cg_interp.specs.Slots.{filled, IsSeatOf}
-use Rattle.cg_interp.proofs.Seating.{popped_off}
+use Rattle.cg_interp.proofs.CollectionSeats.{popped_off}
 use Rattle.cg_interp.proofs.stack.Stack.pop.Goals as goal
 
 pub returns-in-Some-clause-top : goal.returns-in-Some-clause-top

@@ -3,7 +3,7 @@ use Rattle.std.specs.Prelude.{map, reverse}
 use Rattle.cg_interp.specs.Engines.{any_collecting}
 use Rattle.cg_interp.specs.Stacks.{Stacked}
 use Rattle.cg_interp.specs.Slots.{filled}
-use Rattle.cg_interp.proofs.Seating.{vacant, pushed_on}
+use Rattle.cg_interp.proofs.CollectionSeats.{vacant, pushed_on}
 use Rattle.cg_interp.proofs.stack.Stack.push.Goals as goal
 
 pub slot_of-slot-requires : goal.slot_of-slot-requires

@@ -14,4 +14,5 @@ pub returns-clause-next : goal.returns-clause-next
 returns-clause-next g c = of_place g.C.Contents.body _ _ _ c.index.ensures (λ b. c.note_from.result.next ≡ c.args.from + length (next_entries b.entries c.args.from)) c.note_from.ensures.next
 
 pub returns-clause-references : goal.returns-clause-references
-returns-clause-references g c = of_place g.C.Contents.body _ _ _ c.index.ensures (λ b. take c.note_from.result.references c.note_from.new.found ≡ references (next_entries b.entries c.args.from)) c.note_from.ensures.references
+returns-clause-references g c = of_place g.C.Contents.body _ _ _ c.index.ensures (λ b. take c.note_from.result.references c.note_from.new.found
+    ≡ references (next_entries b.entries c.args.from)) c.note_from.ensures.references

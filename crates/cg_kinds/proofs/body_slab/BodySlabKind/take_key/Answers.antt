@@ -15,7 +15,8 @@ returns-clause-entry g c =
 pub returns-clause-rest : goal.returns-clause-rest
 returns-clause-rest g c =
     on_some_weaker c.take_key.result
-    (rewritten g.C.Contents.body _ _ _ c.index_mut.ensures.value (λ b. body_of (after_take_key g.C.Contents.kind b.entries c.args.key) (spare_after_leave g.C.Contents.kind b.spare)) c.take_key.new.self)
+    (rewritten g.C.Contents.body _ _ _ c.index_mut.ensures.value (λ b. body_of (after_take_key g.C.Contents.kind b.entries c.args.key)
+    (spare_after_leave g.C.Contents.kind b.spare)) c.take_key.new.self)
     c.take_key.ensures.rest
 
 pub returns-clause-none : goal.returns-clause-none

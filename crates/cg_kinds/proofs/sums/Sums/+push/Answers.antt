@@ -15,7 +15,8 @@ push-requires t c =
     (omega (arith, c.decreases, above.fewer, ap length c.deref_mut.ensures.value, ap length c.self.view_is), omega (arith, all, c.requires))
 
 -- the state after the 0 is appended and the sums above were prepared for it
-finish : (t : _) (c : goal.In_ok-push t) (now : Inside) → c.match-self.self-inside ≡ now → AreAbove (now.numbers.items ++ 0 ∷ []) (unboxed now.above) → AreAbove c.push-2.new.self.items (unboxed c.match-self.self-inside.above)
+finish : (t : _) (c : goal.In_ok-push t) (now : Inside) → c.match-self.self-inside ≡ now → AreAbove (now.numbers.items ++ 0 ∷ []) (unboxed now.above)
+    → AreAbove c.push-2.new.self.items (unboxed c.match-self.self-inside.above)
 finish t c now is are =
     subst (λ l. AreAbove l (unboxed c.match-self.self-inside.above)) (sym c.in_ok-push.ensures.items)
     (subst (λ s. AreAbove (s.numbers.items ++ 0 ∷ []) (unboxed s.above)) (sym is) are)

@@ -19,5 +19,6 @@ returns-in-Some-clause-before t c =
     let reach = part_reach numbers c.in-Some.parts.value above part (omega (arith, c.reached-part.ensures.within, ap length c.deref.ensures)) in
     let first : sum_before c.deref.result.now part ≡ sum_before c.in-Some.parts.value part = ap (λ l. sum_before l part) c.deref.ensures in
     let slice : sum_before c.as_slice.result.now (part * 16) ≡ sum_before numbers (part * 16) = ap (λ l. sum_before l (part * 16)) c.as_slice.ensures.value in
-    let found : sum_before c.as_slice.result.now c.reached_from.result.0 ≡ sum_before c.args.self.now c.reached_from.result.0 = ap (λ l. sum_before l c.reached_from.result.0) (c.as_slice.ensures.value ∙ c.self.view_is) in
+    let found : sum_before c.as_slice.result.now c.reached_from.result.0 ≡ sum_before c.args.self.now c.reached_from.result.0 =
+    ap (λ l. sum_before l c.reached_from.result.0) (c.as_slice.ensures.value ∙ c.self.view_is) in
     omega (arith, reach, first, slice, found, c.reached-part.ensures.before, c.reached_from.ensures.before)

@@ -7,5 +7,6 @@ use Rattle.cg_kinds.proofs.sums.Sums.deal.Goals as goal
 pub sum_again-requires-clause-small : goal.sum_again-requires-clause-small
 sum_again-requires-clause-small c =
     let dealt = c.deal_out.new.numbers in
-    let is : sum c.as_slice.result.now ≡ sum dealt = ap sum (c.as_slice.ensures.value ∙ with_items_is c.self.inside.numbers dealt (omega (arith, c.deal_out.ensures.long, c.as_mut_slice.ensures.len))) in
+    let is : sum c.as_slice.result.now ≡ sum dealt = ap sum (c.as_slice.ensures.value ∙ with_items_is c.self.inside.numbers dealt
+    (omega (arith, c.deal_out.ensures.long, c.as_mut_slice.ensures.len))) in
     omega (arith, is, sum_all dealt (length dealt) (omega arith), dealt_sum dealt c.args.count c.deal_out.ensures.each (length dealt) (omega arith), c.requires)

@@ -11,7 +11,8 @@ returns-in-Some-order c =
     let pairs = c.self.inside.map.entries in
     let is = ap unboxed c.in-Some-order.is ∙ ap Some (sym c.deref.ensures) in
     sym (ordered_some pairs c.deref.result.now (subst (IsOrderOf (length pairs)) is c.self.invariant) (subst IsSoundOrder is c.sound.ensures) c.get_index_of.ensures.unique
-    c.in-Some.index c.place_of.result c.place_of.ensures.place c.place_of.ensures.only c.args.key (sym (find-packed c.args.key c.new.result c.new.ensures pairs) ∙ sym c.get_index_of.ensures.index ∙ c.in-Some.is))
+    c.in-Some.index c.place_of.result c.place_of.ensures.place c.place_of.ensures.only c.args.key (sym (find-packed c.args.key c.new.result c.new.ensures pairs)
+    ∙ sym c.get_index_of.ensures.index ∙ c.in-Some.is))
     ∙ sym (ap (λ o. position (has_key c.args.key) (ordered pairs o)) is)
     ∙ ap (position (has_key c.args.key)) c.self.view_is
 
@@ -25,5 +26,6 @@ returns-in-None-order c =
 pub returns-in-None : goal.returns-in-None
 returns-in-None c =
     let pairs = c.self.inside.map.entries in
-    sym (ordered_none pairs (unboxed c.self.inside.order) c.self.invariant c.sound.ensures c.args.key (sym (find-packed c.args.key c.new.result c.new.ensures pairs) ∙ sym c.get_index_of.ensures.index ∙ c.in-None.is))
+    sym (ordered_none pairs (unboxed c.self.inside.order) c.self.invariant c.sound.ensures c.args.key
+    (sym (find-packed c.args.key c.new.result c.new.ensures pairs) ∙ sym c.get_index_of.ensures.index ∙ c.in-None.is))
     ∙ ap (position (has_key c.args.key)) c.self.view_is

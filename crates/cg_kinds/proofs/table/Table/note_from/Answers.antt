@@ -44,4 +44,12 @@ returns-in-None-clause-references c =
     let long = sym (ap length view) ∙ length-map pairs pair_entry in
     c.note_between-references.ensures.references
     ∙ ap references (ap (λ es. take n (drop from es)) view
-    ∙ take_again (drop from c.args.self.now) n AT_ONCE (omega (arith, c.requires.within, long, c.len.ensures.len, c.min.ensures, length-take AT_ONCE (drop from c.args.self.now), length-drop from c.args.self.now)))
+    ∙ take_again (drop from c.args.self.now) n AT_ONCE (omega (
+      arith,
+      c.requires.within,
+      long,
+      c.len.ensures.len,
+      c.min.ensures,
+      length-take AT_ONCE (drop from c.args.self.now),
+      length-drop from c.args.self.now,
+    )))

@@ -35,7 +35,8 @@ returns-in-Some-clause-rest c =
     let view : picked (pairs_of pairs) order ≡ c.args.self.now = sym (ap (ordered pairs) is) ∙ c.self.view_is ∙ c.note_order.ensures in
     let long : length order ≡ length pairs = subst (IsOrderOf (length pairs)) is c.self.invariant in
     ap (picked (pairs_of c.swap_out.new.map.entries)) c.take.ensures.rest
-    ∙ picked_take (pairs_of pairs) (pairs_of c.swap_out.new.map.entries) order c.args.i c.take.result (long ∙ sym (length-map pairs pair_entry)) c.take.ensures.within c.take.ensures.others c.swap_out.ensures.rest
+    ∙ picked_take (pairs_of pairs) (pairs_of c.swap_out.new.map.entries) order c.args.i c.take.result (long ∙ sym (length-map pairs pair_entry))
+    c.take.ensures.within c.take.ensures.others c.swap_out.ensures.rest
     ∙ ap (λ l. remove l c.args.i) view
 
 pub returns-in-None-clause-entry : goal.returns-in-None-clause-entry

@@ -47,7 +47,8 @@ returns-in_ok-index-in-Some-clause-rest c =
     let s = stands c in
     let long : length order ≡ length pairs = subst (IsOrderOf (length pairs)) is c.self.invariant in
     ap (picked (pairs_of c.swap_out_key.new.map.entries)) (c.take_index.ensures.rest s.place s.at)
-    ∙ picked_take (pairs_of pairs) (pairs_of c.swap_out_key.new.map.entries) order s.place c.in_ok-index-in-Some.index (long ∙ sym (length-map pairs pair_entry)) s.below (c.take_index.ensures.others s.place s.at) c.in_ok-index-in-Some.ensures.rest
+    ∙ picked_take (pairs_of pairs) (pairs_of c.swap_out_key.new.map.entries) order s.place c.in_ok-index-in-Some.index
+    (long ∙ sym (length-map pairs pair_entry)) s.below (c.take_index.ensures.others s.place s.at) c.in_ok-index-in-Some.ensures.rest
     ∙ sym s.there.rest
     ∙ ap (λ es. without_key es c.args.key) (sym (ap (ordered pairs) is) ∙ c.self.view_is)
 

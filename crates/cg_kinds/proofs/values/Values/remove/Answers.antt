@@ -4,13 +4,30 @@ use Rattle.cg_kinds.specs.Values.{values_in}
 use Rattle.cg_kinds.proofs.values.Values.remove.Goals as goal
 
 pub overflow_add-at : goal.overflow_add-at
-overflow_add-at c = omega (arith, c.requires, c.self.inside.numbers.ok.1, c.self.inside.numbers.small, numbers-len c.self.inside.sorts c.self.inside.numbers c.self.inside.first c.args.self.now (ap (λ kept. kept.items) c.self.view_is) c.self.invariant.words c.self.invariant.within)
+overflow_add-at c = omega (
+  arith,
+  c.requires,
+  c.self.inside.numbers.ok.1,
+  c.self.inside.numbers.small,
+  numbers-len c.self.inside.sorts c.self.inside.numbers
+      c.self.inside.first c.args.self.now (ap (λ kept. kept.items) c.self.view_is) c.self.invariant.words c.self.invariant.within,
+)
 
 pub remove-sort-requires : goal.remove-sort-requires
-remove-sort-requires c = omega (arith, c.requires, sorts-len c.self.inside.sorts c.self.inside.numbers c.self.inside.first c.args.self.now (ap (λ kept. kept.items) c.self.view_is) c.self.invariant.words c.self.invariant.within)
+remove-sort-requires c = omega (
+  arith,
+  c.requires,
+  sorts-len c.self.inside.sorts c.self.inside.numbers c.self.inside.first c.args.self.now
+      (ap (λ kept. kept.items) c.self.view_is) c.self.invariant.words c.self.invariant.within,
+)
 
 pub remove-number-requires : goal.remove-number-requires
-remove-number-requires c = omega (arith, c.requires, numbers-len c.self.inside.sorts c.self.inside.numbers c.self.inside.first c.args.self.now (ap (λ kept. kept.items) c.self.view_is) c.self.invariant.words c.self.invariant.within)
+remove-number-requires c = omega (
+  arith,
+  c.requires,
+  numbers-len c.self.inside.sorts c.self.inside.numbers c.self.inside.first c.args.self.now
+      (ap (λ kept. kept.items) c.self.view_is) c.self.invariant.words c.self.invariant.within,
+)
 
 pub val_of-requires : goal.val_of-requires
 val_of-requires c =

@@ -11,4 +11,5 @@ items-preserved c =
     let within : c.items.at < length all = c.items-test.true in
     let here : get_or all c.items.at c.index-items-at.result ≡ c.index-items-at.result = search rules in
     subst (λ items. IsIndexOf items c.add.new.self) (sym (take_more all c.items.at c.index-items-at.result within ∙ ap (λ x. take c.items.at all ++ x ∷ []) here))
-    (index_more (take c.items.at all) c.index-items-at.result c.items.at c.items.index c.add.new.self (sym (length-take-le c.items.at all (omega (arith, within)))) e.classes e.procedures e.commands c.items.invariant)
+    (index_more (take c.items.at all) c.index-items-at.result c.items.at c.items.index c.add.new.self
+    (sym (length-take-le c.items.at all (omega (arith, within)))) e.classes e.procedures e.commands c.items.invariant)

@@ -11,5 +11,6 @@ invariant_of-self c =
 pub invariant_of-self-2 : goal.invariant_of-self-2
 invariant_of-self-2 c =
     let more = remembered_on c.intern.result c.self.inside.names c.intern.new.self c.text_of_identifier.result.now c.self.inside.variables c.intern.ensures.ok c.intern.ensures.err c.self.invariant in
-    let learned = learned_so c.self.inside.names c.intern.new.self c.args.word.now c.text_of_identifier.result.now c.in_ok-number.number c.requires.variable c.text_of_identifier.ensures c.in_ok-number.ensures.ok c.in_ok-number.ensures.number in
+    let learned = learned_so c.self.inside.names c.intern.new.self c.args.word.now c.text_of_identifier.result.now c.in_ok-number.number c.requires.variable
+    c.text_of_identifier.ensures c.in_ok-number.ensures.ok c.in_ok-number.ensures.number in
     All-set (IsRemembered c.intern.new.self) c.self.inside.variables c.place_of.result (Some c.in_ok-number.number) learned more

@@ -14,7 +14,8 @@ pub text-requires : goal.text-requires
 text-requires c = let a = at c in slice_get_within c.self.inside.names c.in_ok-number.number a.text a.stands
 
 -- the word is the text with that number
-facts : (c : goal.Then-eq) → (is_variable c.args.word.now ≡ true) × (c.in_ok-number.number ≡ text_number c.self.inside.names c.args.word.now) × (c.self.inside.names ≡ with_text c.self.inside.names c.args.word.now)
+facts : (c : goal.Then-eq) → (is_variable c.args.word.now ≡ true) × (c.in_ok-number.number ≡ text_number c.self.inside.names c.args.word.now)
+    × (c.self.inside.names ≡ with_text c.self.inside.names c.args.word.now)
 facts c =
     let known = remembered_at c.self.inside.names c.self.inside.variables c.place_of.result c.in_ok-number.number c.self.invariant c.in_ok-number.was in
     let same = sym c.as_bytes.ensures.value ∙ (bytes_eq-Decides c.as_bytes.result.now c.args.word.now).0 (sym c.eq.ensures ∙ c.if-eq.true) in

@@ -1,0 +1,56 @@
+-- The answer of a turn when no collection has a line left.
+use Rattle.std.proofs.Common.{◌≡◌, refl, sym, inl, append-nil, List, [], ◌∷◌, ◌++◌}
+use Rattle.cg_graph.proofs.Members.{either}
+use Rattle.cg_script.specs.declared.Script.{Script}
+use Rattle.cg_machine.specs.declared.event.Event.{Event}
+use Rattle.cg_machine.specs.World.{World}
+use Rattle.cg_interp.specs.declared.turned.Turned.{Turned}
+use Rattle.cg_interp.specs.declared.turned.Turned.TheVariants as turned
+use Rattle.cg_interp.specs.Engines.{State}
+use Rattle.cg_interp.specs.Turns.{Turns, GoesTo}
+use Rattle.cg_interp.specs.Telling.{TurnsWith, GoesOnTo}
+
+-- a step was made, and no line is left to print
+goes_on : (script : Script) (may_rest : List Event → Type 0) (w : World) (e : State) (events : List Event) → GoesTo script w events e → events ≡ events ++ [] → GoesOnTo script may_rest w [] events e
+goes_on script may_rest w e events goes same = record {
+  events = events;
+  after = goes.after;
+  still = [];
+  goes = goes.goes;
+  lines = same;
+  moves = inl goes.moves;
+  stands = inl (goes.stands, refl);
+}
+
+-- An answer without remaining lines is one with zero remaining lines, whether or not the machine may rest.
+pub turns_told : (script : Script) (may_rest : List Event → Type 0) (w : World) (e : State) (answer : Turned) → Turns script w e answer → TurnsWith script may_rest w [] e answer
+turns_told script may_rest w e turned.Quiet goes = goes_on script may_rest w e [] goes refl
+turns_told script may_rest w e (turned.Line event) goes = goes_on script may_rest w e (event ∷ []) goes refl
+turns_told script may_rest w e (turned.Lines events) goes = goes_on script may_rest w e events goes (sym (append-nil events))
+turns_told script may_rest w e turned.Ended ends = (refl, ends)
+turns_told script may_rest w e (turned.Left n) ends = (refl, ends)
+turns_told script may_rest w e turned.Spent ends = (refl, ends)
+
+pub turns_plainly : (script : Script) (w : World) (e : State) (answer : Turned) → Turns script w e answer → TurnsWith script (λ still. ⊥) w [] e answer
+turns_plainly script w e answer turns = turns_told script (λ still. ⊥) w e answer turns
+
+-- a turn that does not rest is one that may
+moving : (script : Script) (may_rest : List Event → Type 0) (w : World) (left told : List Event) (e : State) → GoesOnTo script (λ still. ⊥) w left told e → GoesOnTo script may_rest w left told e
+moving script may_rest w left told e goes = record {
+  events = goes.events;
+  after = goes.after;
+  still = goes.still;
+  goes = goes.goes;
+  lines = goes.lines;
+  moves = either goes.moves (λ moves. inl moves) (λ rests. absurd rests);
+  stands = goes.stands;
+}
+
+pub turns_moving : (script : Script) (may_rest : List Event → Type 0) (w : World) (left : List Event) (e : State) (answer : Turned)
+    → TurnsWith script (λ still. ⊥) w left e answer → TurnsWith script may_rest w left e answer
+turns_moving script may_rest w left e turned.Quiet turns = moving script may_rest w left [] e turns
+turns_moving script may_rest w left e (turned.Line event) turns = moving script may_rest w left (event ∷ []) e turns
+turns_moving script may_rest w left e (turned.Lines events) turns = moving script may_rest w left events e turns
+turns_moving script may_rest w left e turned.Ended turns = turns
+turns_moving script may_rest w left e (turned.Left n) turns = turns
+turns_moving script may_rest w left e turned.Spent turns = turns
