@@ -74,7 +74,7 @@ Says before after event = ⊥
 abbrev pub AreTold : List Object → ℕ → List Object → List Event → Type 0
 AreTold before next after events = ((event : Event) → Includes events event → IsTold before next event) ⊎ ((event : Event) × (events ≡ event ∷ []) × Says before after event)
 
-pub record Goes (before : List Object) (next : ℕ) (events : List Event) (after : World) : Type 0 where
+pub record KeepsFinalizers (before : List Object) (next : ℕ) (events : List Event) (after : World) : Type 0 where
   pub follows : Follows before next after.objects
   pub serial : next ≤ after.next_serial
   pub told : AreTold before next after.objects events
@@ -119,7 +119,7 @@ old_lives before after old n m = origin_lives before after old.origin n m
 
 -- steps without a line, with lines, and that start a frame
 module _ (objects : List Object) (next : ℕ) where
-  pub quiet : (after : World) → Old objects after.objects → next ≤ after.next_serial → Goes objects next [] after
+  pub quiet : (after : World) → Old objects after.objects → next ≤ after.next_serial → KeepsFinalizers objects next [] after
   quiet after old serial = record { follows = λ y m. inl (old.origin y m); serial = serial; told = inl (λ event m. absurd m); lasts = λ n m. inl (old.lasts n m) }
 
   pub one_told : (event : Event) → IsTold objects next event → (e : Event) → Includes (event ∷ []) e → IsTold objects next e
@@ -127,11 +127,11 @@ module _ (objects : List Object) (next : ℕ) where
   one_told event h e (inr n) = absurd n
 
   pub tells : (events : List Event) (after : World) → ((event : Event) → Includes events event → IsTold objects next event) → Old objects after.objects
-      → next ≤ after.next_serial → Goes objects next events after
+      → next ≤ after.next_serial → KeepsFinalizers objects next events after
   tells events after told old serial = record { follows = λ y m. inl (old.origin y m); serial = serial; told = inl told; lasts = λ n m. inl (old.lasts n m) }
 
   pub starts_told : (script : Script) (spec : FrameSpec) (u : World) → Old objects u.objects → next ≤ u.next_serial → Enters spec.sort objects u.objects
-      spec.subject → (let s : Transition = start_frame script spec u in Goes objects next s.0 s.1)
-  starts_told script spec u old serial enters = starts_either (Goes objects next) script spec u (tells (BudgetSpent ∷ []) (record u { outcome = BudgetIsSpent })
+      spec.subject → (let s : Transition = start_frame script spec u in KeepsFinalizers objects next s.0 s.1)
+  starts_told script spec u old serial enters = starts_either (KeepsFinalizers objects next) script spec u (tells (BudgetSpent ∷ []) (record u { outcome = BudgetIsSpent })
       (one_told BudgetSpent (tt, λ n m. absurd m)) old serial)
       (λ some. record { follows = λ y m. inl (old.origin y m); serial = serial; told = inr (Enter spec.sort spec.subject, refl, enters); lasts = λ n m. inl (old.lasts n m) })

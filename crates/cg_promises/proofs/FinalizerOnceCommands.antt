@@ -24,7 +24,7 @@ use Rattle.cg_laws.proofs.UnheldCommands.{hand_known}
 use Rattle.cg_represents.proofs.Shapes.{Shape, Binds, Makes, Edits, Puts, Shows, Tells, Stays, Sets, Freezes, Unfreezes, StartsFrame, StartsCollection, Ends, Inspects, AsksWhy, TellsNumbers}
 use Rattle.cg_laws.proofs.Unreferred.{Forgotten}
 use Rattle.cg_laws.proofs.Unheld.{AreOver}
-use Rattle.cg_promises.proofs.FinalizerOnce.{Marks, Old, IsTold, Goes, same_old, map_old, change_old, place_marks, one_told, tells, quiet}
+use Rattle.cg_promises.proofs.FinalizerOnce.{Marks, Old, IsTold, KeepsFinalizers, same_old, map_old, change_old, place_marks, one_told, tells, quiet}
 use Rattle.cg_represents.proofs.Lists.{absent}
 use Rattle.cg_laws.proofs.Releasing.{unheld_degree}
 use Rattle.cg_machine.specs.Holdings.{holdings}
@@ -38,7 +38,7 @@ lives_or_not objects o = go (includes (serials objects) o) refl
     go false e = inr (λ m. let no : true ≡ false = sym (includes-of (serials objects) o m) ∙ e in cc)
 
 abbrev pub DoesTell : World → Effect → Type 0
-DoesTell w (Changes wants_memory lines given_up after) = Goes w.objects w.next_serial lines after
+DoesTell w (Changes wants_memory lines given_up after) = KeepsFinalizers w.objects w.next_serial lines after
 DoesTell w (Calls f) = Includes (serials w.objects) f
 DoesTell w (Collects g) = Unit {0}
 DoesTell w (Explains o) = Unit {0}
@@ -46,19 +46,19 @@ DoesTell w Quits = Unit {0}
 
 module _ (w : World) where
   -- the objects stay, or change
-  silent : (after : World) → Old w.objects after.objects → w.next_serial ≡ after.next_serial → Goes w.objects w.next_serial [] after
+  silent : (after : World) → Old w.objects after.objects → w.next_serial ≡ after.next_serial → KeepsFinalizers w.objects w.next_serial [] after
   silent after old e = quiet w.objects w.next_serial after old (omega (arith, e))
 
-  same : (names : List (Option Val)) (numbers : Numbers) → Goes w.objects w.next_serial [] (record w { names = names; numbers = numbers })
+  same : (names : List (Option Val)) (numbers : Numbers) → KeepsFinalizers w.objects w.next_serial [] (record w { names = names; numbers = numbers })
   same names numbers = silent (record w { names = names; numbers = numbers }) (same_old w.objects) refl
 
-  sets : (o : ℕ) (entries : List Entry) → Goes w.objects w.next_serial [] (with_change (with_entries entries) o w)
+  sets : (o : ℕ) (entries : List Entry) → KeepsFinalizers w.objects w.next_serial [] (with_change (with_entries entries) o w)
   sets o entries = silent (with_change (with_entries entries) o w) (change_old (with_entries entries) (λ x. record { serial = refl; code = refl; class = refl; finalized = λ e. e }) o w.objects) refl
 
-  places : (f : Place → Place) (numbers : Numbers) → Goes w.objects w.next_serial [] (record w { objects = replaced f w; numbers = numbers })
+  places : (f : Place → Place) (numbers : Numbers) → KeepsFinalizers w.objects w.next_serial [] (record w { objects = replaced f w; numbers = numbers })
   places f numbers = silent (record w { objects = replaced f w; numbers = numbers }) (map_old (λ x. with_place (f x.place) x) (λ x. place_marks (f x.place) x) w.objects) refl
 
-  put_tells : (x : Object) (key v : Val) → Goes w.objects w.next_serial [] (with_change (λ y. tracked_by w key v (with_entries (put x.entries key v) y)) x.serial w)
+  put_tells : (x : Object) (key v : Val) → KeepsFinalizers w.objects w.next_serial [] (with_change (λ y. tracked_by w key v (with_entries (put x.entries key v) y)) x.serial w)
   put_tells x key v = silent (with_change put_in x.serial w) (change_old put_in put_marks x.serial w.objects) refl
     where
       put_in : Object → Object
@@ -72,7 +72,7 @@ module _ (w : World) where
       put_marks y = let m = tracked_marks (is_dict y && not (is_tracked y) && (may_track w key || may_track w v)) (with_entries (put x.entries key v) y)
           in record { serial = m.serial; code = m.code; class = m.class; finalized = m.finalized }
 
-  made_tells : (name : ℕ) (kind : KindCode) (class : Option ℕ) (entries : List Entry) (referent : Option ℕ) → Goes w.objects w.next_serial
+  made_tells : (name : ℕ) (kind : KindCode) (class : Option ℕ) (entries : List Entry) (referent : Option ℕ) → KeepsFinalizers w.objects w.next_serial
       (Made kind w.next_serial ∷ []) (bound (with_new w kind class entries referent) name (Some (Ref w.next_serial)))
   made_tells name kind class entries referent = record {
     follows = λ y m. either (Includes-append_cases w.objects (fresh ∷ []) y m) (λ k. inl ((same_old w.objects).origin y k))
@@ -86,7 +86,7 @@ module _ (w : World) where
       fresh : Object
       fresh = record { serial = w.next_serial; code = kind; class = class; entries = entries; place = first_place kind; finalized = false; referent = referent }
 
-  prints_told : (line : Event) → IsTold w.objects w.next_serial line → Goes w.objects w.next_serial (line ∷ []) w
+  prints_told : (line : Event) → IsTold w.objects w.next_serial line → KeepsFinalizers w.objects w.next_serial (line ∷ []) w
   prints_told line told = tells w.objects w.next_serial (line ∷ []) w (one_told w.objects w.next_serial line told) (same_old w.objects) (omega arith)
 
   no_serials : (line : Event) → TellsNumbers line → IsTold w.objects w.next_serial line

@@ -23,7 +23,7 @@ use Rattle.cg_laws.proofs.UnheldRuns.{step_calm, opening_calm, taken_calm}
 use Rattle.cg_laws.proofs.HeldLivesRuns.{gone_forgotten, step_orderly, opening_orderly, taken_orderly}
 use Rattle.cg_represents.proofs.Shapes.{Shape, StartsFrame}
 use Rattle.cg_laws.proofs.Invariants.{AreAnswers, CommandSteps, Steps, any_step, emptied, on, AreLast}
-use Rattle.cg_promises.proofs.FinalizerOnce.{Goes, IsTold, same_old, quiet, one_told, tells, starts_told}
+use Rattle.cg_promises.proofs.FinalizerOnce.{KeepsFinalizers, IsTold, same_old, quiet, one_told, tells, starts_told}
 use Rattle.cg_promises.proofs.FinalizerOnceSteps.{advance_told}
 use Rattle.cg_promises.proofs.FinalizerOnceCommands.{DoesTell, shape_tells}
 use Rattle.cg_graph.specs.Object.{Object, serials}
@@ -37,10 +37,10 @@ pub record Fit (script : Script) (w : World) : Type 0 where
 
 -- what a step prints of the objects before it
 abbrev pub StepTells : World → List Event → World → Type 0
-StepTells w events after = Goes w.objects w.next_serial events after
+StepTells w events after = KeepsFinalizers w.objects w.next_serial events after
 
 module _ (script : Script) (below : List Activity) (v : World) where
-  unchanged : (b : Activity) (lines : List Event) → ((event : Event) → Includes lines event → IsTold v.objects v.next_serial event) → Goes v.objects v.next_serial lines (on b below v)
+  unchanged : (b : Activity) (lines : List Event) → ((event : Event) → Includes lines event → IsTold v.objects v.next_serial event) → KeepsFinalizers v.objects v.next_serial lines (on b below v)
   unchanged b lines told = tells v.objects v.next_serial lines (on b below v) told (same_old v.objects) (omega arith)
 
   answers_told : (lines : List Event) → AreAnswers lines → (event : Event) → Includes lines event → IsTold v.objects v.next_serial event
@@ -103,7 +103,7 @@ tells_steps script = record {
       (phase_advances script c below v c.phase events after step);
 }
 
-pub step_goes : (script : Script) (w : World) (events : List Event) (after : World) → Step script w events after → Fit script w → Goes w.objects w.next_serial events after
+pub step_goes : (script : Script) (w : World) (events : List Event) (after : World) → Step script w events after → Fit script w → KeepsFinalizers w.objects w.next_serial events after
 step_goes script w events after step fit = any_step script (Fit script) StepTells (tells_steps script) w events after step fit
 
 pub step_fit : (script : Script) (w : World) (events : List Event) (after : World) → Step script w events after → Fit script w → Fit script after

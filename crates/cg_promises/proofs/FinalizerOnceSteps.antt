@@ -14,7 +14,7 @@ use Rattle.cg_machine.specs.Program.{legacy_of}
 use Rattle.cg_machine.specs.World.{World, Activity}
 use Rattle.cg_laws.proofs.Advances.{Advance, Plainly, WithFrame, AreLinesOf, Shows, Frees, FrameOf, OfFinalizer, OfLegacy, OfCallback, HasChanged, IsDeathOf, IsLineOf, changed_becomes, changed_lasts}
 use Rattle.cg_laws.proofs.HeldLives.{waits_are_held}
-use Rattle.cg_promises.proofs.FinalizerOnce.{AreTold, Enters, Goes, IsPlain, Origin, starts_told}
+use Rattle.cg_promises.proofs.FinalizerOnce.{AreTold, Enters, KeepsFinalizers, IsPlain, Origin, starts_told}
 use Rattle.cg_laws.proofs.LinesNameLive.{found_with, to_run}
 
 plain_line : (after : List Object) (top : Activity) (event : Event) → IsLineOf after top event → IsPlain event
@@ -45,7 +45,7 @@ module _ (script : Script) (v : World) (top : Activity) (lives : (n : ℕ) → I
       (Includes-map (λ (z : Object). z.serial) v.objects x.0 x.1)
   frame_told objects a spec (OfCallback weak p waits goes) = held weak (waits_are_held top weak waits)
 
-  pub advance_told : (below : List Activity) (lines : List Event) (after : World) → Advance script v top below lines after → Goes v.objects v.next_serial lines after
+  pub advance_told : (below : List Activity) (lines : List Event) (after : World) → Advance script v top below lines after → KeepsFinalizers v.objects v.next_serial lines after
   advance_told below lines after (Plainly tops objects numbers ls t c n shown) = record {
     follows = λ y m. inl (origin tops ls objects c y m);
     serial = omega arith;

@@ -21,7 +21,7 @@ use Rattle.cg_machine.specs.Operands.{is_dict}
 use Rattle.cg_machine.specs.Effects.{Calls, Changes, Collects, Effect, Quits, bound, frozen, given_up_by, may_track, replaced, tracked_by, unfrozen, with_new, Explains}
 use Rattle.cg_laws.proofs.Lookups.{same_object}
 use Rattle.cg_represents.proofs.Serials.{Rises}
-use Rattle.cg_represents.proofs.Moves.{AtMostOne, Goes, put_goes}
+use Rattle.cg_represents.proofs.Moves.{AtMostOne, StaysOrMoves, put_goes}
 use Rattle.cg_represents.proofs.Shapes.{IsAtHand, IsMutable, Shape, Binds, Makes, Edits, Puts, Shows, Tells, Stays, Sets, Freezes, Unfreezes, StartsFrame, StartsCollection, Ends, Inspects, AsksWhy}
 use Rattle.cg_promises.proofs.FinalizerOnce.{Marks, map_old, old_lives}
 use Rattle.cg_promises.proofs.HoldersMove.{AreSingle, IsSingle, Keeps, keeps_same, test_keeps}
@@ -94,7 +94,7 @@ module _ (w : World) (rises : Rises 1 w.next_serial w.objects) where
 
   -- the one object of a serial
   one_keeps : (f : Object → Object) (x : Object) (given : List ℕ) → ((z : Object) → Marks z (f z)) → Includes w.objects x → IsApart x.code
-      → ((z : Object) → (f z).code ≡ z.code) → ((n : ℕ) → Goes x.entries (f x).entries given n) → Keeps w.objects (change f x.serial w.objects) given
+      → ((z : Object) → (f z).code ≡ z.code) → ((n : ℕ) → StaysOrMoves x.entries (f x).entries given n) → Keeps w.objects (change f x.serial w.objects) given
   one_keeps f x given marks m apart code goes = test_keeps f (λ z. z.serial == x.serial) w.objects given marks
       (λ z k t n i. let same : x ≡ z = is_x z k t in subst (λ (y : Object). Includes (references y.entries) n → Includes (references (f y).entries) n ⊎ Includes given n) same (goes n) i)
       (λ z k t s. (λ c. absurd (apart.0 (ap (λ (y : Object). y.code) (is_x z k t) ∙ sym (code z) ∙ c)), λ c. absurd (apart.1 (ap (λ (y : Object). y.code) (is_x z k t) ∙ sym (code z) ∙ c))))
@@ -102,7 +102,7 @@ module _ (w : World) (rises : Rises 1 w.next_serial w.objects) where
       is_x : (z : Object) → Includes w.objects z → (z.serial == x.serial) ≡ true → x ≡ z
       is_x z k t = sym (same_object 1 w.next_serial w.objects z x rises k m (eqb-true z.serial x.serial t))
 
-  sets_shift : (x : Object) (entries : List Entry) (given : List ℕ) → Includes w.objects x → IsApart x.code → ((n : ℕ) → Goes x.entries entries given n)
+  sets_shift : (x : Object) (entries : List Entry) (given : List ℕ) → Includes w.objects x → IsApart x.code → ((n : ℕ) → StaysOrMoves x.entries entries given n)
       → Shifts w given (with_change (with_entries entries) x.serial w)
   sets_shift x entries given m apart goes = shifted (with_change (with_entries entries) x.serial w) given (one_keeps (with_entries entries) x given
       (λ z. record { serial = refl; code = refl; class = refl; finalized = λ e. e }) m apart (λ z. refl) goes) refl

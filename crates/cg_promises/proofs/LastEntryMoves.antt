@@ -12,16 +12,16 @@ use Rattle.cg_machine.specs.Weak.{callback_in, callback_of}
 use Rattle.cg_graph.proofs.Members.{either, Includes-append_cases}
 use Rattle.cg_represents.proofs.Serials.{Rises}
 use Rattle.cg_laws.proofs.Lookups.{at_member, callback_at, references_take}
-use Rattle.cg_represents.proofs.Moves.{AtMostOne, Goes, past, goes_first}
+use Rattle.cg_represents.proofs.Moves.{AtMostOne, StaysOrMoves, past, goes_first}
 use Rattle.cg_promises.proofs.HoldersMove.{AreSingle, Keeps, test_keeps}
 
-cut_goes : (entries : List Entry) (i : ℕ) (old : Entry) (n : ℕ) → slice_get entries i ≡ Some old → length entries ≡ suc i → Goes entries (take i entries) (entry_references old) n
+cut_goes : (entries : List Entry) (i : ℕ) (old : Entry) (n : ℕ) → slice_get entries i ≡ Some old → length entries ≡ suc i → StaysOrMoves entries (take i entries) (entry_references old) n
 cut_goes [] i old n e l = λ m. absurd m
-cut_goes (x ∷ []) zero old n e l = let same : x ≡ old = cc in subst (λ o. Goes (x ∷ []) [] (entry_references o) n) same (goes_first x [] [] n (λ k. k))
+cut_goes (x ∷ []) zero old n e l = let same : x ≡ old = cc in subst (λ o. StaysOrMoves (x ∷ []) [] (entry_references o) n) same (goes_first x [] [] n (λ k. k))
 cut_goes (x ∷ y ∷ entries) zero old n e l = absurd (omega (arith, l))
 cut_goes (x ∷ entries) (suc i) old n e l = past x entries (take i entries) (entry_references old) n (cut_goes entries i old n e (omega (arith, l)))
 
-pub last_goes : (entries : List Entry) (old : Entry) (n : ℕ) → last_entry entries ≡ Some old → Goes entries (without_last entries) (entry_references old) n
+pub last_goes : (entries : List Entry) (old : Entry) (n : ℕ) → last_entry entries ≡ Some old → StaysOrMoves entries (without_last entries) (entry_references old) n
 last_goes entries old n e = cut_goes entries (length entries - 1) old n e (let within = slice_get_within entries (length entries - 1) old e in omega (arith, within))
 
 pub last_none : (entries : List Entry) → last_entry entries ≡ None → entries ≡ []

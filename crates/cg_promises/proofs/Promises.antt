@@ -18,7 +18,7 @@ use Rattle.cg_laws.proofs.Unreferred.{lives_within}
 use Rattle.cg_represents.proofs.Lists.{no_times}
 use Rattle.cg_laws.proofs.HeldLivesRuns.{held_live}
 use Rattle.cg_promises.specs.Lines.{NoDeadLines}
-use Rattle.cg_promises.proofs.FinalizerOnce.{Begins, Goes, IsPlain, Says}
+use Rattle.cg_promises.proofs.FinalizerOnce.{Begins, KeepsFinalizers, IsPlain, Says}
 use Rattle.cg_promises.proofs.FinalizerOnceRuns.{Fit, opening_fit, run_back, run_front, run_fit, step_fit, step_goes}
 
 -- The finalizer of an object begins.
@@ -88,7 +88,7 @@ module _ (script : Script) (n : ℕ) where
   said w after (Free m) fit h = never n w (Free m) after refl
   said w after event fit h = absurd h
 
-  still_spent : (w after : World) (events : List Event) → Goes w.objects w.next_serial events after → IsSpent n w → IsSpent n after
+  still_spent : (w after : World) (events : List Event) → KeepsFinalizers w.objects w.next_serial events after → IsSpent n w → IsSpent n after
   still_spent w after events h s = record {
     made = omega (arith, s.made, h.serial);
     marked = λ y m e. either (h.follows y m) (λ x. x.2.finalized (s.marked x.0 x.1 (sym x.2.serial ∙ e))) (λ k. absurd (omega (arith, s.made, k, e)));
@@ -97,11 +97,11 @@ module _ (script : Script) (n : ℕ) where
   one_line : (event : Event) (events : List Event) → events ≡ event ∷ [] → count_by (is_finalizer_of n) events ≡ cond (is_finalizer_of n event) 1 0
   one_line event events e = ap (count_by (is_finalizer_of n)) e ∙ let c = count_cons n event [] in omega (arith, c)
 
-  spent_none : (w after : World) (events : List Event) → Fit script w → Goes w.objects w.next_serial events after → IsSpent n w → count_by (is_finalizer_of n) events ≡ 0
+  spent_none : (w after : World) (events : List Event) → Fit script w → KeepsFinalizers w.objects w.next_serial events after → IsSpent n w → count_by (is_finalizer_of n) events ≡ 0
   spent_none w after events fit h s = either h.told (λ t. none_counted n events (λ e m. (t e m).0))
       (λ t. one_line t.0 events t.1 ∙ ap (λ b. cond b 1 0) ((said w after t.0 fit t.2).spent s))
 
-  once_or_spent : (w after : World) (events : List Event) → Fit script w → Goes w.objects w.next_serial events after → (count_by (is_finalizer_of n) events ≡ 0)
+  once_or_spent : (w after : World) (events : List Event) → Fit script w → KeepsFinalizers w.objects w.next_serial events after → (count_by (is_finalizer_of n) events ≡ 0)
       ⊎ (count_by (is_finalizer_of n) events ≡ 1) × IsSpent n after
   once_or_spent w after events fit h = either h.told (λ t. inl (none_counted n events (λ e m. (t e m).0))) (λ t. go t.0 t.1 t.2 (is_finalizer_of n t.0) refl)
     where
@@ -140,7 +140,7 @@ pub record WasThere (n : ℕ) (w : World) : Type 0 where
   pub gone : ¬ Includes (serials w.objects) n
 
 module _ (script : Script) (n : ℕ) where
-  still_gone : (w after : World) (events : List Event) → Goes w.objects w.next_serial events after → WasThere n w → WasThere n after
+  still_gone : (w after : World) (events : List Event) → KeepsFinalizers w.objects w.next_serial events after → WasThere n w → WasThere n after
   still_gone w after events h g = record {
     made = omega (arith, g.made, h.serial);
     gone = λ m. let y = Includes-map_cases (λ (z : Object). z.serial) after.objects n m in
@@ -158,7 +158,7 @@ module _ (script : Script) (n : ℕ) where
   said_not w after (Free m) g h (inr k) = absurd k
   said_not w after event g h k = absurd h
 
-  step_not : (w after : World) (events : List Event) → Goes w.objects w.next_serial events after → WasThere n w → (event : Event) → Includes events event → ¬ Includes (named event) n
+  step_not : (w after : World) (events : List Event) → KeepsFinalizers w.objects w.next_serial events after → WasThere n w → (event : Event) → Includes events event → ¬ Includes (named event) n
   step_not w after events h g event m k = either h.told
       (λ t. either ((t event m).1 n k) g.gone (λ e. let made = g.made in omega (arith, made, e)))
       (λ t. either (subst (λ es. Includes es event) t.1 m) (λ e. said_not w after t.0 g t.2 (subst (λ x. Includes (named x) n) (sym e) k)) (λ no. no))
@@ -184,7 +184,7 @@ module _ (script : Script) (n : ℕ) where
   one_free (x ∷ []) back event e = absurd (let no : Free n ∷ back ≡ [] = cc in cc)
   one_free (x ∷ y ∷ front) back event e = absurd (let no : y ∷ (front ++ Free n ∷ back) ≡ [] = cc in cc)
 
-  frees : (w after : World) (events front back : List Event) → Fit script w → Goes w.objects w.next_serial events after → events ≡ front ++ Free n ∷ back → (back ≡ []) × WasThere n after
+  frees : (w after : World) (events front back : List Event) → Fit script w → KeepsFinalizers w.objects w.next_serial events after → events ≡ front ++ Free n ∷ back → (back ≡ []) × WasThere n after
   frees w after events front back fit h e = either h.told
       (λ t. absurd ((t (Free n) (subst (λ es. Includes es (Free n)) (sym e) (Includes-append_right front (Free n ∷ back) (Free n) (inl refl)))).0))
       (λ t. let k = one_free front back t.0 (sym e ∙ t.1) in

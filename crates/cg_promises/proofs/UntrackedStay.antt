@@ -60,18 +60,18 @@ abbrev pub Loses : Object → Object → Type 0
 Loses x y = y.place ≡ Untracked → (x.place ≡ Untracked) × ((o : ℕ) → Includes (references y.entries) o → Includes (references x.entries) o)
 
 -- both, except for some objects that are treated separately
-pub record Goes (hard : ℕ → Type 0) (x y : Object) : Type 0 where
+pub record StaysOrLoses (hard : ℕ → Type 0) (x y : Object) : Type 0 where
   pub stays : Stays x y
   pub loses : hard y.serial ⊎ Loses x y
 
 abbrev pub Still : (ℕ → Type 0) → List Object → List Object → Type 0
-Still hard before after = Came (Goes hard) before after
+Still hard before after = Came (StaysOrLoses hard) before after
 
 -- for no object
 abbrev pub Never : ℕ → Type 0
 Never n = ⊥
 
-pub goes_same : (hard : ℕ → Type 0) (x : Object) → Goes hard x x
+pub goes_same : (hard : ℕ → Type 0) (x : Object) → StaysOrLoses hard x x
 goes_same hard x = record { stays = record { serial = refl; code = refl; untracked = λ t u. u }; loses = inr (λ u. (u, λ o m. m)) }
 
 tuple_kept : (x y : Object) → y.code ≡ x.code → is_tuple y ≡ is_tuple x
@@ -80,7 +80,7 @@ tuple_kept x y c = cc
 dict_kept : (x y : Object) → y.code ≡ x.code → is_dict y ≡ is_dict x
 dict_kept x y c = cc
 
-pub goes : (hard : ℕ → Type 0) → IsOrder (Goes hard)
+pub goes : (hard : ℕ → Type 0) → IsOrder (StaysOrLoses hard)
 goes hard = record {
   same = goes_same hard;
   trans = λ x y z h k. record {
@@ -94,20 +94,20 @@ goes hard = record {
 }
 
 pub still_same : (hard : ℕ → Type 0) (objects : List Object) → Still hard objects objects
-still_same hard = (came (Goes hard) (goes hard)).same
+still_same hard = (came (StaysOrLoses hard) (goes hard)).same
 
 pub still_trans : (hard : ℕ → Type 0) (before now after : List Object) → Still hard before now → Still hard now after → Still hard before after
-still_trans hard = (came (Goes hard) (goes hard)).trans
+still_trans hard = (came (StaysOrLoses hard) (goes hard)).trans
 
 pub test_still : (hard : ℕ → Type 0) (f : Object → Object) (test : Object → Bool) (objects : List Object) → ((x : Object) → Includes objects x → test x ≡ true
-    → Goes hard x (f x)) → Still hard objects (map (λ x. if test x then f x else x) objects)
-test_still hard = came_if (Goes hard) (goes_same hard)
+    → StaysOrLoses hard x (f x)) → Still hard objects (map (λ x. if test x then f x else x) objects)
+test_still hard = came_if (StaysOrLoses hard) (goes_same hard)
 
-pub map_still : (hard : ℕ → Type 0) (f : Object → Object) (objects : List Object) → ((x : Object) → Includes objects x → Goes hard x (f x)) → Still hard objects (map f objects)
-map_still hard = came_map (Goes hard) (goes_same hard)
+pub map_still : (hard : ℕ → Type 0) (f : Object → Object) (objects : List Object) → ((x : Object) → Includes objects x → StaysOrLoses hard x (f x)) → Still hard objects (map f objects)
+map_still hard = came_map (StaysOrLoses hard) (goes_same hard)
 
 -- an object other than an untracked tuple moves to a tracked place
-pub placed_goes : (hard : ℕ → Type 0) (p : Place) (x : Object) → p ≢ Untracked → (is_tuple x ≡ true → x.place ≢ Untracked) → Goes hard x (with_place p x)
+pub placed_goes : (hard : ℕ → Type 0) (p : Place) (x : Object) → p ≢ Untracked → (is_tuple x ≡ true → x.place ≢ Untracked) → StaysOrLoses hard x (with_place p x)
 placed_goes hard p x tracked apart = record { stays = record { serial = refl; code = refl; untracked = λ t u. absurd (apart t u) }; loses = inr (λ u. absurd (tracked u)) }
 
 pub lost_still : (hard : ℕ → Type 0) (weak : ℕ) (objects : List Object) → Still hard objects (loses_referent weak objects)

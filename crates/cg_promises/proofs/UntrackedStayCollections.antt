@@ -29,7 +29,7 @@ use Rattle.cg_laws.proofs.Unreferred.{lives_within}
 use Rattle.cg_laws.proofs.HeldLivesDeaths.{HasOrder}
 use Rattle.cg_laws.specs.Apart.{handles}
 use Rattle.cg_laws.proofs.SetsApart.{is_tracked_at}
-use Rattle.cg_promises.proofs.UntrackedStay.{AreNoTuples, Fine, Goes, IsNoTuple, IsSlackWorld, Never, Slack, Still, excused_on, goes, lost_still, moves_slack, placed_goes, push_slack, starts_slack, still_same, still_trans, test_still, turn_slack}
+use Rattle.cg_promises.proofs.UntrackedStay.{AreNoTuples, Fine, StaysOrLoses, IsNoTuple, IsSlackWorld, Never, Slack, Still, excused_on, goes, lost_still, moves_slack, placed_goes, push_slack, starts_slack, still_same, still_trans, test_still, turn_slack}
 use Rattle.cg_laws.proofs.Pointwise.{all_saved_by, came, came_all_lose}
 use Rattle.cg_promises.proofs.UntrackedStayDeaths.{shortened_still}
 use Rattle.cg_promises.proofs.UntrackedStayStart.{Anew, merge_still, sort_still}
@@ -46,7 +46,7 @@ older_tracked : (n : ℕ) → Gen n ≢ Untracked
 older_tracked n e = cc
 
 all_lose_still : (hard : ℕ → Type 0) (wanted : Object → Bool) (weaks : List ℕ) (objects after : List Object) → AllLose wanted objects weaks after → Still hard objects after
-all_lose_still hard = came_all_lose (Goes hard) (goes hard) (λ x. record { stays = record { serial = refl; code = refl; untracked = λ a u. u }; loses = inr (λ u. (u, λ o i. i)) })
+all_lose_still hard = came_all_lose (StaysOrLoses hard) (goes hard) (λ x. record { stays = record { serial = refl; code = refl; untracked = λ a u. u }; loses = inr (λ u. (u, λ o i. i)) })
 
 abbrev IsRoot : ℕ → Type 0
 IsRoot n = n ≡ 1
@@ -56,7 +56,7 @@ saved_still o objects = test_still IsRoot (λ x. with_entries (x.entries ++ item
     (λ x m t. record { stays = record { serial = refl; code = refl; untracked = λ a u. u }; loses = inl (eqb-true x.serial 1 t) })
 
 all_saved_still : (keeps : List ℕ) (objects : List Object) → Still IsRoot objects (all_saved keeps objects)
-all_saved_still keeps = all_saved_by (Still IsRoot) (came (Goes IsRoot) (goes IsRoot)) keeps (λ o m. saved_still o)
+all_saved_still keeps = all_saved_by (Still IsRoot) (came (StaysOrLoses IsRoot) (goes IsRoot)) keeps (λ o m. saved_still o)
 
 saved_place : (o : ℕ) (objects : List Object) (y : Object) → Includes (saved o objects) y → (x : Object) × Includes objects x × (x.serial ≡ y.serial) × (x.place ≡ y.place)
 saved_place o objects y m = let x = Includes-map_cases (λ x. if x.serial == 1 then with_entries (x.entries ++ item (Ref o) ∷ []) x else x) objects y m in go (x.0.serial == 1) x.0 x.1 x.2

@@ -22,7 +22,7 @@ use Rattle.cg_laws.proofs.Lookups.{at_member, references_of_member, same_object}
 use Rattle.cg_represents.proofs.Serials.{Rises}
 use Rattle.cg_represents.proofs.Shapes.{IsMutable, Shape, Binds, Makes, Edits, Puts, Shows, Tells, Stays, Sets, Freezes, Unfreezes, StartsFrame, StartsCollection, Ends, Inspects, AsksWhy}
 use Rattle.cg_represents.proofs.Places.{place_is}
-use Rattle.cg_promises.proofs.UntrackedStay.{Excused, Fine, Goes, IsLoose, IsSlackOne, IsSlackWorld, Slack, Still, loose_later, map_still, moves_slack, test_still}
+use Rattle.cg_promises.proofs.UntrackedStay.{Excused, Fine, StaysOrLoses, IsLoose, IsSlackOne, IsSlackWorld, Slack, Still, loose_later, map_still, moves_slack, test_still}
 use Rattle.cg_promises.proofs.UntrackedStayStart.{may_not, not_true}
 
 -- what a value refers to
@@ -221,7 +221,7 @@ module _ (w : World) (rises : Rises 1 w.next_serial w.objects) (live : (x : Obje
             (λ d. either d (λ i. loose_value key o first_no i) (λ i. loose_value v o second_no i))
 
     put_loses : (z : Object) → Includes w.objects z → x ≡ z → (b : Bool) → becomes z ≡ b → (if b then with_place (Gen 0) (with_entries (put x.entries key v) z)
-        else with_entries (put x.entries key v) z) ≡ put_in z → Goes (Fine w.stack after_put) z (if b
+        else with_entries (put x.entries key v) z) ≡ put_in z → StaysOrLoses (Fine w.stack after_put) z (if b
         then with_place (Gen 0) (with_entries (put x.entries key v) z) else with_entries (put x.entries key v) z)
     put_loses z k same true e i = record {
       stays = record { serial = refl; code = refl; untracked = λ a u. absurd (no_tuple (ap is_tuple same ∙ a)) };

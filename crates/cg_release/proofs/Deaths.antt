@@ -51,12 +51,12 @@ bare_holds o Emptying h = refl
 
 module _ (script : Script) (w : World) (given : List ℕ) (below : List Activity) (orderly : IsOrderly w) (top : w.stack ≡ Releasing given ∷ below) where
   -- the world after a step, and what was printed since the release started
-  abbrev pub Goes : List Event → World → Type 0
-  Goes done after = ((gone : ℕ → Bool) × (tops : List Activity) × Between w given below gone tops done after.names after.objects after.stack) ⊎ IsCaught below after.stack after.outcome
+  abbrev pub IsWithinRelease : List Event → World → Type 0
+  IsWithinRelease done after = ((gone : ℕ → Bool) × (tops : List Activity) × Between w given below gone tops done after.names after.objects after.stack) ⊎ IsCaught below after.stack after.outcome
 
   module _ (gone : ℕ → Bool) (tops : List Activity) (done : List Event) (u : World) where
     abbrev R : List Event → World → Type 0
-    R lines v = count_by is_enter lines ≡ 0 → Goes (done ++ lines) v
+    R lines v = count_by is_enter lines ≡ 0 → IsWithinRelease (done ++ lines) v
 
     to : (t : Transition) (events : List Event) (after : World) → R t.0 t.1 → Yields t events after → R events after
     to t events after k y = subst (λ (es : List Event). R es after) (sym y.0) (subst (λ (v : World). R t.0 v) (sym y.1) k)
@@ -73,7 +73,7 @@ module _ (script : Script) (w : World) (given : List ℕ) (below : List Activity
       is_gone phase b = (b.bare (Dying (record { object = o; phase = phase })) (inl refl)).0
 
       turns : (phase next : DyingPhase) (lines : List Event) (objects : List Object) → Lets gone u.objects objects → IsBarePhase next → ((p : ℕ) → ¬ Includes lines (Free p))
-          → At phase → Goes (done ++ lines) (death_at o next (tops ++ below) (record u { objects = objects }))
+          → At phase → IsWithinRelease (done ++ lines) (death_at o next (tops ++ below) (record u { objects = objects }))
       turns phase next lines objects l bare none b = inl (gone, on next, goes w given below gone (on phase) (on next) done lines u.names u.objects objects u.stack l still held (λ p k. k) none b)
         where
           still : (a : Activity) → Includes (on next) a → IsBare gone a
@@ -94,7 +94,7 @@ module _ (script : Script) (w : World) (given : List ℕ) (below : List Activity
       clears [] b = λ quiet. turns (Clearing []) (Calling []) [] u.objects (lets_same gone u.objects) tt none_freed b
       clears (weak ∷ weaks) b = λ quiet. waits (is_some (callback_of u.objects weak))
         where
-          waits : (t : Bool) → Goes (done ++ Cleared weak ∷ []) (death_at o (Clearing ([] ++ (if t then weak ∷ [] else []))) (tops ++ below) (record u { objects = loses_referent weak u.objects }))
+          waits : (t : Bool) → IsWithinRelease (done ++ Cleared weak ∷ []) (death_at o (Clearing ([] ++ (if t then weak ∷ [] else []))) (tops ++ below) (record u { objects = loses_referent weak u.objects }))
           waits true = inr (record { top = Dying (record { object = o; phase = Clearing (weak ∷ []) }); tops = tops; is = refl; why = inr tt })
           waits false = turns (Clearing []) (Clearing []) (Cleared weak ∷ []) (loses_referent weak u.objects) (lets_lose gone weak u.objects) tt (cleared_frees_none weak) b
 

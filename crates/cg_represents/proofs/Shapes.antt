@@ -30,7 +30,7 @@ use Rattle.cg_represents.specs.Orderly.{HasFunction}
 use Rattle.cg_machine.specs.Holdings.{is_collecting}
 use Rattle.cg_represents.proofs.CommandLaws.{Each, checked, each_then, each_some}
 use Rattle.cg_represents.proofs.Lists.{found_at, slice_get_member, removed_member, set_member}
-use Rattle.cg_represents.proofs.Moves.{AtMostOne, Goes, appended_goes, removed_goes, set_goes, without_key_goes}
+use Rattle.cg_represents.proofs.Moves.{AtMostOne, StaysOrMoves, appended_goes, removed_goes, set_goes, without_key_goes}
 use Rattle.cg_represents.proofs.Inspecting.{AllTellThere, referents_there, referrers_there}
 
 -- An operand of a command: its value is among the values of the command's operands, in any world.
@@ -91,7 +91,7 @@ pub record IsEdit (w : World) (command : Command) (x : Object) (entries : List E
   pub longer : length entries ≤ length x.entries + 1
   pub room : length entries ≤ length x.entries ⊎ (entry_count w + 1 ≤ 4000000)
   pub given : (given_up ≡ []) ⊎ ((e : Entry) × Includes x.entries e × (given_up ≡ entry_references e))
-  pub keeps : (n : ℕ) → Goes x.entries entries given_up n
+  pub keeps : (n : ℕ) → StaysOrMoves x.entries entries given_up n
 
 -- a line of numbers alone
 abbrev pub TellsNumbers : Event → Type 0

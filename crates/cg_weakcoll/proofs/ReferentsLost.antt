@@ -54,7 +54,7 @@ IsOther event = Unit {0}
 abbrev pub IsLost : List Event → List Activity → ℕ → Type 0
 IsLost events stack n = Includes events (Cleared n) ⊎ IsFading stack n
 
-pub record Goes (before : List Object) (next : ℕ) (events : List Event) (after : World) : Type 0 where
+pub record LosesReferents (before : List Object) (next : ℕ) (events : List Event) (after : World) : Type 0 where
   pub was : (y : Object) → Includes after.objects y → ((x : Object) × Includes before x × Wanes (IsLost events after.stack) x y) ⊎ (y.serial ≡ next)
   pub cleared : (n : ℕ) → Includes events (Cleared n) → HasNoReferent n after.objects
 
@@ -89,7 +89,7 @@ others_more event events h k n m = either m (λ e. subst IsOther e h) (k n)
 
 module _ (objects : List Object) (next : ℕ) where
   -- no referent is lost
-  pub steady : (events : List Event) (after : World) → ClearNone events → Waned Never objects after.objects → Goes objects next events after
+  pub steady : (events : List Event) (after : World) → ClearNone events → Waned Never objects after.objects → LosesReferents objects next events after
   steady events after none waned = record {
     was = λ y m. let x = waned y m in inl (
       x.0,
@@ -100,8 +100,8 @@ module _ (objects : List Object) (next : ℕ) where
     cleared = λ n m. absurd (none n m);
   }
 
-  pub starts_going : (script : Script) (spec : FrameSpec) (u : World) → Waned Never objects u.objects → (let s : Transition = start_frame script spec u in Goes objects next s.0 s.1)
-  starts_going script spec u waned = starts_either (Goes objects next) script spec u (steady (BudgetSpent ∷ []) (record u { outcome = BudgetIsSpent }) (other_line BudgetSpent tt) waned)
+  pub starts_going : (script : Script) (spec : FrameSpec) (u : World) → Waned Never objects u.objects → (let s : Transition = start_frame script spec u in LosesReferents objects next s.0 s.1)
+  starts_going script spec u waned = starts_either (LosesReferents objects next) script spec u (steady (BudgetSpent ∷ []) (record u { outcome = BudgetIsSpent }) (other_line BudgetSpent tt) waned)
       (λ some. steady (Enter spec.sort spec.subject ∷ []) (record u { budget = u.budget - 1; stack = begun_frame script spec ∷ u.stack }) (other_line (Enter spec.sort spec.subject) tt) waned)
 
 -- a step of an activity without commands
@@ -123,7 +123,7 @@ cleared before after top lines (Shows ls h) n m = (h (Cleared n) m).0
 cleared before after top lines (Frees o dies gone) n m = absurd (other_line (Free o) tt n m)
 
 pub advance_wanes : (script : Script) (v : World) (top : Activity) (below : List Activity) (lines : List Event) (after : World) → Advance script v top below
-    lines after → Goes v.objects v.next_serial lines after
+    lines after → LosesReferents v.objects v.next_serial lines after
 advance_wanes script v top below lines after (Plainly tops objects numbers ls t c n shown) = record {
   was = λ y m. let x = waned top tops ls v.objects objects c y m in inl (
     x.0,

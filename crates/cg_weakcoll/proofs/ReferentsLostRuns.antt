@@ -30,14 +30,14 @@ use Rattle.cg_laws.proofs.LinesNameLive.{HasNoReferent}
 use Rattle.cg_laws.proofs.Advancing.{frame_end_advances, released_advances, dying_advances, phase_advances}
 use Rattle.cg_laws.proofs.LeftBelowRuns.{step_leaves}
 use Rattle.cg_laws.proofs.Unheld.{not_dying}
-use Rattle.cg_promises.proofs.FinalizerOnce.{Goes as TellsSo}
+use Rattle.cg_promises.proofs.FinalizerOnce.{KeepsFinalizers as TellsSo}
 use Rattle.cg_promises.proofs.FinalizerOnceRuns.{Fit, step_fit, step_goes}
 use Rattle.cg_weakcoll.specs.Maps.{RefersBy}
-use Rattle.cg_weakcoll.proofs.ReferentsLost.{ClearNone, IsFading, IsLost, IsOther, Waned, Wanes, Never, Goes, advance_wanes, wanes_for, same_waned, map_waned, if_waned, entries_waned, other_line, none_cleared, others_more, steady, starts_going}
+use Rattle.cg_weakcoll.proofs.ReferentsLost.{ClearNone, IsFading, IsLost, IsOther, Waned, Wanes, Never, LosesReferents, advance_wanes, wanes_for, same_waned, map_waned, if_waned, entries_waned, other_line, none_cleared, others_more, steady, starts_going}
 use Rattle.cg_weakcoll.proofs.ReferentsLostDeaths.{IsWeak, step_fades}
 
 abbrev DoesGo : World → Effect → Type 0
-DoesGo w (Changes wants_memory lines given_up after) = Goes w.objects w.next_serial lines after
+DoesGo w (Changes wants_memory lines given_up after) = LosesReferents w.objects w.next_serial lines after
 DoesGo w (Calls f) = Unit {0}
 DoesGo w (Collects g) = Unit {0}
 DoesGo w (Explains o) = Unit {0}
@@ -61,20 +61,20 @@ module _ (w : World) where
   there_other Unreachable t = tt
   there_other line t = absurd t
 
-  same : (names : List (Option Val)) (numbers : Numbers) → Goes w.objects w.next_serial [] (record w { names = names; numbers = numbers })
+  same : (names : List (Option Val)) (numbers : Numbers) → LosesReferents w.objects w.next_serial [] (record w { names = names; numbers = numbers })
   same names numbers = steady w.objects w.next_serial [] (record w { names = names; numbers = numbers }) none_cleared (same_waned Never w.objects)
 
-  prints : (lines : List Event) → ClearNone lines → Goes w.objects w.next_serial lines w
+  prints : (lines : List Event) → ClearNone lines → LosesReferents w.objects w.next_serial lines w
   prints lines none = steady w.objects w.next_serial lines w none (same_waned Never w.objects)
 
-  sets : (o : ℕ) (entries : List Entry) → Goes w.objects w.next_serial [] (with_change (with_entries entries) o w)
+  sets : (o : ℕ) (entries : List Entry) → LosesReferents w.objects w.next_serial [] (with_change (with_entries entries) o w)
   sets o entries = steady w.objects w.next_serial [] (with_change (with_entries entries) o w) none_cleared (entries_waned entries o w.objects)
 
-  places : (f : Place → Place) (numbers : Numbers) → Goes w.objects w.next_serial [] (record w { objects = replaced f w; numbers = numbers })
+  places : (f : Place → Place) (numbers : Numbers) → LosesReferents w.objects w.next_serial [] (record w { objects = replaced f w; numbers = numbers })
   places f numbers = steady w.objects w.next_serial [] (record w { objects = replaced f w; numbers = numbers }) none_cleared
       (map_waned Never (λ x. with_place (f x.place) x) (λ x. record { serial = refl; code = refl; referent = inl refl }) w.objects)
 
-  puts : (x : Object) (key v : Val) → Goes w.objects w.next_serial [] (with_change (λ y. tracked_by w key v (with_entries (put x.entries key v) y)) x.serial w)
+  puts : (x : Object) (key v : Val) → LosesReferents w.objects w.next_serial [] (with_change (λ y. tracked_by w key v (with_entries (put x.entries key v) y)) x.serial w)
   puts x key v = steady w.objects w.next_serial [] (with_change put_in x.serial w) none_cleared (if_waned Never put_in (λ y. y.serial == x.serial)
       (λ y e. one (is_dict y && not (is_tracked y) && (may_track w key || may_track w v)) y) w.objects)
     where
@@ -85,7 +85,7 @@ module _ (w : World) where
       one true y = record { serial = refl; code = refl; referent = inl refl }
       one false y = record { serial = refl; code = refl; referent = inl refl }
 
-  makes : (name : ℕ) (kind : KindCode) (class : Option ℕ) (entries : List Entry) (referent : Option ℕ) → Goes w.objects w.next_serial (Made kind w.next_serial
+  makes : (name : ℕ) (kind : KindCode) (class : Option ℕ) (entries : List Entry) (referent : Option ℕ) → LosesReferents w.objects w.next_serial (Made kind w.next_serial
       ∷ []) (bound (with_new w kind class entries referent) name (Some (Ref w.next_serial)))
   makes name kind class entries referent = record {
     was = λ y m. either (Includes-append_cases w.objects (fresh ∷ []) y m) (λ k. inl (y, k, record { serial = refl; code = refl; referent = inl refl }))
@@ -114,10 +114,10 @@ module _ (w : World) where
   shape_goes command e (AsksWhy x h calm) = tt
 
 abbrev pub StepGoes : World → List Event → World → Type 0
-StepGoes w events after = Goes w.objects w.next_serial events after
+StepGoes w events after = LosesReferents w.objects w.next_serial events after
 
 module _ (script : Script) (below : List Activity) (v : World) where
-  unchanged : (after : World) (lines : List Event) → ClearNone lines → after.objects ≡ v.objects → Goes v.objects v.next_serial lines after
+  unchanged : (after : World) (lines : List Event) → ClearNone lines → after.objects ≡ v.objects → LosesReferents v.objects v.next_serial lines after
   unchanged after lines none e = steady v.objects v.next_serial lines after none (subst (Waned Never v.objects) (sym e) (same_waned Never v.objects))
 
   answers_none : (lines : List Event) → AreAnswers lines → ClearNone lines
@@ -140,7 +140,7 @@ module _ (script : Script) (below : List Activity) (v : World) where
     asks = λ g low e. unchanged (push (new_collection g true (on a below v)) (on a below v)) [] none_cleared refl;
   }
     where
-      giving : (lines : List Event) (given_up : List ℕ) (after : World) → Goes v.objects v.next_serial lines after → Goes v.objects v.next_serial lines (push (Releasing given_up) after)
+      giving : (lines : List Event) (given_up : List ℕ) (after : World) → LosesReferents v.objects v.next_serial lines after → LosesReferents v.objects v.next_serial lines (push (Releasing given_up) after)
       giving lines given_up after g = record {
         was = λ y m. either (g.was y m) (λ x. inl (
           x.0,
@@ -173,7 +173,7 @@ goes_steps script = record {
   collects = λ c below v events after step k. advance_wanes script v (Collecting c) below events after (phase_advances script c below v c.phase events after step);
 }
 
-pub step_wanes : (script : Script) (w : World) (events : List Event) (after : World) → Step script w events after → Goes w.objects w.next_serial events after
+pub step_wanes : (script : Script) (w : World) (events : List Event) (after : World) → Step script w events after → LosesReferents w.objects w.next_serial events after
 step_wanes script w events after step = any_step script (λ u. Unit {0}) StepGoes (goes_steps script) w events after step tt
 
 -- the state of a weak reference to an object, by the lines since it was made
@@ -201,7 +201,7 @@ module _ (script : Script) (weak object : ℕ) where
         (λ now. goes.cleared weak now y m e);
   }
     where
-      goes : Goes w.objects w.next_serial events after
+      goes : LosesReferents w.objects w.next_serial events after
       goes = step_wanes script w events after step
 
       told : TellsSo w.objects w.next_serial events after
