@@ -1,4 +1,4 @@
-use Rattle.std.proofs.Common.{◌≡◌, List, ℕ, ◌+◌, ◌-◌, subst, refl, arith}
+use Rattle.std.proofs.Common.{◌≡◌, List, ℕ, ◌+◌, ◌-◌, subst, arith}
 use Rattle.cg_graph.specs.Member.{Includes}
 use Rattle.cg_trial.specs.View.{view_of}
 use Rattle.cg_trial.specs.Sift.{Woken}

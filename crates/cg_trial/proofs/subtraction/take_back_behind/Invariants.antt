@@ -1,4 +1,4 @@
-use Rattle.std.proofs.Common.{◌≡◌, ◌≤◌, length}
+use Rattle.std.proofs.Common.{◌≤◌}
 use Rattle.cg_trial.specs.View.{view_of}
 use Rattle.cg_trial.specs.Sift.{zeros}
 use Rattle.cg_trial.proofs.Backward.{WakingBack}
