@@ -1,6 +1,6 @@
 -- Taking back from the last object to the first, and from the last entries to the first.
 use Rattle.std.proofs.Common.{◌≡◌, ◌≢◌, sym, ◌∙◌, ap, subst, ℕ, ◌+◌, ◌-◌, ◌*◌, ◌/◌, ◌<◌, ◌≤◌, ◌⊎◌, inl, inr, List, [], ◌∷◌, ◌++◌, length, take, drop, get_or, arith}
-use Rattle.std.proofs.lemmas.List.{take-append-drop, drop_more, drop_all, drop-append-le, drop-drop, length-take, length-drop}
+use Rattle.std.proofs.lemmas.List.{take-append-drop, drop_more, drop_all, drop-append-le, drop-drop, length-take, length-drop, take_all}
 use Rattle.std.specs.Prelude.{slice_index}
 use Rattle.cg_kind.specs.Calls.{next_entries}
 use Rattle.cg_kind.specs.declared.notes.TheConstants.{AT_ONCE}
@@ -160,18 +160,48 @@ waking_back-more o old mid new blocks before steps later so looks more = record 
     parts : references (drop from es) ≡ block ++ behind
     parts = ap references (drop_block es from) ∙ references-append (next_entries es from) (drop (from + AT_ONCE) es)
 
--- it has come to the first entry
-pub waking_back-all : (o : ℕ) (old now : View) (blocks before steps : ℕ) → blocks ≡ 0 → WakingBack o old now blocks before steps → Woken (references (old.entries o)) old now
-waking_back-all o old now blocks before steps is so = subst (λ n. Woken (references (drop (n * AT_ONCE) (old.entries o))) old now) is so.woken
+-- it has come to the second block
+pub waking_back-behind : (o : ℕ) (old now : View) (blocks before steps : ℕ) → blocks ≡ 1 → WakingBack o old now blocks before steps → Woken (references (drop AT_ONCE (old.entries o))) old now
+waking_back-behind o old now blocks before steps is so = subst (λ n. Woken (references (drop (n * AT_ONCE) (old.entries o))) old now) is so.woken
 
 -- with none left to be taken back, all are
-pub waking_back-over : (o : ℕ) (old now : View) (blocks before steps : ℕ) → zeros now ≡ 0 → WakingBack o old now blocks before steps → Woken (references (old.entries o)) old now
-waking_back-over o old now blocks before steps none so = woken_over (references (drop i es)) (references es) old now so.woken none
-    (λ p h. subst (λ (xs : List ℕ). Includes xs p) (sym (references-append (take i es) (drop i es)) ∙ ap references (take-append-drop i es))
-    (Includes-append_right (references (take i es)) (references (drop i es)) p h))
+pub waking_back-over : (o : ℕ) (old now : View) (blocks before steps : ℕ) → zeros now ≡ 0 → 1 ≤ blocks → WakingBack o old now blocks before steps → Woken (references (drop AT_ONCE (old.entries o))) old now
+waking_back-over o old now blocks before steps none some so = woken_over (references (drop (blocks * AT_ONCE) (old.entries o))) (references rest) old now so.woken none
+    (λ p h. subst (λ (xs : List ℕ). Includes xs p) (sym (references-append (take k rest) (drop k rest)) ∙ ap references (take-append-drop k rest))
+    (Includes-append_right (references (take k rest)) (references (drop k rest)) p (subst (λ (es : List Entry). Includes (references es) p) (sym there) h)))
+  where
+    rest : List Entry
+    rest = drop AT_ONCE (old.entries o)
+
+    k : ℕ
+    k = blocks * AT_ONCE - AT_ONCE
+
+    place : AT_ONCE + k ≡ blocks * AT_ONCE
+    place = omega (arith, some)
+
+    there : drop k rest ≡ drop (blocks * AT_ONCE) (old.entries o)
+    there = drop-drop k AT_ONCE (old.entries o) ∙ ap (λ n. drop n (old.entries o)) place
+
+-- the first block is taken back behind all others
+pub waking_back-first_block : (o : ℕ) (old mid new : View) → Woken (references (drop AT_ONCE (old.entries o))) old mid → Woken (references (next_entries (old.entries o) 0)) mid new → Woken (references (old.entries o)) old new
+waking_back-first_block o old mid new so more =
+    woken_as (behind ++ block) (references es) old new (woken_more behind block old mid new so more)
+    (λ p h. subst (λ (l : List ℕ). Includes l p) (sym parts) (either (Includes-append_cases behind block p h) (λ i. Includes-append_right block behind p i) (λ i. Includes-append_left block behind p i)))
+    (λ p h. inl (either (Includes-append_cases block behind p (subst (λ (l : List ℕ). Includes l p) parts h)) (λ i. Includes-append_right behind block p i) (λ i. Includes-append_left behind block p i)))
   where
     es : List Entry
     es = old.entries o
 
-    i : ℕ
-    i = blocks * AT_ONCE
+    block : List ℕ
+    block = references (next_entries es 0)
+
+    behind : List ℕ
+    behind = references (drop AT_ONCE es)
+
+    parts : references es ≡ block ++ behind
+    parts = ap references (drop_block es 0) ∙ references-append (next_entries es 0) (drop AT_ONCE es)
+
+-- one block alone
+pub waking_back-alone : (o : ℕ) (old new : View) → length (next_entries (old.entries o) 0) < AT_ONCE → Woken (references (next_entries (old.entries o) 0)) old new → Woken (references (old.entries o)) old new
+waking_back-alone o old new few so =
+    subst (λ (es : List Entry). Woken (references es) old new) (take_all AT_ONCE (old.entries o) (omega (arith, few, length-take AT_ONCE (old.entries o)))) so

@@ -1,5 +1,5 @@
-//! Trial subtraction, and the walk that takes out the reached objects.
-ghost use Rattle.std.specs.Prelude.{◌≡◌, ◌≢◌, ◌↔◌, ℕ, ◌+◌, ◌-◌, ◌*◌, ◌≤◌, ◌∷◌, ◌++◌, [], replicate, ◌<◌, false, length, slice_index, take, IsTrue, IfSome, None};
+//! Trial subtraction, and the walk that takes out what is reached.
+ghost use Rattle.std.specs.Prelude.{◌≡◌, ◌≢◌, ◌↔◌, ℕ, ◌+◌, ◌-◌, ◌*◌, ◌≤◌, ◌∷◌, ◌++◌, [], replicate, ◌<◌, false, length, slice_index, take, drop, IsTrue, IfSome, None};
 ghost use Rattle.cg_graph.specs.Member.{Includes};
 ghost use Rattle.cg_graph.specs.Value.{references};
 ghost use Rattle.cg_graph.specs.Holdings.{occurrences};
@@ -257,8 +257,8 @@ fn take_back_all<B: Kind, L: Ledger>(
     }
 }
 
-/// The same, from the last entry to the first. The entries are looked at in blocks that are counted
-/// from the first, so that none is looked at twice.
+/// The same, from the last entry to the first. The entries are looked at in blocks that are counted from the first, so that
+/// none is looked at twice; mostly there is one.
 fn take_back_from_last<B: Kind, L: Ledger>(
     heap: &mut Heap<B>,
     object: u64,
@@ -278,10 +278,38 @@ fn take_back_from_last<B: Kind, L: Ledger>(
     ensures looks { steps.new ≤ steps.old + length ((view_of heap.old).entries object) }
     ensures space { length found.new ≡ length found.old }
 {
+    let first = heap.note_near(object, 0, near, found, steps);
+    if first.next < AT_ONCE {
+        take_back_each_from_last(heap, &found[..first.references], left);
+    } else {
+        take_back_behind(heap, object, near, left, steps);
+        take_back_each_from_last(heap, &found[..first.references], left);
+    }
+}
+
+/// The same for the entries behind the first block.
+#[inline(never)]
+fn take_back_behind<B: Kind, L: Ledger>(
+    heap: &mut Heap<B>,
+    object: u64,
+    near: Near,
+    left: &mut u64,
+    steps: &mut Steps<L>,
+)
+    requires ready { IsReadyView (view_of heap.old) }
+    requires live { IsTrue ((view_of heap.old).live object) }
+    requires left { zeros (view_of heap.old) ≤ left.old }
+    requires long { AT_ONCE ≤ length ((view_of heap.old).entries object) }
+    ensures woken { Woken (references (drop AT_ONCE ((view_of heap.old).entries object))) (view_of heap.old) (view_of heap.new) }
+    ensures left { zeros (view_of heap.new) ≤ left.new }
+    ensures later { steps.old ≤ steps.new }
+    ensures looks { steps.new + AT_ONCE ≤ steps.old + length ((view_of heap.old).entries object) }
+{
+    let mut found = [0; ROOM];
     let mut blocks = heap.len_near(object, near) / AT_ONCE + 1;
-    'entries: while *left > 0 && blocks > 0 {
+    'entries: while *left > 0 && blocks > 1 {
         blocks -= 1;
-        let noted = heap.note_near(object, blocks * AT_ONCE, near, found, steps);
+        let noted = heap.note_near(object, blocks * AT_ONCE, near, &mut found, steps);
         take_back_each_from_last(heap, &found[..noted.references], left);
     }
 }

@@ -1,49 +1,42 @@
-use Rattle.std.proofs.Common.{◌≡◌, List, ℕ, ◌+◌, ◌-◌, subst, refl, arith}
+use Rattle.std.proofs.Common.{List, ℕ, subst, arith}
+use Rattle.std.proofs.lemmas.List.{length-take}
 use Rattle.cg_graph.specs.Member.{Includes}
+use Rattle.cg_graph.specs.Store.{entries_of}
+use Rattle.cg_kind.specs.declared.notes.TheConstants.{AT_ONCE}
 use Rattle.cg_trial.specs.View.{view_of}
 use Rattle.cg_trial.specs.Sift.{Woken}
-use Rattle.cg_trial.proofs.Entries.{live_same, length_same, next_live}
-use Rattle.cg_trial.proofs.Backward.{WakingBack, waking_back-first, waking_back-more, waking_back-all, waking_back-over, blocks_within, blocks_enough}
+use Rattle.cg_trial.proofs.Entries.{live_same, next_live}
+use Rattle.cg_trial.proofs.Passes.{same_itself}
+use Rattle.cg_trial.proofs.Backward.{waking_back-first_block, waking_back-alone}
 use Rattle.cg_trial.proofs.subtraction.take_back_from_last.Goals as goal
-
-pub entries-init : goal.entries-init
-entries-init g c = record {
-  waking = waking_back-first c.args.object (view_of c.args.heap.now) _ _ (blocks_within _ _ c.len_near.ensures) (blocks_enough _ _ c.len_near.ensures);
-  left = c.requires.left;
-  space = refl;
-}
-
-pub note_near-noted-requires-clause-live : goal.note_near-noted-requires-clause-live
-note_near-noted-requires-clause-live g c = live_same (view_of c.args.heap.now) (view_of c.entries.heap) c.args.object c.entries.invariant.waking.woken.same c.requires.live
-
-pub note_near-noted-requires-clause-within : goal.note_near-noted-requires-clause-within
-note_near-noted-requires-clause-within g c =
-    omega (arith, c.entries.invariant.waking.within, length_same (view_of c.args.heap.now) (view_of c.entries.heap) c.args.object c.entries.invariant.waking.woken.same)
-
-pub take_back_each_from_last-requires-clause-left : goal.take_back_each_from_last-requires-clause-left
-take_back_each_from_last-requires-clause-left g c = c.entries.invariant.left
 
 pub take_back_each_from_last-requires-clause-live : goal.take_back_each_from_last-requires-clause-live
 take_back_each_from_last-requires-clause-live g c = λ p h.
-    next_live (view_of c.args.heap.now) (view_of c.entries.heap) c.args.object _ c.requires.ready c.requires.live c.entries.invariant.waking.woken.same p
-    (subst (λ (xs : List ℕ). Includes xs p) c.note_near-noted.ensures.references h)
+    next_live (view_of c.args.heap.now) (view_of c.args.heap.now) c.args.object 0 c.requires.ready c.requires.live (same_itself (view_of c.args.heap.now)) p
+    (subst (λ (xs : List ℕ). Includes xs p) c.note_near-first.ensures.references h)
 
-pub entries-preserved : goal.entries-preserved
-entries-preserved g c =
-    let one_more : c.entries.blocks ≡ c.entries.blocks - 1 + 1 = omega (arith, c.if-blocks-gt0.true) in
-    record {
-      waking = waking_back-more c.args.object (view_of c.args.heap.now) (view_of c.entries.heap) (view_of c.take_back_each_from_last.new.heap) (c.entries.blocks - 1) _ _ _
-          (subst (λ n. WakingBack c.args.object (view_of c.args.heap.now) (view_of c.entries.heap) n c.args.steps.now c.entries.steps) one_more c.entries.invariant.waking)
-          c.note_near-noted.ensures.steps
-          (subst (λ (xs : List ℕ). Woken xs (view_of c.entries.heap) (view_of c.take_back_each_from_last.new.heap)) c.note_near-noted.ensures.references c.take_back_each_from_last.ensures.woken);
-      left = c.take_back_each_from_last.ensures.left;
-      space = omega (arith, c.note_near-noted.ensures.room, c.entries.invariant.space);
-    }
+pub take_back_behind-requires-clause-long : goal.take_back_behind-requires-clause-long
+take_back_behind-requires-clause-long g c = omega (arith, c.if-first-lt-AT_ONCE.false, c.note_near-first.ensures.next, length-take AT_ONCE (entries_of c.args.heap.now c.args.object))
 
-pub returns-else-blocks-gt0-clause-woken : goal.returns-else-blocks-gt0-clause-woken
-returns-else-blocks-gt0-clause-woken g c = waking_back-all c.args.object (view_of c.args.heap.now) (view_of c.entries.heap) c.entries.blocks _ _
-    (omega (arith, c.if-blocks-gt0.false)) c.entries.invariant.waking
+pub take_back_each_from_last-requires-else-first-lt-AT_ONCE-clause-live : goal.take_back_each_from_last-requires-else-first-lt-AT_ONCE-clause-live
+take_back_each_from_last-requires-else-first-lt-AT_ONCE-clause-live g c = λ p h.
+    live_same (view_of c.args.heap.now) (view_of c.take_back_behind.new.heap) p c.take_back_behind.ensures.woken.same
+    (next_live (view_of c.args.heap.now) (view_of c.args.heap.now) c.args.object 0 c.requires.ready c.requires.live (same_itself (view_of c.args.heap.now)) p
+    (subst (λ (xs : List ℕ). Includes xs p) c.note_near-first.ensures.references h))
 
-pub returns-after-entries-clause-woken : goal.returns-after-entries-clause-woken
-returns-after-entries-clause-woken g c =
-    waking_back-over c.args.object (view_of c.args.heap.now) (view_of c.entries.heap) c.entries.blocks _ _ (omega (arith, c.entries.invariant.left, c.entries-test.false)) c.entries.invariant.waking
+pub returns-then-first-lt-AT_ONCE-clause-woken : goal.returns-then-first-lt-AT_ONCE-clause-woken
+returns-then-first-lt-AT_ONCE-clause-woken g c =
+    waking_back-alone c.args.object (view_of c.args.heap.now) (view_of c.take_back_each_from_last.new.heap) (omega (arith, c.if-first-lt-AT_ONCE.true, c.note_near-first.ensures.next))
+    (subst (λ (xs : List ℕ). Woken xs (view_of c.args.heap.now) (view_of c.take_back_each_from_last.new.heap)) c.note_near-first.ensures.references c.take_back_each_from_last.ensures.woken)
+
+pub returns-then-first-lt-AT_ONCE-clause-looks : goal.returns-then-first-lt-AT_ONCE-clause-looks
+returns-then-first-lt-AT_ONCE-clause-looks g c = omega (arith, c.note_near-first.ensures.steps, length-take AT_ONCE (entries_of c.args.heap.now c.args.object))
+
+pub returns-else-first-lt-AT_ONCE-clause-woken : goal.returns-else-first-lt-AT_ONCE-clause-woken
+returns-else-first-lt-AT_ONCE-clause-woken g c =
+    waking_back-first_block c.args.object (view_of c.args.heap.now) (view_of c.take_back_behind.new.heap) (view_of c.take_back_each_from_last-else-first-lt-AT_ONCE.new.heap) c.take_back_behind.ensures.woken
+    (subst (λ (xs : List ℕ). Woken xs (view_of c.take_back_behind.new.heap) (view_of c.take_back_each_from_last-else-first-lt-AT_ONCE.new.heap)) c.note_near-first.ensures.references c.take_back_each_from_last-else-first-lt-AT_ONCE.ensures.woken)
+
+pub returns-else-first-lt-AT_ONCE-clause-looks : goal.returns-else-first-lt-AT_ONCE-clause-looks
+returns-else-first-lt-AT_ONCE-clause-looks g c =
+    omega (arith, c.note_near-first.ensures.steps, c.take_back_behind.ensures.looks, length-take AT_ONCE (entries_of c.args.heap.now c.args.object))
