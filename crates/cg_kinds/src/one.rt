@@ -66,8 +66,10 @@ impl One {
     pub fn note_from(&self, from: usize, found: &mut [u64]) -> Noted
         requires within { from ≤ length (option_to_list self.now) }
         requires room { ROOM ≤ length found.old }
-        ensures next { result.next ≡ from + length (next_entries (map item (option_to_list self.now)) from) }
-        ensures references { take result.references found.new ≡ references (next_entries (map item (option_to_list self.now)) from) }
+        ensures next { result.next ≡
+            from + length (next_entries (map item (option_to_list self.now)) from) }
+        ensures references { take result.references found.new ≡
+            references (next_entries (map item (option_to_list self.now)) from) }
         ensures few { result.references ≤ ROOM }
         ensures room { length found.new ≡ length found.old }
     {
@@ -103,7 +105,8 @@ impl One {
         }
     }
 
-    /// A vector of the value, if there is one, with room for so many values in all. The value stays here too.
+    /// A vector of the value, if there is one, with room for so many values in all. The value stays
+    /// here too.
     pub fn in_vector(&self, room: usize) -> Result<Vec<Packed>, AllocError>
         requires { 0 < room }
         ensures items { IfOk result (λ few. few.items ≡ option_to_list self.now) }
