@@ -17,9 +17,9 @@ const FEW: usize = 64;
 
 /// Values in order.
 ///
-/// Where they become too many for one vector all go into columns, and stay in them however many
-/// leave. So one value takes no block of memory and a few take one, and of many those behind one
-/// that is taken move as two runs of bytes.
+/// Once they are too many for one form they all go into the next, and stay there however many leave.
+/// So one value takes no block of memory and a few take one, and of many those behind one that is
+/// taken move as two runs of bytes.
 #[derive(Drop)]
 pub enum Listed {
     One(One),
@@ -189,8 +189,7 @@ impl Listed {
         Ok(())
     }
 
-    /// What the values move into is complete before what they stood in goes, so a refusal leaves
-    /// that.
+    /// What the values move into is complete before what they stood in goes, so a refusal leaves it.
     #[inline(never)]
     fn grow(&mut self, n: usize) -> Result<(), AllocError>
         ensures items { items_listed self.new ≡ items_listed self.old }

@@ -66,10 +66,10 @@ impl One {
     pub fn note_from(&self, from: usize, found: &mut [u64]) -> Noted
         requires within { from ≤ length (option_to_list self.now) }
         requires room { ROOM ≤ length found.old }
-        ensures next { result.next
-            ≡ from + length (next_entries (map item (option_to_list self.now)) from) }
-        ensures references { take result.references found.new
-            ≡ references (next_entries (map item (option_to_list self.now)) from) }
+        ensures next { result.next ≡
+            from + length (next_entries (map item (option_to_list self.now)) from) }
+        ensures references { take result.references found.new ≡
+            references (next_entries (map item (option_to_list self.now)) from) }
         ensures few { result.references ≤ ROOM }
         ensures room { length found.new ≡ length found.old }
     {
