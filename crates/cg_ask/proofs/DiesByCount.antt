@@ -15,7 +15,7 @@ use Rattle.cg_ask.specs.Faults.{AreRight}
 use Rattle.cg_ask.specs.Marked.{MarkJust}
 use Rattle.cg_ask.specs.Released.{Releases, WaitOnce, mark_at}
 use Rattle.cg_ask.proofs.Counting.{targets_few, targets_mono, targets_none, targets_set, row_few}
-use Rattle.cg_ask.proofs.Faults.{covered_all, refs_within}
+use Rattle.cg_ask.proofs.FaultsOfHeaps.{covered_all, refs_within}
 use Rattle.cg_ask.proofs.Released.{mark_on, mark_off, on_mark, mark_few, mark_set}
 
 -- How far dying has come: which members' references were released, the rest of the in-degrees, and which members wait.

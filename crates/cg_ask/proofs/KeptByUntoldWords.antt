@@ -18,7 +18,7 @@ use Rattle.cg_ask.specs.declared.counts.Counts.{Counts}
 use Rattle.cg_ask.specs.Faults.{AreRight}
 use Rattle.cg_ask.specs.Marked.{MarkJust}
 use Rattle.cg_ask.proofs.Counting.{no_degree, degrees-all_told, occurrences-all_told}
-use Rattle.cg_ask.proofs.Faults.{refs_within, words_within}
+use Rattle.cg_ask.proofs.FaultsOfHeaps.{refs_within, words_within}
 use Rattle.cg_ask.proofs.Marking.{is_or_not}
 use Rattle.cg_ask.proofs.Reaching.{found_just}
 

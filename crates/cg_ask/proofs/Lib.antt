@@ -3,7 +3,7 @@ pub mod Asking
 pub mod Clearing
 pub mod Counting
 pub mod DiesByCount
-pub mod Faults
+pub mod FaultsOfHeaps
 pub mod WouldGo
 pub mod Referrers
 pub mod KeptByUntoldWords

@@ -26,7 +26,7 @@ use Rattle.cg_ask.specs.Totals.{AppendsGone, totals_from}
 use Rattle.cg_ask.specs.declared.sets.Totals.{Totals}
 use Rattle.cg_ask.proofs.Rows.{RowsBelow, rows_first, rows_push, rows_skip, rows_all}
 use Rattle.cg_ask.proofs.Counting.{targets_few, targets_set, no_degree}
-use Rattle.cg_ask.proofs.Faults.{covered_all}
+use Rattle.cg_ask.proofs.FaultsOfHeaps.{covered_all}
 use Rattle.cg_ask.proofs.Marking.{is_or_not}
 
 -- The members that no path from outside passes through; they are closed if the path avoids the given ones.

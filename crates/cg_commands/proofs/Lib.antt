@@ -1,5 +1,5 @@
 mod KeyLemmas
-mod Chains
+mod FirstRefusal
 mod Reading
 pub mod ChangesOfHeaps
 mod BindingLemmas
@@ -17,6 +17,6 @@ mod NewObjects
 mod MakeLemmas
 pub mod GrowthOfHeaps
 mod Replacing
-mod Sizing
+mod PlaceSizes
 mod Counting
-mod Controlling
+mod CollectorCommands

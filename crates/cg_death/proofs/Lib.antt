@@ -24,4 +24,4 @@ pub mod SteadyRows
 pub mod SteadySteps
 pub mod LeavingTheRest
 pub mod TakingTurns
-mod Passing
+mod PhaseChanges

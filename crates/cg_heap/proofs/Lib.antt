@@ -3,20 +3,20 @@ pub mod ReferenceLemmas
 pub mod CallerLemmas
 pub mod HoldLemmas
 pub mod RowLemmas
-mod Stands
+mod HeapIsStore
 mod Room
 mod RowsAndHolds
 mod Rewrites
-mod Takes
+mod TakenEntries
 mod Puts
 mod Moves
 mod CountAll
 mod Makes
 mod NameLemmas
-mod Opens
+mod NewHeap
 mod Calls
-mod SeatCalls
+mod CallsOnSeats
 mod PutCalls
 mod WeakCalls
-mod Tracks
+mod TrackedDictionaries
 mod Saves

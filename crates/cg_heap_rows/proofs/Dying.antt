@@ -15,7 +15,7 @@ use Rattle.cg_ask.specs.Dying.{IsClosed, Dies}
 use Rattle.cg_ask.specs.Faults.{AreRight}
 use Rattle.cg_ask.specs.Marked.{MarkJust}
 use Rattle.cg_ask.proofs.Counting.{targets_few, targets_mono, no_degree}
-use Rattle.cg_ask.proofs.Faults.{covered_all}
+use Rattle.cg_ask.proofs.FaultsOfHeaps.{covered_all}
 use Rattle.cg_heap_rows.proofs.Tables.{both, marks_to, passes, marks_of, length-marks_to}
 
 module _ (ms : List Member) (given : List Bool) where

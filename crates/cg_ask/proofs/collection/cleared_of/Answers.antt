@@ -1,6 +1,6 @@
 use Rattle.std.proofs.Common.{ap, length, Bool, List, arith, false}
 use Rattle.cg_ask.proofs.Clearing.{cleared_just, legacy_long}
-use Rattle.cg_ask.proofs.Faults.{refs_within}
+use Rattle.cg_ask.proofs.FaultsOfHeaps.{refs_within}
 use Rattle.cg_ask.proofs.collection.cleared_of.Goals as goal
 
 pub reached-requires-clause-as_many : goal.reached-requires-clause-as_many

@@ -1,6 +1,6 @@
 use Rattle.std.proofs.Common.{◌∙◌, ap, length, Bool, List, arith, false}
 use Rattle.cg_ask.proofs.Clearing.{unreachable_just, candidates_long}
-use Rattle.cg_ask.proofs.Faults.{refs_within}
+use Rattle.cg_ask.proofs.FaultsOfHeaps.{refs_within}
 use Rattle.cg_ask.proofs.collection.unreachable_of.Goals as goal
 
 pub held_elsewhere-requires-clause-candidates : goal.held_elsewhere-requires-clause-candidates

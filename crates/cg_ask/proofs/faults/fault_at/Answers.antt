@@ -2,7 +2,7 @@ use Rattle.std.proofs.Common.{sym, ◌∙◌, ap, length, List, ℕ}
 use Rattle.cg_snapshot.specs.Reading.{are_below}
 use Rattle.cg_ask.specs.Asked.{references_of, all_words_of}
 use Rattle.cg_ask.proofs.Counting.{count_read}
-use Rattle.cg_ask.proofs.Faults.{named_of, misnamed_refs, misnamed_words, low_fault, low_words, is_right, is_right_alone}
+use Rattle.cg_ask.proofs.FaultsOfHeaps.{named_of, misnamed_refs, misnamed_words, low_fault, low_words, is_right, is_right_alone}
 use Rattle.cg_ask.proofs.faults.fault_at.Goals as goal
 use Rattle.cg_ask.proofs.faults.fault_at.Goals.{then-not-all_below-via-then-not-all_below, then-not-all_below-via-else-not-all_below+then-not-all_below-2, else-with_words-via-then-with_words+else-degree-told-2, else-with_words-via-else-with_words}
 

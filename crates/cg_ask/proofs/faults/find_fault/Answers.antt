@@ -1,5 +1,5 @@
 use Rattle.cg_ask.specs.Faults.{HasFault}
-use Rattle.cg_ask.proofs.Faults.{right_more, right_all, if_some, if_none}
+use Rattle.cg_ask.proofs.FaultsOfHeaps.{right_more, right_all, if_some, if_none}
 use Rattle.cg_ask.proofs.faults.find_fault.Goals as goal
 
 pub members-preserved : goal.members-preserved

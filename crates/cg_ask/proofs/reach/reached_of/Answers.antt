@@ -1,6 +1,6 @@
 use Rattle.std.proofs.Common.{refl, ◌∙◌, ap, length, Bool, List, arith, false}
 use Rattle.cg_ask.specs.Asked.{IsHeld, IsMember, edges, rows_of}
-use Rattle.cg_ask.proofs.Faults.{refs_within}
+use Rattle.cg_ask.proofs.FaultsOfHeaps.{refs_within}
 use Rattle.cg_ask.proofs.Reaching.{found_just}
 use Rattle.cg_ask.proofs.reach.reached_of.Goals as goal
 

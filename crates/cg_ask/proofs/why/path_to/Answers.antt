@@ -1,5 +1,5 @@
 use Rattle.std.proofs.Common.{ap, length, Bool, List, arith, false}
-use Rattle.cg_ask.proofs.Faults.{refs_within}
+use Rattle.cg_ask.proofs.FaultsOfHeaps.{refs_within}
 use Rattle.cg_ask.proofs.Reaching.{found_way, found_none}
 use Rattle.cg_ask.proofs.why.path_to.Goals as goal
 

@@ -3,7 +3,7 @@ use Rattle.cg_snapshot.specs.Text.{AreMembers}
 use Rattle.cg_ask.specs.Asked.{IsShortest}
 use Rattle.cg_ask.specs.Answers.{way_text}
 use Rattle.cg_ask.proofs.Answering.{reason_path}
-use Rattle.cg_ask.proofs.Faults.{if_some}
+use Rattle.cg_ask.proofs.FaultsOfHeaps.{if_some}
 use Rattle.cg_ask.proofs.Marking.{members_of}
 use Rattle.cg_ask.proofs.Reaching.{path_members}
 use Rattle.cg_ask.proofs.why.put_why.Goals as goal
