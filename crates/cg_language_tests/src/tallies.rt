@@ -3,6 +3,7 @@
 use cg_generator::{Tally, TallySink, generated_script, summary_line, tally};
 use cg_io::Sink;
 use cg_script::print;
+use std::alloc::{AllocError, Global};
 use std::process::Abort;
 use std::test::Fail;
 
@@ -121,32 +122,52 @@ fn summaries(rt: HostRuntime) {
     }
 }
 
-/// Blocks, and the large script of them. The number of a tree is its value.
-static SCRIPTS: [(u32, &str); 2] = [
+/// Blocks, how many lines the large script of them has, and its text, where it is short. The number of a tree is its value.
+static SCRIPTS: [(u32, usize, &str); 6] = [
+    (1, 8, ""),
+    (2, 12, ""),
     (
         3,
+        13,
         "c = list\na = list\nb = list a\nappend a b\ndel a\ndel b\na = list 2\na = list a a\na = list a a\ndel a\nc = list c\ndel c\ncollect 2\n",
     ),
+    (4, 18, ""),
     (
         5,
+        22,
         "c = list\na = list\nb = list a\nappend a b\ndel a\ndel b\na = list 2\na = list a a\na = list a a\ndel a\nc = list c\na = list\nb = list a\nappend a b\ndel a\ndel b\na = list 5\na = list a a\na = list a a\ndel a\ndel c\ncollect 2\n",
     ),
+    (10_000, 33_338, ""),
 ];
 
-fn scripts() -> &'static [(u32, &'static str)] {
+fn scripts() -> &'static [(u32, usize, &'static str)] {
     &SCRIPTS
+}
+
+/// The script of so many blocks is to have so many lines, and this text.
+fn check(
+    rt: &impl Abort,
+    alloc: Global,
+    blocks: u32,
+    lines: usize,
+    text: &str,
+) -> Result<(), AllocError> {
+    assert!(rt; blocks <= 10_000);
+    let script = generated_script(alloc, blocks)?;
+    assert_eq!(rt; script.items.as_slice().len(), lines, "of {blocks}");
+    if !text.is_empty() {
+        assert!(rt;
+            print(alloc, &script)?.as_slice() == text.as_bytes(),
+            "of {blocks}"
+        );
+    }
+    Ok(())
 }
 
 #[test]
 fn scripts_have_the_lines_of_their_blocks(rt: HostRuntime) -> Result<(), Fail> {
-    let alloc = rt.alloc();
-    for (blocks, lines) in scripts() {
-        let text = print(alloc, &generated_script(alloc, *blocks)?)?;
-        assert_eq!(&rt; text.as_slice(), lines.as_bytes(), "of {blocks}");
-    }
-    for (blocks, lines) in [(1, 8), (2, 12), (3, 13), (4, 18), (10_000, 33_338)] {
-        let script = generated_script(alloc, blocks)?;
-        assert_eq!(&rt; script.items.as_slice().len(), lines, "of {blocks}");
+    for (blocks, lines, text) in scripts() {
+        check(&rt, rt.alloc(), *blocks, *lines, text)?;
     }
     Ok(())
 }

@@ -3,9 +3,8 @@
 use crate::calls::{Case, RECORD, RUN, Worked};
 use cg_cli::Status;
 
-/// Cycles, with finalizers and weak references; legacy finalizers and flags; tracking; collections
-/// that are due; frozen objects.
-static DONE: [Worked; 44] = [
+/// Cycles.
+static CYCLES: [Worked; 7] = [
     (
         "a list that holds itself",
         "a = list; append a a; del a; collect 2",
@@ -41,6 +40,14 @@ static DONE: [Worked; 44] = [
         "collect 3; collect 0; collect -1; collect",
         "refused 8; gc start 0; gc stop 0 0 0; collected 0; refused 8; gc start 2; gc stop 2 0 0; collected 0; end",
     ),
+];
+
+pub fn cycles() -> &'static [Worked] {
+    &CYCLES
+}
+
+/// Finalizers in cycles.
+static FINALIZERS: [Worked; 7] = [
     (
         "brought back by its finalizer, and found again without it",
         "def d; x = self; end; class C del=d; a = new C; setattr a me a; del a; collect 2; del x; collect 2",
@@ -76,6 +83,14 @@ static DONE: [Worked; 44] = [
         "def d; l = list; append l l; del l; collect; gens; end; class C del=d; a = new C; setattr a me a; del a; collect; collect",
         "made instance #2; gc start 2; enter del #2; made list #3; collected 0; gens 1 0 0 0; leave; free #2; gc stop 2 1 0; collected 1; gc start 2; free #3; gc stop 2 1 0; collected 1; end",
     ),
+];
+
+pub fn finalizers() -> &'static [Worked] {
+    &FINALIZERS
+}
+
+/// Weak references in collections.
+static WEAK_REFERENCES: [Worked; 5] = [
     (
         "a weak reference that is a member is not called back",
         "def cb; end; class C; f = func cb; a = new C; w = ref a f; setattr a me a; setattr a w w; del w; del a; collect 2",
@@ -101,6 +116,14 @@ static DONE: [Worked; 44] = [
         "def cb; print ref; del u; end; class C; f = func cb; a = new C; setattr a me a; u = ref a f; v = ref a f; del a; collect",
         "made function #2; made instance #3; made weakref #4; made weakref #5; gc start 2; cleared #5; cleared #4; enter callback #5; value #5; leave; enter callback #4; value #4; refused 1; leave; free #4; free #3; gc stop 2 2 0; collected 2; end",
     ),
+];
+
+pub fn weak_references() -> &'static [Worked] {
+    &WEAK_REFERENCES
+}
+
+/// In profile 2 a weak reference without a callback keeps its referent until the second detection.
+static PROFILE_2: [Worked; 9] = [
     (
         "in profile 2 a finalizer reaches the other object by a weak reference, and what it holds survives",
         "profile 2; def d; x = deref w; end; class C del=d; class D; a = new C; b = new D; w = ref b; setattr a me a; setattr a other b; del b; del a; collect 2",
@@ -146,6 +169,14 @@ static DONE: [Worked; 44] = [
         "profile 2; def d; x = attr self w; end; class C del=d; b = new C; a = new C; w = ref b; setattr a w w; setattr a me a; del w; del a; collect 2; y = deref x; print y",
         "made instance #2; made instance #3; made weakref #4; gc start 2; enter del #3; leave; alive #4; free #3; gc stop 2 1 0; collected 1; value #2; end",
     ),
+];
+
+pub fn profile_2() -> &'static [Worked] {
+    &PROFILE_2
+}
+
+/// Legacy finalizers and flags; tracking.
+static FLAGS: [Worked; 6] = [
     (
         "an instance with a legacy finalizer is saved",
         "def p; end; class C legacy=p; a = new C; setattr a me a; del a; collect 2; x = item garbage 0; refs x; delitem garbage 0; refs x",
@@ -176,6 +207,14 @@ static DONE: [Worked; 44] = [
         "l = list; d = dict; put d 1 l; drop d 1; t = tuple 1; collect 1; tracked d; tracked t; collect 2; tracked d; tracked 5; tracked l",
         "made list #2; made dict #3; made tuple #4; gc start 1; gc stop 1 0 0; collected 0; tracked yes; tracked no; gc start 2; gc stop 2 0 0; collected 0; tracked no; tracked no; tracked yes; end",
     ),
+];
+
+pub fn flags() -> &'static [Worked] {
+    &FLAGS
+}
+
+/// Collections that are due.
+static DUE: [Worked; 7] = [
     (
         "the third list is one above the threshold",
         "threshold 2; a = list; b = list; c = list; count",
@@ -211,6 +250,14 @@ static DONE: [Worked; 44] = [
         "def d; l = list; m = list; n = list; o = list; print 1; end; class C del=d; a = new C; setattr a me a; del a; threshold 2; collect; count",
         "made instance #2; gc start 2; enter del #2; made list #3; made list #4; made list #5; made list #6; value 1; leave; free #2; gc stop 2 1 0; collected 1; gc start 0; gc stop 0 0 0; count 0 1 0; end",
     ),
+];
+
+pub fn due() -> &'static [Worked] {
+    &DUE
+}
+
+/// Frozen objects.
+static FROZEN: [Worked; 3] = [
     (
         "a frozen list is not found",
         "a = list; append a a; del a; freeze; gens; collect; unfreeze; collect",
@@ -228,8 +275,8 @@ static DONE: [Worked; 44] = [
     ),
 ];
 
-pub fn done() -> &'static [Worked] {
-    &DONE
+pub fn frozen() -> &'static [Worked] {
+    &FROZEN
 }
 
 /// A callback, a finalizer and a call that it makes, in a collection.

@@ -5,8 +5,8 @@ use cg_cli::Status;
 
 const RUN_ONE: &[&str] = &["run", "--budget", "1"];
 
-/// Lists, deaths, frames, finalizers, weak references and callbacks.
-static DONE: [Worked; 50] = [
+/// Names and lists.
+static LISTS: [Worked; 11] = [
     ("an empty script", "", "end"),
     ("a comment is not run", "# nothing is run", "end"),
     (
@@ -54,6 +54,14 @@ static DONE: [Worked; 50] = [
         "a = list; append a a; del a",
         "made list #2; end",
     ),
+];
+
+pub fn lists() -> &'static [Worked] {
+    &LISTS
+}
+
+/// Tuples, dictionaries and instances; refusals; frames of calls.
+static OTHERS: [Worked; 12] = [
     (
         "a dictionary gives up the value, then the key, and then it goes",
         "class C; k = new C; l = list; d = dict; put d k l; del k; del l; del d",
@@ -114,6 +122,14 @@ static DONE: [Worked; 50] = [
         "def p; x = list; quit 0; x = list; end; f = func p; call f; del x",
         "made function #2; enter call #2; made list #3; made list #4; free #3; leave; free #4; end",
     ),
+];
+
+pub fn others() -> &'static [Worked] {
+    &OTHERS
+}
+
+/// Finalizers.
+static FINALIZERS: [Worked; 9] = [
     (
         "brought back under a name; its finalizer runs once",
         "def d; x = self; end; class C del=d; a = new C; del a; finalized x; del x",
@@ -159,6 +175,14 @@ static DONE: [Worked; 50] = [
         "def d; x = attr self n; print x; end; class C del=d; a = new C; l = list; setattr a n l; del l; del a; del x",
         "made instance #2; made list #3; enter del #2; value #3; leave; free #2; free #3; end",
     ),
+];
+
+pub fn finalizers() -> &'static [Worked] {
+    &FINALIZERS
+}
+
+/// Weak references.
+static WEAK_REFERENCES: [Worked; 6] = [
     (
         "the newest callback comes first",
         "def p; end; class C; f = func p; a = new C; u = ref a f; v = ref a f; del a",
@@ -189,6 +213,14 @@ static DONE: [Worked; 50] = [
         "class C; a = new C; w = ref a; del a; x = deref w; print x; del w",
         "made instance #2; made weakref #3; cleared #3; free #2; value none; free #3; end",
     ),
+];
+
+pub fn weak_references() -> &'static [Worked] {
+    &WEAK_REFERENCES
+}
+
+/// Callbacks, legacy finalizers, and what takes nothing of the budget.
+static CALLBACKS: [Worked; 12] = [
     (
         "a callback binds: what the name had dies",
         "def cb; x = none; end; class C; x = list; f = func cb; a = new C; w = ref a f; del a",
@@ -251,8 +283,8 @@ static DONE: [Worked; 50] = [
     ),
 ];
 
-pub fn done() -> &'static [Worked] {
-    &DONE
+pub fn callbacks() -> &'static [Worked] {
+    &CALLBACKS
 }
 
 /// Budgets that are spent.

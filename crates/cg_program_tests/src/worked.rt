@@ -29,11 +29,27 @@ fn check_worked(
 }
 
 #[test]
+fn worked_scripts_with_collections_write_their_texts(rt: HostRuntime) -> Result<(), Fail> {
+    let alloc = rt.alloc();
+    check_worked(&rt, alloc, collections::cycles(), Status::Done)?;
+    check_worked(&rt, alloc, collections::finalizers(), Status::Done)?;
+    check_worked(&rt, alloc, collections::weak_references(), Status::Done)?;
+    check_worked(&rt, alloc, collections::profile_2(), Status::Done)?;
+    check_worked(&rt, alloc, collections::flags(), Status::Done)?;
+    check_worked(&rt, alloc, collections::due(), Status::Done)?;
+    check_worked(&rt, alloc, collections::frozen(), Status::Done)?;
+    Ok(())
+}
+
+#[test]
 fn worked_scripts_write_their_texts(rt: HostRuntime) -> Result<(), Fail> {
     let alloc = rt.alloc();
-    check_worked(&rt, alloc, rows::done(), Status::Done)?;
+    check_worked(&rt, alloc, rows::lists(), Status::Done)?;
+    check_worked(&rt, alloc, rows::others(), Status::Done)?;
+    check_worked(&rt, alloc, rows::finalizers(), Status::Done)?;
+    check_worked(&rt, alloc, rows::weak_references(), Status::Done)?;
+    check_worked(&rt, alloc, rows::callbacks(), Status::Done)?;
     check_worked(&rt, alloc, rows::spent(), Status::Budget)?;
-    check_worked(&rt, alloc, collections::done(), Status::Done)?;
     check_worked(&rt, alloc, shutdowns::done(), Status::Done)?;
     check_worked(&rt, alloc, shutdowns::spent(), Status::Budget)?;
     check_worked(&rt, alloc, inspections::done(), Status::Done)?;
