@@ -122,7 +122,8 @@ fn summaries(rt: HostRuntime) {
     }
 }
 
-/// Blocks, how many lines the large script of them has, and its text, where it is short. The number of a tree is its value.
+/// Blocks, how many lines the large script of them has, and its text, where it is short. The number
+/// of a tree is its value.
 static SCRIPTS: [(u32, usize, &str); 6] = [
     (1, 8, ""),
     (2, 12, ""),
