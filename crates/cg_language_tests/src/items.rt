@@ -5,15 +5,21 @@ use cg_script::{
 use std::test::Fail;
 
 #[test]
-fn lists_hand_out_what_they_were_given(rt: HostRuntime) -> Result<(), Fail> {
-    let alloc = rt.alloc();
-    let mut words = Vec::new(alloc);
+fn operands_in_order(rt: HostRuntime) -> Result<(), Fail> {
+    let mut words = Vec::new(rt.alloc());
     words.push(Operand::Int(-1))?;
     words.push(Operand::Garbage)?;
     let operands = Operands::new(words);
-    let given = [Operand::Int(-1), Operand::Garbage];
-    assert_eq!(rt; operands.as_slice(), given.as_slice());
-    let mut body = Vec::new(alloc);
+    assert_eq!(rt;
+        operands.as_slice(),
+        [Operand::Int(-1), Operand::Garbage].as_slice()
+    );
+    Ok(())
+}
+
+#[test]
+fn commands_in_order(rt: HostRuntime) -> Result<(), Fail> {
+    let mut body = Vec::new(rt.alloc());
     body.push(Command::Del { name: 7 })?;
     body.push(Command::Freeze)?;
     let commands = Commands::new(body);
@@ -23,6 +29,12 @@ fn lists_hand_out_what_they_were_given(rt: HostRuntime) -> Result<(), Fail> {
             [Command::Del { name: 7 }, Command::Freeze]
         )
     );
+    Ok(())
+}
+
+#[test]
+fn items_in_order(rt: HostRuntime) -> Result<(), Fail> {
+    let alloc = rt.alloc();
     let mut lines = Vec::new(alloc);
     lines.push(Item::Budget(3))?;
     lines.push(Item::Run(Command::Count))?;

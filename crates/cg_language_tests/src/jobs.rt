@@ -4,116 +4,112 @@ use std::alloc::{AllocError, Global};
 use std::process::Abort;
 use std::test::Fail;
 
-/// Words, and their job, if they have one.
-static WORDS: [(&[&str], Option<Job>); 81] = [
-    (&["run"], Some(Job::Run { budget: None })),
-    (
-        &["run", "--budget", "5"],
-        Some(Job::Run { budget: Some(5) }),
-    ),
-    (&["run", "--budget=5"], Some(Job::Run { budget: Some(5) })),
-    (
-        &["run", "--budget", "0"],
-        Some(Job::Run { budget: Some(0) }),
-    ),
+/// Words, and their job.
+static WORDS: [(&[&str], Job); 21] = [
+    (&["run"], Job::Run { budget: None }),
+    (&["run", "--budget", "5"], Job::Run { budget: Some(5) }),
+    (&["run", "--budget=5"], Job::Run { budget: Some(5) }),
+    (&["run", "--budget", "0"], Job::Run { budget: Some(0) }),
     (
         &["run", "--budget", "100000"],
-        Some(Job::Run {
+        Job::Run {
             budget: Some(100_000),
-        }),
+        },
     ),
     (
         &["run", "--budget", "000100"],
-        Some(Job::Run { budget: Some(100) }),
+        Job::Run { budget: Some(100) },
     ),
-    (&["run", "--budget=007"], Some(Job::Run { budget: Some(7) })),
-    (&["run", "--"], Some(Job::Run { budget: None })),
+    (&["run", "--budget=007"], Job::Run { budget: Some(7) }),
+    (&["run", "--"], Job::Run { budget: None }),
     (
         &["run", "--budget", "5", "--"],
-        Some(Job::Run { budget: Some(5) }),
+        Job::Run { budget: Some(5) },
     ),
-    (&["generate", "1"], Some(Job::Generate { blocks: 1 })),
-    (&["generate", "3"], Some(Job::Generate { blocks: 3 })),
-    (&["generate", "007"], Some(Job::Generate { blocks: 7 })),
-    (
-        &["generate", "10000"],
-        Some(Job::Generate { blocks: 10_000 }),
-    ),
-    (
-        &["generate", "010000"],
-        Some(Job::Generate { blocks: 10_000 }),
-    ),
-    (&["generate", "000001"], Some(Job::Generate { blocks: 1 })),
-    (&["generate", "--", "5"], Some(Job::Generate { blocks: 5 })),
-    (&["generate", "5", "--"], Some(Job::Generate { blocks: 5 })),
-    (&["expand"], Some(Job::Expand)),
-    (&["expand", "--"], Some(Job::Expand)),
-    (&["record"], Some(Job::Record)),
-    (&["record", "--"], Some(Job::Record)),
-    (&[], None),
-    (&[""], None),
-    (&["", "run"], None),
-    (&["run", ""], None),
-    (&["Run"], None),
-    (&["run "], None),
-    (&["ru"], None),
-    (&["run", "run"], None),
-    (&["run", "now"], None),
-    (&["run", "5"], None),
-    (&["run", "--budget"], None),
-    (&["run", "--budget", ""], None),
-    (&["run", "--budget="], None),
-    (&["run", "--budget", "100001"], None),
-    (&["run", "--budget=100001"], None),
-    (&["run", "--budget", "0000001"], None),
-    (&["run", "--budget", "-1"], None),
-    (&["run", "--budget=-1"], None),
-    (&["run", "--budget", "+1"], None),
-    (&["run", "--budget", "5x"], None),
-    (&["run", "--budget", " 5"], None),
-    (&["run", "--budget", "5", "6"], None),
-    (&["run", "--budget", "5", "--budget", "6"], None),
-    (&["run", "--budget=5", "--budget=5"], None),
-    (&["run", "--budgets", "5"], None),
-    (&["run", "--budge", "5"], None),
-    (&["run", "-b", "5"], None),
-    (&["run", "--", "5"], None),
-    (&["run", "--help"], None),
-    (&["run", "-h"], None),
-    (&["--help"], None),
-    (&["-h"], None),
-    (&["--version"], None),
-    (&["help"], None),
-    (&["help", "run"], None),
-    (&["--budget", "5", "run"], None),
-    (&["--", "run"], None),
-    (&["generate"], None),
-    (&["generate", ""], None),
-    (&["generate", "0"], None),
-    (&["generate", "10001"], None),
-    (&["generate", "0000001"], None),
-    (&["generate", "--5"], None),
-    (&["generate", "-5"], None),
-    (&["generate", "5", "5"], None),
-    (&["generate", "generate"], None),
-    (&["gcrun", "run"], None),
-    (&["expand", ""], None),
-    (&["expand", "5"], None),
-    (&["expand", "expand"], None),
-    (&["expand", "--budget", "5"], None),
-    (&["expand", "--help"], None),
-    (&["expand", "--", "5"], None),
-    (&["Expand"], None),
-    (&["--", "expand"], None),
-    (&["record", "5"], None),
-    (&["record", "run"], None),
-    (&["record", "--budget=5"], None),
-    (&["record", "-h"], None),
-    (&["records"], None),
+    (&["generate", "1"], Job::Generate { blocks: 1 }),
+    (&["generate", "3"], Job::Generate { blocks: 3 }),
+    (&["generate", "007"], Job::Generate { blocks: 7 }),
+    (&["generate", "10000"], Job::Generate { blocks: 10_000 }),
+    (&["generate", "010000"], Job::Generate { blocks: 10_000 }),
+    (&["generate", "000001"], Job::Generate { blocks: 1 }),
+    (&["generate", "--", "5"], Job::Generate { blocks: 5 }),
+    (&["generate", "5", "--"], Job::Generate { blocks: 5 }),
+    (&["expand"], Job::Expand),
+    (&["expand", "--"], Job::Expand),
+    (&["record"], Job::Record),
+    (&["record", "--"], Job::Record),
 ];
 
-fn words() -> &'static [(&'static [&'static str], Option<Job>)] {
+fn words() -> &'static [(&'static [&'static str], Job)] {
     &WORDS
+}
+
+/// Words without one.
+static NONE: [&[&str]; 60] = [
+    &[],
+    &[""],
+    &["", "run"],
+    &["run", ""],
+    &["Run"],
+    &["run "],
+    &["ru"],
+    &["run", "run"],
+    &["run", "now"],
+    &["run", "5"],
+    &["run", "--budget"],
+    &["run", "--budget", ""],
+    &["run", "--budget="],
+    &["run", "--budget", "100001"],
+    &["run", "--budget=100001"],
+    &["run", "--budget", "0000001"],
+    &["run", "--budget", "-1"],
+    &["run", "--budget=-1"],
+    &["run", "--budget", "+1"],
+    &["run", "--budget", "5x"],
+    &["run", "--budget", " 5"],
+    &["run", "--budget", "5", "6"],
+    &["run", "--budget", "5", "--budget", "6"],
+    &["run", "--budget=5", "--budget=5"],
+    &["run", "--budgets", "5"],
+    &["run", "--budge", "5"],
+    &["run", "-b", "5"],
+    &["run", "--", "5"],
+    &["run", "--help"],
+    &["run", "-h"],
+    &["--help"],
+    &["-h"],
+    &["--version"],
+    &["help"],
+    &["help", "run"],
+    &["--budget", "5", "run"],
+    &["--", "run"],
+    &["generate"],
+    &["generate", ""],
+    &["generate", "0"],
+    &["generate", "10001"],
+    &["generate", "0000001"],
+    &["generate", "--5"],
+    &["generate", "-5"],
+    &["generate", "5", "5"],
+    &["generate", "generate"],
+    &["gcrun", "run"],
+    &["expand", ""],
+    &["expand", "5"],
+    &["expand", "expand"],
+    &["expand", "--budget", "5"],
+    &["expand", "--help"],
+    &["expand", "--", "5"],
+    &["Expand"],
+    &["--", "expand"],
+    &["record", "5"],
+    &["record", "run"],
+    &["record", "--budget=5"],
+    &["record", "-h"],
+    &["records"],
+];
+
+fn none() -> &'static [&'static [&'static str]] {
+    &NONE
 }
 
 /// What is read of the words.
@@ -140,7 +136,10 @@ fn check(
 #[test]
 fn words_with_a_job_and_without_one(rt: HostRuntime) -> Result<(), Fail> {
     for (words, job) in words() {
-        check(&rt, rt.alloc(), words, *job)?;
+        check(&rt, rt.alloc(), words, Some(*job))?;
+    }
+    for words in none() {
+        check(&rt, rt.alloc(), words, None)?;
     }
     Ok(())
 }
