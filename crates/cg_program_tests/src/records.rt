@@ -25,15 +25,15 @@ type Told = (
 fn assert_graph(rt: &impl Abort, graph: &Graph, told: Told) {
     let (members, lost, legacy) = told;
     let found = graph.members.as_slice();
-    assert_eq!(rt; found.len(), members.len());
+    assert!(rt; found.len() == members.len());
     for (member, (serial, degree, marked, refs)) in found.iter().zip(members) {
-        assert_eq!(rt; member.serial, *serial);
-        assert_eq!(rt; member.degree, *degree);
-        assert_eq!(rt; member.legacy, *marked);
-        assert_eq!(rt; member.refs.as_slice(), *refs);
+        let is_same = member.degree == *degree && member.legacy == *marked;
+        assert!(rt;
+            member.serial == *serial && is_same && member.refs.as_slice() == *refs,
+            "#{serial}"
+        );
     }
-    assert_eq!(rt; graph.lost.as_slice(), lost);
-    assert_eq!(rt; graph.legacy.as_slice(), legacy);
+    assert!(rt; graph.lost.as_slice() == lost && graph.legacy.as_slice() == legacy);
 }
 
 /// A record of one collection: its text, its generation, its first graph, and its second, if it has
