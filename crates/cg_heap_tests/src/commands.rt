@@ -197,7 +197,8 @@ fn inspect<B: Kind>(
 
 /// The command, where the heap has one name.
 fn command_of(asked: Asked) -> Command
-    ensures { IsSpelledCommand 1 result }
+    ensures spelled { IsSpelledCommand 1 result }
+    ensures other { only_changes result ≡ false }
 {
     match asked {
         Asked::Referents => Command::Referents {
