@@ -1,30 +1,33 @@
 -- The fields after a node is added.
 use Rattle.std.proofs.Common.{◌≡◌, ◌≢◌, ◌⊎◌, ℕ, ◌+◌, ◌-◌, ◌<◌, ◌≤◌, ◌^◌, true, List, [], ◌∷◌, map, Option, Some, None, refl, sym, ap, ◌∙◌, subst, inl, inr, arith}
-use Rattle.std.specs.Prelude.{option_map, is_some, nat_eq, unwrap_or, slice_set, min, if◌then◌else◌}
+use Rattle.std.specs.Prelude.{option_map, is_some, nat_eq, unwrap_or, slice_set, if◌then◌else◌}
 use Rattle.std.proofs.lemmas.Bool.{cases_eq, eq-eqb, ne_eqb}
 use Rattle.std.proofs.lemmas.List.{length-map, length-set}
 use Rattle.std.specs.FinMap as fin
 use Rattle.slab.specs.Slab.{Slab, get, slab_len, Updates}
+use Rattle.cg_value.specs.declared.Place.{Place}
+use Rattle.cg_graph.specs.Maps.{changed}
 use Rattle.cg_graph.specs.Holdings.{occurrences}
 use Rattle.cg_graph.specs.Places.{place_number, list_of, joins_list}
+use Rattle.cg_graph.proofs.Maps.{same_map, get-changed_same, get-changed_other, get-insert_same, get-insert_other}
 use Rattle.cg_arena.specs.declared.slot.Slot.{Slot}
 use Rattle.cg_arena.specs.declared.index.SlotIndex.{SlotIndex}
 use Rattle.cg_arena.specs.declared.ends.Ends.{Ends}
-use Rattle.cg_arena.specs.Nodes.{Nodes, ArenaNode, with_node, count_in_list}
-use Rattle.cg_arena.specs.Slots.{before_in, after_in, serial_in, place_in_slot, node_in, node_of, after_of}
-use Rattle.cg_arena.specs.Links.{tied, ends_joined, one_end}
+use Rattle.cg_arena.specs.Nodes.{Nodes, ArenaNode, IsPlace, with_node, counted_up, node_counted_up, count_in_list}
+use Rattle.cg_arena.specs.Slots.{before_in, after_in, serial_in, place_in_slot, node_in, node_of, link_to, with_after, after_of}
+use Rattle.cg_arena.specs.Links.{link_set, ends_joined, one_end}
 use Rattle.cg_arena.specs.Table.{nodes_of, rows_of, serials_of, room_of, IsSpelled, IsNamed, ends_at, row_of, IsSound}
 use Rattle.cg_arena.specs.Index.{LeadsTo, HasRowsBelow, IsKept}
 use Rattle.cg_arena.proofs.Occurrences.{last_of-stands}
 use Rattle.cg_arena.proofs.Chains.{IsTied}
-use Rattle.cg_arena.proofs.TiedSlots.{get-tied}
+use Rattle.cg_arena.proofs.TiedSlots.{part-link_set, get-appended}
 use Rattle.cg_arena.proofs.ChangedChains.{stands_placed, vacant_loose, loose_spelled, appended_at, joins_spelled}
-use Rattle.cg_arena.proofs.Shapes.{SameShape, shape-tied, nodes-tied, places-tied}
+use Rattle.cg_arena.proofs.Shapes.{SameShape, shape-link_set}
 use Rattle.cg_arena.proofs.Indexes.{added_index, rows_with, index_with}
 use Rattle.cg_arena.proofs.Rows.{get-nodes_of, nodes-insert}
 use Rattle.cg_arena.proofs.Lists.{serials, serials-same, list-at, ten_lists, lists-joined}
 use Rattle.cg_arena.proofs.Sizes.{ends_set-same, ends_set-other, sizes-set}
-use Rattle.cg_arena.proofs.Sound.{value_of, StandsFor, index_kept}
+use Rattle.cg_arena.proofs.Sound.{value_of, StandsFor, index_kept, up_once}
 use Rattle.cg_arena.proofs.Lookups.{list_is, lists_ten}
 
 no_value : {X Y : Type 0} (f : X → Y) (o : Option X) → option_map f o ≡ None → o ≡ None
@@ -50,12 +53,13 @@ last_there cell ends chain loose spelled q below j is =
     (last_of-stands (chain q) j (sym (ap (λ (e : Ends). e.last) (spelled.ended q below)) ∙ is)))
 
 module _ (s mid new : Slab Slot) (ends : List Ends) (x y : SlotIndex) (kept : IsKept s x ends) (spare : ℕ) (v : Nodes) (view_is : value_of s ends (rows_of s)
-    spare ≡ v) (t k : ℕ) (c : Slot) (n : ArenaNode) (node_is : node_of c ≡ n) (serial_is : c.serial ≡ t) (after_is : (after_of c)
-    ≡ None) (fresh : fin.get v.nodes t ≡ None) (k_is : k ≡ s.vacant_key) (vacant : get s k ≡ None) (updated : Updates s mid s.vacant_key (Some c)) (len :
-    slab_len mid ≡ slab_len s + 1) (few : slab_len mid < 2 ^ 64) (noted_below : HasRowsBelow y) (noted : LeadsTo y t k) (noted_others : (j u : ℕ)
+    spare ≡ v) (t k : ℕ) (c : Slot) (n : ArenaNode) (node_is : node_of c ≡ n) (serial_is : c.serial ≡ t) (after_is : after_of c
+    ≡ None) (fresh : fin.get v.nodes t ≡ None) (k_is : k ≡ s.vacant_key) (roomy : 0 < v.room) (vacant : get s k ≡ None)
+    (updated : Updates s mid s.vacant_key (Some c)) (len : slab_len mid ≡ slab_len s + 1) (few : slab_len mid < 2 ^ 64) (noted_below : HasRowsBelow y) (noted : LeadsTo y t k) (noted_others : (j u : ℕ)
     → serial_in (get s j) ≡ Some u → u ≢ t → LeadsTo x u j → LeadsTo y u j) (noted_rows : (u j : ℕ) → row_of y.rows.entries u ≡ Some j
     → (row_of x.rows.entries u ≡ Some j) ⊎ ((serial_in (get s j) ≡ Some u) ⊎ ((u ≡ t) × (j ≡ k)))) (q : ℕ) (q_is : q ≡ place_number n.place) (below : q < 10)
-    (tied_is : new ≡ tied (ends_at ends q).last (Some k) mid) (e : Ends) (ends_are : e ≡ ends_joined (ends_at ends q) (one_end k)) where
+    (before_is : c.previous ≡ link_to (ends_at ends q).last) (linked_is : new ≡ link_set with_after (ends_at ends q).last (Some k) mid) (e : Ends)
+    (ends_are : e ≡ ends_joined (ends_at ends q) (one_end k)) where
   abbrev rows : List (ℕ × ℕ)
   rows = rows_of s
 
@@ -64,6 +68,9 @@ module _ (s mid new : Slab Slot) (ends : List Ends) (x y : SlotIndex) (kept : Is
 
   abbrev sound : IsSound s ends (rows_of s)
   sound = kept.sound
+
+  was : v.room ≡ room_of spare s
+  was = ap (λ (w : Nodes). w.room) (sym view_is)
 
   updates : Updates s mid k (Some c)
   updates = subst (λ j. Updates s mid j (Some c)) (sym k_is) updated
@@ -77,6 +84,15 @@ module _ (s mid new : Slab Slot) (ends : List Ends) (x y : SlotIndex) (kept : Is
   place_is : c.place ≡ n.place
   place_is = ap (λ (m : ArenaNode). m.place) node_is
 
+  mid_placed : (j : ℕ) (p : Place) → place_in_slot (get mid j) ≡ Some p → IsPlace p × (j < 2 ^ 32 - 1)
+  mid_placed j p is = elim (cases_eq j k) [
+    | inl same ↦
+        let both : Some n.place ≡ Some p = ap Some (sym place_is) ∙ sym (ap place_in_slot updates.changed) ∙ ap (λ i. place_in_slot (get mid i)) (sym same) ∙ is in
+        let there : n.place ≡ p = cc in
+        (subst (λ m. m < 10) (q_is ∙ ap place_number there) below, omega (arith, same, k_is, was, roomy))
+    | inr differs ↦ sound.placed j p (sym (ap place_in_slot (slot_others j differs)) ∙ is)
+  ]
+
   loose : IsSpelled (get mid) (ends_at ends) kept.sound.chain (Some k)
   loose =
       loose_spelled (get s) (get mid) (ends_at ends) sound.chain k
@@ -86,16 +102,17 @@ module _ (s mid new : Slab Slot) (ends : List Ends) (x y : SlotIndex) (kept : Is
 
   tie : IsTied (get mid) (get new) (ends_at ends q).last (Some k)
   tie =
-      subst (λ z. IsTied (get mid) (get z) (ends_at ends q).last (Some k)) (sym tied_is)
-      (get-tied (ends_at ends q).last (Some k) mid
-      (last_there (get mid) (ends_at ends) sound.chain (Some k) loose q below)
-      (λ j is. let same : k ≡ j = cc in ap (λ i. is_some (get mid i)) (sym same) ∙ ap is_some updates.changed))
+      subst (λ z. IsTied (get mid) (get z) (ends_at ends q).last (Some k)) (sym linked_is)
+      (get-appended (ends_at ends q).last k mid mid_placed (last_there (get mid) (ends_at ends) sound.chain (Some k) loose q below) c updates.changed before_is)
 
   shape : SameShape mid new
-  shape = subst (SameShape mid) (sym tied_is) (shape-tied (ends_at ends q).last (Some k) mid)
+  shape = subst (SameShape mid) (sym linked_is) (shape-link_set with_after (λ o x. refl) (ends_at ends q).last (Some k) mid)
 
   places : (j : ℕ) → place_in_slot (get new j) ≡ place_in_slot (get mid j)
-  places j = ap (λ z. place_in_slot (get z j)) tied_is ∙ places-tied (ends_at ends q).last (Some k) mid j
+  places j = ap (λ z. place_in_slot (get z j)) linked_is ∙ part-link_set with_after place_in_slot (λ o x. refl) (ends_at ends q).last (Some k) mid j
+
+  nodes : (j : ℕ) → node_in (get new j) ≡ node_in (get mid j)
+  nodes j = ap (λ z. node_in (get z j)) linked_is ∙ part-link_set with_after node_in (λ o x. refl) (ends_at ends q).last (Some k) mid j
 
   added_spelled : IsSpelled (get new) (ends_at (slice_set ends q e)) (appended_at q (k ∷ []) kept.sound.chain) None
   added_spelled =
@@ -153,13 +170,7 @@ module _ (s mid new : Slab Slot) (ends : List Ends) (x y : SlotIndex) (kept : Is
         chain = appended_at q (k ∷ []) sound.chain;
         spelled = added_spelled;
         names = added_names;
-        placed = λ j p is. elim (cases_eq j k) [
-          | inl same ↦
-              let both : Some n.place ≡ Some p = ap Some (sym place_is) ∙ sym (ap place_in_slot updates.changed) ∙ ap (λ i. place_in_slot (get mid i)) (sym same) ∙ sym (places j) ∙ is in
-              let there : n.place ≡ p = cc in
-              subst (λ m. m < 10) (q_is ∙ ap place_number there) below
-          | inr differs ↦ sound.placed j p (sym (places j ∙ ap place_in_slot (slot_others j differs)) ∙ is)
-        ];
+        placed = λ j p is. mid_placed j p (sym (places j) ∙ is);
         counted = omega (arith, sizes-set ends sound.ten q below e, sound.counted, size, len, shape.len);
         few = subst (λ m. m < 2 ^ 64) (sym shape.len) few;
       }
@@ -174,8 +185,8 @@ module _ (s mid new : Slab Slot) (ends : List Ends) (x y : SlotIndex) (kept : Is
   nodes_are : nodes_of (rows_of new) new ≡ fin.insert v.nodes t n
   nodes_are =
       nodes-insert rows later s new sound.names t k n vacant rows_are
-      (ap (λ z. node_in (get z k)) tied_is ∙ nodes-tied (ends_at ends q).last (Some k) mid k ∙ ap node_in updates.changed ∙ node_is)
-      (λ j differs. ap (λ z. node_in (get z j)) tied_is ∙ nodes-tied (ends_at ends q).last (Some k) mid j ∙ ap node_in (slot_others j differs))
+      (nodes k ∙ ap node_in updates.changed ∙ node_is)
+      (λ j differs. nodes j ∙ ap node_in (slot_others j differs))
       ∙ ap (λ (w : Nodes). fin.insert w.nodes t n) view_is
 
   absent_before : (r : ℕ) → r < 10 → occurrences k (kept.sound.chain r) ≡ 0
@@ -195,9 +206,23 @@ module _ (s mid new : Slab Slot) (ends : List Ends) (x y : SlotIndex) (kept : Is
       ∙ sym (lists-joined new v.lists sound.chain old_ten old_are t k q (ap (λ o. unwrap_or o 0) serial_here) below r r_below)
       ∙ ap (λ p. list_of (joins_list v.lists t p) r) q_is)
 
-  pub added : (left : ℕ) → mid.capacity ≡ s.capacity → spare ≤ left + 1 → StandsFor new (slice_set ends q e) y left
+  pub added : (left : ℕ) → StandsFor new (slice_set ends q e) y left
       (with_node t n (record v { room = room_of left new })) × (v.room ≤ room_of left new + 1)
-  added left capacity used =
-      let was : v.room ≡ min spare (s.capacity - slab_len s) = ap (λ (w : Nodes). w.room) (sym view_is) in
-      let room : v.room ≤ room_of left new + 1 = omega (arith, was, capacity, used, len, shape.len, shape.capacity) in
-      (record { kept = added_kept; view = λ i. record { nodes = nodes_are i; lists = lists_are i; room = room_of left new } }, room)
+  added left =
+      (record { kept = added_kept; view = λ i. record { nodes = nodes_are i; lists = lists_are i; room = room_of left new } }, omega (arith, was))
+
+-- a node added and counted once is added with its count raised
+pub counted_up-with_node : (t : ℕ) (n : ArenaNode) (v : Nodes) → counted_up (t ∷ []) (with_node t n v) ≡ with_node t (node_counted_up 1 n) v
+counted_up-with_node t n v = sym (up_once t (with_node t n v)) ∙ (λ i. record (with_node t n v) { nodes = raised i })
+  where
+    raised : changed (node_counted_up 1) t (fin.insert v.nodes t n) ≡ fin.insert v.nodes t (node_counted_up 1 n)
+    raised = same_map _ _ (λ q. elim (cases_eq q t) [
+      | inl same ↦
+          get-changed_same (node_counted_up 1) t (fin.insert v.nodes t n) q same
+          ∙ ap (option_map (node_counted_up 1)) (get-insert_same v.nodes t q n same)
+          ∙ sym (get-insert_same v.nodes t q (node_counted_up 1 n) same)
+      | inr differs ↦
+          get-changed_other (node_counted_up 1) t (fin.insert v.nodes t n) q differs
+          ∙ get-insert_other v.nodes t q n differs
+          ∙ sym (get-insert_other v.nodes t q (node_counted_up 1 n) differs)
+    ])

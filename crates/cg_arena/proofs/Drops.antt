@@ -1,6 +1,6 @@
 -- The fields after a node is dropped.
 use Rattle.std.proofs.Common.{◌≡◌, ◌≢◌, ℕ, ◌+◌, ◌-◌, ◌<◌, ◌≤◌, true, List, map, Some, None, sym, ap, ◌∙◌, subst, inl, inr, arith}
-use Rattle.std.specs.Prelude.{is_some, nat_eq, min, slice_set, ◌==◌, if◌then◌else◌}
+use Rattle.std.specs.Prelude.{is_some, nat_eq, slice_set, ◌==◌, if◌then◌else◌}
 use Rattle.std.proofs.lemmas.Bool.{cases_eq, eq-eqb, ne_eqb}
 use Rattle.std.proofs.lemmas.List.{length-map, length-set}
 use Rattle.std.specs.FinMap as fin
@@ -11,7 +11,7 @@ use Rattle.cg_arena.specs.declared.slot.Slot.{Slot}
 use Rattle.cg_arena.specs.declared.index.SlotIndex.{SlotIndex}
 use Rattle.cg_arena.specs.declared.ends.Ends.{Ends}
 use Rattle.cg_arena.specs.Nodes.{Nodes, without_node, place_in, place_of, count_in_list}
-use Rattle.cg_arena.specs.Slots.{before_in, after_in, serial_in, place_in_slot, node_in, after_of}
+use Rattle.cg_arena.specs.Slots.{before_in, after_in, serial_in, place_in_slot, node_in, before_of, after_of}
 use Rattle.cg_arena.specs.Links.{tied, ends_without}
 use Rattle.cg_arena.specs.Table.{nodes_of, rows_of, serials_of, room_of, IsSpelled, IsNamed, ends_at, row_of, IsSound}
 use Rattle.cg_arena.specs.Index.{IsIndex, IsKept}
@@ -30,7 +30,7 @@ use Rattle.cg_arena.proofs.Adds.{some_numbered}
 
 -- a node leaves its list: its neighbours are tied, and the ends updated
 module _ (s new : Slab Slot) (ends : List Ends) (rows : List (ℕ × ℕ)) (sound : IsSound s ends rows) (t k : ℕ) (c : Slot) (row_is : row_of rows t ≡ Some k)
-    (slot_is : get s k ≡ Some c) (p : ℕ) (p_is : p ≡ place_number c.place) (below : p < 10) (tied_is : new ≡ tied c.word.before (after_of c) s) where
+    (slot_is : get s k ≡ Some c) (p : ℕ) (p_is : p ≡ place_number c.place) (below : p < 10) (tied_is : new ≡ tied (before_of c) (after_of c) s) where
   stood : occurrences k (sound.chain p) ≡ 1
   stood = sound.spelled.standing p k below ∙ ap (λ o. count_in_list p (place_in_slot o)) slot_is ∙ count_in_list-same p c.place (sym p_is)
 
@@ -43,37 +43,37 @@ module _ (s new : Slab Slot) (ends : List Ends) (rows : List (ℕ × ℕ)) (soun
   neighbour : (j : ℕ) → 0 < occurrences j (sound.chain p) → is_some (get s j) ≡ true
   neighbour j stands = some_numbered p (get s j) (stands_placed (get s) (ends_at ends) sound.chain None sound.spelled p j below stands)
 
-  before_is : before_in (get s k) ≡ c.word.before
+  before_is : before_in (get s k) ≡ before_of c
   before_is = ap before_in slot_is
 
   after_is : after_in (get s k) ≡ after_of c
   after_is = ap after_in slot_is
 
-  leaving_tie : IsTied (get s) (get new) c.word.before (after_of c)
+  leaving_tie : IsTied (get s) (get new) (before_of c) (after_of c)
   leaving_tie =
-      subst (λ z. IsTied (get s) (get z) c.word.before (after_of c)) (sym tied_is)
-      (get-tied c.word.before (after_of c) s
+      subst (λ z. IsTied (get s) (get z) (before_of c) (after_of c)) (sym tied_is)
+      (get-tied (before_of c) (after_of c) s sound.placed
       (λ j is. neighbour j (before_stands (get s) (ends_at ends) sound.chain None sound.spelled k p below (omega (arith, stood)) j (before_is ∙ is)))
       (λ j is. neighbour j (after_stands (get s) (ends_at ends) sound.chain None sound.spelled k p below (omega (arith, stood)) j (after_is ∙ is))))
 
   pub left_shape : SameShape s new
-  left_shape = subst (SameShape s) (sym tied_is) (shape-tied c.word.before (after_of c) s)
+  left_shape = subst (SameShape s) (sym tied_is) (shape-tied (before_of c) (after_of c) s)
 
   pub left_places : (j : ℕ) → place_in_slot (get new j) ≡ place_in_slot (get s j)
-  left_places j = ap (λ z. place_in_slot (get z j)) tied_is ∙ places-tied c.word.before (after_of c) s j
+  left_places j = ap (λ z. place_in_slot (get z j)) tied_is ∙ places-tied (before_of c) (after_of c) s j
 
   pub left_nodes : (j : ℕ) → node_in (get new j) ≡ node_in (get s j)
-  left_nodes j = ap (λ z. node_in (get z j)) tied_is ∙ nodes-tied c.word.before (after_of c) s j
+  left_nodes j = ap (λ z. node_in (get z j)) tied_is ∙ nodes-tied (before_of c) (after_of c) s j
 
   pub left_there : is_some (get new k) ≡ true
-  left_there = ap (λ z. is_some (get z k)) tied_is ∙ there-tied c.word.before (after_of c) s k ∙ ap is_some slot_is
+  left_there = ap (λ z. is_some (get z k)) tied_is ∙ there-tied (before_of c) (after_of c) s k ∙ ap is_some slot_is
 
-  module _ (e : Ends) (ends_are : e ≡ ends_without c.word.before (after_of c) (ends_at ends p)) where
+  module _ (e : Ends) (ends_are : e ≡ ends_without (before_of c) (after_of c) (ends_at ends p)) where
     pub left_spelled : IsSpelled (get new) (ends_at (slice_set ends p e)) (λ r. without_serial k (sound.chain r)) (Some k)
     left_spelled =
         leaves_spelled (get s) (get new) (ends_at ends) (ends_at (slice_set ends p e)) sound.chain sound.spelled k p c.place below
         (ap place_in_slot slot_is) (sym p_is)
-        (subst (λ b. IsTied (get s) (get new) b (after_in (get s k))) (sym before_is) (subst (λ a. IsTied (get s) (get new) c.word.before a) (sym after_is) leaving_tie))
+        (subst (λ b. IsTied (get s) (get new) b (after_in (get s k))) (sym before_is) (subst (λ a. IsTied (get s) (get new) (before_of c) a) (sym after_is) leaving_tie))
         left_places
         (ends_set-same ends sound.ten p below e ∙ ends_are ∙ (λ i. ends_without (sym before_is i) (sym after_is i) (ends_at ends p)))
         (λ r differs. ends_set-other ends p r e differs)
@@ -85,7 +85,7 @@ module _ (s new : Slab Slot) (ends : List Ends) (rows : List (ℕ × ℕ)) (soun
 
 module _ (s mid new : Slab Slot) (ends : List Ends) (x y : SlotIndex) (kept : IsKept s x ends) (spare : ℕ) (v : Nodes) (view_is : value_of s ends (rows_of s)
     spare ≡ v) (t k : ℕ) (c : Slot) (row_is : row_of (rows_of s) t ≡ Some k) (slot_is : get s k ≡ Some c) (p : ℕ) (p_is : p ≡ place_number c.place) (below : p <
-    10) (tied_is : mid ≡ tied c.word.before (after_of c) s) (e : Ends) (ends_are : e ≡ ends_without c.word.before (after_of c) (ends_at ends p)) (updates :
+    10) (tied_is : mid ≡ tied (before_of c) (after_of c) s) (e : Ends) (ends_are : e ≡ ends_without (before_of c) (after_of c) (ends_at ends p)) (updates :
     Updates mid new k None) (len : slab_len new + 1 ≡ slab_len mid) (removed : IsIndex (λ j. if j == k then None else serial_in (get s j)) y) where
   abbrev rows : List (ℕ × ℕ)
   rows = rows_of s
@@ -193,11 +193,13 @@ module _ (s mid new : Slab Slot) (ends : List Ends) (x y : SlotIndex) (kept : Is
       (absent s mid ends rows sound t k c row_is slot_is p p_is below tied_is)
       r r_below))
 
-  pub dropped : (left : ℕ) → new.capacity ≡ mid.capacity → spare ≤ left → StandsFor new (slice_set ends p e) y left
+  pub dropped : (left : ℕ) → new.capacity ≡ mid.capacity → new.vacant_key ≡ k → spare ≤ left → StandsFor new (slice_set ends p e) y left
       (without_node t (record v { room = room_of left new })) × (v.room ≤ room_of left new)
-  dropped left capacity more =
-      let was : v.room ≡ min spare (s.capacity - slab_len s) = ap (λ (w : Nodes). w.room) (sym view_is) in
-      let room : v.room ≤ room_of left new = omega (arith, was, capacity, more, len, shape.len, shape.capacity) in
+  dropped left capacity next more =
+      let was : v.room ≡ room_of spare s = ap (λ (w : Nodes). w.room) (sym view_is) in
+      let still : mid.capacity ≡ s.capacity = ap (λ (z : Slab Slot). z.capacity) shape.rest in
+      let low = (sound.placed k c.place (ap place_in_slot slot_is)).1 in
+      let room : v.room ≤ room_of left new = omega (arith, was, capacity, next, more, len, shape.len, still, low) in
       let view : value_of new (slice_set ends p e) (rows_of new) left ≡ without_node t (record v { room = room_of left new }) = λ i. record {
         nodes = nodes_are i;
         lists = (lists_are ∙ ap (leaves_list v.lists t) (sym place_is)) i;

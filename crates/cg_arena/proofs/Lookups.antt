@@ -21,7 +21,7 @@ use Rattle.cg_arena.proofs.Chains.{linked_back}
 use Rattle.cg_arena.proofs.ChangedChains.{stands_placed, count_in_list-same}
 use Rattle.cg_arena.proofs.Rows.{get-nodes_of}
 use Rattle.cg_arena.proofs.Lists.{serial_at, serials, has_serial, list-at, ten_lists, occurrences-serials, following-serials, serials-absent}
-use Rattle.cg_arena.proofs.Sound.{value_of, node_here, some_value, slot_there}
+use Rattle.cg_arena.proofs.Sound.{value_of, node_here, some_value, slot_there, slot_placed}
 
 abbrev count_of_node : ℕ → Option ArenaNode → ℕ
 count_of_node p o = count_in_list p (option_map (λ (n : ArenaNode). n.place) o)
@@ -65,7 +65,7 @@ module _ (s : Slab Slot) (ends : List Ends) (rows : List (ℕ × ℕ)) (spare : 
   pub next_is : (t k : ℕ) (c : Slot) → row_of rows t ≡ Some k → get s k ≡ Some c → serial_of_slot s (after_of c) ≡ following t (list_of v.lists (place_number (place_of v t)))
   next_is t k c row_is slot_is =
       let node_is = node_here s ends rows spare v view_is t k c row_is slot_is in
-      let below : place_number c.place < 10 = sound.placed k c.place (ap place_in_slot slot_is) in
+      let below = slot_placed s ends rows sound k c slot_is in
       let p = place_number c.place in
       let once : occurrences k (sound.chain p) ≡ 1 = sound.spelled.standing p k below ∙ ap (λ o. count_in_list p (place_in_slot o)) slot_is ∙ count_in_list-same p c.place refl in
       let between : IsBetween k (sound.chain p) = stands_between k (sound.chain p) (omega (arith, once)) in
@@ -113,7 +113,7 @@ module _ (s : Slab Slot) (ends : List Ends) (rows : List (ℕ × ℕ)) (spare : 
           let found = some_value (get s k) (slot_there s ends rows sound t k row_is) in
           let both : Some (node_of found.0) ≡ Some n = sym (node_here s ends rows spare v view_is t k found.0 row_is found.1) ∙ is in
           let same : node_of found.0 ≡ n = cc in
-          subst (λ (m : ArenaNode). IsPlace m.place) same (sound.placed k found.0.place (ap place_in_slot found.1))
+          subst (λ (m : ArenaNode). IsPlace m.place) same (slot_placed s ends rows sound k found.0 found.1)
 
       once_here : (p t : ℕ) → p < 10 → (o : Option ℕ) → row_of rows t ≡ o → occurrences t (list_of v.lists p) ≡ count_of_node p (fin.get v.nodes t)
       once_here p t below None row_is =

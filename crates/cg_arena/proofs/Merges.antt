@@ -1,5 +1,5 @@
 -- The fields after one list is appended to another.
-use Rattle.std.proofs.Common.{◌≡◌, ◌≢◌, ℕ, ◌+◌, ◌<◌, ◌^◌, true, List, [], map, length, Option, Some, None, refl, sym, ap, ◌∙◌, subst, inl, inr, arith}
+use Rattle.std.proofs.Common.{◌≡◌, ◌≢◌, ℕ, ◌+◌, ◌-◌, ◌<◌, ◌^◌, true, List, [], map, length, Some, None, refl, sym, ap, ◌∙◌, subst, inl, inr, arith}
 use Rattle.std.specs.Prelude.{option_map, is_some, slice_set, if◌then◌else◌}
 use Rattle.std.proofs.lemmas.Bool.{cases_eq, eq-eqb, ne_eqb}
 use Rattle.std.proofs.lemmas.List.{length-map, length-set}
@@ -11,7 +11,7 @@ use Rattle.cg_graph.specs.Places.{place_number, list_of, merge_lists}
 use Rattle.cg_arena.specs.declared.slot.Slot.{Slot}
 use Rattle.cg_arena.specs.declared.index.SlotIndex.{SlotIndex}
 use Rattle.cg_arena.specs.declared.ends.Ends.{Ends}
-use Rattle.cg_arena.specs.Nodes.{Nodes, with_lists_merged, place_merged, node_placed, count_in_list}
+use Rattle.cg_arena.specs.Nodes.{Nodes, IsPlace, with_lists_merged, place_merged, node_placed, count_in_list}
 use Rattle.cg_arena.specs.Slots.{before_in, after_in, serial_in, place_in_slot, node_in, node_of, with_place}
 use Rattle.cg_arena.specs.Links.{tied, all_placed, chain_from, ends_joined, no_ends}
 use Rattle.cg_arena.specs.Table.{nodes_of, rows_of, serials_of, IsSpelled, ends_at, row_of, IsSound}
@@ -21,21 +21,13 @@ use Rattle.cg_arena.proofs.Chains.{HasLinks, IsTied, chain-read}
 use Rattle.cg_arena.proofs.TiedSlots.{get-tied}
 use Rattle.cg_arena.proofs.ChangedChains.{count_in_list-same, count_in_list-other, stands_placed}
 use Rattle.cg_arena.proofs.Merged.{merged_chain, merged_spelled}
-use Rattle.cg_arena.proofs.Shapes.{SameShape, shape-trans, shape-tied, shape-all_placed, nodes-tied, places-tied, part-all_placed, get-all_placed_aside, get-all_placed_among}
+use Rattle.cg_arena.proofs.Shapes.{SameShape, shape-trans, shape-tied, shape-all_placed, nodes-tied, places-tied, part-all_placed, place_written, get-all_placed_aside, get-all_placed_among}
 use Rattle.cg_arena.proofs.Rows.{nodes-mapped}
 use Rattle.cg_arena.proofs.Lists.{serials, serials-same, list-at, ten_lists, lists-merged}
 use Rattle.cg_arena.proofs.Sizes.{ends_set-same, ends_set-other, sizes-set, two_sizes}
 use Rattle.cg_arena.proofs.Sound.{kept_by, seen_by, value_of, some_value, slot_there, named_still, room_still}
 use Rattle.cg_arena.proofs.Lookups.{list_is, lists_ten}
 use Rattle.cg_arena.proofs.Adds.{some_numbered, last_there}
-
-same_some : (f : Slot → Slot) (o : Option Slot) → is_some (option_map f o) ≡ is_some o
-same_some f None = refl
-same_some f (Some x) = refl
-
-place_written : (place : Place) (o : Option Slot) → is_some o ≡ true → place_in_slot (option_map (with_place place) o) ≡ Some place
-place_written place None there = absurd (cc)
-place_written place (Some c) there = refl
 
 -- the sizes of two lists add up without overflow
 pub sizes_fit : (s : Slab Slot) (ends : List Ends) (rows : List (ℕ × ℕ)) → IsSound s ends rows → (p q : ℕ) → p < 10 → q < 10 → p ≢ q → (ends_at ends q).size + (ends_at ends p).size < 2 ^ 64
@@ -82,10 +74,21 @@ module _ (s placed new : Slab Slot) (ends : List Ends) (x : SlotIndex) (kept : I
   first_stands : (j : ℕ) → (ends_at ends p).first ≡ Some j → 0 < occurrences j (sound.chain p)
   first_stands j is = first-stands (sound.chain p) j (sym (ap (λ (d : Ends). d.first) (sound.spelled.ended p below_p)) ∙ is)
 
+  all_in_place : (j : ℕ) (r : Place) → place_in_slot (get placed j) ≡ Some r → IsPlace r × (j < 2 ^ 32 - 1)
+  all_in_place j r is = elim (cases_eq (occurrences j (sound.chain p)) 0) [
+    | inl absent ↦ sound.placed j r (sym (ap place_in_slot (aside j absent)) ∙ is)
+    | inr some ↦
+        let stands : 0 < occurrences j (sound.chain p) = omega (arith, some) in
+        let was = some_value (get s j) (occupied p j below_p stands) in
+        let both : Some to ≡ Some r = sym (ap place_in_slot (among j stands) ∙ place_written to (get s j) (occupied p j below_p stands)) ∙ is in
+        let here : to ≡ r = cc in
+        (subst (λ m. m < 10) (q_is ∙ ap place_number here) below_q, (sound.placed j was.0.place (ap place_in_slot was.1)).1)
+  ]
+
   tie : IsTied (get placed) (get new) (ends_at ends q).last (ends_at ends p).first
   tie =
       subst (λ z. IsTied (get placed) (get z) (ends_at ends q).last (ends_at ends p).first) (sym tied_is)
-      (get-tied (ends_at ends q).last (ends_at ends p).first placed
+      (get-tied (ends_at ends q).last (ends_at ends p).first placed all_in_place
       (λ j is. still_there j ∙ last_there (get s) (ends_at ends) sound.chain None sound.spelled q below_q j is)
       (λ j is. still_there j ∙ occupied p j below_p (first_stands j is)))
 
@@ -130,14 +133,7 @@ module _ (s placed new : Slab Slot) (ends : List Ends) (x : SlotIndex) (kept : I
         chain = merged_chain p q sound.chain;
         spelled = all_spelled;
         names = named_still (λ j. serial_in (get s j)) (λ j. serial_in (get new j)) (row_of rows) shape.serials sound.names;
-        placed = λ j r is. elim (cases_eq (occurrences j (sound.chain p)) 0) [
-          | inl absent ↦ sound.placed j r (sym (places j ∙ ap place_in_slot (aside j absent)) ∙ is)
-          | inr some ↦
-              let stands : 0 < occurrences j (sound.chain p) = omega (arith, some) in
-              let both : Some to ≡ Some r = sym (ap place_in_slot (among j stands) ∙ place_written to (get s j) (occupied p j below_p stands)) ∙ sym (places j) ∙ is in
-              let here : to ≡ r = cc in
-              subst (λ m. m < 10) (q_is ∙ ap place_number here) below_q
-        ];
+        placed = λ j r is. all_in_place j r (sym (places j) ∙ is);
         counted = omega (
           arith,
           sizes-set ends sound.ten q below_q e,
@@ -195,5 +191,5 @@ module _ (s placed new : Slab Slot) (ends : List Ends) (x : SlotIndex) (kept : I
       (λ i. record {
         nodes = nodes_are i;
         lists = (lists_are ∙ (λ j. merge_lists v.lists (p_is j) (q_is j))) i;
-        room = (room_still spare s new shape.capacity shape.len ∙ ap (λ (w : Nodes). w.room) view_is) i;
+        room = (room_still spare s new shape.rest shape.len ∙ ap (λ (w : Nodes). w.room) view_is) i;
       })

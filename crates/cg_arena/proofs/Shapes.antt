@@ -1,5 +1,5 @@
 -- What every write to slots keeps: the serials, the number of occupied slots, and the room.
-use Rattle.std.proofs.Common.{◌≡◌, ◌≢◌, ℕ, ◌<◌, Bool, List, [], ◌∷◌, length, Option, Some, None, refl, sym, ap, ◌∙◌, inl, inr, arith, cond}
+use Rattle.std.proofs.Common.{◌≡◌, ◌≢◌, ℕ, ◌<◌, Bool, true, List, [], ◌∷◌, length, Option, Some, None, refl, sym, ap, ◌∙◌, inl, inr, arith, cond}
 use Rattle.std.specs.Prelude.{option_map, is_some, count_by}
 use Rattle.std.proofs.lemmas.Bool.{cases_lt, cases_eq}
 use Rattle.std.proofs.lemmas.List.{set_past}
@@ -10,7 +10,7 @@ use Rattle.cg_graph.specs.Holdings.{occurrences}
 use Rattle.cg_arena.specs.declared.slot.Slot.{Slot}
 use Rattle.cg_arena.specs.Slots.{serial_in, place_in_slot, node_in, with_before, with_after, with_place}
 use Rattle.cg_arena.specs.Table.{rows_of}
-use Rattle.cg_arena.specs.Links.{rewritten, after_set, before_set, tied, all_placed}
+use Rattle.cg_arena.specs.Links.{rewritten, link_set, tied, all_placed}
 use Rattle.cg_arena.proofs.Occurrences.{one-same, one-apart, occurrences-cons}
 use Rattle.cg_arena.proofs.Writes.{part-rewritten, get-rewritten_same, get-rewritten_other}
 use Rattle.cg_arena.proofs.TiedSlots.{part-tied}
@@ -19,7 +19,7 @@ use Rattle.cg_arena.proofs.Indexes.{rows-rewritten}
 pub record SameShape (s new : Slab Slot) : Type 0 where
   pub serials : (k : ℕ) → serial_in (get new k) ≡ serial_in (get s k)
   pub len : slab_len new ≡ slab_len s
-  pub capacity : new.capacity ≡ s.capacity
+  pub rest : new ≡ record s { slots = new.slots }
   pub rows : rows_of new ≡ rows_of s
 
 pub shape-trans : (s mid new : Slab Slot) → SameShape s mid → SameShape mid new → SameShape s new
@@ -27,7 +27,7 @@ shape-trans s mid new first second =
     record {
       serials = λ k. second.serials k ∙ first.serials k;
       len = second.len ∙ first.len;
-      capacity = second.capacity ∙ first.capacity;
+      rest = second.rest ∙ ap (λ (z : Slab Slot). record z { slots = new.slots }) first.rest;
       rows = second.rows ∙ first.rows;
     }
 
@@ -48,35 +48,31 @@ module _ (f : Slot → Slot) (k : ℕ) (s : Slab Slot) where
     | inr past ↦ ap (λ xs. count_by is_some xs) (set_past s.slots k (option_map f (get s k)) past)
   ]
 
-  capacity-rewritten : (rewritten f k s).capacity ≡ s.capacity
+  rest-rewritten : rewritten f k s ≡ record s { slots = (rewritten f k s).slots }
   unfolding rewritten
-  capacity-rewritten = refl
+  rest-rewritten = refl
 
   pub shape-rewritten : ((x : Slot) → (f x).serial ≡ x.serial) → SameShape s (rewritten f k s)
   shape-rewritten keeps =
       record {
         serials = part-rewritten serial_in f (λ x. ap Some (keeps x)) k s;
         len = len-rewritten;
-        capacity = capacity-rewritten;
+        rest = rest-rewritten;
         rows = rows-rewritten f keeps k s;
       }
 
 same_shape : (s : Slab Slot) → SameShape s s
-same_shape s = record { serials = λ k. refl; len = refl; capacity = refl; rows = refl }
+same_shape s = record { serials = λ k. refl; len = refl; rest = refl; rows = refl }
 
-pub shape-after_set : (at after : Option ℕ) (s : Slab Slot) → SameShape s (after_set at after s)
-shape-after_set None after s = same_shape s
-shape-after_set (Some k) after s = shape-rewritten (with_after after) k s (λ x. refl)
-
-shape-before_set : (at before : Option ℕ) (s : Slab Slot) → SameShape s (before_set at before s)
-shape-before_set None before s = same_shape s
-shape-before_set (Some k) before s = shape-rewritten (with_before before) k s (λ x. refl)
+pub shape-link_set : (write : Option ℕ → Slot → Slot) → ((o : Option ℕ) (x : Slot) → (write o x).serial ≡ x.serial) → (at to : Option ℕ) (s : Slab Slot) → SameShape s (link_set write at to s)
+shape-link_set write keeps None to s = same_shape s
+shape-link_set write keeps (Some k) to s = shape-rewritten (write to) k s (keeps to)
 
 pub shape-tied : (before after : Option ℕ) (s : Slab Slot) → SameShape s (tied before after s)
 shape-tied before after s =
-    shape-trans s (after_set before after s) (tied before after s)
-    (shape-after_set before after s)
-    (shape-before_set after before (after_set before after s))
+    shape-trans s (link_set with_after before after s) (tied before after s)
+    (shape-link_set with_after (λ o x. refl) before after s)
+    (shape-link_set with_before (λ o x. refl) after before (link_set with_after before after s))
 
 pub shape-all_placed : (ks : List ℕ) (place : Place) (s : Slab Slot) → SameShape s (all_placed ks place s)
 shape-all_placed [] place s = same_shape s
@@ -109,6 +105,11 @@ get-all_placed_aside (k ∷ ks) place s j none =
     let differs : j ≢ k = λ same. absurd (omega (arith, none, occurrences-cons j k ks, one-same j k (sym same))) in
     get-all_placed_aside ks place (rewritten (with_place place) k s) j (omega (arith, none, occurrences-cons j k ks))
     ∙ get-rewritten_other (with_place place) k s j differs
+
+-- an occupied slot gets the place
+pub place_written : (place : Place) (o : Option Slot) → is_some o ≡ true → place_in_slot (option_map (with_place place) o) ≡ Some place
+place_written place None there = absurd (cc)
+place_written place (Some c) there = refl
 
 -- placing a slot twice equals placing it once
 placed_twice : (place : Place) (o : Option Slot) → option_map (with_place place) (option_map (with_place place) o) ≡ option_map (with_place place) o

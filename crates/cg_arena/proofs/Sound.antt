@@ -10,10 +10,12 @@ use Rattle.cg_graph.specs.Maps.{mapped, changed}
 use Rattle.cg_graph.specs.Holdings.{occurrences}
 use Rattle.cg_graph.proofs.Maps.{get-changed_same}
 use Rattle.cg_arena.specs.declared.slot.Slot.{Slot}
+use Rattle.cg_arena.specs.declared.slot.Marks.{Marks}
+use Rattle.cg_arena.specs.declared.slot.Marks.TheVariants.{Neither, Classed, Finalized, Both}
 use Rattle.cg_arena.specs.declared.index.SlotIndex.{SlotIndex}
 use Rattle.cg_arena.specs.declared.ends.Ends.{Ends}
-use Rattle.cg_arena.specs.Nodes.{Nodes, ArenaNode, HasNode, IsPlace, count_in, count_of, with_node_changed, node_counted_up, node_counted_down, node_lowered, counted_up, counted_down, count_in_list}
-use Rattle.cg_arena.specs.Slots.{before_in, after_in, serial_in, place_in_slot, node_in, node_of, after_of, with_count, with_lowered}
+use Rattle.cg_arena.specs.Nodes.{Nodes, ArenaNode, HasNode, IsPlace, count_in, count_of, with_node_changed, node_finalized, node_counted_up, node_counted_down, node_lowered, counted_up, counted_down, count_in_list}
+use Rattle.cg_arena.specs.Slots.{before_in, after_in, serial_in, place_in_slot, node_in, node_of, before_of, after_of, with_count, with_mark, with_lowered}
 use Rattle.cg_arena.specs.Links.{rewritten}
 use Rattle.cg_arena.specs.Table.{nodes_of, rows_of, serials_of, room_of, IsSpelled, IsNamed, ends_at, row_of, IsSound}
 use Rattle.cg_arena.specs.Index.{guess_at, IsIndexOf, Finds, HasRow, IsKept}
@@ -34,8 +36,8 @@ pub record StandsFor (s : Slab Slot) (ends : List Ends) (x : SlotIndex) (spare :
   pub kept : IsKept s x ends
   pub view : value_of s ends (rows_of s) spare ≡ v
 
-pub room_still : (spare : ℕ) (s new : Slab Slot) → new.capacity ≡ s.capacity → slab_len new ≡ slab_len s → room_of spare new ≡ room_of spare s
-room_still spare s new capacity len = λ i. min spare (capacity i - len i)
+pub room_still : (spare : ℕ) (s new : Slab Slot) → new ≡ record s { slots = new.slots } → slab_len new ≡ slab_len s → room_of spare new ≡ room_of spare s
+room_still spare s new rest len = λ i. min (min 1 (2 ^ 32 - 1 - (rest i).vacant_key)) (min spare ((rest i).capacity - len i))
 
 some_mapped : {X Y : Type 0} (f : X → Y) (o : Option X) → IsSome (option_map f o) → IsSome o
 some_mapped f None has = absurd (cc)
@@ -79,7 +81,7 @@ slot_there s ends rows sound t k row_is = some_serial (get s k) t (sound.names.r
 
 -- an occupied slot's place has a number below 10
 pub slot_placed : (s : Slab Slot) (ends : List Ends) (rows : List (ℕ × ℕ)) → IsSound s ends rows → (k : ℕ) (c : Slot) → get s k ≡ Some c → IsPlace c.place
-slot_placed s ends rows sound k c is = sound.placed k c.place (ap place_in_slot is)
+slot_placed s ends rows sound k c is = (sound.placed k c.place (ap place_in_slot is)).0
 
 spelled_still : (cell new : ℕ → Option Slot) (ends : ℕ → Ends) (chain : ℕ → List ℕ) → ((j : ℕ) → HasLinks cell new j) → ((j : ℕ) → place_in_slot (new j)
     ≡ place_in_slot (cell j)) → IsSpelled cell ends chain None → IsSpelled new ends chain None
@@ -137,7 +139,7 @@ module _ (s new : Slab Slot) (shape : SameShape s new) where
   seen_by ends spare v is = ap (λ rows. value_of new ends rows spare) shape.rows ∙ is
 
 -- one field of one node is written
-module _ (f : Slot → Slot) (befores : (x : Slot) → (f x).word.before ≡ x.word.before) (afters : (x : Slot) → after_of (f x) ≡ after_of x)
+module _ (f : Slot → Slot) (befores : (x : Slot) → before_of (f x) ≡ before_of x) (afters : (x : Slot) → after_of (f x) ≡ after_of x)
     (serial_same : (x : Slot) → (f x).serial ≡ x.serial) (place_same : (x : Slot) → (f x).place ≡ x.place) (s : Slab Slot) (ends : List Ends) (x : SlotIndex)
     (kept : IsKept s x ends) (k : ℕ) where
   abbrev rows : List (ℕ × ℕ)
@@ -171,11 +173,21 @@ module _ (f : Slot → Slot) (befores : (x : Slot) → (f x).word.before ≡ x.w
       let changed_is : value_of (rewritten f k s) ends rows spare ≡ with_node_changed g t (value_of s ends rows spare) = λ i. record {
         nodes = nodes_are i;
         lists = lists_are i;
-        room = room_still spare s (rewritten f k s) shape.capacity shape.len i;
+        room = room_still spare s (rewritten f k s) shape.rest shape.len i;
       } in
       ap (λ z. value_of z ends (rows_of z) spare) is
       ∙ seen_by s (rewritten f k s) shape ends spare (with_node_changed g t (value_of s ends rows spare)) changed_is
       ∙ ap (with_node_changed g t) view_is
+
+-- a slot with the mark has the marked node
+pub node_of-with_mark : (c : Slot) → node_of (with_mark c) ≡ node_finalized (node_of c)
+node_of-with_mark c = go c.marks
+  where
+    go : (m : Marks) → node_of (with_mark (record c { marks = m })) ≡ node_finalized (node_of (record c { marks = m }))
+    go Neither = refl
+    go Classed = refl
+    go Finalized = refl
+    go Both = refl
 
 -- one count rises or falls
 once_changed : (step : ℕ → ArenaNode → ArenaNode) → ((n : ArenaNode) → step 0 n ≡ n) → (t : ℕ) (m : fin.FinMap nat_cmp ArenaNode)

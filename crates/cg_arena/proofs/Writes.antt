@@ -2,7 +2,7 @@
 use Rattle.std.proofs.Common.{◌≡◌, ◌≢◌, ℕ, zero, suc, ◌+◌, ◌-◌, ◌<◌, ◌≤◌, [], ◌∷◌, length, get_or, Option, Some, None, refl, sym, ap, ◌∙◌, inl, inr, arith}
 use Rattle.std.specs.Prelude.{option_map, option_and_then, slice_set}
 use Rattle.std.proofs.lemmas.Bool.{cases_eq, cases_lt}
-use Rattle.std.proofs.lemmas.List.{get_or-set_same, get_or-set_other, set-get_or, set-set, get_or_past, set_past}
+use Rattle.std.proofs.lemmas.List.{get_or-set_same, get_or-set_other, set-get_or, get_or_past, set_past}
 use Rattle.slab.specs.Slab.{Slab, get, with_value}
 use Rattle.cg_value.specs.declared.Place.{Place}
 use Rattle.cg_arena.specs.declared.slot.Slot.{Slot}
@@ -36,18 +36,6 @@ module _ (f : Slot → Slot) (k : ℕ) (s : Slab Slot) where
   pub get-rewritten_other : (j : ℕ) → j ≢ k → get (rewritten f k s) j ≡ get s j
   unfolding rewritten
   get-rewritten_other j differs = get_or-set_other s.slots k j (option_map f (get s k)) None differs
-
--- two writes to one slot
-pub rewritten-rewritten : (f g : Slot → Slot) (k : ℕ) (s : Slab Slot) → rewritten g k (rewritten f k s) ≡ rewritten (λ x. g (f x)) k s
-unfolding rewritten
-rewritten-rewritten f g k s =
-    ap (λ xs. record s { slots = xs })
-    (set-set s.slots k (option_map f (get s k)) (option_map g (get (rewritten f k s) k))
-    ∙ ap (λ o. slice_set s.slots k o) (ap (option_map g) (get-rewritten_same f k s) ∙ known (get s k)))
-  where
-    known : (o : Option Slot) → option_map g (option_map f o) ≡ option_map (λ x. g (f x)) o
-    known None = refl
-    known (Some x) = refl
 
 -- a part of each slot that the write keeps
 module _ {X : Type 0} (part : Option Slot → X) (f : Slot → Slot) (keeps : (x : Slot) → part (Some (f x)) ≡ part (Some x)) (k : ℕ) (s : Slab Slot) where

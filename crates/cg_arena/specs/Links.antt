@@ -11,13 +11,9 @@ unfoldable pub rewritten : (Slot → Slot) → ℕ → Slab Slot → Slab Slot
 rewritten f k s = record s { slots = slice_set s.slots k (option_map f (get s k)) }
 
 -- sets one link of an optional slot
-abbrev pub after_set : Option ℕ → Option ℕ → Slab Slot → Slab Slot
-after_set None after s = s
-after_set (Some k) after s = rewritten (with_after after) k s
-
-abbrev pub before_set : Option ℕ → Option ℕ → Slab Slot → Slab Slot
-before_set None before s = s
-before_set (Some k) before s = rewritten (with_before before) k s
+abbrev pub link_set : (Option ℕ → Slot → Slot) → Option ℕ → Option ℕ → Slab Slot → Slab Slot
+link_set write None to s = s
+link_set write (Some k) to s = rewritten (write to) k s
 
 -- sets its place
 abbrev pub place_set : Option ℕ → Place → Slab Slot → Slab Slot
@@ -26,7 +22,7 @@ place_set (Some k) place s = rewritten (with_place place) k s
 
 -- two slots name each other
 abbrev pub tied : Option ℕ → Option ℕ → Slab Slot → Slab Slot
-tied before after s = before_set after before (after_set before after s)
+tied before after s = link_set with_before after before (link_set with_after before after s)
 
 -- each slot of a list gets a place
 abbrev pub all_placed : List ℕ → Place → Slab Slot → Slab Slot

@@ -24,9 +24,9 @@ nodes_of rows s = fin.from_entries (map (λ e. (e.0, node_in (get s e.1))) rows)
 unfoldable pub serials_of : Slab Slot → Ends → List ℕ
 serials_of s e = map (λ k. unwrap_or (serial_in (get s k)) 0) (chain_from s e.size e.first)
 
--- how many nodes fit without allocating: both tables need room
+-- 1 if one more node fits without allocating, else 0: both tables need room, and a link must be able to name the slot
 abbrev pub room_of : ℕ → Slab Slot → ℕ
-room_of spare s = min spare (s.capacity - slab_len s)
+room_of spare s = min (min 1 (2 ^ 32 - 1 - s.vacant_key)) (min spare (s.capacity - slab_len s))
 
 -- how often a slot is in a list: never, if it is the loose one
 abbrev pub stands_at : Option ℕ → ℕ → ℕ → Option Place → ℕ
@@ -53,12 +53,12 @@ ends_at ends p = slice_index_or ends p no_ends
 abbrev pub row_of : List (ℕ × ℕ) → ℕ → Option ℕ
 row_of rows s = lookup (nat_eq s) rows
 
--- the invariant of an arena's fields
+-- the invariant of an arena's fields: among others, each node has one of the ten places, and a link can name its slot
 pub record IsSound (slots : Slab Slot) (ends : List Ends) (rows : List (ℕ × ℕ)) : Type 0 where
   pub ten : length ends ≡ 10
   pub chain : ℕ → List ℕ
   pub spelled : IsSpelled (get slots) (ends_at ends) chain None
   pub names : IsNamed (λ k. serial_in (get slots k)) (row_of rows)
-  pub placed : (k : ℕ) (p : Place) → place_in_slot (get slots k) ≡ Some p → IsPlace p
+  pub placed : (k : ℕ) (p : Place) → place_in_slot (get slots k) ≡ Some p → IsPlace p × (k < 2 ^ 32 - 1)
   pub counted : sum_by (λ e. e.size) ends ≡ slab_len slots
   pub few : slab_len slots < 2 ^ 64

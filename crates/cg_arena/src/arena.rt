@@ -11,11 +11,11 @@ ghost use Rattle.cg_arena.specs.Index.{HasRow};
 use crate::ends::Ends;
 use crate::index::{SlotIndex, node_if};
 use crate::links::{
-    join, lower_candidate, mark_finalized, place_all, place_last, serial_at, set_count, set_number,
-    slot_at, unlink,
+    append, join, lower_candidate, mark_finalized, place_all, place_last, serial_at, set_count,
+    set_number, slot_at, unlink,
 };
 use crate::near::Near;
-use crate::slot::{Head, Slot};
+use crate::slot::{Head, NIL, Slot};
 use cg_value::{KindCode, Place};
 use slab::Slab;
 use std::alloc::{AllocError, Global};
@@ -103,7 +103,6 @@ fn occupy(slots: &mut Slab<Slot>, slot: Slot)
     requires { HasRoomFor slots.old 1 }
     ensures updates { Updates slots.old slots.new slots.old.vacant_key (Some slot) }
     ensures len { slab_len slots.new ≡ slab_len slots.old + 1 }
-    ensures capacity { slots.new.capacity ≡ slots.old.capacity }
     ensures few { slab_len slots.new < 2 ^ 64 }
 {
     let _at = slots.insert_reserved(slot);
@@ -164,13 +163,17 @@ impl Arena {
 
     /// Makes room for one more node, so that `add_reserved` may be called.
     ///
-    /// Returns `AllocError` only if memory runs out. Nodes and lists are unchanged either way.
+    /// Returns `AllocError` only if memory runs out, or if 2^32 - 1 slots are in use. Nodes and
+    /// lists are unchanged either way.
     pub fn reserve(&mut self) -> Result<(), AllocError>
         ensures ok { OnOk result (0 < self.new.room) }
         ensures stays { self.new ≡ with_room self.new.room self.old }
         ensures room { self.old.room ≤ self.new.room }
         ensures succeeds { 0 < self.old.room → IsOk result }
     {
+        if self.slots.vacant_key() >= NIL as usize {
+            return Err(AllocError);
+        }
         self.index.reserve(&self.slots)?;
         self.slots.reserve(1)
     }
@@ -178,7 +181,7 @@ impl Arena {
     /// Adds a node for a new serial, last in the list of its place: count 0, not finalized,
     /// collector's number 0.
     ///
-    /// Returns `AllocError` only if memory runs out; then nodes and lists are unchanged.
+    /// Returns `AllocError` only where `reserve` does; then nodes and lists are unchanged.
     pub fn add(
         &mut self,
         serial: u64,
@@ -216,11 +219,57 @@ impl Arena {
             (with_room self.new.room self.old) }
         ensures room { self.old.room ≤ self.new.room + 1 }
     {
+        let _near = self.add_counted(serial, code, class, body, place, 0);
+    }
+
+    /// `add_reserved` with count 1. Returns the node's slot.
+    #[inline(always)]
+    pub fn add_held(
+        &mut self,
+        serial: u64,
+        code: KindCode,
+        class: Option<u32>,
+        body: usize,
+        place: Place,
+    ) -> Near
+        requires fresh { map.get self.old.nodes serial ≡ None }
+        requires place { IsPlace place }
+        requires room { 0 < self.old.room }
+        ensures adds { self.new ≡ counted_up (serial ∷ []) (with_node serial
+            (new_node code class body place) (with_room self.new.room self.old)) }
+        ensures room { self.old.room ≤ self.new.room + 1 }
+    {
+        self.add_counted(serial, code, class, body, place, 1)
+    }
+
+    /// Adds a node with a count, last in the list of its place. Returns its slot.
+    #[inline(always)]
+    fn add_counted(
+        &mut self,
+        serial: u64,
+        code: KindCode,
+        class: Option<u32>,
+        body: usize,
+        place: Place,
+        count: u32,
+    ) -> Near
+        requires fresh { map.get self.old.nodes serial ≡ None }
+        requires place { IsPlace place }
+        requires room { 0 < self.old.room }
+        ensures adds { self.new ≡ with_node serial
+            (record (new_node code class body place) { count = count })
+            (with_room self.new.room self.old) }
+        ensures room { self.old.room ≤ self.new.room + 1 }
+    {
         let at = self.slots.vacant_key();
         self.index.note(&self.slots, serial, at);
-        occupy(&mut self.slots, Slot::new(serial, code, class, body, place));
         let list = number_of(place);
-        join(&mut self.slots, &mut self.ends[list], Ends::one(at));
+        let before = self.ends[list].last;
+        let mut slot = Slot::new(serial, code, class, body, place, before);
+        slot.count = count;
+        occupy(&mut self.slots, slot);
+        append(&mut self.slots, &mut self.ends[list], at as u32);
+        Near { slot: at }
     }
 
     /// Removes the node, whose count is 0, from its list too. Its serial may be added again.
@@ -374,7 +423,7 @@ impl Arena {
         requires { HasNode self.now serial }
         ensures { IfSome (map.get self.now.nodes serial) (λ n. result ≡ n.class) }
     {
-        self.node(serial).class
+        self.node(serial).class()
     }
 
     /// The place of the object's entries among the bodies of its kind.
@@ -470,7 +519,7 @@ impl Arena {
         requires { HasNode self.now serial }
         ensures { IfSome (map.get self.now.nodes serial) (λ n. result ≡ n.number) }
     {
-        self.node(serial).number()
+        self.node(serial).number
     }
 
     /// Marks the node as finalized. (PEP 442: a finalizer is called once.)
@@ -540,9 +589,9 @@ impl Arena {
         let (at, slot) = self.index.slot_near(&self.slots, serial, near);
         let from = number_of(slot.place);
         unlink(&mut self.slots, &mut self.ends[from], slot);
-        place_last(&mut self.slots, at, place);
         let to = number_of(place);
-        join(&mut self.slots, &mut self.ends[to], Ends::one(at));
+        place_last(&mut self.slots, at, place, self.ends[to].last);
+        append(&mut self.slots, &mut self.ends[to], at as u32);
     }
 
     /// Moves all nodes of one place to the end of the list of another, in order. (Developer guide,

@@ -4,8 +4,8 @@ ghost use Rattle.std.specs.Prelude.{◌≡◌, ◌+◌, ◌-◌, ◌<◌, ◌^�
 /// The first and the last slot of a list, and its size.
 #[derive(Clone, Copy, Debug)]
 pub struct Ends {
-    pub first: Option<usize>,
-    pub last: Option<usize>,
+    pub first: Option<u32>,
+    pub last: Option<u32>,
     pub size: u64,
 }
 
@@ -24,7 +24,7 @@ impl Ends {
     }
 
     /// The ends of the list of one slot.
-    pub fn one(slot: usize) -> Ends
+    pub fn one(slot: u32) -> Ends
         ensures { result ≡ one_end slot }
     {
         Ends {
@@ -36,7 +36,7 @@ impl Ends {
 
     /// Takes out a slot between these two.
     #[inline(always)]
-    pub fn lose(&mut self, before: Option<usize>, after: Option<usize>)
+    pub fn lose(&mut self, before: Option<u32>, after: Option<u32>)
         requires { 0 < self.old.size }
         ensures { self.new ≡ ends_without before after self.old }
     {

@@ -135,7 +135,6 @@ impl SlotIndex {
         requires { IsIndexOf slots.now self.old }
         ensures index { IsIndexOf slots.now self.new }
         ensures ok { OnOk result (0 < spare self.new.rows) }
-        ensures room { spare self.old.rows ≤ spare self.new.rows }
         ensures succeeds { 0 < spare self.old.rows → IsOk result }
     {
         if slots.len() >= self.hints.len() {
@@ -173,7 +172,6 @@ impl SlotIndex {
         ensures rows { (q k : ℕ) → row_of self.new.rows.entries q ≡ Some k →
             (row_of self.old.rows.entries q ≡ Some k) ⊎ ((serial_in (get slots.now k) ≡ Some q)
             ⊎ ((q ≡ serial) × (k ≡ at))) }
-        ensures room { spare self.old.rows ≤ spare self.new.rows + 1 }
     {
         let guess = self.guess(serial);
         if guess == at {
@@ -195,7 +193,6 @@ impl SlotIndex {
             (if serial == s then Some at else row_of self.old.rows.entries s) }
         ensures most { self.new.most ≡ max self.old.most serial }
         ensures hints { self.new.hints ≡ self.old.hints }
-        ensures room { spare self.old.rows ≤ spare self.new.rows + 1 }
     {
         self.most = self.most.max(serial);
         match self.rows.insert(serial, at) {

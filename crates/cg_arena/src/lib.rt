@@ -12,7 +12,6 @@ mod index;
 mod links;
 mod near;
 mod slot;
-mod word;
 
 pub use arena::Arena;
 pub use near::Near;

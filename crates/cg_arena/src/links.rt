@@ -1,8 +1,8 @@
 //! Nodes in slots, and the links between them.
 ghost use Rattle.std.specs.Prelude.{◌≡◌, Some, None, option_and_then, option_map, ◌+◌, ◌<◌, ◌^◌};
 ghost use Rattle.slab.specs.Slab.{get, ContainsKey};
-ghost use Rattle.cg_arena.specs.Slots.{with_place, with_count, with_mark, with_number, with_lowered, with_after, after_in, after_of};
-ghost use Rattle.cg_arena.specs.Links.{rewritten, after_set, before_set, tied, ends_without, ends_joined, place_set, all_placed, chain_from};
+ghost use Rattle.cg_arena.specs.Slots.{with_place, with_count, with_mark, with_number, with_lowered, with_before, with_after, placed_last, after_in, before_of, after_of};
+ghost use Rattle.cg_arena.specs.Links.{rewritten, link_set, tied, ends_without, ends_joined, one_end, place_set, all_placed, chain_from};
 
 use crate::ends::Ends;
 use crate::slot::Slot;
@@ -23,10 +23,10 @@ pub fn slot_at(slots: &Slab<Slot>, at: usize) -> Slot
 
 /// The serial of the node in a slot, if there is one.
 #[inline(always)]
-pub fn serial_at(slots: &Slab<Slot>, at: Option<usize>) -> Option<u64>
+pub fn serial_at(slots: &Slab<Slot>, at: Option<u32>) -> Option<u64>
     ensures { result ≡ option_and_then (λ k. option_map (λ c. c.serial) (get slots.now k)) at }
 {
-    match slots.get(at?) {
+    match slots.get(at? as usize) {
         Some(slot) => Some(slot.serial),
         None => None,
     }
@@ -57,7 +57,7 @@ pub fn set_number(slots: &mut Slab<Slot>, at: usize, number: u32)
     ensures { slots.new ≡ rewritten (with_number number) at slots.old }
 {
     if let Some(slot) = slots.get_mut(at) {
-        slot.set_number(number);
+        slot.number = number;
     }
 }
 
@@ -71,42 +71,45 @@ pub fn lower_candidate(slots: &mut Slab<Slot>, at: usize)
     }
 }
 
-/// Sets the place of a node, and clears its successor.
+/// Sets the place and the predecessor of a node, and clears its successor.
 #[inline(always)]
-pub fn place_last(slots: &mut Slab<Slot>, at: usize, place: Place)
-    ensures { slots.new ≡ rewritten (with_after None) at (rewritten (with_place place) at
-        slots.old) }
+pub fn place_last(slots: &mut Slab<Slot>, at: usize, place: Place, before: Option<u32>)
+    ensures { slots.new ≡ rewritten (placed_last place before) at slots.old }
 {
     if let Some(slot) = slots.get_mut(at) {
         slot.place = place;
+        slot.set_before(before);
         slot.set_after(None);
     }
 }
 
 /// Sets the successor of a slot, if there is a slot.
-fn set_after(slots: &mut Slab<Slot>, at: Option<usize>, after: Option<usize>)
-    ensures { slots.new ≡ after_set at after slots.old }
+#[inline(always)]
+fn set_after(slots: &mut Slab<Slot>, at: Option<u32>, after: Option<u32>)
+    ensures { slots.new ≡ link_set with_after at after slots.old }
 {
     if let Some(at) = at {
-        if let Some(slot) = slots.get_mut(at) {
+        if let Some(slot) = slots.get_mut(at as usize) {
             slot.set_after(after);
         }
     }
 }
 
 /// Sets the predecessor of a slot, if there is a slot.
-fn set_before(slots: &mut Slab<Slot>, at: Option<usize>, before: Option<usize>)
-    ensures { slots.new ≡ before_set at before slots.old }
+#[inline(always)]
+fn set_before(slots: &mut Slab<Slot>, at: Option<u32>, before: Option<u32>)
+    ensures { slots.new ≡ link_set with_before at before slots.old }
 {
     if let Some(at) = at {
-        if let Some(slot) = slots.get_mut(at) {
+        if let Some(slot) = slots.get_mut(at as usize) {
             slot.set_before(before);
         }
     }
 }
 
 /// Makes two slots neighbours. If one is missing, the other becomes an end.
-fn tie(slots: &mut Slab<Slot>, before: Option<usize>, after: Option<usize>)
+#[inline(always)]
+fn tie(slots: &mut Slab<Slot>, before: Option<u32>, after: Option<u32>)
     ensures { slots.new ≡ tied before after slots.old }
 {
     set_after(slots, before, after);
@@ -117,13 +120,24 @@ fn tie(slots: &mut Slab<Slot>, before: Option<usize>, after: Option<usize>)
 #[inline(always)]
 pub fn unlink(slots: &mut Slab<Slot>, ends: &mut Ends, slot: Slot)
     requires { 0 < ends.old.size }
-    ensures slots { slots.new ≡ tied slot.word.before (after_of slot) slots.old }
-    ensures ends { ends.new ≡ ends_without slot.word.before (after_of slot) ends.old }
+    ensures slots { slots.new ≡ tied (before_of slot) (after_of slot) slots.old }
+    ensures ends { ends.new ≡ ends_without (before_of slot) (after_of slot) ends.old }
 {
     let before = slot.before();
     let after = slot.after();
     tie(slots, before, after);
     ends.lose(before, after);
+}
+
+/// Appends a slot to a list. Its links are set already.
+#[inline(always)]
+pub fn append(slots: &mut Slab<Slot>, ends: &mut Ends, at: u32)
+    requires { ends.old.size + 1 < 2 ^ 64 }
+    ensures slots { slots.new ≡ link_set with_after ends.old.last (Some at) slots.old }
+    ensures ends { ends.new ≡ ends_joined ends.old (one_end at) }
+{
+    set_after(slots, ends.last, Some(at));
+    ends.gain(Ends::one(at));
 }
 
 /// Appends one list to another.
@@ -138,17 +152,17 @@ pub fn join(slots: &mut Slab<Slot>, front: &mut Ends, back: Ends)
 }
 
 /// Sets the place of a node, and returns the next slot.
-fn place_one(slots: &mut Slab<Slot>, at: Option<usize>, place: Place) -> Option<usize>
+fn place_one(slots: &mut Slab<Slot>, at: Option<u32>, place: Place) -> Option<u32>
     ensures slots { slots.new ≡ place_set at place slots.old }
     ensures after { result ≡ option_and_then (λ k. after_in (get slots.old k)) at }
 {
-    let slot = slots.get_mut(at?)?;
+    let slot = slots.get_mut(at? as usize)?;
     slot.place = place;
     slot.after()
 }
 
 /// Sets the place of each node of a list.
-pub fn place_all(slots: &mut Slab<Slot>, first: Option<usize>, size: u64, place: Place)
+pub fn place_all(slots: &mut Slab<Slot>, first: Option<u32>, size: u64, place: Place)
     ensures { slots.new ≡ all_placed (chain_from slots.old size first) place slots.old }
 {
     let mut at = first;

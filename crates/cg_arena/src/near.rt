@@ -10,9 +10,11 @@ pub struct Near {
 impl Near {
     /// The hint of an optional slot.
     #[inline(always)]
-    pub fn at(slot: Option<usize>) -> Near {
+    pub fn at(slot: Option<u32>) -> Near {
         match slot {
-            Some(slot) => Near { slot },
+            Some(slot) => Near {
+                slot: slot as usize,
+            },
             None => Near { slot: 0 },
         }
     }

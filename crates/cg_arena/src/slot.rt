@@ -1,83 +1,137 @@
 //! A node in its slot, between its neighbours in the list of its place.
 //!
-//! The finalized mark, the collector's number and the previous slot are accessed only through
-//! calls.
-ghost use Rattle.std.specs.Prelude.{◌≡◌, false, None};
+//! The class, the finalized mark and the two links are accessed only through calls.
+ghost use Rattle.std.specs.Prelude.{◌≡◌, None};
 ghost use Rattle.cg_arena.specs.Nodes.{new_node};
+ghost use Rattle.cg_arena.specs.Slots.{link_of, link_to};
 
-use crate::word::Word;
 use cg_value::{KindCode, Place};
+
+/// The link to no slot. No slot has this number.
+pub const NIL: u32 = u32::MAX;
+
+/// The slot that a link names, if any.
+#[inline(always)]
+fn linked(link: u32) -> Option<u32>
+    ensures { result ≡ link_of link }
+{
+    if link == NIL { None } else { Some(link) }
+}
+
+/// Whether an object has a class, and whether it was finalized.
+///
+/// An enum of both takes one byte. A byte for each would bring a slot to 48 bytes.
+#[derive(Clone, Copy)]
+enum Marks {
+    Neither,
+    Classed,
+    Finalized,
+    Both,
+}
+
+impl Marks {
+    ghost use Rattle.cg_arena.specs.Slots.{says_classed, says_finalized};
+
+    #[inline(always)]
+    fn is_classed(self) -> bool
+        ensures { result ≡ says_classed self }
+    {
+        matches!(self, Marks::Classed | Marks::Both)
+    }
+
+    #[inline(always)]
+    fn is_finalized(self) -> bool
+        ensures { result ≡ says_finalized self }
+    {
+        matches!(self, Marks::Finalized | Marks::Both)
+    }
+}
 
 /// A node, its serial, and its neighbours in the list of its place.
 ///
-/// It takes 56 bytes, and 64 in its slot. The flag for a next slot is among the small fields; an
-/// `Option` of the slot would take eight more bytes.
+/// It takes 40 bytes, and 48 in the slab. Each link is a number of 32 bits, `NIL` if there is no
+/// neighbour.
 #[derive(Clone, Copy)]
 pub struct Slot {
     pub serial: u64,
     pub body: usize,
-    word: Word,
-    /// The next slot, 0 if there is none.
-    next: usize,
-    pub class: Option<u32>,
+    previous: u32,
+    next: u32,
+    /// The class, 0 if there is none.
+    class: u32,
     pub count: u32,
+    /// The collector's number.
+    pub number: u32,
     pub place: Place,
     pub code: KindCode,
-    is_followed: bool,
+    marks: Marks,
 }
 
-impl Slot {
-    ghost use Rattle.cg_arena.specs.Slots.{node_of, with_mark, with_number, with_lowered, with_before, with_after, after_of};
+const _: () = prove!(size_of::<Slot>() == 40);
 
-    /// A new node in no list: count 0, not finalized, collector's number 0.
-    pub fn new(serial: u64, code: KindCode, class: Option<u32>, body: usize, place: Place) -> Slot
+impl Slot {
+    ghost use Rattle.cg_arena.specs.Slots.{node_of, class_of, says_finalized, with_mark, with_lowered, with_before, with_after, before_of, after_of};
+
+    /// A new node after a slot: count 0, not finalized, collector's number 0.
+    pub fn new(
+        serial: u64,
+        code: KindCode,
+        class: Option<u32>,
+        body: usize,
+        place: Place,
+        before: Option<u32>,
+    ) -> Slot
         ensures node { node_of result ≡ new_node code class body place }
         ensures serial { result.serial ≡ serial }
-        ensures before { result.word.before ≡ None }
+        ensures before { result.previous ≡ link_to before }
         ensures after { after_of result ≡ None }
     {
         Slot {
             serial,
             body,
-            word: Word::new(),
-            next: 0,
-            class,
+            previous: before.unwrap_or(NIL),
+            next: NIL,
+            class: class.unwrap_or(0),
             count: 0,
+            number: 0,
             place,
             code,
-            is_followed: false,
+            marks: match class {
+                Some(_) => Marks::Classed,
+                None => Marks::Neither,
+            },
+        }
+    }
+
+    /// The class of an instance, or the procedure of a function.
+    #[inline(always)]
+    pub fn class(&self) -> Option<u32>
+        ensures { result ≡ class_of self.now }
+    {
+        if self.marks.is_classed() {
+            Some(self.class)
+        } else {
+            None
         }
     }
 
     /// Whether the object was finalized.
     #[inline(always)]
     pub fn is_finalized(&self) -> bool
-        ensures { result ≡ self.now.word.marked }
+        ensures { result ≡ says_finalized self.now.marks }
     {
-        self.word.is_marked()
+        self.marks.is_finalized()
     }
 
     /// Marks the object as finalized.
     pub fn mark_finalized(&mut self)
         ensures { self.new ≡ with_mark self.old }
     {
-        self.word.mark();
-    }
-
-    /// The collector's number.
-    #[inline(always)]
-    pub fn number(&self) -> u32
-        ensures { result ≡ self.now.word.number }
-    {
-        self.word.number()
-    }
-
-    /// Sets the collector's number.
-    #[inline(always)]
-    pub fn set_number(&mut self, number: u32)
-        ensures { self.new ≡ with_number number self.old }
-    {
-        self.word.set_number(number);
+        self.marks = if self.marks.is_classed() {
+            Marks::Both
+        } else {
+            Marks::Finalized
+        };
     }
 
     /// Lowers the collector's number of a candidate, if it is above 0.
@@ -86,43 +140,40 @@ impl Slot {
         ensures { self.new ≡ with_lowered self.old }
     {
         if let Place::Cand = self.place {
-            self.word.lower();
+            self.number = self.number.saturating_sub(1);
         }
     }
 
     /// The previous slot in its list.
-    pub fn before(&self) -> Option<usize>
-        ensures { result ≡ self.now.word.before }
+    #[inline(always)]
+    pub fn before(&self) -> Option<u32>
+        ensures { result ≡ before_of self.now }
     {
-        self.word.before()
+        linked(self.previous)
     }
 
     /// The next slot in its list.
     #[inline(always)]
-    pub fn after(&self) -> Option<usize>
+    pub fn after(&self) -> Option<u32>
         ensures { result ≡ after_of self.now }
     {
-        if self.is_followed {
-            Some(self.next)
-        } else {
-            None
-        }
+        linked(self.next)
+    }
+
+    /// Sets the previous slot.
+    #[inline(always)]
+    pub fn set_before(&mut self, before: Option<u32>)
+        ensures { self.new ≡ with_before before self.old }
+    {
+        self.previous = before.unwrap_or(NIL);
     }
 
     /// Sets the next slot.
     #[inline(always)]
-    pub fn set_after(&mut self, after: Option<usize>)
+    pub fn set_after(&mut self, after: Option<u32>)
         ensures { self.new ≡ with_after after self.old }
     {
-        self.is_followed = after.is_some();
-        self.next = after.unwrap_or(0);
-    }
-
-    /// Sets the previous slot.
-    pub fn set_before(&mut self, before: Option<usize>)
-        ensures { self.new ≡ with_before before self.old }
-    {
-        self.word.set_before(before);
+        self.next = after.unwrap_or(NIL);
     }
 }
 
@@ -142,13 +193,13 @@ impl Head {
     pub fn of(slot: Slot) -> Head
         ensures code { result.code ≡ slot.code }
         ensures place { result.place ≡ slot.place }
-        ensures number { result.number ≡ slot.word.number }
+        ensures number { result.number ≡ slot.number }
         ensures body { result.body ≡ slot.body }
     {
         Head {
             code: slot.code,
             place: slot.place,
-            number: slot.number(),
+            number: slot.number,
             body: slot.body,
         }
     }

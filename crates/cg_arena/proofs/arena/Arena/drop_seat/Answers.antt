@@ -2,7 +2,7 @@ use Rattle.std.proofs.Common.{◌≡◌, ◌≤◌, IfSome, refl, sym, subst}
 use Rattle.std.specs.Prelude.{slice_set}
 use Rattle.indexmap.specs.IndexMap.{spare}
 use Rattle.cg_arena.specs.Table.{rows_of, room_of}
-use Rattle.cg_arena.specs.Slots.{after_of}
+use Rattle.cg_arena.specs.Slots.{before_of, after_of}
 use Rattle.cg_arena.specs.Nodes.{ArenaNode, without_node}
 use Rattle.cg_arena.specs.Links.{tied}
 use Rattle.cg_arena.proofs.Sound.{StandsFor, found, slot_placed, node_here}
@@ -18,7 +18,7 @@ number_of-from-requires c = slot_placed c.self.inside.slots c.self.inside.ends (
 
 pub unlink-requires : goal.unlink-requires
 unlink-requires c =
-    size_there c.self.inside.slots (tied c.slot_of-at.result.1.word.before (after_of c.slot_of-at.result.1) c.self.inside.slots) c.self.inside.ends
+    size_there c.self.inside.slots (tied (before_of c.slot_of-at.result.1) (after_of c.slot_of-at.result.1) c.self.inside.slots) c.self.inside.ends
     (rows_of c.self.inside.slots) c.self.invariant.sound c.args.serial c.slot_of-at.result.0 c.slot_of-at.result.1 c.slot_of-at.ensures.at
     c.slot_of-at.ensures.slot
     c.number_of-from.result c.number_of-from.ensures.number c.number_of-from.ensures.below refl
@@ -38,7 +38,7 @@ done c =
     c.args.serial c.slot_of-at.result.0 c.slot_of-at.result.1 c.slot_of-at.ensures.at c.slot_of-at.ensures.slot
     c.number_of-from.result c.number_of-from.ensures.number c.number_of-from.ensures.below c.unlink.ensures.slots c.unlink.new.ends c.unlink.ensures.ends
     c.remove-2.ensures.updates c.remove-2.ensures.len c.remove.ensures.index
-    (spare c.remove.new.self.rows) c.remove-2.ensures.capacity c.remove.ensures.room
+    (spare c.remove.new.self.rows) c.remove-2.ensures.capacity c.remove-2.ensures.key_is_next c.remove.ensures.room
 
 pub invariant_of-self : goal.invariant_of-self
 invariant_of-self c = (done c).0.kept
