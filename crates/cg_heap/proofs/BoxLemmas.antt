@@ -44,8 +44,8 @@ six_kinds-at Inst = refl
 six_kinds-at Func = refl
 six_kinds-at Weak = refl
 
-module _ {K : Type 0} (kind : K → KindCode) (bodies : K → Bodies) (items : List K) (six : map kind items ≡ six_kinds) (old : List Bodies)
-    (view : map bodies items ≡ old) (code : KindCode) (i : ℕ) (index : i ≡ code_index code) (k : K) (at : k ≡ get_or items i k) where
+module _ {K : Type 0} (kind : K → KindCode) (bodies : K → Bodies) (items : List K) (six : map kind items ≡ six_kinds) {old : List Bodies}
+    (view : map bodies items ≡ old) (code : KindCode) {i : ℕ} (index : i ≡ code_index code) {k : K} (at : k ≡ get_or items i k) where
   pub box_there : i < length items
   box_there = omega (arith, sym (length-map items kind) ∙ ap length six, index, code_index-below code)
 

@@ -94,10 +94,7 @@ total-empty f = known (fin.entries fin.empty) (sym (fin.len-entries fin.empty) �
     known [] e = refl
     known (x ∷ es) e = absurd (omega (arith, e))
 
--- in the initial store the garbage list lives, and nothing is held from outside
-pub opening_live : (names : ℕ) → IsLive (opening_store names) 1
-opening_live names = subst IsSome (sym (get-insert_same fin.empty 1 1 garbage_node refl)) refl
-
+-- in the initial store nothing is held from outside
 pub opening_total : (names : ℕ) → outside_total (opening_store names) ≡ 0
 opening_total names =
     let none : part out (fin.get fin.empty 1) ≡ 0 = ap (part out) (fin.get-empty nat_cmp 1) in

@@ -10,7 +10,7 @@ use Rattle.cg_value.specs.declared.Entry.{Entry}
 use Rattle.cg_value.specs.declared.Place.{Place}
 use Rattle.cg_value.specs.declared.KindCode.{KindCode}
 use Rattle.cg_value.specs.declared.KindCode.TheVariants.{List as ListKind, Tuple, Dict, Inst, Func, Weak}
-use Rattle.cg_kind.specs.Bodies.{Bodies}
+use Rattle.cg_kind.specs.Bodies.{Body, Bodies}
 use Rattle.cg_kind.specs.Calls.{IsParts, after_put, after_take}
 use Rattle.cg_graph.specs.Object.{first_place}
 use Rattle.cg_graph.specs.Holdings.{occurrences}
@@ -21,8 +21,9 @@ use Rattle.cg_graph.specs.Store.{Store, Node, outside_of, count_of, IsLive, HasC
 use Rattle.cg_graph.specs.Changes.{held, unheld, rewritten, named, moved, made, more}
 use Rattle.cg_graph.proofs.Maps.{same_map, get-mapped}
 use Rattle.cg_arena.specs.Nodes.{ArenaNode, Nodes, count_in, counted_up, counted_down, node_counted_up, new_node as new_arena_node, with_room, with_node as with_arena_node, with_node_changed, with_node_moved, with_lists_merged, node_finalized, node_numbered, node_lowered, following, IsListed as IsArenaListed, count_in_list, place_of as arena_place_of, place_in as arena_place_in}
+use Rattle.cg_heap.specs.declared.heap.objects.Objects.{Objects}
 use Rattle.cg_heap.proofs.ReferenceLemmas.{occurrences-le, reference-le, name-le, references-le}
-use Rattle.cg_heap.specs.Boxes.{bodies_at, boxes_with_body, spare_in_box}
+use Rattle.cg_heap.specs.Boxes.{HasBody, bodies_at, boxes_with_body}
 use Rattle.cg_heap.specs.Keeps.{HeapKeeps, Alike, store_of, node_from, seat_in, HasClass}
 use Rattle.cg_heap.specs.Calls.{HasFewHolds, object_number, entry_number, code_of, IsMutable, IsLiveValue, value_in, with_put, merged, marked, with_number, lowered, with_node, IsSound, IsListed}
 use Rattle.cg_heap.proofs.HeapIsStore.{Closed, closed, keeps-held, keeps-unheld, live-mapped}
@@ -36,10 +37,10 @@ use Rattle.cg_heap.proofs.CallerLemmas.{lives_on, kinds-held, kinds-unheld, kind
 use Rattle.cg_heap.proofs.RowsAndHolds.{kept}
 
 -- the fields of a heap, and the store they represent
-pub stands : (all : List Bodies) (v : Nodes) (names : List (Option Val)) (last : ℕ) (rows : List Row) (objects number : ℕ) (old : Store)
+pub stands : {all : List Bodies} (v : Nodes) {names : List (Option Val)} {last : ℕ} {rows : List Row} {objects : Objects} {number : ℕ} {old : Store}
     → HeapKeeps all v.nodes objects number (store_of all v names last rows) × RowsAndHolds (store_of all v names last rows) → store_of all v names last rows
     ≡ old → Closed all v names last rows objects number old
-stands all v names last rows objects number old ok view = record { keeps = ok; is = view }
+stands v ok view = record { keeps = ok; is = view }
 
 -- a fact that holds after an error
 pub on_err : {T E P : Type 0} (r : Result T E) → P → OnErr r P
@@ -88,7 +89,7 @@ takes Func k es i = absurd k
 takes Weak k es i = absurd k
 
 -- the places' lists and the rows do not matter here
-pub keeps-aside : {all : List Bodies} {nodes : fin.FinMap nat_cmp ArenaNode} {objects number : ℕ} {store : Store} {lists : List (List ℕ)} {rows : List Row}
+pub keeps-aside : {all : List Bodies} {nodes : fin.FinMap nat_cmp ArenaNode} {objects : Objects} {number : ℕ} {store : Store} {lists : List (List ℕ)} {rows : List Row}
     → HeapKeeps all nodes objects number store → HeapKeeps all nodes objects number (record store { lists = lists; rows = rows })
 keeps-aside ok = record {
   shape = record { six = ok.shape.six; alike = ok.shape.alike; apart = ok.shape.apart; below = ok.shape.below };
@@ -99,12 +100,13 @@ keeps-aside ok = record {
   object_limit = ok.object_limit;
   entry_limit = ok.entry_limit;
   saves = ok.saves;
-  root = record { body = ok.root.body; seat = ok.root.seat; ready = ok.root.ready };
+  root = record { body = ok.root.body; seat = ok.root.seat; enough = ok.root.enough; ready = ok.root.ready };
   garbage = ok.garbage;
   names = ok.names;
 }
 
-module _ {all : List Bodies} {v : Nodes} {names : List (Option Val)} {last : ℕ} {rows : List Row} {objects number : ℕ} {old : Store} (h : Closed all v names last rows objects number old) where
+module _ {all : List Bodies} {v : Nodes} {names : List (Option Val)} {last : ℕ} {rows : List Row} {objects : Objects} {number : ℕ} {old : Store}
+    (h : Closed all v names last rows objects number old) where
   abbrev pub was : Store
   was = store_of all v names last rows
 
@@ -284,8 +286,8 @@ module _ {all : List Bodies} {v : Nodes} {names : List (Option Val)} {last : ℕ
     entries = omega (arith, h.keeps.0.sized, h.keeps.0.entry_limit);
   })
 
-  pub objects_are : objects ≡ object_number old
-  objects_are = let here : objects ≡ object_number was = omega (arith, h.keeps.0.numbered) in here ∙ ap object_number h.is
+  pub objects_are : objects.live ≡ object_number old
+  objects_are = let here : objects.live ≡ object_number was = omega (arith, h.keeps.0.numbered) in here ∙ ap object_number h.is
 
   pub entries_counted : number ≡ entry_number old
   entries_counted = let here : number ≡ entry_number was = omega (arith, h.keeps.0.sized) in here ∙ ap entry_number h.is
@@ -300,14 +302,21 @@ module _ {all : List Bodies} {v : Nodes} {names : List (Option Val)} {last : ℕ
   pub with_other_room : (v' : Nodes) (room : ℕ) → v' ≡ with_room room v → Closed all v' names last rows objects number old
   with_other_room v' room is = subst (λ w. Closed all w names last rows objects number old) (sym is) (record { keeps = h.keeps; is = h.is })
 
-  -- a new serial has no node
-  pub is_fresh : fin.get v.nodes (last + 1) ≡ None
-  is_fresh = known (fin.get v.nodes (last + 1)) (fin.get was.nodes (last + 1)) (h.keeps.0.shape.alike (last + 1)) (λ live. absurd (omega (arith, h.keeps.0.shape.below (last + 1) live)))
+  -- without bodies of a kind there is no object of the kind
+  pub none_of_kind : (code : KindCode) → bodies_at all code ≡ fin.empty → (s : ℕ) → HasCode old s code → ⊥
+  none_of_kind code none s has =
+      let (x, at, is) = subst (λ (st : Store). HasCode st s code) (sym h.is) has in
+      known (fin.get v.nodes s) x (subst (Alike all (fin.get v.nodes s)) at (h.keeps.0.shape.alike s)) is
     where
-      known : (a : Option ArenaNode) (x : Option Node) → Alike all a x → (IsSome x → ⊥) → a ≡ None
-      known None x k dead = refl
-      known (Some n) None k dead = absurd k
-      known (Some n) (Some x) k dead = absurd (dead refl)
+      gone : (b : Option Body) → b ≡ None → IsSome b → ⊥
+      gone None e held = absurd (cc)
+      gone (Some b) e held = absurd (cc)
+
+      known : (a : Option ArenaNode) (x : Node) → Alike all a (Some x) → x.code ≡ code → ⊥
+      known None x k is = k
+      known (Some n) x k is =
+          let of_kind : n.code ≡ code = sym (ap (λ (y : Node). y.code) k.0) ∙ is in
+          gone (fin.get (bodies_at all code) n.body) (ap (λ (m : Bodies). fin.get m n.body) none ∙ fin.get-empty nat_cmp n.body) (subst (λ c. HasBody all c n.body) of_kind k.1)
 
   -- there is room for the references of a new object
   pub parts_fit : (parts : List Entry) → length parts ≤ 4000000 → (s : ℕ) → count_in (fin.get v.nodes s) + occurrences s (references parts) < 4294967294
@@ -330,22 +339,23 @@ module _ {all : List Bodies} {v : Nodes} {names : List (Option Val)} {last : ℕ
   garbage_seat body told = h.keeps.0.root.seat ∙ ap (λ b. Some (ListKind, b)) (sym (garbage_is body told))
 
   -- after making an object
-  pub after_make : (garbage : ℕ) → IfSome (fin.get v.nodes 1) (λ n. garbage ≡ n.body) → objects < length (entries_of old 1) + spare_in_box all ListKind garbage
-      → (code : KindCode) (class : Option ℕ) (parts : List Entry) → IsParts code parts → HasClass code class → ((s : ℕ) → 0 < occurrences s (references parts)
-      → IsLive old s) → HasFewHolds old → objects < 1000000 → number + length parts ≤ 4000000
+  abbrev one_more : Objects
+  one_more = record objects { live = objects.live + 1 }
+
+  pub after_make : objects.live < objects.savable → (code : KindCode) (class : Option ℕ) (parts : List Entry) → IsParts code parts → HasClass code class
+      → ((s : ℕ) → 0 < occurrences s (references parts) → IsLive old s) → HasFewHolds old → objects.live < 1000000 → number + length parts ≤ 4000000
       → (body : ℕ) → fin.get (bodies_at all code) body ≡ None → (spare : ℕ) (all' : List Bodies) → all' ≡ boxes_with_body all code body parts spare
       → (room : ℕ) (v' : Nodes) → v' ≡ counted_up (references parts) (counted_up ((last + 1) ∷ []) (with_arena_node (last + 1) (new_arena_node code class body (first_place code)) (with_room room v)))
-      → Closed all' v' names (last + 1) rows (objects + 1) (number + length parts) (made code class parts old)
-  after_make garbage told reserved code class parts is_parts class_fits live holds few fits body vacant spare all' is room v' counts =
-      subst (λ s. Closed all' v' names (last + 1) rows (objects + 1) (number + length parts) (made code class parts s)) h.is
-      (subst (λ bs. Closed bs v' names (last + 1) rows (objects + 1) (number + length parts) (made code class parts was)) (sym is)
-      (subst (λ w. Closed (boxes_with_body all code body parts spare) w names (last + 1) rows (objects + 1) (number + length parts) (made code class parts was)) (sym counts)
+      → Closed all' v' names (last + 1) rows one_more (number + length parts) (made code class parts old)
+  after_make more code class parts is_parts class_fits live holds few fits body vacant spare all' is room v' counts =
+      subst (λ s. Closed all' v' names (last + 1) rows one_more (number + length parts) (made code class parts s)) h.is
+      (subst (λ bs. Closed bs v' names (last + 1) rows one_more (number + length parts) (made code class parts was)) (sym is)
+      (subst (λ w. Closed (boxes_with_body all code body parts spare) w names (last + 1) rows one_more (number + length parts) (made code class parts was)) (sym counts)
       (closed (boxes_with_body all code body parts spare)
       (counted_up (references parts) (counted_up ((last + 1) ∷ []) (with_arena_node (last + 1) (new_arena_node code class body (first_place code))
-      (with_room room v)))) (objects + 1) (number + length parts) (made code class parts was)
+      (with_room room v)))) one_more (number + length parts) (made code class parts was)
       (keeps-made all (with_room room v) objects number was h.keeps.0 code class parts body spare vacant (λ s there. subst (λ o. IsLive o s) (sym h.is) (live s there)) is_parts class_fits
-      (subst (λ b. objects < length (entries_of was 1) + spare_in_box all ListKind b) (garbage_is garbage told)
-      (subst (λ s. objects < length (entries_of s 1) + spare_in_box all ListKind garbage) (sym h.is) reserved)) few fits)
+      more few fits)
       (kept was (made code class parts was) (kinds-made code class parts was h.keeps.0.shape.below) refl
       (let low : outside_total old < 2147483646 = holds in omega (arith, total-made code class parts was, total_is, low)) h.keeps.1)
       refl)))

@@ -18,6 +18,7 @@ use Rattle.cg_graph.specs.Rows.{Row}
 use Rattle.cg_graph.specs.Store.{Store, Node, count_of, IsLive, HasCode, entries_of, entries_in}
 use Rattle.cg_graph.specs.Changes.{held, rewritten, gone, with_entries}
 use Rattle.cg_arena.specs.Nodes.{ArenaNode, Nodes, counted_up, with_room, without_node}
+use Rattle.cg_heap.specs.declared.heap.objects.Objects.{Objects}
 use Rattle.cg_heap.proofs.ReferenceLemmas.{occurrences-append, references-remove, length-remove, last-remove, push-item, refs-are, reference-le, entry-le}
 use Rattle.cg_heap.specs.Boxes.{HasBody, entries_in_box, boxes_with_body, boxes_without, spare_in_box}
 use Rattle.cg_heap.specs.Keeps.{store_of, seat_in, IsWellMade, IsWellMadeAt, IsSaved}
@@ -37,7 +38,8 @@ use Rattle.cg_heap.proofs.Calls.{has_node, total_is, holds_fit, keeps-aside, hel
 use Rattle.cg_heap.proofs.TrackedDictionaries.{dict_here}
 use Rattle.cg_value.specs.declared.Place.{Place}
 
-module _ {all : List Bodies} {v : Nodes} {names : List (Option Val)} {last : ℕ} {rows : List Row} {objects number : ℕ} {old : Store} (h : Closed all v names last rows objects number old) where
+module _ {all : List Bodies} {v : Nodes} {names : List (Option Val)} {last : ℕ} {rows : List Row} {objects : Objects} {number : ℕ} {old : Store}
+    (h : Closed all v names last rows objects number old) where
   abbrev was : Store
   was = store_of all v names last rows
 
@@ -223,12 +225,12 @@ module _ {all : List Bodies} {v : Nodes} {names : List (Option Val)} {last : ℕ
 
     -- after freeing the body and the node
     pub after_free : count_of old o ≡ 0 → entries_of old o ≡ [] → IsInNoRow o old.rows → (all' : List Bodies) → all' ≡ boxes_without all code body
-        → (room : ℕ) (v' : Nodes) → v' ≡ without_node o (with_room room v) → Closed all' v' names last rows (objects - 1) number (gone o old)
+        → (room : ℕ) (v' : Nodes) → v' ≡ without_node o (with_room room v) → Closed all' v' names last rows (record objects { live = objects.live - 1 }) number (gone o old)
     after_free none empty no_row all' is room v' e =
-        subst (λ s. Closed all' v' names last rows (objects - 1) number (gone o s)) h.is
-        (subst (λ bs. Closed bs v' names last rows (objects - 1) number (gone o was)) (sym (is ∙ (λ i. boxes_without all (sym there.2 i) (sym there.3 i))))
-        (subst (λ w. Closed (boxes_without all there.0.code there.0.body) w names last rows (objects - 1) number (gone o was)) (sym e)
-        (closed (boxes_without all there.0.code there.0.body) (without_node o (with_room room v)) (objects - 1) number (gone o was)
+        subst (λ s. Closed all' v' names last rows (record objects { live = objects.live - 1 }) number (gone o s)) h.is
+        (subst (λ bs. Closed bs v' names last rows (record objects { live = objects.live - 1 }) number (gone o was)) (sym (is ∙ (λ i. boxes_without all (sym there.2 i) (sym there.3 i))))
+        (subst (λ w. Closed (boxes_without all there.0.code there.0.body) w names last rows (record objects { live = objects.live - 1 }) number (gone o was)) (sym e)
+        (closed (boxes_without all there.0.code there.0.body) (without_node o (with_room room v)) (record objects { live = objects.live - 1 }) number (gone o was)
         (keeps-aside (keeps-gone all v objects number was h.keeps.0 o there.0 there.1 none_was empty_was))
         (kept-gone o was (subst (IsInNoRow o) (sym (ap (λ (s : Store). s.rows) h.is)) no_row) h.keeps.1)
         (ap (λ q. leaves_list v.lists o (place_number q)) (same-place all v objects number was h.keeps.0 o)))))
@@ -239,7 +241,7 @@ module _ {all : List Bodies} {v : Nodes} {names : List (Option Val)} {last : ℕ
         empty_was : entries_of was o ≡ []
         empty_was = subst (λ s. entries_of s o ≡ []) (sym h.is) empty
 
-    pub has_object : count_of old o ≡ 0 → entries_of old o ≡ [] → 0 < objects
+    pub has_object : count_of old o ≡ 0 → entries_of old o ≡ [] → 0 < objects.live
     has_object none empty = (others all v objects number was h.keeps.0 o there.0 there.1 (subst (λ s. count_of s o ≡ 0) (sym h.is) none) (subst (λ s. entries_of s o ≡ []) (sym h.is) empty)).1
 
     -- the same, by the boxes
@@ -251,12 +253,6 @@ module _ {all : List Bodies} {v : Nodes} {names : List (Option Val)} {last : ℕ
 
     pub within_here : (i : ℕ) → i < length (entries_of old o) → i < length (entries_in_box all code body)
     within_here i h = subst (λ es. i < length es) (sym entries_are) h
-
-    pub can_here : (key : Val) → CanPutIn old o key → CanPut code (entries_in_box all code body) key
-    can_here key can = subst (λ (q : KindCode × List Entry). CanPut q.0 q.1 key) (λ i. (sym code_is i, sym entries_are i)) can.2
-
-    pub mutable_here : (key : Val) → CanPutIn old o key → IsMutable code
-    mutable_here key can = subst IsMutable (sym code_is) can.1
 
     pub value_here : (key : Val) → value_under code (entries_in_box all code body) key ≡ value_in old o key
     value_here key = λ i. value_under (code_is i) (entries_are i) key

@@ -123,38 +123,30 @@ none-counted v = λ i. record {
     known (Some n) = let same : n.count ≡ n.count + 0 = omega arith in ap (λ c. Some (record n { count = c })) same
 
 -- a node added and counted once
-module _ (v w x : Nodes) (serial : ℕ) (n : ArenaNode) (room : ℕ) (fresh : fin.get v.nodes serial ≡ None) (none : n.count ≡ 0) (added : w ≡ with_node serial n (with_room room v)) where
-  pub added_here : fin.get w.nodes serial ≡ Some n
-  added_here = ap (λ (u : Nodes). fin.get u.nodes serial) added ∙ get-insert_same v.nodes serial serial n refl
+module _ (v x : Nodes) (serial : ℕ) (n : ArenaNode) (room : ℕ) (none : n.count ≡ 0) (added : x ≡ counted_up (serial ∷ []) (with_node serial n (with_room room v))) where
+  abbrev w : Nodes
+  w = with_node serial n (with_room room v)
 
-  pub added_live : IsSome (fin.get w.nodes serial)
-  added_live = subst IsSome (sym added_here) refl
+  pub others_live : (s : ℕ) → IsSome (fin.get v.nodes s) → IsSome (fin.get x.nodes s)
+  others_live s live =
+      subst (λ (u : Nodes). IsSome (fin.get u.nodes s)) (sym added)
+      (live-mapped (λ s n. node_counted_up (occurrences s (serial ∷ [])) n) w.nodes s
+      (elim (cases_eq s serial) [
+        | inl same ↦ subst IsSome (sym (get-insert_same v.nodes serial s n same)) refl
+        | inr differs ↦ subst IsSome (sym (get-insert_other v.nodes serial s n differs)) live
+      ]))
 
-  pub added_room : count_in (fin.get w.nodes serial) < 4294967295
-  added_room = let is = ap count_in added_here in omega (arith, is, none)
-
-  module _ (counted : x ≡ counted_up (serial ∷ []) w) where
-    pub others_live : (s : ℕ) → IsSome (fin.get v.nodes s) → IsSome (fin.get x.nodes s)
-    others_live s live =
-        subst (λ (u : Nodes). IsSome (fin.get u.nodes s)) (sym counted)
-        (live-mapped (λ s n. node_counted_up (occurrences s (serial ∷ [])) n) w.nodes s
-        (elim (cases_eq s serial) [
-          | inl same ↦ subst (λ k. IsSome (fin.get w.nodes k)) (sym same) added_live
-          | inr differs ↦ subst IsSome (sym (ap (λ (u : Nodes). fin.get u.nodes s) added ∙ get-insert_other v.nodes serial s n differs)) live
-        ]))
-
-    pub others_room : (s k : ℕ) → count_in (fin.get v.nodes s) + k < 4294967294 → count_in (fin.get x.nodes s) + k < 4294967295
-    others_room s k fits =
-        let up : count_in (fin.get x.nodes s) ≤ count_in (fin.get w.nodes s) + occurrences s (serial ∷ []) =
-        subst (λ (u : Nodes). count_in (fin.get u.nodes s) ≤ count_in (fin.get w.nodes s) + occurrences s (serial ∷ [])) (sym counted)
-        (count-le (serial ∷ []) w s) in
-        let one : occurrences s (serial ∷ []) ≤ 1 = occurrences-le s (serial ∷ []) in
-        let here : count_in (fin.get w.nodes s) ≤ count_in (fin.get v.nodes s) = elim (cases_eq s serial) [
-          | inl same ↦ let is : count_in (fin.get w.nodes s) ≡ 0 = ap (λ k. count_in (fin.get w.nodes k)) same ∙ ap count_in added_here ∙ none in omega (arith, is)
-          | inr differs ↦ let is : count_in (fin.get w.nodes s) ≡ count_in (fin.get v.nodes s) = ap (λ (u : Nodes). count_in (fin.get u.nodes s)) added
-              ∙ ap count_in (get-insert_other v.nodes serial s n differs) in omega (arith, is)
-        ] in
-        omega (arith, up, one, here, fits)
+  pub others_room : (s k : ℕ) → count_in (fin.get v.nodes s) + k < 4294967294 → count_in (fin.get x.nodes s) + k < 4294967295
+  others_room s k fits =
+      let up : count_in (fin.get x.nodes s) ≤ count_in (fin.get w.nodes s) + occurrences s (serial ∷ []) =
+      subst (λ (u : Nodes). count_in (fin.get u.nodes s) ≤ count_in (fin.get w.nodes s) + occurrences s (serial ∷ [])) (sym added)
+      (count-le (serial ∷ []) w s) in
+      let one : occurrences s (serial ∷ []) ≤ 1 = occurrences-le s (serial ∷ []) in
+      let here : count_in (fin.get w.nodes s) ≤ count_in (fin.get v.nodes s) = elim (cases_eq s serial) [
+        | inl same ↦ let is : count_in (fin.get w.nodes s) ≡ 0 = ap count_in (get-insert_same v.nodes serial s n same) ∙ none in omega (arith, is)
+        | inr differs ↦ let is : count_in (fin.get w.nodes s) ≡ count_in (fin.get v.nodes s) = ap count_in (get-insert_other v.nodes serial s n differs) in omega (arith, is)
+      ] in
+      omega (arith, up, one, here, fits)
 
 -- the seat of a node
 pub seated : (a : Option ArenaNode) (code : KindCode) (body : ℕ) → IsSome a → IfSome a (λ n. code ≡ n.code) → IfSome a (λ n. body ≡ n.body) → seat_in a ≡ Some (code, body)

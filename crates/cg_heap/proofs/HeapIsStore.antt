@@ -15,6 +15,7 @@ use Rattle.cg_graph.specs.Store.{Store, Node, held_within, held_by, inner, count
 use Rattle.cg_graph.specs.Changes.{more, less, held, unheld}
 use Rattle.cg_graph.proofs.Maps.{get-mapped, total-mapped, same_map}
 use Rattle.cg_arena.specs.Nodes.{ArenaNode, Nodes, count_in, counted_up, counted_down, node_counted_up, node_counted_down}
+use Rattle.cg_heap.specs.declared.heap.objects.Objects.{Objects}
 use Rattle.cg_heap.specs.Boxes.{HasBody, spare_in_box}
 use Rattle.cg_heap.specs.Keeps.{HeapKeeps, Shape, Alike, node_from, bare_nodes, nodes_from, store_of, seat_in, size, one, IsWellMade, IsWellMadeAt, IsGarbage, RowsAndHolds}
 use Rattle.cg_value.specs.declared.Entry.{Entry}
@@ -66,11 +67,11 @@ nodes-are all names nodes m alike counted =
         ap (λ k. Some (node_from all n k)) out ∙ sym (ap Some h.0)
 
 -- The fields represent the store, and the struct's invariant holds.
-pub record Closed (all : List Bodies) (v : Nodes) (names : List (Option Val)) (last : ℕ) (rows : List Row) (objects number : ℕ) (store : Store) : Type 0 where
+pub record Closed (all : List Bodies) (v : Nodes) (names : List (Option Val)) (last : ℕ) (rows : List Row) (objects : Objects) (number : ℕ) (store : Store) : Type 0 where
   pub keeps : HeapKeeps all v.nodes objects number (store_of all v names last rows) × RowsAndHolds (store_of all v names last rows)
   pub is : store_of all v names last rows ≡ store
 
-pub closed : (all : List Bodies) (v : Nodes) (objects number : ℕ) (store : Store) → HeapKeeps all v.nodes objects number store → RowsAndHolds store → v.lists
+pub closed : (all : List Bodies) (v : Nodes) (objects : Objects) (number : ℕ) (store : Store) → HeapKeeps all v.nodes objects number store → RowsAndHolds store → v.lists
     ≡ store.lists → Closed all v store.names store.last store.rows objects number store
 closed all v objects number store ok rest lists =
     record {
@@ -221,7 +222,7 @@ well-mapped g m well was s = subst IsWellMadeAt (sym (get-mapped g m s)) (known 
 pub held-well : (refs : List ℕ) (store : Store) → ((s : ℕ) → IsWellMadeAt (fin.get store.nodes s)) → (s : ℕ) → IsWellMadeAt (fin.get (held refs store).nodes s)
 held-well refs store = well-mapped (λ s n. more (occurrences s refs) n) store.nodes (λ s x h. record { items = h.items; classed = h.classed; single = h.single })
 
-module _ (all : List Bodies) (v : Nodes) (objects number : ℕ) (store : Store) (ok : HeapKeeps all v.nodes objects number store) where
+module _ (all : List Bodies) (v : Nodes) (objects : Objects) (number : ℕ) (store : Store) (ok : HeapKeeps all v.nodes objects number store) where
   -- counts and holds changed in the same way
   module _ (f : ℕ → ArenaNode → ArenaNode) (g : ℕ → Node → Node) (at : (s : ℕ) (n : ArenaNode) → seat_in (Some (f s n)) ≡ seat_in (Some n))
       (pair : (s : ℕ) (x : Node) (n : ArenaNode) (k : ℕ) → x ≡ node_from all n k → g s x ≡ node_from all (f s n) (g s x).outside) (es : (s : ℕ) (x : Node)
@@ -261,7 +262,8 @@ module _ (all : List Bodies) (v : Nodes) (objects number : ℕ) (store : Store) 
           root = record {
             body = ok.root.body;
             seat = where-after f g all v.nodes store ok.shape at pair 1 ∙ ok.root.seat;
-            ready = subst (λ (e : List Entry). objects ≤ length e + spare_in_box all ListKind ok.root.body) (sym (entries-mapped_nodes g es store.nodes 1)) ok.root.ready;
+            enough = ok.root.enough;
+            ready = subst (λ (e : List Entry). objects.savable ≤ length e + spare_in_box all ListKind ok.root.body) (sym (entries-mapped_nodes g es store.nodes 1)) ok.root.ready;
           };
           garbage = subst (λ e. length e ≤ 1000000) (sym (entries-mapped_nodes g es store.nodes 1)) ok.garbage;
           names = ok.names;

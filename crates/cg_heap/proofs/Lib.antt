@@ -18,5 +18,6 @@ mod Calls
 mod CallsOnSeats
 mod PutCalls
 mod WeakCalls
+mod MakeCalls
 mod TrackedDictionaries
 mod Saves

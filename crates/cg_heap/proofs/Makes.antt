@@ -16,6 +16,7 @@ use Rattle.cg_graph.specs.Store.{Store, Node, held_within, held_by, inner, count
 use Rattle.cg_graph.specs.Changes.{made, new_node, with_entries}
 use Rattle.cg_graph.proofs.Maps.{total-insert, get-insert_same, get-insert_other}
 use Rattle.cg_arena.specs.Nodes.{ArenaNode, Nodes, count_in, counted_up, node_counted_up, with_node, new_node as new_arena_node}
+use Rattle.cg_heap.specs.declared.heap.objects.Objects.{Objects}
 use Rattle.cg_heap.proofs.ReferenceLemmas.{occurrences-one, one_if}
 use Rattle.cg_heap.specs.Boxes.{code_index, bodies_at, HasBody, spare_in_box}
 use Rattle.cg_heap.specs.Keeps.{HeapKeeps, Shape, Alike, size, one, node_from, seat_in, HasClass, IsWellMadeAt, IsGarbage}
@@ -30,7 +31,7 @@ no_body : {X : Type 0} {Y : Type 0} (y : Option X) → y ≡ None → IsSome y �
 no_body None e h = absurd (cc)
 no_body (Some x) e h = absurd (cc)
 
-module _ (all : List Bodies) (v : Nodes) (objects number : ℕ) (store : Store) (ok : HeapKeeps all v.nodes objects number store) (code : KindCode)
+module _ (all : List Bodies) (v : Nodes) (objects : Objects) (number : ℕ) (store : Store) (ok : HeapKeeps all v.nodes objects number store) (code : KindCode)
     (class : Option ℕ) (parts : List Entry) (body spare : ℕ) (vacant : fin.get (bodies_at all code) body ≡ None) (live : (s : ℕ)
     → 0 < occurrences s (references parts) → IsLive store s) (is_parts : IsParts code parts) (class_fits : HasClass code class) where
   abbrev serial : ℕ
@@ -222,9 +223,9 @@ module _ (all : List Bodies) (v : Nodes) (objects number : ℕ) (store : Store) 
       let (x, found, is, has) = object-of all v.nodes store.nodes 1 m (ok.shape.alike 1) at in
       (λ i. spare_in_box all_made (sym c i) (sym b i)) ∙ ap spare_of (made-kept m has) ∙ (λ i. spare_in_box all (c i) (b i))
 
-  pub keeps-made : objects < length (entries_of store 1) + spare_in_box all ListKind ok.root.body → objects < 1000000 → number + length parts ≤ 4000000
-      → HeapKeeps all_made counts.nodes (objects + 1) (number + length parts) after
-  keeps-made reserved few fits =
+  pub keeps-made : objects.live < objects.savable → objects.live < 1000000 → number + length parts ≤ 4000000
+      → HeapKeeps all_made counts.nodes (record objects { live = objects.live + 1 }) (number + length parts) after
+  keeps-made more few fits =
       record {
         shape = shape-up all_made (counted_up (serial ∷ []) added).nodes after (shape-up all_made added.nodes after shape-made (serial ∷ [])) (references parts);
         counted = counted-made;
@@ -242,9 +243,10 @@ module _ (all : List Bodies) (v : Nodes) (objects number : ℕ) (store : Store) 
           body = ok.root.body;
           seat = seat-up (references parts) (counted_up (serial ∷ []) added).nodes 1 ∙ seat-up (serial ∷ []) added.nodes 1
               ∙ where-other 1 (λ e. let low = ok.shape.below 1 root_live in absurd (omega (arith, e, low))) ∙ ok.root.seat;
+          enough = omega (arith, more);
           ready =
               let len : length (entries_of after 1) ≡ length (entries_of store 1) = ap length root-kept in
-              omega (arith, spare-made, len, reserved);
+              omega (arith, spare-made, len, ok.root.ready);
         };
         garbage = subst (λ es. length es ≤ 1000000) (sym root-kept) ok.garbage;
         names = ok.names;

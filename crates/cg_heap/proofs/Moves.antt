@@ -18,6 +18,7 @@ use Rattle.cg_graph.specs.Store.{Store, Node, held_within, held_by, inner, count
 use Rattle.cg_graph.specs.Changes.{held, named, with_place}
 use Rattle.cg_graph.proofs.Maps.{total-remove, get-remove_same, get-remove_other}
 use Rattle.cg_arena.specs.Nodes.{ArenaNode, Nodes, count_in, counted_up, node_placed, node_finalized, node_numbered, node_lowered, place_of as arena_place_of, place_in as arena_place_in, place_merged as arena_place_merged}
+use Rattle.cg_heap.specs.declared.heap.objects.Objects.{Objects}
 use Rattle.cg_heap.proofs.HoldLemmas.{outside-held, name-sum, name_holds}
 use Rattle.cg_heap.specs.Boxes.{code_index, bodies_at, HasBody, spare_in_box}
 use Rattle.cg_heap.specs.Keeps.{HeapKeeps, Alike, size, one, node_from, seat_in, IsWellMade, IsWellMadeAt, IsGarbage}
@@ -28,7 +29,7 @@ use Rattle.cg_heap.proofs.TakenEntries.{held-live}
 use Rattle.cg_value.specs.declared.Entry.{Entry}
 use Rattle.cg_value.specs.declared.KindCode.TheVariants.{List as ListKind}
 
-module _ (all : List Bodies) (v : Nodes) (objects number : ℕ) (store : Store) (ok : HeapKeeps all v.nodes objects number store) where
+module _ (all : List Bodies) (v : Nodes) (objects : Objects) (number : ℕ) (store : Store) (ok : HeapKeeps all v.nodes objects number store) where
   -- a name gets another value
   module _ (i : ℕ) (old new : Option Val) (was : slice_get store.names i ≡ Some old) (live : (s : ℕ) → 0 < occurrences s (references_of_value new) → IsSome (fin.get v.nodes s)) where
     abbrev pub bound : Store
@@ -73,7 +74,8 @@ module _ (all : List Bodies) (v : Nodes) (objects number : ℕ) (store : Store) 
           root = record {
             body = ok.root.body;
             seat = seat-up (references_of_value new) v.nodes 1 ∙ ok.root.seat;
-            ready = subst (λ (e : List Entry). objects ≤ length e + spare_in_box all ListKind ok.root.body) (sym (held-entries (references_of_value old) (named i new store) 1)) ok.root.ready;
+            enough = ok.root.enough;
+            ready = subst (λ (e : List Entry). objects.savable ≤ length e + spare_in_box all ListKind ok.root.body) (sym (held-entries (references_of_value old) (named i new store) 1)) ok.root.ready;
           };
           garbage = subst (λ e. length e ≤ 1000000) (sym (held-entries (references_of_value old) (named i new store) 1)) ok.garbage;
           names = omega (arith, length-set store.names i new, ok.names);
@@ -190,7 +192,7 @@ module _ (all : List Bodies) (v : Nodes) (objects number : ℕ) (store : Store) 
         absurd (omega (arith, root))
 
     -- the garbage list stays
-    pub others : (total one (fin.remove store.nodes o) ≡ objects) × (0 < objects)
+    pub others : (total one (fin.remove store.nodes o) ≡ objects.live) × (0 < objects.live)
     unfolding held_within
     others =
         let (x, at, is, h) = object-of all v.nodes store.nodes o n (ok.shape.alike o) found in
@@ -208,7 +210,7 @@ module _ (all : List Bodies) (v : Nodes) (objects number : ℕ) (store : Store) 
     abbrev pub all_gone : List Bodies
     all_gone = set all (code_index n.code) (fin.remove (bodies_at all n.code) n.body)
 
-    pub keeps-gone : HeapKeeps all_gone (fin.remove v.nodes o) (objects - 1) number (record store { nodes = fin.remove store.nodes o })
+    pub keeps-gone : HeapKeeps all_gone (fin.remove v.nodes o) (record objects { live = objects.live - 1 }) number (record store { nodes = fin.remove store.nodes o })
     unfolding held_within
     keeps-gone =
         record {
@@ -228,6 +230,7 @@ module _ (all : List Bodies) (v : Nodes) (objects number : ℕ) (store : Store) 
           root = record {
             body = ok.root.body;
             seat = ap seat_in (get-remove_other v.nodes o 1 (λ e. not_root (sym e))) ∙ ok.root.seat;
+            enough = omega (arith, ok.root.enough);
             ready =
                 let kept : spare_in_box all_gone ListKind ok.root.body ≡ spare_in_box all ListKind ok.root.body = spare-left all v.nodes store ok.shape o n
                 found 1 ListKind ok.root.body (λ e. not_root (sym e)) ok.root.seat in

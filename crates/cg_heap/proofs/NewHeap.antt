@@ -11,6 +11,7 @@ use Rattle.cg_value.specs.declared.Entry.{Entry}
 use Rattle.cg_value.specs.declared.Place.TheVariants.{Untracked}
 use Rattle.cg_graph.specs.Rows.{Row}
 use Rattle.cg_graph.specs.Store.{IsLive, HasCode}
+use Rattle.cg_heap.specs.declared.heap.objects.Objects.{Objects}
 use Rattle.cg_heap.proofs.ReferenceLemmas.{occurrences-one, one_if, occurrences-le}
 use Rattle.cg_heap.specs.Keeps.{RowsAndHolds}
 use Rattle.cg_heap.proofs.CallerLemmas.{total-empty, opening_total}
@@ -40,6 +41,10 @@ length_replicate (suc n) x = ap suc (length_replicate n x)
 none_live : {X : Type 0} {Y : Type 0} (y : Option X) → y ≡ None → IsSome y → Y
 none_live None e h = absurd (cc)
 none_live (Some x) e h = absurd (cc)
+
+-- no object is live, and none can be saved
+abbrev no_objects : Objects
+no_objects = record { live = 0; savable = 0 }
 
 module _ (n body spare room : ℕ) where
   abbrev boxes : List Bodies
@@ -109,7 +114,7 @@ module _ (n body spare room : ℕ) where
   root-opening : entries_of (opening_store n) 1 ≡ []
   root-opening = ap entries_in (get-insert_same fin.empty 1 1 garbage_node refl)
 
-  pub keeps-opening : n < 1073741824 → HeapKeeps boxes (counted_up (1 ∷ []) first_nodes).nodes 0 0 (opening_store n)
+  pub keeps-opening : n < 1073741824 → HeapKeeps boxes (counted_up (1 ∷ []) first_nodes).nodes no_objects 0 (opening_store n)
   keeps-opening few = record {
     shape = shape-up boxes first_nodes.nodes (opening_store n) shape-opening (1 ∷ []);
     counted = counted-opening;
@@ -139,6 +144,7 @@ module _ (n body spare room : ℕ) where
     root = record {
       body = body;
       seat = seat-up (1 ∷ []) first_nodes.nodes 1 ∙ ap seat_in (get-insert_same fin.empty 1 1 node refl);
+      enough = omega arith;
       ready = omega arith;
     };
     garbage = omega (arith, ap length root-opening);
@@ -155,15 +161,15 @@ kept-opening n = record {
 pub opened : (n body room : ℕ) → n < 1073741824 → (all : List Bodies) → all ≡ boxes_with_body empties ListKind body [] (spare_in_box all ListKind body)
     → (v w x : Nodes) → v ≡ no_nodes v.room → w ≡ with_node 1 (new_node ListKind None body Untracked) (with_room room v) → x ≡ counted_up (1 ∷ []) w
     → (names : List (Option Val)) → names ≡ replicate n None → (rows : List Row) → rows ≡ []
-    → Closed all x names 1 rows 0 0 (opening_store n)
+    → Closed all x names 1 rows no_objects 0 (opening_store n)
 opened n body room few all made v w x none added counted names unbound rows empty =
-    subst (λ rs. Closed all x names 1 rs 0 0 (opening_store n)) (sym empty)
-    (subst (λ bs. Closed bs x names 1 [] 0 0 (opening_store n)) (sym made)
-    (subst (λ z. Closed (boxes n body (spare_in_box all ListKind body) room) z names 1 [] 0 0 (opening_store n))
+    subst (λ rs. Closed all x names 1 rs no_objects 0 (opening_store n)) (sym empty)
+    (subst (λ bs. Closed bs x names 1 [] no_objects 0 (opening_store n)) (sym made)
+    (subst (λ z. Closed (boxes n body (spare_in_box all ListKind body) room) z names 1 [] no_objects 0 (opening_store n))
     (sym (counted ∙ ap (counted_up (1 ∷ [])) (added ∙ ap (λ u. with_node 1 (new_node ListKind None body Untracked) (with_room room u)) none)))
     (subst (λ ns. Closed (boxes n body (spare_in_box all ListKind body) room) (counted_up (1 ∷ []) (first_nodes n body (spare_in_box all ListKind body) room))
-    ns 1 [] 0 0 (opening_store n)) (sym unbound)
-    (closed (boxes n body (spare_in_box all ListKind body) room) (counted_up (1 ∷ []) (first_nodes n body (spare_in_box all ListKind body) room)) 0 0
+    ns 1 [] no_objects 0 (opening_store n)) (sym unbound)
+    (closed (boxes n body (spare_in_box all ListKind body) room) (counted_up (1 ∷ []) (first_nodes n body (spare_in_box all ListKind body) room)) no_objects 0
     (opening_store n) (keeps-opening n body (spare_in_box all ListKind body) room few) (kept-opening n) refl))))
 
 pub first-added : (body room : ℕ) (v w : Nodes) → w ≡ with_node 1 (new_node ListKind None body Untracked) (with_room room v) → fin.get w.nodes 1 ≡ Some (new_node ListKind None body Untracked)

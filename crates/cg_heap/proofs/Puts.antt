@@ -16,6 +16,7 @@ use Rattle.cg_graph.specs.Value.{references, entry_references, references_of_val
 use Rattle.cg_graph.specs.Store.{Store, Node, IsLive, entries_of, entries_in}
 use Rattle.cg_graph.specs.Changes.{held, rewritten, with_entries}
 use Rattle.cg_arena.specs.Nodes.{ArenaNode, Nodes, counted_up}
+use Rattle.cg_heap.specs.declared.heap.objects.Objects.{Objects}
 use Rattle.cg_heap.proofs.HoldLemmas.{outside-held, outside-rewritten}
 use Rattle.cg_heap.proofs.ReferenceLemmas.{occurrences-append, references-append}
 use Rattle.cg_heap.specs.Keeps.{HeapKeeps, IsWellMade, IsGarbage}
@@ -26,7 +27,7 @@ use Rattle.cg_heap.proofs.TakenEntries.{held-live}
 use Rattle.cg_heap.specs.Boxes.{spare_in_box}
 
 -- Changed entries: what enters is counted, what leaves is held.
-pub keeps-put : (all : List Bodies) (v : Nodes) (objects number : ℕ) (store : Store) (ok : HeapKeeps all v.nodes objects number store) (o : ℕ) (n : ArenaNode)
+pub keeps-put : (all : List Bodies) (v : Nodes) (objects : Objects) (number : ℕ) (store : Store) (ok : HeapKeeps all v.nodes objects number store) (o : ℕ) (n : ArenaNode)
     (found : fin.get v.nodes o ≡ Some n) (es : List Entry) (spare : ℕ) (ups outs : List ℕ)
     → ((s : ℕ) → occurrences s (references es) + occurrences s outs ≡ occurrences s (references (entries_of store o)) + occurrences s ups)
     → ((s : ℕ) → occurrences s outs ≤ occurrences s (references (entries_of store o)))
@@ -62,6 +63,7 @@ keeps-put all v objects number store ok o n found es spare ups outs balance were
       root = record {
         body = ok.root.body;
         seat = seat-up ups v.nodes 1 ∙ ok.root.seat;
+        enough = ok.root.enough;
         ready =
             let kept : spare_in_box (all_after all v.nodes store ok.shape o n found es spare) ListKind ok.root.body ≡ spare_in_box all ListKind ok.root.body =
             spare-kept all v.nodes store ok.shape o n found es spare 1 ListKind ok.root.body (λ e. other (sym e)) ok.root.seat in

@@ -12,6 +12,7 @@ use Rattle.cg_graph.specs.Value.{references}
 use Rattle.cg_graph.specs.Store.{Store, Node, held_within, held_by, inner, outside_of, outside_in, IsLive}
 use Rattle.cg_graph.proofs.Maps.{total-remove}
 use Rattle.cg_arena.specs.Nodes.{ArenaNode, count_in}
+use Rattle.cg_heap.specs.declared.heap.objects.Objects.{Objects}
 use Rattle.cg_heap.proofs.ReferenceLemmas.{names-le, occurrences-le, occurrences-one, one_if, references-le}
 use Rattle.cg_heap.specs.Keeps.{HeapKeeps, Alike, size, RowsAndHolds}
 
@@ -38,13 +39,13 @@ pub inner-le : (store : Store) (s : ℕ) → inner store s ≤ length store.name
 unfolding held_within
 inner-le store s = omega (arith, occurrences-le s (name_holdings store.names), names-le store.names, occurrences-le s (1 ∷ []), sum-le s (fin.entries store.nodes))
 
-pub room-below : (all : List Bodies) (nodes : fin.FinMap nat_cmp ArenaNode) (objects number : ℕ) (store : Store) → HeapKeeps all nodes objects number store
+pub room-below : (all : List Bodies) (nodes : fin.FinMap nat_cmp ArenaNode) (objects : Objects) (number : ℕ) (store : Store) → HeapKeeps all nodes objects number store
     → RowsAndHolds store → (s : ℕ) → count_in (fin.get nodes s) < 4000000000
 room-below all nodes objects number store ok rest s =
     omega (arith, ok.counted s, inner-le store s, outside-le store s, ok.sized, ok.entry_limit, ok.garbage, ok.names, rest.holds)
 
 -- the nodes and the store agree on liveness
-pub live-node : (all : List Bodies) (nodes : fin.FinMap nat_cmp ArenaNode) (objects number : ℕ) (store : Store) → HeapKeeps all nodes objects number store
+pub live-node : (all : List Bodies) (nodes : fin.FinMap nat_cmp ArenaNode) (objects : Objects) (number : ℕ) (store : Store) → HeapKeeps all nodes objects number store
     → (s : ℕ) → IsLive store s → IsSome (fin.get nodes s)
 live-node all nodes objects number store ok s live = known (fin.get nodes s) (fin.get store.nodes s) (ok.shape.alike s) live
   where
@@ -65,6 +66,6 @@ one-enough store o has s =
           omega (arith, is, occurrences-one s o)
     ]
 
-pub counted-has : (all : List Bodies) (nodes : fin.FinMap nat_cmp ArenaNode) (objects number : ℕ) (store : Store) → HeapKeeps all nodes objects number store
+pub counted-has : (all : List Bodies) (nodes : fin.FinMap nat_cmp ArenaNode) (objects : Objects) (number : ℕ) (store : Store) → HeapKeeps all nodes objects number store
     → (s : ℕ) → 0 < outside_of store s → 0 < count_in (fin.get nodes s)
 counted-has all nodes objects number store ok s has = omega (arith, ok.counted s, has)

@@ -12,6 +12,7 @@ use Rattle.cg_graph.specs.Value.{references}
 use Rattle.cg_graph.specs.Store.{Store, Node, inner, count_of, IsLive, entries_of, entries_in}
 use Rattle.cg_graph.specs.Changes.{held, rewritten, with_entries}
 use Rattle.cg_arena.specs.Nodes.{ArenaNode, Nodes, count_in}
+use Rattle.cg_heap.specs.declared.heap.objects.Objects.{Objects}
 use Rattle.cg_heap.proofs.HoldLemmas.{outside-held, outside-rewritten}
 use Rattle.cg_heap.proofs.ReferenceLemmas.{occurrences-append}
 use Rattle.cg_heap.specs.Keeps.{HeapKeeps, Alike, size, IsWellMade, IsGarbage, IsSaved, seat_in}
@@ -23,7 +24,7 @@ use Rattle.std.proofs.lemmas.Option.{some_pair_parts}
 use Rattle.cg_value.specs.declared.KindCode.TheVariants.{List as ListKind}
 
 -- a held object is live
-pub held-live : (all : List Bodies) (nodes : fin.FinMap nat_cmp ArenaNode) (objects number : ℕ) (store : Store) → HeapKeeps all nodes objects number store
+pub held-live : (all : List Bodies) (nodes : fin.FinMap nat_cmp ArenaNode) (objects : Objects) (number : ℕ) (store : Store) → HeapKeeps all nodes objects number store
     → (s : ℕ) → 0 < inner store s → IsLive store s
 held-live all nodes objects number store ok s held = known (fin.get nodes s) (fin.get store.nodes s) (ok.shape.alike s) (omega (arith, ok.counted s, held))
   where
@@ -38,7 +39,7 @@ number_less-other o number differs = ap (λ b. if b then number else number - 1)
 number_less-same : (o number : ℕ) → o ≡ 1 → number_less o number ≡ number
 number_less-same o number same = ap (λ b. if b then number else number - 1) (eq-eqb o 1 same)
 
-module _ (all : List Bodies) (v : Nodes) (objects number : ℕ) (store : Store) (ok : HeapKeeps all v.nodes objects number store) (o : ℕ) (n : ArenaNode)
+module _ (all : List Bodies) (v : Nodes) (objects : Objects) (number : ℕ) (store : Store) (ok : HeapKeeps all v.nodes objects number store) (o : ℕ) (n : ArenaNode)
     (found : fin.get v.nodes o ≡ Some n) (es : List Entry) (spare : ℕ) where
   abbrev after : List Bodies
   after = all_after all v.nodes store ok.shape o n found es spare
@@ -71,7 +72,7 @@ module _ (all : List Bodies) (v : Nodes) (objects number : ℕ) (store : Store) 
           object_limit = ok.object_limit;
           entry_limit = (sizes x at).1;
           saves = saves_now x at;
-          root = record { body = ok.root.body; seat = ok.root.seat; ready = ready_now x at };
+          root = record { body = ok.root.body; seat = ok.root.seat; enough = ok.root.enough; ready = ready_now x at };
           garbage = (sizes x at).2;
           names = ok.names;
         }
@@ -117,7 +118,7 @@ module _ (all : List Bodies) (v : Nodes) (objects number : ℕ) (store : Store) 
               | inr differs ↦ subst IsGarbage (sym (entries_other x at differs)) ok.saves
             ]
 
-        ready_now : (x : Node) → fin.get store.nodes o ≡ Some x → objects ≤ length (entries_of taken 1) + spare_in_box after ListKind ok.root.body
+        ready_now : (x : Node) → fin.get store.nodes o ≡ Some x → objects.savable ≤ length (entries_of taken 1) + spare_in_box after ListKind ok.root.body
         ready_now x at =
             elim (cases_eq o 1) [
               | inl same ↦

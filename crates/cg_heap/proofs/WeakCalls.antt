@@ -10,6 +10,7 @@ use Rattle.cg_graph.specs.Rows.{Row}
 use Rattle.cg_graph.specs.Store.{Store, IsLive, HasCode}
 use Rattle.cg_graph.specs.Changes.{made}
 use Rattle.cg_arena.specs.Nodes.{Nodes}
+use Rattle.cg_heap.specs.declared.heap.objects.Objects.{Objects}
 use Rattle.cg_heap.specs.Keeps.{store_of}
 use Rattle.cg_heap.proofs.HeapIsStore.{Closed, closed}
 use Rattle.cg_graph.specs.Rows.{with_row_waiting, without_row}
@@ -19,7 +20,8 @@ use Rattle.cg_heap.proofs.RowsAndHolds.{kept-attached, kept-cleared, kept-forgot
 use Rattle.std.proofs.lemmas.List.Elements.{All-weaker}
 use Rattle.cg_heap.proofs.Calls.{keeps-aside}
 
-module _ {all : List Bodies} {v : Nodes} {names : List (Option Val)} {last : ℕ} {rows : List Row} {objects number : ℕ} {old : Store} (h : Closed all v names last rows objects number old) where
+module _ {all : List Bodies} {v : Nodes} {names : List (Option Val)} {last : ℕ} {rows : List Row} {objects : Objects} {number : ℕ} {old : Store}
+    (h : Closed all v names last rows objects number old) where
   abbrev was : Store
   was = store_of all v names last rows
 
@@ -55,7 +57,8 @@ module _ {all : List Bodies} {v : Nodes} {names : List (Option Val)} {last : ℕ
       (subst (λ s. IfSome referent (λ o. IsLive s o)) (sym h.is) live)
       h.keeps.1) refl))
 
-module _ {all : List Bodies} {v : Nodes} {names : List (Option Val)} {last : ℕ} {rows : List Row} {objects number : ℕ} {old : Store} (h : Closed all v names last rows objects number old) where
+module _ {all : List Bodies} {v : Nodes} {names : List (Option Val)} {last : ℕ} {rows : List Row} {objects : Objects} {number : ℕ} {old : Store}
+    (h : Closed all v names last rows objects number old) where
   old_below : (s : ℕ) → IsLive old s → s ≤ old.last
   old_below = subst (λ (o : Store). (s : ℕ) → IsLive o s → s ≤ o.last) h.is h.keeps.0.shape.below
 
@@ -64,7 +67,7 @@ module _ {all : List Bodies} {v : Nodes} {names : List (Option Val)} {last : ℕ
 
   -- and its row is added
   pub after_making : (code : KindCode) (class : Option ℕ) (parts : List Entry) (referent : Option ℕ) → HasReferent code referent
-      → IfSome referent (λ o. IsLive old o) → (all' : List Bodies) (v' : Nodes) (objects' number' : ℕ) → Closed all' v' names (last + 1) rows objects' number'
+      → IfSome referent (λ o. IsLive old o) → (all' : List Bodies) (v' : Nodes) (objects' : Objects) (number' : ℕ) → Closed all' v' names (last + 1) rows objects' number'
       (made code class parts old)
       → (rows' : List Row) → rows' ≡ with_new_row (last + 1) referent rows → Closed all' v' names (last + 1) rows' objects' number' (attached (old.last + 1) referent (made code class parts old))
   after_making code class parts referent has live all' v' objects' number' made_so rows' e =

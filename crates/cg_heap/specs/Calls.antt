@@ -1,8 +1,9 @@
 -- What the calls of a heap require and what they change. (Ours.)
-use Rattle.std.specs.Prelude.{◌≡◌, ℕ, ◌-◌, ◌<◌, ◌≤◌, ◌==◌, if◌then◌else◌, Bool, true, false, not, ◌&&◌, ◌||◌, Option, Some, None, List, length, option_map, slice_get}
+use Rattle.std.specs.Prelude.{◌≡◌, ℕ, ◌+◌, ◌-◌, ◌<◌, ◌≤◌, ◌==◌, if◌then◌else◌, Bool, true, false, not, ◌&&◌, ◌||◌, Option, Some, None, List, [], ◌∷◌, length, option_map, slice_get}
 use Rattle.std.specs.FinMap as fin
 use Rattle.cg_value.specs.declared.Val.{Val}
 use Rattle.cg_value.specs.declared.Val.TheVariants.{None as Nothing, Int, Str, Ref}
+use Rattle.cg_value.specs.declared.Entry.{Entry}
 use Rattle.cg_value.specs.declared.KindCode.{KindCode}
 use Rattle.cg_value.specs.declared.KindCode.TheVariants.{List as ListKind, Tuple, Dict, Inst}
 use Rattle.cg_value.specs.declared.Place.{Place}
@@ -14,11 +15,11 @@ use Rattle.cg_graph.specs.Value.{references_of_value}
 use Rattle.cg_graph.specs.Holdings.{occurrences}
 use Rattle.cg_graph.specs.Places.{place_number, list_of, merge_lists}
 use Rattle.cg_graph.specs.Store.{Store, Node, IsLive, HasCode, entries_of, inner, count_of}
-use Rattle.cg_graph.specs.Changes.{held, rewritten, moved, with_place}
+use Rattle.cg_graph.specs.Changes.{held, unheld, rewritten, named, made, moved, with_place}
 use Rattle.cg_graph.specs.declared.limits.TheConstants.{MOST_ENTRIES, MOST_OBJECTS}
 use Rattle.cg_arena.specs.Nodes.{count_in_list, number_lowered}
 use Rattle.cg_heap.specs.Keeps.{size, one, IsWellMadeAt, IsGarbage, outside_total}
-use Rattle.cg_heap.specs.Weak.{AreRows}
+use Rattle.cg_heap.specs.Weak.{AreRows, attached}
 
 -- All objects together have fewer than 2^31 - 2 outside holds, so that a call may add two. (Ours: it keeps every count
 -- within 2^32 - 1.)
@@ -84,6 +85,12 @@ value_in store o key = value_under (code_of store o) (entries_of store o) key
 -- Puts a value under a key; the value it replaces becomes held from outside.
 abbrev pub with_put : Store → ℕ → Val → Val → Store
 with_put store o key val = held (references_of_value (value_in store o key)) (rewritten o (after_put (code_of store o) (entries_of store o) key val) store)
+
+-- Makes an object and binds a name to it; the name's reference takes the place of the outside hold. The name's old value
+-- becomes held from outside.
+abbrev pub made_named : ℕ → Option Val → KindCode → Option ℕ → List Entry → Option ℕ → Store → Store
+made_named name old code class parts referent store = held (references_of_value old) (named name (Some (Ref (store.last + 1))) (unheld ((store.last + 1) ∷ [])
+    (attached (store.last + 1) referent (made code class parts store))))
 
 -- An object may be tracked if it is not a tuple, or is a tracked tuple; an atom may not. (Developer guide,
 -- "optimization: delay tracking containers".)

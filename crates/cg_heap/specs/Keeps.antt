@@ -12,7 +12,8 @@ use Rattle.cg_graph.specs.Rows.{Row}
 use Rattle.cg_graph.specs.declared.limits.TheConstants.{MOST_ENTRIES, MOST_OBJECTS}
 use Rattle.cg_graph.specs.Store.{Store, Node, held_within, count_of, IsLive, entries_of}
 use Rattle.cg_arena.specs.Nodes.{ArenaNode, Nodes, count_in}
-use Rattle.cg_heap.specs.Boxes.{HasBody, entries_in_box, spare_in_box}
+use Rattle.cg_heap.specs.declared.heap.objects.Objects.{Objects}
+use Rattle.cg_heap.specs.Boxes.{HasBody, entries_in_box, spare_in_box, boxes_with_body}
 use Rattle.cg_value.specs.declared.Val.TheVariants.{Ref}
 use Rattle.cg_value.specs.declared.Entry.{Entry}
 use Rattle.cg_graph.specs.Value.{item, references}
@@ -88,11 +89,24 @@ pub record IsGarbage (entries : List Entry) : Type 0 where
   pub saved : All IsSaved entries
   pub once : (s : ℕ) → occurrences s (1 ∷ references entries) ≤ 1
 
--- The garbage list has room for each live object that it does not name yet.
-pub record HasRoomToSave (all : List Bodies) (nodes : fin.FinMap nat_cmp ArenaNode) (objects : ℕ) (store : Store) : Type 0 where
+-- The garbage list has room for each live object that it does not name yet: it holds `savable` items without allocating.
+pub record HasRoomToSave (all : List Bodies) (nodes : fin.FinMap nat_cmp ArenaNode) (objects : Objects) (store : Store) : Type 0 where
   pub body : ℕ
   pub seat : seat_in (fin.get nodes 1) ≡ Some (ListKind, body)
-  pub ready : objects ≤ length (entries_of store 1) + spare_in_box all ListKind body
+  pub enough : objects.live ≤ objects.savable
+  pub ready : objects.savable ≤ length (entries_of store 1) + spare_in_box all ListKind body
+
+-- The list at a place has no more items than there are live objects, and holds `savable` without allocating.
+pub record CanSave (all : List Bodies) (objects : Objects) (body : ℕ) : Type 0 where
+  pub held : HasBody all ListKind body
+  pub few : length (entries_in_box all ListKind body) ≤ objects.live
+  pub ready : objects.savable ≤ length (entries_in_box all ListKind body) + spare_in_box all ListKind body
+
+-- Afterwards it holds `savable` items without allocating, more than there are live objects; all else is unchanged.
+pub record CanSaveOneMore (old new : List Bodies) (live savable body : ℕ) : Type 0 where
+  pub same : new ≡ boxes_with_body old ListKind body (entries_in_box old ListKind body) (spare_in_box new ListKind body)
+  pub more : live < savable
+  pub ready : savable ≤ length (entries_in_box old ListKind body) + spare_in_box new ListKind body
 
 -- boxes, nodes and objects agree, except for the counts
 pub record Shape (all : List Bodies) (nodes : fin.FinMap nat_cmp ArenaNode) (store : Store) : Type 0 where
@@ -104,14 +118,14 @@ pub record Shape (all : List Bodies) (nodes : fin.FinMap nat_cmp ArenaNode) (sto
 
 -- The invariant of a heap: the fields agree, and the counts are right. The garbage list and its entries do not count
 -- towards the limits.
-pub record HeapKeeps (all : List Bodies) (nodes : fin.FinMap nat_cmp ArenaNode) (objects entries : ℕ) (store : Store) : Type 0 where
+pub record HeapKeeps (all : List Bodies) (nodes : fin.FinMap nat_cmp ArenaNode) (objects : Objects) (entries : ℕ) (store : Store) : Type 0 where
   pub shape : Shape all nodes store
   -- the count is the in-degree, so a held object is live
   pub counted : (s : ℕ) → count_in (fin.get nodes s) ≡ count_of store s
   pub well : (s : ℕ) → IsWellMadeAt (fin.get store.nodes s)
-  pub numbered : total one store.nodes ≡ objects + 1
+  pub numbered : total one store.nodes ≡ objects.live + 1
   pub sized : total size store.nodes ≡ entries + length (entries_of store 1)
-  pub object_limit : objects ≤ MOST_OBJECTS
+  pub object_limit : objects.live ≤ MOST_OBJECTS
   pub entry_limit : entries ≤ MOST_ENTRIES
   pub saves : IsGarbage (entries_of store 1)
   pub root : HasRoomToSave all nodes objects store

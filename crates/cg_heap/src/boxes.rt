@@ -275,6 +275,14 @@ impl<B: Kind> Boxes<B> {
         lists.append_reserved(list, val);
     }
 
+    /// Whether there is no body of the kind. If the kind does not know, the answer is `false`.
+    pub fn has_none(&self, code: KindCode) -> bool
+        ensures { IsTrue result → bodies_at self.now code ≡ fin.empty }
+    {
+        let kind = &self.kinds[index_of(code)];
+        kind.is_empty()
+    }
+
     /// Frees the place of an empty body.
     pub fn free(&mut self, seat: Seat)
         requires held { HasBody self.old seat.code seat.body }

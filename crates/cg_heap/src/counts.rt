@@ -129,7 +129,9 @@ pub fn first_place(code: KindCode) -> Place
     }
 }
 
-/// Adds the node of a new object, held once from outside, and counts its references.
+/// Adds the node of a new object, held once from outside, and counts its references. Returns its
+/// slot.
+#[inline(always)]
 pub fn add_object(
     arena: &mut Arena,
     serial: u64,
@@ -137,7 +139,7 @@ pub fn add_object(
     class: Option<u32>,
     body: usize,
     parts: &[Entry],
-)
+) -> Near
     requires fresh { fin.get arena.old.nodes serial ≡ None }
     requires spare { 0 < arena.old.room }
     requires live { (s : ℕ) → 0 < occurrences s (references parts.now) → HasNode arena.old s }
@@ -147,7 +149,7 @@ pub fn add_object(
         (with_node serial (new_node code class body (place_at_first code))
         (with_room room arena.old))))) }
 {
-    arena.add_reserved(serial, code, class, body, first_place(code));
-    arena.inc(serial);
+    let near = arena.add_held(serial, code, class, body, first_place(code));
     count_all(arena, parts);
+    near
 }

@@ -1,5 +1,5 @@
 //! The heap: its type, `new`, and its queries.
-ghost use Rattle.std.specs.Prelude.{◌≡◌, ◌<◌, IfOk, IfSome, IfNone, OnSome, IsTrue, ◌↔◌, Some, None, map, replicate, length, position, slice_get};
+ghost use Rattle.std.specs.Prelude.{◌≡◌, ◌<◌, ℕ, IfOk, IfSome, IfNone, OnSome, IsTrue, ◌↔◌, Some, None, map, replicate, length, position, slice_get};
 ghost use Rattle.std.specs.FinMap as fin;
 ghost use Rattle.cg_kind.specs.Calls.{has_key};
 ghost use Rattle.cg_graph.specs.Value.{value_at};
@@ -25,6 +25,7 @@ use cg_arena::{Arena, Head, Near};
 use cg_kind::Kind;
 use cg_value::{Entry, KindCode, Place, Val};
 use cg_weak::WeakTable;
+use objects::Objects;
 use std::alloc::{AllocError, Global};
 use std::marker::Model;
 
@@ -38,8 +39,8 @@ use std::marker::Model;
 ///
 /// Every call that takes a serial requires it to be live, every call that takes a name requires it
 /// to be below the number given to `new`, and every call that takes a place requires a generation
-/// of at most 2. Only `new`, `make`, `append` and `put` can fail for lack of memory. `take` and
-/// `take_key` may allocate an order of many keys, and do without if that fails.
+/// of at most 2. Only `new`, `make`, `make_named`, `append` and `put` can fail for lack of memory.
+/// `take` and `take_key` may allocate an order of many keys, and do without if that fails.
 #[derive(Drop)]
 pub struct Heap<B: Kind> {
     boxes: Boxes<B>,
@@ -47,7 +48,7 @@ pub struct Heap<B: Kind> {
     weak: WeakTable,
     names: Names,
     last: u64,
-    objects: u64,
+    objects: Objects,
     entries: u64,
 }
 
@@ -90,7 +91,10 @@ impl<B: Kind> Heap<B> {
             weak: WeakTable::new(alloc),
             names,
             last: 1,
-            objects: 0,
+            objects: Objects {
+                live: 0,
+                savable: 0,
+            },
             entries: 0,
         })
     }
@@ -122,7 +126,7 @@ impl<B: Kind> Heap<B> {
     pub fn live(&self) -> u64
         ensures { result ≡ object_number self.now }
     {
-        self.objects
+        self.objects.live
     }
 
     /// The number of entries of live objects, not counting those of the garbage list.
@@ -137,6 +141,13 @@ impl<B: Kind> Heap<B> {
         ensures { IsTrue result ↔ IsLive self.now object }
     {
         self.arena.has(object)
+    }
+
+    /// Whether no object of this kind is live. If its box does not know, the answer is `false`.
+    pub fn has_none(&self, code: KindCode) -> bool
+        ensures { IsTrue result → (s : ℕ) → ¬ (HasCode self.now s code) }
+    {
+        self.boxes.has_none(code)
     }
 
     /// The kind.

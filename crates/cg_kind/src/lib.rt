@@ -6,7 +6,7 @@
 //! keeps the map.
 #![tactic(auto)]
 
-ghost use Rattle.std.specs.Prelude.{◌≡◌, ◌≢◌, ◌<◌, ◌≤◌, ◌+◌, ◌-◌, ◌++◌, ◌∷◌, ◌↔◌, [], length, take, IfOk, OnOk, OnErr, IfSome, OnSome, IfNone, IsNone, IsSome, IsOk, None, Some, position, slice_get};
+ghost use Rattle.std.specs.Prelude.{◌≡◌, ◌≢◌, ◌<◌, ◌≤◌, ◌+◌, ◌-◌, ◌++◌, ◌∷◌, ◌↔◌, [], length, take, IfOk, OnOk, OnErr, IfSome, OnSome, IfNone, IsNone, IsSome, IsTrue, IsOk, None, Some, position, slice_get};
 ghost use Rattle.std.specs.FinMap as fin;
 ghost use Rattle.cg_value.specs.declared.KindCode.{KindCode};
 ghost use Rattle.cg_value.specs.declared.KindCode.TheVariants as code;
@@ -22,8 +22,8 @@ use std::alloc::AllocError;
 
 /// A kind of objects. It keeps the entries of its objects, each object at a place.
 ///
-/// Every call except `code` and `make` needs a place that holds an object. An entry that leaves is
-/// returned.
+/// Every call except `code`, `make` and `is_empty` needs a place that holds an object. An entry
+/// that leaves is returned.
 pub trait Kind: Drop {
     /// Which of the six kinds it is.
     ghost kind: { Self → KindCode };
@@ -204,6 +204,13 @@ pub trait Kind: Drop {
         Ok(())
     }
 
+    /// Whether it has no object. A kind that does not know answers `false`.
+    fn is_empty(&self) -> bool
+        ensures { IsTrue result → bodies self.now ≡ fin.empty }
+    {
+        false
+    }
+
     /// Frees the place of an empty object.
     fn free(&mut self, at: usize)
         requires held { Holds (bodies self.old) at }
@@ -291,6 +298,11 @@ impl Kind for Box<dyn Kind> {
     #[inline(always)]
     fn append(&mut self, at: usize, val: Val) -> Result<(), AllocError> {
         (**self).append(at, val)
+    }
+
+    #[inline(always)]
+    fn is_empty(&self) -> bool {
+        (**self).is_empty()
     }
 
     #[inline(always)]

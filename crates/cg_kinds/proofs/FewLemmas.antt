@@ -10,15 +10,10 @@ use Rattle.cg_value.specs.declared.Val.{Val}
 use Rattle.cg_value.specs.declared.Entry.{Entry}
 use Rattle.cg_graph.specs.Value.{same_value, value_at, put}
 use Rattle.cg_kind.specs.Calls.{has_key}
-use Rattle.cg_kinds.proofs.KeyLemmas.{same_is}
+use Rattle.cg_kinds.proofs.KeyLemmas.{same_is, not_first}
 
 module _ (key : Val) where
-  -- whether the first of the rest has the key
-  pub found_here : (i : ℕ) (es : List Entry) (d : Entry) → i < length es → has_key key (get_or es i d) ≡ true → position_from (has_key key) i (drop i es) ≡ Some i
-  found_here i es d within has =
-      ap (position_from (has_key key) i) (drop_more es i d within)
-      ∙ ap (λ b. cond b (Some i) (position_from (has_key key) (i + 1) (drop (i + 1) es))) has
-
+  -- the first of the rest lacks the key
   pub found_later : (i : ℕ) (es : List Entry) (d : Entry) → i < length es → has_key key (get_or es i d) ≡ false → position_from (has_key key) i (drop i es)
       ≡ position_from (has_key key) (i + 1) (drop (i + 1) es)
   found_later i es d within lacks =
@@ -28,12 +23,9 @@ module _ (key : Val) where
   -- if a key is not found, it has no value
   pub value_none : (i : ℕ) (es : List Entry) → position_from (has_key key) i es ≡ None → value_at es key ≡ None
   value_none i [] none = refl
-  value_none i (e ∷ es) none = by (same_value e.key key) none (value_none (i + 1) es)
-    where
-      by : (b : Bool) → cond b (Some i) (position_from (has_key key) (i + 1) es) ≡ None → (position_from (has_key key) (i + 1) es ≡ None → value_at es key
-          ≡ None) → cond b (Some e.val) (value_at es key) ≡ None
-      by true h again = absurd (cc)
-      by false h again = again h
+  value_none i (e ∷ es) none =
+      let other = not_first (same_value e.key key) i (position_from (has_key key) (i + 1) es) none in
+      ap (λ b. cond b (Some e.val) (value_at es key)) other.0 ∙ value_none (i + 1) es other.1
 
   -- the entry at this position has the key, and none before it has
   pub record IsFound (es : List Entry) (k : ℕ) : Type 0 where
@@ -81,12 +73,9 @@ module _ (key : Val) where
   -- a put among entries without the key appends
   pub back_put : (val : Val) (xs ys : List Entry) → value_at xs key ≡ None → put (xs ++ ys) key val ≡ xs ++ put ys key val
   back_put val [] ys none = refl
-  back_put val (e ∷ xs) ys none = by (same_value e.key key) none (back_put val xs ys)
-    where
-      by : (b : Bool) → cond b (Some e.val) (value_at xs key) ≡ None → (value_at xs key ≡ None → put (xs ++ ys) key val ≡ xs ++ put ys key val)
-          → cond b (record { key = e.key; val = val } ∷ xs ++ ys) (e ∷ put (xs ++ ys) key val) ≡ e ∷ xs ++ put ys key val
-      by true h again = absurd (cc)
-      by false h again = ap (λ l. e ∷ l) (again h)
+  back_put val (e ∷ xs) ys none =
+      let other = not_first (same_value e.key key) e.val (value_at xs key) none in
+      ap (λ b. cond b (record { key = e.key; val = val } ∷ xs ++ ys) (e ∷ put (xs ++ ys) key val)) other.0 ∙ ap (λ l. e ∷ l) (back_put val xs ys other.1)
 
   -- the entry found by a search
   pub found_first : (es : List Entry) (k : ℕ) → position_from (has_key key) 0 es ≡ Some k → IsFound es k

@@ -5,7 +5,7 @@ use Rattle.cg_value.specs.declared.Val.{Val}
 use Rattle.cg_value.specs.declared.Entry.{Entry}
 use Rattle.cg_graph.specs.Value.{same_value, value_at, put}
 use Rattle.cg_kinds.specs.Pairs.{AreKeysOnce}
-use Rattle.cg_kinds.proofs.KeyLemmas.{same_is}
+use Rattle.cg_kinds.proofs.KeyLemmas.{same_is, not_first}
 
 -- inequality of values is symmetric
 differs : (a b : Val) → same_value a b ≡ false → same_value b a ≡ false
@@ -45,16 +45,10 @@ once_replaced old new key val None is stays once = subst AreKeysOnce (sym stays)
 absent_remove : (es : List Entry) (i : ℕ) (k : Val) → value_at es k ≡ None → value_at (remove es i) k ≡ None
 absent_remove [] zero k none = none
 absent_remove [] (suc i) k none = none
-absent_remove (e ∷ es) zero k none = by (same_value e.key k) none
-  where
-    by : (b : Bool) → cond b (Some e.val) (value_at es k) ≡ None → value_at es k ≡ None
-    by true h = absurd (cc)
-    by false h = h
-absent_remove (e ∷ es) (suc i) k none = by (same_value e.key k) none (absent_remove es i k)
-  where
-    by : (b : Bool) → cond b (Some e.val) (value_at es k) ≡ None → (value_at es k ≡ None → value_at (remove es i) k ≡ None) → cond b (Some e.val) (value_at (remove es i) k) ≡ None
-    by true h again = absurd (cc)
-    by false h again = again h
+absent_remove (e ∷ es) zero k none = (not_first (same_value e.key k) e.val (value_at es k) none).1
+absent_remove (e ∷ es) (suc i) k none =
+    let other = not_first (same_value e.key k) e.val (value_at es k) none in
+    ap (λ b. cond b (Some e.val) (value_at (remove es i) k)) other.0 ∙ absent_remove es i k other.1
 
 pub once_remove : (es : List Entry) (i : ℕ) → AreKeysOnce es → AreKeysOnce (remove es i)
 once_remove [] zero once = once
@@ -64,11 +58,9 @@ once_remove (e ∷ es) (suc i) once = (absent_remove es i e.key once.0, once_rem
 
 absent_front : (es back : List Entry) (k : Val) → value_at (es ++ back) k ≡ None → value_at es k ≡ None
 absent_front [] back k none = refl
-absent_front (e ∷ es) back k none = by (same_value e.key k) none (absent_front es back k)
-  where
-    by : (b : Bool) → cond b (Some e.val) (value_at (es ++ back) k) ≡ None → (value_at (es ++ back) k ≡ None → value_at es k ≡ None) → cond b (Some e.val) (value_at es k) ≡ None
-    by true h again = absurd (cc)
-    by false h again = again h
+absent_front (e ∷ es) back k none =
+    let other = not_first (same_value e.key k) e.val (value_at (es ++ back) k) none in
+    ap (λ b. cond b (Some e.val) (value_at es k)) other.0 ∙ absent_front es back k other.1
 
 once_front : (es back : List Entry) → AreKeysOnce (es ++ back) → AreKeysOnce es
 once_front [] back once = tt
@@ -80,16 +72,8 @@ once_popped old new last is once = once_front new (option_to_list last) (subst A
 -- the keys of two entries differ
 later_key : (es : List Entry) (i : ℕ) (d : Entry) (k : Val) → value_at es k ≡ None → i < length es → same_value k (get_or es i d).key ≡ false
 later_key [] i d k none within = absurd (omega (arith, within))
-later_key (e ∷ es) zero d k none within = differs e.key k (by (same_value e.key k) refl none)
-  where
-    by : (b : Bool) → same_value e.key k ≡ b → cond b (Some e.val) (value_at es k) ≡ None → same_value e.key k ≡ false
-    by true is h = absurd (cc)
-    by false is h = is
-later_key (e ∷ es) (suc i) d k none within = by (same_value e.key k) none (λ h. later_key es i d k h (omega (arith, within)))
-  where
-    by : (b : Bool) → cond b (Some e.val) (value_at es k) ≡ None → (value_at es k ≡ None → same_value k (get_or es i d).key ≡ false) → same_value k (get_or es i d).key ≡ false
-    by true h again = absurd (cc)
-    by false h again = again h
+later_key (e ∷ es) zero d k none within = differs e.key k (not_first (same_value e.key k) e.val (value_at es k) none).0
+later_key (e ∷ es) (suc i) d k none within = later_key es i d k (not_first (same_value e.key k) e.val (value_at es k) none).1 (omega (arith, within))
 
 -- putting the next entry appends it
 pub put_next : (es : List Entry) (i : ℕ) (d : Entry) → AreKeysOnce es → i < length es → put (take i es) (get_or es i d).key (get_or es i d).val ≡ take (suc i) es

@@ -11,7 +11,7 @@ use Rattle.std.proofs.lemmas.List.{length-set, get_or-set_same, get_or-set_other
 use Rattle.std.proofs.lemmas.Grind.{flat_map-append}
 use Rattle.cg_kind.specs.declared.notes.TheConstants.{AT_ONCE}
 use Rattle.cg_kinds.specs.Order.{indexes, pairs_before, renamed, AreHomes, AreSums, AreCounts, AreClosed, HasBlocks, IsSound}
-use Rattle.cg_kinds.proofs.SumLemmas.{IsOneMore, raised, zero_last}
+use Rattle.cg_kinds.proofs.SumLemmas.{IsOneMore, raised}
 use Rattle.cg_kinds.proofs.SlotLemmas.{pair_within, gap_later, before_all, few_pairs}
 
 some_is : (a b : ℕ) → Some a ≡ Some b → a ≡ b
@@ -388,17 +388,6 @@ pushed_counts slots index counts counts_now are room small counts_are =
       small = omega (arith, small, length_push slots (Some index));
     }
 
--- a block without slots
-pub block_counts : (slots : List (Option ℕ)) (counts counts_now : List ℕ) → AreCounts slots counts → counts_now ≡ counts ++ 0 ∷ [] → AreCounts slots counts_now
-block_counts slots counts counts_now are counts_are =
-    let a : length counts_now ≡ length counts + 1 = ap length counts_are ∙ length_push counts 0 in
-    record {
-      each = subst (AreSums (pairs_before slots)) (sym counts_are)
-          (zero_last (pairs_before slots) counts are.each (before_all slots (16 * length counts + 16) (omega (arith, are.covered)) ∙ sym (before_all slots (16 * length counts) are.covered)));
-      covered = omega (arith, a, are.covered);
-      small = are.small;
-    }
-
 -- room and number of blocks are unchanged
 pub blocks_kept : (room room_now : ℕ) (counts counts_now : List ℕ) → room_now ≡ room → length counts_now ≡ length counts → HasBlocks room counts → HasBlocks room_now counts_now
 blocks_kept room room_now counts counts_now same long has = record {
@@ -422,6 +411,13 @@ place_only slots homes are index slot place pair is =
     let there = has_slot slots place index is in
     sym there.before ∙ ap (pairs_before slots) (one_slot slots homes are index slot there.slot pair there.pair)
 
+-- the home of an index has it
+pub pair_home : (slots : List (Option ℕ)) (homes : List ℕ) → AreHomes slots homes → (order : List ℕ) → indexes slots ≡ order → (index home : ℕ)
+    → index < length order → home ≡ get_or homes index home → get_or slots home None ≡ Some index
+pair_home slots homes are order is index home below told =
+    let low : index < length homes = omega (arith, below, ap length is, are.each) in
+    ap (λ s. get_or slots s None) (told ∙ get_or_default homes index home 0 low) ∙ are.home index low
+
 -- the slot that is an index's home, from the index's place
 pub record HasHome (slots : List (Option ℕ)) (homes order : List ℕ) (index place home : ℕ) : Type 0 where
   pub pair : get_or slots home None ≡ Some index
@@ -433,9 +429,7 @@ pub home_of : (slots : List (Option ℕ)) (homes : List ℕ) → AreHomes slots 
     → (home : ℕ) → home ≡ get_or homes index home → HasHome slots homes order index place home
 home_of slots homes are order is index place at home told =
     let there = has_slot slots place index (ap (λ l. slice_get l place) is ∙ at) in
-    let low : index < length homes = are.within there.slot index there.pair in
-    let at_home : home ≡ get_or homes index 0 = told ∙ get_or_default homes index home 0 low in
-    let pair : get_or slots home None ≡ Some index = ap (λ s. get_or slots s None) at_home ∙ are.home index low in
+    let pair = pair_home slots homes are order is index home (omega (arith, are.within there.slot index there.pair, are.each, ap length is)) told in
     record {
       pair = pair;
       one = λ other found. some_is other index (sym found ∙ pair);

@@ -1,12 +1,12 @@
 -- The effect on the bodies of a call on one value of a slab, for all kinds at once.
-use Rattle.std.proofs.Common.{◌≡◌, ◌≢◌, ℕ, zero, suc, ◌+◌, ◌<◌, true, false, List, [], ◌∷◌, get_or, Option, Some, None, cond, refl, sym, ap, ◌∙◌, subst, inl, inr, arith, map, IsSome}
+use Rattle.std.proofs.Common.{◌≡◌, ◌≢◌, ℕ, zero, suc, ◌+◌, ◌<◌, true, false, List, [], ◌∷◌, get_or, Option, Some, None, cond, refl, sym, ap, ◌∙◌, subst, inl, inr, arith, map, length, IsSome}
 use Rattle.std.specs.Prelude.{option_map, Result, Ok, Err, OnErr, OnSome, IfNone}
 use Rattle.std.proofs.lemmas.Bool.{cases_eq, eq-eqb, ne_eqb}
 use Rattle.std.specs.Ordering.{nat_cmp, eq_by_cmp}
 use Rattle.std.specs.Cmp.{nat_cmp_total, unsigned_tied}
 use Rattle.std.specs.FinMap as fin
-use Rattle.slab.specs.Slab.{Slab, get, ContainsKey, entries_from, Updates, with_value}
-use Rattle.slab.proofs.SlabLemmas.{Updates-with_value}
+use Rattle.slab.specs.Slab.{Slab, get, ContainsKey, slab_len, entries, entries_from, Updates, with_value}
+use Rattle.slab.proofs.SlabLemmas.{Updates-with_value, length-entries}
 use Rattle.cg_value.specs.declared.Entry.{Entry}
 use Rattle.cg_kind.specs.Bodies.{Body, Bodies, Holds, entries_of, spare_of, entries_at, spare_at, body_of, with_body}
 use Rattle.cg_kinds.specs.Places.{bodies_of}
@@ -65,37 +65,30 @@ module _ {T : Type 0} (f : T → Body) where
   unfolding bodies_of
   get-bodies_of s k = fin.get-from_entries nat_cmp_total _ k ∙ find_at k k 0 s.slots (omega arith)
 
-  -- one value replaced or added
-  pub bodies-set : (old new : Slab T) (k : ℕ) (v : T) → Updates old new k (Some v) → bodies_of f new ≡ fin.insert (bodies_of f old) k (f v)
-  bodies-set old new k v u =
+  -- the value at one place changed
+  updated : (old new : Slab T) (k : ℕ) (o : Option T) → Updates old new k o → (now : Bodies)
+      → ((q : ℕ) → fin.get now q ≡ cond (eq_by_cmp nat_cmp q k) (option_map f o) (fin.get (bodies_of f old) q)) → bodies_of f new ≡ now
+  updated old new k o u now is =
       fin.same_map nat_cmp_total fin.nat_cmp-IsAntisymmetric _ _
       (λ q.
       get-bodies_of new q
       ∙ elim (cases_eq q k) [
         | inl same ↦
             ap (λ q. option_map f (get new q)) same ∙ ap (option_map f) u.changed
-            ∙ sym (ap (λ b. cond b (Some (f v)) (fin.get (bodies_of f old) q)) (tied q k same))
+            ∙ sym (ap (λ b. cond b (option_map f o) (fin.get (bodies_of f old) q)) (tied q k same))
         | inr differs ↦
             ap (option_map f) (u.others q differs) ∙ sym (get-bodies_of old q)
-            ∙ sym (ap (λ b. cond b (Some (f v)) (fin.get (bodies_of f old) q)) (apart q k differs))
+            ∙ sym (ap (λ b. cond b (option_map f o) (fin.get (bodies_of f old) q)) (apart q k differs))
       ]
-      ∙ sym (fin.get-insert nat_cmp_total (bodies_of f old) k (f v) q))
+      ∙ sym (is q))
+
+  -- one value replaced or added
+  pub bodies-set : (old new : Slab T) (k : ℕ) (v : T) → Updates old new k (Some v) → bodies_of f new ≡ fin.insert (bodies_of f old) k (f v)
+  bodies-set old new k v u = updated old new k (Some v) u (fin.insert (bodies_of f old) k (f v)) (λ q. fin.get-insert nat_cmp_total (bodies_of f old) k (f v) q)
 
   -- one value removed
   pub bodies-gone : (old new : Slab T) (k : ℕ) → Updates old new k None → bodies_of f new ≡ fin.remove (bodies_of f old) k
-  bodies-gone old new k u =
-      fin.same_map nat_cmp_total fin.nat_cmp-IsAntisymmetric _ _
-      (λ q.
-      get-bodies_of new q
-      ∙ elim (cases_eq q k) [
-        | inl same ↦
-            ap (λ q. option_map f (get new q)) same ∙ ap (option_map f) u.changed
-            ∙ sym (ap (λ b. cond b None (fin.get (bodies_of f old) q)) (tied q k same))
-        | inr differs ↦
-            ap (option_map f) (u.others q differs) ∙ sym (get-bodies_of old q)
-            ∙ sym (ap (λ b. cond b None (fin.get (bodies_of f old) q)) (apart q k differs))
-      ]
-      ∙ sym (fin.get-remove nat_cmp_total (bodies_of f old) k q))
+  bodies-gone old new k u = updated old new k None u (fin.remove (bodies_of f old) k) (λ q. fin.get-remove nat_cmp_total (bodies_of f old) k q)
 
   pub bodies-slots : (old new : Slab T) → new.slots ≡ old.slots → bodies_of f new ≡ bodies_of f old
   unfolding bodies_of
@@ -104,6 +97,15 @@ module _ {T : Type 0} (f : T → Body) where
   pub bodies-empty : (s : Slab T) → s.slots ≡ [] → bodies_of f s ≡ fin.empty
   unfolding bodies_of
   bodies-empty s e = ap (λ slots. fin.from_entries (listed 0 slots)) e
+
+  -- a slab without values
+  no_entries : (es : List (ℕ × T)) → length es ≡ 0 → es ≡ []
+  no_entries [] e = refl
+  no_entries (x ∷ es) e = absurd (omega (arith, e))
+
+  pub bodies-none : (s : Slab T) → slab_len s ≡ 0 → bodies_of f s ≡ fin.empty
+  unfolding bodies_of
+  bodies-none s none = ap (λ (es : List (ℕ × T)). fin.from_entries (map (λ e. (e.0, f e.1)) es)) (no_entries (entries s) (length-entries s ∙ none))
 
   pub vacant-at : (s : Slab T) (k : ℕ) → get s k ≡ None → fin.get (bodies_of f s) k ≡ None
   vacant-at s k e = get-bodies_of s k ∙ ap (option_map f) e

@@ -23,9 +23,6 @@ before_more slots slot within =
 pub before_more-gap : (slots : List (Option ℕ)) (slot : ℕ) → slot < length slots → get_or slots slot None ≡ None → pairs_before slots (slot + 1) ≡ pairs_before slots slot
 before_more-gap slots slot within gap = let n = ap (λ o. length (option_to_list o)) gap in omega (arith, before_more slots slot within, n)
 
-pub before_more-pair : (slots : List (Option ℕ)) (slot index : ℕ) → slot < length slots → get_or slots slot None ≡ Some index → pairs_before slots (slot + 1) ≡ pairs_before slots slot + 1
-before_more-pair slots slot index within pair = let n = ap (λ o. length (option_to_list o)) pair in omega (arith, before_more slots slot within, n)
-
 pub before_all : (slots : List (Option ℕ)) (n : ℕ) → length slots ≤ n → pairs_before slots n ≡ length (indexes slots)
 before_all slots n all = ap (λ l. length (indexes l)) (take_all n slots all)
 
@@ -56,10 +53,9 @@ gap_earlier slots slot k earlier = ap (λ l. length (indexes l)) (take-set-le k 
 -- after it there is one pair less
 pub gap_later : (slots : List (Option ℕ)) (slot k index : ℕ) → get_or slots slot None ≡ Some index → slot < k → pairs_before (set slots slot None) k + 1 ≡ pairs_before slots k
 gap_later [] slot k index pair later = absurd (cc)
-gap_later (x ∷ slots) zero zero index pair later = absurd (omega (arith, later))
+gap_later (x ∷ slots) slot zero index pair later = absurd (omega (arith, later))
 gap_later (x ∷ slots) zero (suc k) index pair later = let n : length (option_to_list x ++ indexes (take k slots)) ≡ suc (length (indexes (take k slots))) =
     ap (λ o. length (option_to_list o ++ indexes (take k slots))) pair in omega (arith, n)
-gap_later (x ∷ slots) (suc slot) zero index pair later = absurd (omega (arith, later))
 gap_later (x ∷ slots) (suc slot) (suc k) index pair later =
     let rest = gap_later slots slot k index pair (omega (arith, later)) in
     omega (arith, rest, length-append (option_to_list x) (indexes (take k (set slots slot None))), length-append (option_to_list x) (indexes (take k slots)))

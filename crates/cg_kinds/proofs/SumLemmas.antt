@@ -90,24 +90,27 @@ number_lowered numbers i within some = record {
   later = λ k behind. omega (arith, some, sum_set numbers i (get_or numbers i 0 - 1) k within behind);
 }
 
+-- one part gets another sum, where the count changes after a place of the part
+changed : (old new : ℕ → ℕ) (place : ℕ) (sums : List ℕ) → place / 16 < length sums → (less more sum : ℕ) → ((k : ℕ) → k ≤ place → new k ≡ old k)
+    → ((k : ℕ) → place < k → new k + less ≡ old k + more) → sum + less ≡ get_or sums (place / 16) 0 + more → AreSums old sums → AreSums new (set sums (place / 16) sum)
+changed old new place sums within less more sum earlier later told are part below =
+    let here = are part (omega (arith, below, length-set sums (place / 16) sum)) in
+    elim (cases_eq part (place / 16)) [
+      | inl same ↦
+          let s : get_or (set sums (place / 16) sum) part 0 ≡ sum = ap (λ n. get_or (set sums (place / 16) sum) n 0) same ∙ get_or-set_same sums (place / 16) sum 0 within in
+          let t : get_or sums part 0 ≡ get_or sums (place / 16) 0 = ap (λ n. get_or sums n 0) same in
+          omega (arith, s, t, here, told, later (16 * part + 16) (omega (arith, same)), earlier (16 * part) (omega (arith, same)))
+      | inr differs ↦
+          let s = get_or-set_other sums (place / 16) part sum 0 differs in
+          elim (cases_lt part (place / 16)) [
+            | inl low ↦ omega (arith, s, here, earlier (16 * part + 16) (omega (arith, low)), earlier (16 * part) (omega (arith, low)))
+            | inr high ↦ omega (arith, s, here, later (16 * part + 16) (omega (arith, high, differs)), later (16 * part) (omega (arith, high, differs)))
+          ]
+    ]
+
 module _ (less more : ℕ → ℕ) (place : ℕ) (one : IsOneMore less more place) (sums : List ℕ) (within : place / 16 < length sums) where
   pub raised : AreSums less sums → AreSums more (set sums (place / 16) (get_or sums (place / 16) 0 + 1))
-  raised are part below =
-      let old : part < length sums = omega (arith, below, length-set sums (place / 16) (get_or sums (place / 16) 0 + 1)) in
-      let here = are part old in
-      elim (cases_eq part (place / 16)) [
-        | inl same ↦
-            let s : get_or (set sums (place / 16) (get_or sums (place / 16) 0 + 1)) part 0 ≡ get_or sums (place / 16) 0 + 1 =
-            ap (λ n. get_or (set sums (place / 16) (get_or sums (place / 16) 0 + 1)) n 0) same ∙ get_or-set_same sums (place / 16) (get_or sums (place / 16) 0 + 1) 0 within in
-            let t : get_or sums part 0 ≡ get_or sums (place / 16) 0 = ap (λ n. get_or sums n 0) same in
-            omega (arith, s, t, here, one.later (16 * part + 16) (omega (arith, same)), one.earlier (16 * part) (omega (arith, same)))
-        | inr differs ↦
-            let s = get_or-set_other sums (place / 16) part (get_or sums (place / 16) 0 + 1) 0 differs in
-            elim (cases_lt part (place / 16)) [
-              | inl low ↦ omega (arith, s, here, one.earlier (16 * part + 16) (omega (arith, low)), one.earlier (16 * part) (omega (arith, low)))
-              | inr high ↦ omega (arith, s, here, one.later (16 * part + 16) (omega (arith, high, differs)), one.later (16 * part) (omega (arith, high, differs)))
-            ]
-      ]
+  raised are = changed less more place sums within 0 1 (get_or sums (place / 16) 0 + 1) one.earlier (λ k behind. omega (arith, one.later k behind)) (omega arith) are
 
   -- the sum that contains the extra one is at least 1
   pub one_within : AreSums more sums → less (16 * (place / 16)) ≤ less (16 * (place / 16) + 16) → 0 < get_or sums (place / 16) 0
@@ -115,22 +118,8 @@ module _ (less more : ℕ → ℕ) (place : ℕ) (one : IsOneMore less more plac
       omega (arith, rising, are (place / 16) within, one.later (16 * (place / 16) + 16) (omega arith), one.earlier (16 * (place / 16)) (omega arith))
 
   pub lowered : AreSums more sums → less (16 * (place / 16)) ≤ less (16 * (place / 16) + 16) → AreSums less (set sums (place / 16) (get_or sums (place / 16) 0 - 1))
-  lowered are rising part below =
-      let old : part < length sums = omega (arith, below, length-set sums (place / 16) (get_or sums (place / 16) 0 - 1)) in
-      let here = are part old in
-      elim (cases_eq part (place / 16)) [
-        | inl same ↦
-            let s : get_or (set sums (place / 16) (get_or sums (place / 16) 0 - 1)) part 0 ≡ get_or sums (place / 16) 0 - 1 =
-            ap (λ n. get_or (set sums (place / 16) (get_or sums (place / 16) 0 - 1)) n 0) same ∙ get_or-set_same sums (place / 16) (get_or sums (place / 16) 0 - 1) 0 within in
-            let t : get_or sums part 0 ≡ get_or sums (place / 16) 0 = ap (λ n. get_or sums n 0) same in
-            omega (arith, s, t, here, one_within are rising, one.later (16 * part + 16) (omega (arith, same)), one.earlier (16 * part) (omega (arith, same)))
-        | inr differs ↦
-            let s = get_or-set_other sums (place / 16) part (get_or sums (place / 16) 0 - 1) 0 differs in
-            elim (cases_lt part (place / 16)) [
-              | inl low ↦ omega (arith, s, here, one.earlier (16 * part + 16) (omega (arith, low)), one.earlier (16 * part) (omega (arith, low)))
-              | inr high ↦ omega (arith, s, here, one.later (16 * part + 16) (omega (arith, high, differs)), one.later (16 * part) (omega (arith, high, differs)))
-            ]
-      ]
+  lowered are rising = changed more less place sums within 1 0 (get_or sums (place / 16) 0 - 1) (λ k before. sym (one.earlier k before)) (λ k behind. omega (arith, one.later k behind))
+      (omega (arith, one_within are rising)) are
 
 -- a trailing 0, where the count continues over nothing
 pub zero_last : (before : ℕ → ℕ) (sums : List ℕ) → AreSums before sums → before (16 * length sums + 16) ≡ before (16 * length sums) → AreSums before (sums ++ 0 ∷ [])
@@ -195,18 +184,23 @@ module _ (numbers sums : List ℕ) (are : AreSumsOf numbers sums) where
   pub sums_within : (i : ℕ) → i < length numbers → i / 16 < length sums
   sums_within i within = omega (arith, within, are.covered)
 
+  changed_above : (i number sum : ℕ) (numbers_now sums_now : List ℕ) → numbers_now ≡ set numbers i number → sums_now ≡ set sums (i / 16) sum
+      → AreSums (sum_before (set numbers i number)) (set sums (i / 16) sum) → AreSumsOf numbers_now sums_now
+  changed_above i number sum numbers_now sums_now numbers_are sums_are each =
+      let a : length numbers_now ≡ length numbers = ap length numbers_are ∙ length-set numbers i number in
+      let b : length sums_now ≡ length sums = ap length sums_are ∙ length-set sums (i / 16) sum in
+      record {
+        each = subst (λ l. AreSums (sum_before l) sums_now) (sym numbers_are) (subst (AreSums (sum_before (set numbers i number))) (sym sums_are) each);
+        covered = omega (arith, a, b, are.covered);
+        fewer = omega (arith, a, b, are.fewer);
+      }
+
   -- raising a number raises its part's sum
   pub raised_above : (i : ℕ) → i < length numbers → (numbers_now sums_now : List ℕ) → numbers_now ≡ set numbers i (get_or numbers i 0 + 1) → sums_now
       ≡ set sums (i / 16) (get_or sums (i / 16) 0 + 1) → AreSumsOf numbers_now sums_now
   raised_above i within numbers_now sums_now numbers_are sums_are =
-      let a : length numbers_now ≡ length numbers = ap length numbers_are ∙ length-set numbers i (get_or numbers i 0 + 1) in
-      let b : length sums_now ≡ length sums = ap length sums_are ∙ length-set sums (i / 16) (get_or sums (i / 16) 0 + 1) in
-      record {
-        each = subst (λ l. AreSums (sum_before l) sums_now) (sym numbers_are) (subst (AreSums (sum_before (set numbers i (get_or numbers i 0 + 1)))) (sym sums_are)
-            (raised (sum_before numbers) (sum_before (set numbers i (get_or numbers i 0 + 1))) i (number_raised numbers i within) sums (sums_within i within) are.each));
-        covered = omega (arith, a, b, are.covered);
-        fewer = omega (arith, a, b, are.fewer);
-      }
+      changed_above i (get_or numbers i 0 + 1) (get_or sums (i / 16) 0 + 1) numbers_now sums_now numbers_are sums_are
+      (raised (sum_before numbers) (sum_before (set numbers i (get_or numbers i 0 + 1))) i (number_raised numbers i within) sums (sums_within i within) are.each)
 
   pub part_some : (i : ℕ) → i < length numbers → 0 < get_or numbers i 0 → 0 < get_or sums (i / 16) 0
   part_some i within some =
@@ -217,15 +211,9 @@ module _ (numbers sums : List ℕ) (are : AreSumsOf numbers sums) where
   pub lowered_above : (i : ℕ) → i < length numbers → 0 < get_or numbers i 0 → (numbers_now sums_now : List ℕ) → numbers_now
       ≡ set numbers i (get_or numbers i 0 - 1) → sums_now ≡ set sums (i / 16) (get_or sums (i / 16) 0 - 1) → AreSumsOf numbers_now sums_now
   lowered_above i within some numbers_now sums_now numbers_are sums_are =
-      let a : length numbers_now ≡ length numbers = ap length numbers_are ∙ length-set numbers i (get_or numbers i 0 - 1) in
-      let b : length sums_now ≡ length sums = ap length sums_are ∙ length-set sums (i / 16) (get_or sums (i / 16) 0 - 1) in
-      record {
-        each = subst (λ l. AreSums (sum_before l) sums_now) (sym numbers_are) (subst (AreSums (sum_before (set numbers i (get_or numbers i 0 - 1)))) (sym sums_are)
-            (lowered (sum_before (set numbers i (get_or numbers i 0 - 1))) (sum_before numbers) i (number_lowered numbers i within some) sums (sums_within i within) are.each
-            (sum_grows (set numbers i (get_or numbers i 0 - 1)) (16 * (i / 16)) 16)));
-        covered = omega (arith, a, b, are.covered);
-        fewer = omega (arith, a, b, are.fewer);
-      }
+      changed_above i (get_or numbers i 0 - 1) (get_or sums (i / 16) 0 - 1) numbers_now sums_now numbers_are sums_are
+      (lowered (sum_before (set numbers i (get_or numbers i 0 - 1))) (sum_before numbers) i (number_lowered numbers i within some) sums (sums_within i within) are.each
+      (sum_grows (set numbers i (get_or numbers i 0 - 1)) (16 * (i / 16)) 16))
 
   -- appending a 0 if the last part has room
   pub pushed_below : length numbers < 16 * length sums → AreSumsOf (numbers ++ 0 ∷ []) sums

@@ -22,7 +22,7 @@ use Rattle.cg_kind.specs.Calls.{has_key}
 use Rattle.cg_kind.proofs.KeyLemmas.{Stands, key_found}
 use Rattle.cg_kinds.specs.Order.{renamed, IsSound}
 use Rattle.cg_kinds.specs.Pairs.{pair_entry, pairs_of, nothing, picked, ordered, IsOrderOf, IsSoundOrder}
-use Rattle.cg_kinds.proofs.KeyLemmas.{equal, equal-same_value, same_is}
+use Rattle.cg_kinds.proofs.KeyLemmas.{equal, equal-same_value, same_is, not_first}
 use Rattle.cg_kinds.proofs.PairLemmas.{find-packed, lookup-packed}
 use Rattle.cg_kinds.proofs.FewLemmas.{found_first, found_entry, found_put, value_none, put_new}
 use Rattle.cg_kinds.proofs.OrderLemmas.{IsOther, renamed_other, renamed_last}
@@ -51,16 +51,8 @@ from_none t i (e ∷ es) d lacks =
 
 none_at : (t : Entry → Bool) (i : ℕ) (es : List Entry) (d : Entry) → position_from t i es ≡ None → (j : ℕ) → j < length es → t (get_or es j d) ≡ false
 none_at t i [] d none j below = absurd (omega (arith, below))
-none_at t i (e ∷ es) d none zero below = by (t e) refl none
-  where
-    by : (b : Bool) → t e ≡ b → cond b (Some i) (position_from t (i + 1) es) ≡ None → t e ≡ false
-    by true is h = absurd (cc)
-    by false is h = is
-none_at t i (e ∷ es) d none (suc j) below = by (t e) none (λ h. none_at t (i + 1) es d h j (omega (arith, below)))
-  where
-    by : (b : Bool) → cond b (Some i) (position_from t (i + 1) es) ≡ None → (position_from t (i + 1) es ≡ None → t (get_or es j d) ≡ false) → t (get_or es j d) ≡ false
-    by true h again = absurd (cc)
-    by false h again = again h
+none_at t i (e ∷ es) d none zero below = (not_first (t e) i (position_from t (i + 1) es) none).0
+none_at t i (e ∷ es) d none (suc j) below = none_at t (i + 1) es d (not_first (t e) i (position_from t (i + 1) es) none).1 j (omega (arith, below))
 
 -- no two entries have the same key
 abbrev pub AreUnique : List Entry → Type 0
@@ -251,9 +243,9 @@ module _ (pairs : List (Val × Val)) where
       ap (λ l. picked l order) is ∙ picked_put (pairs_of pairs) order (long_enough order long sound) index p.place p.at p.only (unique_pairs pairs distinct) key val found
 
   pub ordered_value : (order : Option (List ℕ)) → IsOrderOf (length pairs) order → IsSoundOrder order → IsDistinct equal (keys_of pairs) → (key : Val)
-      → value_at (ordered pairs order) key ≡ value_at (pairs_of pairs) key
-  ordered_value None long sound distinct key = refl
-  ordered_value (Some order) long sound distinct key = by (position (has_key key) (pairs_of pairs)) refl
+      (now : List Entry) → ordered pairs order ≡ now → value_at now key ≡ value_at (pairs_of pairs) key
+  ordered_value None long sound distinct key now view = ap (λ es. value_at es key) (sym view)
+  ordered_value (Some order) long sound distinct key now view = ap (λ es. value_at es key) (sym view) ∙ by (position (has_key key) (pairs_of pairs)) refl
     where
       by : (r : Option ℕ) → position (has_key key) (pairs_of pairs) ≡ r → value_at (picked (pairs_of pairs) order) key ≡ value_at (pairs_of pairs) key
       by None none = value_absent key (picked (pairs_of pairs) order) (picked_none (pairs_of pairs) order (long_enough order long sound) (has_key key) none)
@@ -273,9 +265,9 @@ module _ (pairs : List (Val × Val)) where
       ∙ sym (put_absent key val (picked (pairs_of pairs) order) (picked_none (pairs_of pairs) order (long_enough order long sound) (has_key key) none))
 
 -- the value of a packed key in the map
-pub lookup-ordered : (pairs : List (Val × Val)) (order : Option (List ℕ)) → IsOrderOf (length pairs) order → IsSoundOrder order → IsDistinct equal (keys_of pairs) → (key packed : Val) → packed ≡ key
-    → lookup (equal packed) pairs ≡ value_at (ordered pairs order) key
-lookup-ordered pairs order long sound distinct key packed is = lookup-packed key packed is pairs ∙ sym (ordered_value pairs order long sound distinct key)
+pub lookup-ordered : (pairs : List (Val × Val)) (order : Option (List ℕ)) → IsOrderOf (length pairs) order → IsSoundOrder order → IsDistinct equal (keys_of pairs)
+    → (key packed : Val) → packed ≡ key → (now : List Entry) → ordered pairs order ≡ now → lookup (equal packed) pairs ≡ value_at now key
+lookup-ordered pairs order long sound distinct key packed is now view = lookup-packed key packed is pairs ∙ sym (ordered_value pairs order long sound distinct key now view)
 
 -- whether a key is present decides its position
 pub position_absent : (key : Val) (es : List Entry) → value_at es key ≡ None → position (has_key key) es ≡ None
@@ -362,9 +354,6 @@ picked_take es now order i index long low others is =
         ∙ same (get_or (remove order i) j 0) (others j 0 below)
         ∙ sym (get_or-map (λ n. get_or es n nothing) (remove order i) j 0 d below)
 
-pub length-taken : (order : List ℕ) (i last index count : ℕ) → i < length order → length order ≡ count → length (map (renamed last index) (remove order i)) ≡ count - 1
-length-taken order i last index count below long = omega (arith, long, length-map (remove order i) (renamed last index), length-remove order i below)
-
 pub pairs_of-swap : (pairs : List (Val × Val)) (index : ℕ) (p : Val × Val) → index < length pairs → pairs_of (swap_remove pairs index p) ≡ swap_remove (pairs_of pairs) index nothing
 pairs_of-swap pairs index p below =
     let n = length-map pairs pair_entry in
@@ -384,6 +373,22 @@ last_taken es e i long at =
 
 pub length-swapped : (es : List Entry) (index : ℕ) (d : Entry) → length (swap_remove es index d) ≡ length es - 1
 length-swapped es index d = length-take-le (length es - 1) (set es index (get_or es (length es - 1) d)) (omega (arith, length-set es index (get_or es (length es - 1) d)))
+
+-- after one is taken, there are still as many places as pairs
+pub taken_as_long : (pairs now : List (Val × Val)) (order order_now : List ℕ) (i index : ℕ) → slice_get order i ≡ Some index → length order ≡ length pairs
+    → order_now ≡ map (renamed (length order - 1) index) (remove order i) → pairs_of now ≡ swap_remove (pairs_of pairs) index nothing → length order_now ≡ length now
+taken_as_long pairs now order order_now i index at long rest swapped =
+    omega (
+      arith,
+      ap length rest,
+      length-map (remove order i) (renamed (length order - 1) index),
+      length-remove order i (slice_get_within order i index at),
+      long,
+      ap length swapped,
+      length-swapped (pairs_of pairs) index nothing,
+      length-map pairs pair_entry,
+      length-map now pair_entry,
+    )
 
 pub length-ordered : (pairs : List (Val × Val)) (order : Option (List ℕ)) → IsOrderOf (length pairs) order → length (ordered pairs order) ≡ length pairs
 length-ordered pairs None long = length-map pairs pair_entry

@@ -96,6 +96,10 @@ impl<C: Contents> Kind for BodySlab<C> {
         self.slab[at].append(val)
     }
 
+    fn is_empty(&self) -> bool {
+        self.slab.is_empty()
+    }
+
     fn free(&mut self, at: usize) {
         let _ = self.slab.remove(at);
     }

@@ -4,14 +4,13 @@ use Rattle.cg_heap.proofs.BoxLemmas.{box_bodies}
 use Rattle.cg_heap.proofs.boxes.Boxes.entry_at.Goals as goal
 
 pub entry_at-requires-clause-held : goal.entry_at-requires-clause-held
-entry_at-requires-clause-held g c = subst (λ b. Holds b c.args.seat.body) (sym (box_bodies g.B.Kind.kind g.B.Kind.bodies c.self.inside.kinds.items
-    c.self.invariant _ c.self.view_is c.args.seat.code _ c.index_of.ensures.index _ c.index-kind.ensures)) c.requires.held
+entry_at-requires-clause-held g c = subst (λ b. Holds b c.args.seat.body) (sym (box_bodies _ _ _ c.self.invariant c.self.view_is c.args.seat.code c.index_of.ensures.index c.index-kind.ensures))
+    c.requires.held
 
 pub entry_at-requires-clause-within : goal.entry_at-requires-clause-within
-entry_at-requires-clause-within g c = subst (λ b. c.args.i < length (entries_at b c.args.seat.body))
-    (sym (box_bodies g.B.Kind.kind g.B.Kind.bodies c.self.inside.kinds.items c.self.invariant _ c.self.view_is c.args.seat.code _ c.index_of.ensures.index _
+entry_at-requires-clause-within g c = subst (λ b. c.args.i < length (entries_at b c.args.seat.body)) (sym (box_bodies _ _ _ c.self.invariant c.self.view_is c.args.seat.code c.index_of.ensures.index
     c.index-kind.ensures)) c.requires.within
 
 pub returns : goal.returns
-returns g c = ap (λ b. slice_get (entries_at b c.args.seat.body) c.args.i) (sym (box_bodies g.B.Kind.kind g.B.Kind.bodies c.self.inside.kinds.items
-    c.self.invariant _ c.self.view_is c.args.seat.code _ c.index_of.ensures.index _ c.index-kind.ensures)) ∙ c.entry_at.ensures
+returns g c = ap (λ b. slice_get (entries_at b c.args.seat.body) c.args.i) (sym (box_bodies _ _ _ c.self.invariant c.self.view_is c.args.seat.code c.index_of.ensures.index c.index-kind.ensures)) ∙
+    c.entry_at.ensures

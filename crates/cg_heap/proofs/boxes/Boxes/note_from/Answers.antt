@@ -6,20 +6,17 @@ use Rattle.cg_heap.proofs.BoxLemmas.{box_bodies}
 use Rattle.cg_heap.proofs.boxes.Boxes.note_from.Goals as goal
 
 pub note_from-requires-clause-held : goal.note_from-requires-clause-held
-note_from-requires-clause-held g c = subst (λ b. Holds b c.args.seat.body) (sym (box_bodies g.B.Kind.kind g.B.Kind.bodies c.self.inside.kinds.items
-    c.self.invariant _ c.self.view_is c.args.seat.code _ c.index_of.ensures.index _ c.index-kind.ensures)) c.requires.held
+note_from-requires-clause-held g c = subst (λ b. Holds b c.args.seat.body) (sym (box_bodies _ _ _ c.self.invariant c.self.view_is c.args.seat.code c.index_of.ensures.index c.index-kind.ensures))
+    c.requires.held
 
 pub note_from-requires-clause-within : goal.note_from-requires-clause-within
-note_from-requires-clause-within g c = subst (λ b. c.args.from ≤ length (entries_at b c.args.seat.body))
-    (sym (box_bodies g.B.Kind.kind g.B.Kind.bodies c.self.inside.kinds.items c.self.invariant _ c.self.view_is c.args.seat.code _ c.index_of.ensures.index _
+note_from-requires-clause-within g c = subst (λ b. c.args.from ≤ length (entries_at b c.args.seat.body)) (sym (box_bodies _ _ _ c.self.invariant c.self.view_is c.args.seat.code c.index_of.ensures.index
     c.index-kind.ensures)) c.requires.within
 
 pub returns-clause-next : goal.returns-clause-next
-returns-clause-next g c = c.note_from.ensures.next ∙ ap (λ b. c.args.from + length (next_entries (entries_at b c.args.seat.body) c.args.from))
-    (box_bodies g.B.Kind.kind g.B.Kind.bodies c.self.inside.kinds.items c.self.invariant _ c.self.view_is c.args.seat.code _ c.index_of.ensures.index _
-    c.index-kind.ensures)
+returns-clause-next g c = c.note_from.ensures.next ∙ ap (λ b. c.args.from + length (next_entries (entries_at b c.args.seat.body) c.args.from)) (box_bodies _ _ _ c.self.invariant c.self.view_is
+    c.args.seat.code c.index_of.ensures.index c.index-kind.ensures)
 
 pub returns-clause-references : goal.returns-clause-references
-returns-clause-references g c = c.note_from.ensures.references ∙ ap (λ b. references (next_entries (entries_at b c.args.seat.body) c.args.from))
-    (box_bodies g.B.Kind.kind g.B.Kind.bodies c.self.inside.kinds.items c.self.invariant _ c.self.view_is c.args.seat.code _ c.index_of.ensures.index _
-    c.index-kind.ensures)
+returns-clause-references g c = c.note_from.ensures.references ∙ ap (λ b. references (next_entries (entries_at b c.args.seat.body) c.args.from)) (box_bodies _ _ _ c.self.invariant c.self.view_is
+    c.args.seat.code c.index_of.ensures.index c.index-kind.ensures)

@@ -3,17 +3,13 @@ use Rattle.cg_heap.proofs.CallsOnSeats.{has_body, entry_here, within_here}
 use Rattle.cg_heap.proofs.heap.Heap.entry_near.Goals as goal
 
 pub seat_near-seat-requires : goal.seat_near-seat-requires
-seat_near-seat-requires g c = has_node (stands c.self.inside.boxes c.self.inside.arena c.self.inside.names c.self.inside.last c.self.inside.weak.rows
-    c.self.inside.objects c.self.inside.entries _ c.self.invariant c.self.view_is) c.args.object c.requires.live
+seat_near-seat-requires g c = has_node (stands c.self.inside.arena c.self.invariant c.self.view_is) c.args.object c.requires.live
 
 pub entry_at-requires-clause-held : goal.entry_at-requires-clause-held
-entry_at-requires-clause-held g c = has_body (stands c.self.inside.boxes c.self.inside.arena c.self.inside.names c.self.inside.last c.self.inside.weak.rows
-    c.self.inside.objects c.self.inside.entries _ c.self.invariant c.self.view_is) c.args.object _ _ c.seat_near-seat.ensures
+entry_at-requires-clause-held g c = has_body (stands c.self.inside.arena c.self.invariant c.self.view_is) c.args.object _ _ c.seat_near-seat.ensures
 
 pub entry_at-requires-clause-within : goal.entry_at-requires-clause-within
-entry_at-requires-clause-within g c = within_here (stands c.self.inside.boxes c.self.inside.arena c.self.inside.names c.self.inside.last c.self.inside.weak.rows
-    c.self.inside.objects c.self.inside.entries _ c.self.invariant c.self.view_is) c.args.object _ _ c.seat_near-seat.ensures c.args.i c.requires.within
+entry_at-requires-clause-within g c = within_here (stands c.self.inside.arena c.self.invariant c.self.view_is) c.args.object _ _ c.seat_near-seat.ensures c.args.i c.requires.within
 
 pub returns : goal.returns
-returns g c = entry_here (stands c.self.inside.boxes c.self.inside.arena c.self.inside.names c.self.inside.last c.self.inside.weak.rows c.self.inside.objects
-    c.self.inside.entries _ c.self.invariant c.self.view_is) c.args.object _ _ c.seat_near-seat.ensures c.args.i _ c.entry_at.ensures
+returns g c = entry_here (stands c.self.inside.arena c.self.invariant c.self.view_is) c.args.object _ _ c.seat_near-seat.ensures c.args.i _ c.entry_at.ensures

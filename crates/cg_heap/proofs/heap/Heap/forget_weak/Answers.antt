@@ -3,9 +3,7 @@ use Rattle.cg_heap.proofs.WeakCalls.{after_forget}
 use Rattle.cg_heap.proofs.heap.Heap.forget_weak.Goals as goal
 
 pub invariant_of-self : goal.invariant_of-self
-invariant_of-self g c = (after_forget (stands c.self.inside.boxes c.self.inside.arena c.self.inside.names c.self.inside.last c.self.inside.weak.rows
-    c.self.inside.objects c.self.inside.entries _ c.self.invariant c.self.view_is) c.args.weak _ c.forget.ensures.rows).keeps
+invariant_of-self g c = (after_forget (stands c.self.inside.arena c.self.invariant c.self.view_is) c.args.weak _ c.forget.ensures.rows).keeps
 
 pub returns : goal.returns
-returns g c = (after_forget (stands c.self.inside.boxes c.self.inside.arena c.self.inside.names c.self.inside.last c.self.inside.weak.rows c.self.inside.objects
-    c.self.inside.entries _ c.self.invariant c.self.view_is) c.args.weak _ c.forget.ensures.rows).is
+returns g c = (after_forget (stands c.self.inside.arena c.self.invariant c.self.view_is) c.args.weak _ c.forget.ensures.rows).is

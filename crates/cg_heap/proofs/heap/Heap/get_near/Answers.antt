@@ -4,14 +4,10 @@ use Rattle.cg_heap.proofs.CallsOnSeats.{has_body, entries_are}
 use Rattle.cg_heap.proofs.heap.Heap.get_near.Goals as goal
 
 pub seat_near-seat-requires : goal.seat_near-seat-requires
-seat_near-seat-requires g c = has_node (stands c.self.inside.boxes c.self.inside.arena c.self.inside.names c.self.inside.last c.self.inside.weak.rows
-    c.self.inside.objects c.self.inside.entries _ c.self.invariant c.self.view_is) c.args.object c.requires
+seat_near-seat-requires g c = has_node (stands c.self.inside.arena c.self.invariant c.self.view_is) c.args.object c.requires
 
 pub get-requires : goal.get-requires
-get-requires g c = has_body (stands c.self.inside.boxes c.self.inside.arena c.self.inside.names c.self.inside.last c.self.inside.weak.rows c.self.inside.objects
-    c.self.inside.entries _ c.self.invariant c.self.view_is) c.args.object _ _ c.seat_near-seat.ensures
+get-requires g c = has_body (stands c.self.inside.arena c.self.invariant c.self.view_is) c.args.object _ _ c.seat_near-seat.ensures
 
 pub returns : goal.returns
-returns g c = c.get.ensures ∙ ap (λ es. slice_get es c.args.i) (entries_are (stands c.self.inside.boxes c.self.inside.arena c.self.inside.names
-    c.self.inside.last c.self.inside.weak.rows c.self.inside.objects c.self.inside.entries _ c.self.invariant c.self.view_is) c.args.object _ _
-    c.seat_near-seat.ensures)
+returns g c = c.get.ensures ∙ ap (λ es. slice_get es c.args.i) (entries_are (stands c.self.inside.arena c.self.invariant c.self.view_is) c.args.object _ _ c.seat_near-seat.ensures)

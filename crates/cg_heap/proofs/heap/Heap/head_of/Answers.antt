@@ -3,19 +3,14 @@ use Rattle.cg_heap.proofs.Calls.{stands, has_node, field_is, place_told}
 use Rattle.cg_heap.proofs.heap.Heap.head_of.Goals as goal
 
 pub head_of-requires : goal.head_of-requires
-head_of-requires g c = has_node (stands c.self.inside.boxes c.self.inside.arena c.self.inside.names c.self.inside.last c.self.inside.weak.rows
-    c.self.inside.objects c.self.inside.entries _ c.self.invariant c.self.view_is) c.args.object c.requires
+head_of-requires g c = has_node (stands c.self.inside.arena c.self.invariant c.self.view_is) c.args.object c.requires
 
 pub returns-clause-code : goal.returns-clause-code
-returns-clause-code g c = field_is (stands c.self.inside.boxes c.self.inside.arena c.self.inside.names c.self.inside.last c.self.inside.weak.rows
-    c.self.inside.objects c.self.inside.entries _ c.self.invariant c.self.view_is) (λ n. n.code) (λ n. n.code) (λ n k. refl) c.args.object c.head_of.result.code
-    c.head_of.ensures.code
+returns-clause-code g c = field_is (stands c.self.inside.arena c.self.invariant c.self.view_is) (λ n. n.code) (λ n. n.code) (λ n k. refl) c.args.object c.head_of.result.code c.head_of.ensures.code
 
 pub returns-clause-place : goal.returns-clause-place
-returns-clause-place g c = place_told (stands c.self.inside.boxes c.self.inside.arena c.self.inside.names c.self.inside.last c.self.inside.weak.rows
-    c.self.inside.objects c.self.inside.entries _ c.self.invariant c.self.view_is) c.args.object c.requires c.head_of.result.place c.head_of.ensures.place
+returns-clause-place g c = place_told (stands c.self.inside.arena c.self.invariant c.self.view_is) c.args.object c.requires c.head_of.result.place c.head_of.ensures.place
 
 pub returns-clause-number : goal.returns-clause-number
-returns-clause-number g c = field_is (stands c.self.inside.boxes c.self.inside.arena c.self.inside.names c.self.inside.last c.self.inside.weak.rows
-    c.self.inside.objects c.self.inside.entries _ c.self.invariant c.self.view_is) (λ n. n.number) (λ n. n.number) (λ n k. refl) c.args.object
-    c.head_of.result.number c.head_of.ensures.number
+returns-clause-number g c = field_is (stands c.self.inside.arena c.self.invariant c.self.view_is) (λ n. n.number) (λ n. n.number) (λ n k. refl) c.args.object c.head_of.result.number
+    c.head_of.ensures.number

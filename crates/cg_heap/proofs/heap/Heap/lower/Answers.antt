@@ -2,13 +2,10 @@ use Rattle.cg_heap.proofs.Calls.{stands, has_node, after_lower}
 use Rattle.cg_heap.proofs.heap.Heap.lower.Goals as goal
 
 pub lower-requires : goal.lower-requires
-lower-requires g c = has_node (stands c.self.inside.boxes c.self.inside.arena c.self.inside.names c.self.inside.last c.self.inside.weak.rows
-    c.self.inside.objects c.self.inside.entries _ c.self.invariant c.self.view_is) c.args.object c.requires
+lower-requires g c = has_node (stands c.self.inside.arena c.self.invariant c.self.view_is) c.args.object c.requires
 
 pub invariant_of-self : goal.invariant_of-self
-invariant_of-self g c = (after_lower (stands c.self.inside.boxes c.self.inside.arena c.self.inside.names c.self.inside.last c.self.inside.weak.rows
-    c.self.inside.objects c.self.inside.entries _ c.self.invariant c.self.view_is) c.args.object _ c.lower.ensures).keeps
+invariant_of-self g c = (after_lower (stands c.self.inside.arena c.self.invariant c.self.view_is) c.args.object _ c.lower.ensures).keeps
 
 pub returns : goal.returns
-returns g c = (after_lower (stands c.self.inside.boxes c.self.inside.arena c.self.inside.names c.self.inside.last c.self.inside.weak.rows c.self.inside.objects
-    c.self.inside.entries _ c.self.invariant c.self.view_is) c.args.object _ c.lower.ensures).is
+returns g c = (after_lower (stands c.self.inside.arena c.self.invariant c.self.view_is) c.args.object _ c.lower.ensures).is

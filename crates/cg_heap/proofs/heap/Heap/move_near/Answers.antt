@@ -2,13 +2,10 @@ use Rattle.cg_heap.proofs.Calls.{stands, has_node, after_move}
 use Rattle.cg_heap.proofs.heap.Heap.move_near.Goals as goal
 
 pub move_near-requires-clause-has : goal.move_near-requires-clause-has
-move_near-requires-clause-has g c = has_node (stands c.self.inside.boxes c.self.inside.arena c.self.inside.names c.self.inside.last c.self.inside.weak.rows
-    c.self.inside.objects c.self.inside.entries _ c.self.invariant c.self.view_is) c.args.object c.requires.live
+move_near-requires-clause-has g c = has_node (stands c.self.inside.arena c.self.invariant c.self.view_is) c.args.object c.requires.live
 
 pub invariant_of-self : goal.invariant_of-self
-invariant_of-self g c = (after_move (stands c.self.inside.boxes c.self.inside.arena c.self.inside.names c.self.inside.last c.self.inside.weak.rows
-    c.self.inside.objects c.self.inside.entries _ c.self.invariant c.self.view_is) c.args.object c.args.place _ c.move_near.ensures).keeps
+invariant_of-self g c = (after_move (stands c.self.inside.arena c.self.invariant c.self.view_is) c.args.object c.args.place _ c.move_near.ensures).keeps
 
 pub returns : goal.returns
-returns g c = (after_move (stands c.self.inside.boxes c.self.inside.arena c.self.inside.names c.self.inside.last c.self.inside.weak.rows c.self.inside.objects
-    c.self.inside.entries _ c.self.invariant c.self.view_is) c.args.object c.args.place _ c.move_near.ensures).is
+returns g c = (after_move (stands c.self.inside.arena c.self.invariant c.self.view_is) c.args.object c.args.place _ c.move_near.ensures).is

@@ -3,9 +3,7 @@ use Rattle.cg_heap.proofs.Calls.{stands, has_node, next_here}
 use Rattle.cg_heap.proofs.heap.Heap.next.Goals as goal
 
 pub next-requires : goal.next-requires
-next-requires g c = has_node (stands c.self.inside.boxes c.self.inside.arena c.self.inside.names c.self.inside.last c.self.inside.weak.rows
-    c.self.inside.objects c.self.inside.entries _ c.self.invariant c.self.view_is) c.args.object c.requires
+next-requires g c = has_node (stands c.self.inside.arena c.self.invariant c.self.view_is) c.args.object c.requires
 
 pub returns : goal.returns
-returns g c = c.next.ensures ∙ next_here (stands c.self.inside.boxes c.self.inside.arena c.self.inside.names c.self.inside.last c.self.inside.weak.rows
-    c.self.inside.objects c.self.inside.entries _ c.self.invariant c.self.view_is) c.args.object
+returns g c = c.next.ensures ∙ next_here (stands c.self.inside.arena c.self.invariant c.self.view_is) c.args.object

@@ -4,18 +4,13 @@ use Rattle.cg_heap.proofs.Calls.{stands, has_node, place_same, after_number}
 use Rattle.cg_heap.proofs.heap.Heap.set_gc.Goals as goal
 
 pub set_gc-requires-clause-has : goal.set_gc-requires-clause-has
-set_gc-requires-clause-has g c = has_node (stands c.self.inside.boxes c.self.inside.arena c.self.inside.names c.self.inside.last c.self.inside.weak.rows
-    c.self.inside.objects c.self.inside.entries _ c.self.invariant c.self.view_is) c.args.object c.requires.live
+set_gc-requires-clause-has g c = has_node (stands c.self.inside.arena c.self.invariant c.self.view_is) c.args.object c.requires.live
 
 pub set_gc-requires-clause-place : goal.set_gc-requires-clause-place
-set_gc-requires-clause-place g c =
-    subst TakesNumber (sym (place_same (stands c.self.inside.boxes c.self.inside.arena c.self.inside.names c.self.inside.last c.self.inside.weak.rows
-    c.self.inside.objects c.self.inside.entries _ c.self.invariant c.self.view_is) c.args.object)) c.requires.place
+set_gc-requires-clause-place g c = subst TakesNumber (sym (place_same (stands c.self.inside.arena c.self.invariant c.self.view_is) c.args.object)) c.requires.place
 
 pub invariant_of-self : goal.invariant_of-self
-invariant_of-self g c = (after_number (stands c.self.inside.boxes c.self.inside.arena c.self.inside.names c.self.inside.last c.self.inside.weak.rows
-    c.self.inside.objects c.self.inside.entries _ c.self.invariant c.self.view_is) c.args.object c.args.number _ c.set_gc.ensures).keeps
+invariant_of-self g c = (after_number (stands c.self.inside.arena c.self.invariant c.self.view_is) c.args.object c.args.number _ c.set_gc.ensures).keeps
 
 pub returns : goal.returns
-returns g c = (after_number (stands c.self.inside.boxes c.self.inside.arena c.self.inside.names c.self.inside.last c.self.inside.weak.rows c.self.inside.objects
-    c.self.inside.entries _ c.self.invariant c.self.view_is) c.args.object c.args.number _ c.set_gc.ensures).is
+returns g c = (after_number (stands c.self.inside.arena c.self.invariant c.self.view_is) c.args.object c.args.number _ c.set_gc.ensures).is

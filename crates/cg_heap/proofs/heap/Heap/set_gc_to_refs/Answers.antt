@@ -5,21 +5,14 @@ use Rattle.cg_heap.proofs.Calls.{stands, has_node, place_same, after_number, cou
 use Rattle.cg_heap.proofs.heap.Heap.set_gc_to_refs.Goals as goal
 
 pub set_gc_to_count-requires-clause-has : goal.set_gc_to_count-requires-clause-has
-set_gc_to_count-requires-clause-has g c = has_node (stands c.self.inside.boxes c.self.inside.arena c.self.inside.names c.self.inside.last
-    c.self.inside.weak.rows c.self.inside.objects c.self.inside.entries _ c.self.invariant c.self.view_is) c.args.object c.requires.live
+set_gc_to_count-requires-clause-has g c = has_node (stands c.self.inside.arena c.self.invariant c.self.view_is) c.args.object c.requires.live
 
 pub set_gc_to_count-requires-clause-place : goal.set_gc_to_count-requires-clause-place
-set_gc_to_count-requires-clause-place g c =
-    subst TakesNumber (sym (place_same (stands c.self.inside.boxes c.self.inside.arena c.self.inside.names c.self.inside.last c.self.inside.weak.rows
-    c.self.inside.objects c.self.inside.entries _ c.self.invariant c.self.view_is) c.args.object)) c.requires.place
+set_gc_to_count-requires-clause-place g c = subst TakesNumber (sym (place_same (stands c.self.inside.arena c.self.invariant c.self.view_is) c.args.object)) c.requires.place
 
 pub invariant_of-self : goal.invariant_of-self
-invariant_of-self g c = (after_number (stands c.self.inside.boxes c.self.inside.arena c.self.inside.names c.self.inside.last c.self.inside.weak.rows
-    c.self.inside.objects c.self.inside.entries _ c.self.invariant c.self.view_is) c.args.object _ _ c.set_gc_to_count.ensures).keeps
+invariant_of-self g c = (after_number (stands c.self.inside.arena c.self.invariant c.self.view_is) c.args.object _ _ c.set_gc_to_count.ensures).keeps
 
 pub returns : goal.returns
-returns g c =
-    (after_number (stands c.self.inside.boxes c.self.inside.arena c.self.inside.names c.self.inside.last c.self.inside.weak.rows c.self.inside.objects
-    c.self.inside.entries _ c.self.invariant c.self.view_is) c.args.object _ _ c.set_gc_to_count.ensures).is
-    ∙ ap (λ k. with_node (with_number k) c.args.object c.args.self.now) (count_is (stands c.self.inside.boxes c.self.inside.arena c.self.inside.names
-    c.self.inside.last c.self.inside.weak.rows c.self.inside.objects c.self.inside.entries _ c.self.invariant c.self.view_is) c.args.object)
+returns g c = (after_number (stands c.self.inside.arena c.self.invariant c.self.view_is) c.args.object _ _ c.set_gc_to_count.ensures).is ∙ ap (λ k. with_node (with_number k) c.args.object
+    c.args.self.now) (count_is (stands c.self.inside.arena c.self.invariant c.self.view_is) c.args.object)

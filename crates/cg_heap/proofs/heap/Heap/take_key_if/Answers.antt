@@ -44,48 +44,39 @@ not_some P (Some x) is = absurd (cc)
 not_some P None is = tt
 
 pub seat_near-seat-requires : goal.seat_near-seat-requires
-seat_near-seat-requires g c = has_node (stands c.self.inside.boxes c.self.inside.arena c.self.inside.names c.self.inside.last c.self.inside.weak.rows
-    c.self.inside.objects c.self.inside.entries _ c.self.invariant c.self.view_is) c.args.object c.requires.live
+seat_near-seat-requires g c = has_node (stands c.self.inside.arena c.self.invariant c.self.view_is) c.args.object c.requires.live
 
 pub take_key-taken-requires : goal.take_key-taken-requires
-take_key-taken-requires g c = has_body (stands c.self.inside.boxes c.self.inside.arena c.self.inside.names c.self.inside.last c.self.inside.weak.rows
-    c.self.inside.objects c.self.inside.entries _ c.self.invariant c.self.view_is) c.args.object _ _ c.seat_near-seat.ensures
+take_key-taken-requires g c = has_body (stands c.self.inside.arena c.self.invariant c.self.view_is) c.args.object _ _ c.seat_near-seat.ensures
 
 pub fewer-requires : goal.fewer-requires
 fewer-requires g c =
     let t = taken c.take_key-taken.result (sym c.is_some.ensures ∙ c.if-is_some.true) in
-    has_number (stands c.self.inside.boxes c.self.inside.arena c.self.inside.names c.self.inside.last c.self.inside.weak.rows c.self.inside.objects
-    c.self.inside.entries _ c.self.invariant c.self.view_is) c.args.object _ _ c.seat_near-seat.ensures (some_with_key
-    (stands c.self.inside.boxes c.self.inside.arena c.self.inside.names c.self.inside.last c.self.inside.weak.rows c.self.inside.objects
-    c.self.inside.entries _ c.self.invariant c.self.view_is) c.args.object _ _ c.seat_near-seat.ensures c.args.key _ (sym t.is
+    has_number (stands c.self.inside.arena c.self.invariant c.self.view_is) c.args.object _ _ c.seat_near-seat.ensures (some_with_key
+    (stands c.self.inside.arena c.self.invariant c.self.view_is) c.args.object _ _ c.seat_near-seat.ensures c.args.key _ (sym t.is
     ∙ c.take_key-taken.ensures.entry))
 
 pub invariant_of-self : goal.invariant_of-self
 invariant_of-self g c =
     let t = taken c.take_key-taken.result (sym c.is_some.ensures ∙ c.if-is_some.true) in
-    (after_taking_key (stands c.self.inside.boxes c.self.inside.arena c.self.inside.names c.self.inside.last c.self.inside.weak.rows c.self.inside.objects
-    c.self.inside.entries _ c.self.invariant c.self.view_is) c.args.object _ _ c.seat_near-seat.ensures (
+    (after_taking_key (stands c.self.inside.arena c.self.invariant c.self.view_is) c.args.object _ _ c.seat_near-seat.ensures (
       c.requires.live,
-      subst IsMutable (sym (c.is_of.ensures.0 c.if-not-is_of.false) ∙ code_is (stands c.self.inside.boxes c.self.inside.arena c.self.inside.names
-          c.self.inside.last c.self.inside.weak.rows c.self.inside.objects c.self.inside.entries _ c.self.invariant c.self.view_is) c.args.object _ _
+      subst IsMutable (sym (c.is_of.ensures.0 c.if-not-is_of.false) ∙ code_is (stands c.self.inside.arena c.self.invariant c.self.view_is) c.args.object _ _
           c.seat_near-seat.ensures) c.requires.mutable,
     ) c.args.key _ (sym t.is ∙ c.take_key-taken.ensures.entry) _ (of_entry c.take_key-taken.result t.entry t.is
     c.take_key-taken.ensures.rest) _ c.fewer.ensures c.requires.few).keeps
 
 pub returns-then-is_some-clause-entry : goal.returns-then-is_some-clause-entry
-returns-then-is_some-clause-entry g c = c.take_key-taken.ensures.entry ∙ ap (λ es. entry_under es c.args.key)
-    (entries_are (stands c.self.inside.boxes c.self.inside.arena c.self.inside.names c.self.inside.last c.self.inside.weak.rows c.self.inside.objects
-    c.self.inside.entries _ c.self.invariant c.self.view_is) c.args.object _ _ c.seat_near-seat.ensures)
+returns-then-is_some-clause-entry g c = c.take_key-taken.ensures.entry ∙ ap (λ es. entry_under es c.args.key) (entries_are (stands c.self.inside.arena c.self.invariant c.self.view_is) c.args.object _
+    _ c.seat_near-seat.ensures)
 
 pub returns-then-is_some-clause-rest : goal.returns-then-is_some-clause-rest
 returns-then-is_some-clause-rest g c =
     let t = taken c.take_key-taken.result (sym c.is_some.ensures ∙ c.if-is_some.true) in
-    for_entry _ c.take_key-taken.result t.entry t.is (after_taking_key (stands c.self.inside.boxes c.self.inside.arena c.self.inside.names c.self.inside.last
-    c.self.inside.weak.rows c.self.inside.objects c.self.inside.entries _ c.self.invariant c.self.view_is) c.args.object _ _ c.seat_near-seat.ensures (
+    for_entry _ c.take_key-taken.result t.entry t.is (after_taking_key (stands c.self.inside.arena c.self.invariant c.self.view_is) c.args.object _ _ c.seat_near-seat.ensures (
       c.requires.live,
       subst IsMutable (sym (c.is_of.ensures.0 c.if-not-is_of.false)
-          ∙ code_is (stands c.self.inside.boxes c.self.inside.arena c.self.inside.names c.self.inside.last c.self.inside.weak.rows c.self.inside.objects
-          c.self.inside.entries _ c.self.invariant c.self.view_is) c.args.object _ _ c.seat_near-seat.ensures) c.requires.mutable,
+          ∙ code_is (stands c.self.inside.arena c.self.invariant c.self.view_is) c.args.object _ _ c.seat_near-seat.ensures) c.requires.mutable,
     ) c.args.key _ (sym t.is
     ∙ c.take_key-taken.ensures.entry) _ (of_entry c.take_key-taken.result t.entry t.is c.take_key-taken.ensures.rest) _ c.fewer.ensures c.requires.few).is
 
@@ -97,13 +88,11 @@ returns-then-is_some-clause-none g c =
 pub invariant_of-self-else-is_some : goal.invariant_of-self-else-is_some
 invariant_of-self-else-is_some g c =
     let none = missing c.take_key-taken.result (sym c.is_some.ensures ∙ c.if-is_some.false) in
-    (as_before (stands c.self.inside.boxes c.self.inside.arena c.self.inside.names c.self.inside.last c.self.inside.weak.rows c.self.inside.objects
-    c.self.inside.entries _ c.self.invariant c.self.view_is) _ (of_none c.take_key-taken.result none c.take_key-taken.ensures.none)).keeps
+    (as_before (stands c.self.inside.arena c.self.invariant c.self.view_is) _ (of_none c.take_key-taken.result none c.take_key-taken.ensures.none)).keeps
 
 pub returns-else-is_some-clause-entry : goal.returns-else-is_some-clause-entry
-returns-else-is_some-clause-entry g c = c.take_key-taken.ensures.entry ∙ ap (λ es. entry_under es c.args.key)
-    (entries_are (stands c.self.inside.boxes c.self.inside.arena c.self.inside.names c.self.inside.last c.self.inside.weak.rows c.self.inside.objects
-    c.self.inside.entries _ c.self.invariant c.self.view_is) c.args.object _ _ c.seat_near-seat.ensures)
+returns-else-is_some-clause-entry g c = c.take_key-taken.ensures.entry ∙ ap (λ es. entry_under es c.args.key) (entries_are (stands c.self.inside.arena c.self.invariant c.self.view_is) c.args.object _
+    _ c.seat_near-seat.ensures)
 
 pub returns-else-is_some-clause-rest : goal.returns-else-is_some-clause-rest
 returns-else-is_some-clause-rest g c =
@@ -113,24 +102,20 @@ returns-else-is_some-clause-rest g c =
 pub returns-else-is_some-clause-none : goal.returns-else-is_some-clause-none
 returns-else-is_some-clause-none g c =
     let none = missing c.take_key-taken.result (sym c.is_some.ensures ∙ c.if-is_some.false) in
-    for_none c.take_key-taken.result none (as_before (stands c.self.inside.boxes c.self.inside.arena c.self.inside.names c.self.inside.last
-    c.self.inside.weak.rows c.self.inside.objects c.self.inside.entries _ c.self.invariant c.self.view_is) _ (of_none c.take_key-taken.result none
+    for_none c.take_key-taken.result none (as_before (stands c.self.inside.arena c.self.invariant c.self.view_is) _ (of_none c.take_key-taken.result none
     c.take_key-taken.ensures.none)).is
 
 pub returns-then-not-is_of-clause-other : goal.returns-then-not-is_of-clause-other
 returns-then-not-is_of-clause-other g c = (
-  λ has. no_other (stands c.self.inside.boxes c.self.inside.arena c.self.inside.names c.self.inside.last
-      c.self.inside.weak.rows c.self.inside.objects c.self.inside.entries _ c.self.invariant c.self.view_is) c.args.object _ _ c.seat_near-seat.ensures
+  λ has. no_other (stands c.self.inside.arena c.self.invariant c.self.view_is) c.args.object _ _ c.seat_near-seat.ensures
       c.args.code (λ e. let both : true ≡ false = sym (c.is_of.ensures.1 e) ∙ c.if-not-is_of.true in absurd (cc)) has,
   refl,
 )
 
 pub returns-then-is_some-clause-kind : goal.returns-then-is_some-clause-kind
-returns-then-is_some-clause-kind g c = subst (HasCode c.args.self.now c.args.object) (c.is_of.ensures.0 c.if-not-is_of.false)
-    (has_code (stands c.self.inside.boxes c.self.inside.arena c.self.inside.names c.self.inside.last c.self.inside.weak.rows c.self.inside.objects
-    c.self.inside.entries _ c.self.invariant c.self.view_is) c.args.object _ _ c.seat_near-seat.ensures)
+returns-then-is_some-clause-kind g c = subst (HasCode c.args.self.now c.args.object) (c.is_of.ensures.0 c.if-not-is_of.false) (has_code (stands c.self.inside.arena c.self.invariant c.self.view_is)
+    c.args.object _ _ c.seat_near-seat.ensures)
 
 pub returns-else-is_some-clause-kind : goal.returns-else-is_some-clause-kind
-returns-else-is_some-clause-kind g c = subst (HasCode c.args.self.now c.args.object) (c.is_of.ensures.0 c.if-not-is_of.false)
-    (has_code (stands c.self.inside.boxes c.self.inside.arena c.self.inside.names c.self.inside.last c.self.inside.weak.rows c.self.inside.objects
-    c.self.inside.entries _ c.self.invariant c.self.view_is) c.args.object _ _ c.seat_near-seat.ensures)
+returns-else-is_some-clause-kind g c = subst (HasCode c.args.self.now c.args.object) (c.is_of.ensures.0 c.if-not-is_of.false) (has_code (stands c.self.inside.arena c.self.invariant c.self.view_is)
+    c.args.object _ _ c.seat_near-seat.ensures)

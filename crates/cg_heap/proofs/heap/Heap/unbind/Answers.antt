@@ -4,11 +4,9 @@ use Rattle.cg_heap.proofs.Calls.{stands, after_name}
 use Rattle.cg_heap.proofs.heap.Heap.unbind.Goals as goal
 
 pub invariant_of-self : goal.invariant_of-self
-invariant_of-self g c = (after_name (stands c.self.inside.boxes c.self.inside.arena c.self.inside.names c.self.inside.last c.self.inside.weak.rows
-    c.self.inside.objects c.self.inside.entries _ c.self.invariant c.self.view_is) c.args.name _ None c.replace.ensures.old (λ s there. absurd
-    (omega (arith, there))) c.requires.few c.self.inside.arena (none-counted c.self.inside.arena) _ c.replace.ensures.set).keeps
+invariant_of-self g c = (after_name (stands c.self.inside.arena c.self.invariant c.self.view_is) c.args.name _ None c.replace.ensures.old (λ s there. absurd (omega (arith, there))) c.requires.few
+    c.self.inside.arena (none-counted c.self.inside.arena) _ c.replace.ensures.set).keeps
 
 pub returns-clause-rest : goal.returns-clause-rest
-returns-clause-rest g c = (after_name (stands c.self.inside.boxes c.self.inside.arena c.self.inside.names c.self.inside.last c.self.inside.weak.rows
-    c.self.inside.objects c.self.inside.entries _ c.self.invariant c.self.view_is) c.args.name _ None c.replace.ensures.old (λ s there. absurd
-    (omega (arith, there))) c.requires.few c.self.inside.arena (none-counted c.self.inside.arena) _ c.replace.ensures.set).is
+returns-clause-rest g c = (after_name (stands c.self.inside.arena c.self.invariant c.self.view_is) c.args.name _ None c.replace.ensures.old (λ s there. absurd (omega (arith, there))) c.requires.few
+    c.self.inside.arena (none-counted c.self.inside.arena) _ c.replace.ensures.set).is

@@ -1,21 +1,17 @@
 use Rattle.std.proofs.Common.{◌≡◌, ◌∙◌, ◌+◌, ◌++◌, ◌∷◌, [], option_map, ap, sym, IsSome, length, subst, true≢false}
-use Rattle.cg_graph.specs.Value.{value_at, put}
+use Rattle.cg_graph.specs.Value.{put}
 use Rattle.cg_kinds.specs.Pairs.{pairs_of, ordered, unboxed, IsOrderOf}
 use Rattle.cg_kinds.proofs.TableLemmas.{ordered_value, ordered_put, ordered_push, ordered_same, has_index, position_absent, none_some, on_err, put_as_long, put_longer, put_back, left_as_long, order_longer}
 use Rattle.cg_kinds.proofs.table.Table.put.Goals as goal
 
 pub returns-in_err-was-clause-present : goal.returns-in_err-was-clause-present
 returns-in_err-was-clause-present c = λ some.
-    let pairs = c.self.inside.map.entries in
-    let order = unboxed c.self.inside.order in
-    let value_is = ap (λ es. value_at es c.args.key) (sym c.self.view_is) ∙ ordered_value pairs order c.self.invariant c.sound.ensures c.len-count.ensures.unique c.args.key in
+    let value_is = ordered_value c.self.inside.map.entries (unboxed c.self.inside.order) c.self.invariant c.sound.ensures c.len-count.ensures.unique c.args.key _ c.self.view_is in
     absurd (true≢false (sym (c.in_err-was.ensures.present (subst IsSome value_is some))))
 
 pub returns-in_err-order_last-in-None-clause-present : goal.returns-in_err-order_last-in-None-clause-present
 returns-in_err-order_last-in-None-clause-present c = λ some.
-    let pairs = c.self.inside.map.entries in
-    let order = unboxed c.self.inside.order in
-    let value_is = ap (λ es. value_at es c.args.key) (sym c.self.view_is) ∙ ordered_value pairs order c.self.invariant c.sound.ensures c.len-count.ensures.unique c.args.key in
+    let value_is = ordered_value c.self.inside.map.entries (unboxed c.self.inside.order) c.self.invariant c.sound.ensures c.len-count.ensures.unique c.args.key _ c.self.view_is in
     absurd (none_some (subst IsSome (value_is ∙ sym c.in_ok-was.ensures.replaced ∙ c.in-None.is) some))
 
 pub returns-in_err-order_last-in-None-clause-err : goal.returns-in_err-order_last-in-None-clause-err
@@ -58,9 +54,7 @@ returns-in-Some-clause-ok c =
 
 pub returns-in-Some-clause-replaced : goal.returns-in-Some-clause-replaced
 returns-in-Some-clause-replaced c =
-    let pairs = c.self.inside.map.entries in
-    let order = unboxed c.self.inside.order in
-    let value_is = ap (λ es. value_at es c.args.key) (sym c.self.view_is) ∙ ordered_value pairs order c.self.invariant c.sound.ensures c.len-count.ensures.unique c.args.key in
+    let value_is = ordered_value c.self.inside.map.entries (unboxed c.self.inside.order) c.self.invariant c.sound.ensures c.len-count.ensures.unique c.args.key _ c.self.view_is in
     sym c.in-Some.is ∙ c.in_ok-was.ensures.replaced ∙ sym value_is
 
 pub returns-in_ok-order_last-in-None-clause-ok : goal.returns-in_ok-order_last-in-None-clause-ok
@@ -75,7 +69,5 @@ returns-in_ok-order_last-in-None-clause-ok c =
 
 pub returns-in_ok-order_last-in-None-clause-replaced : goal.returns-in_ok-order_last-in-None-clause-replaced
 returns-in_ok-order_last-in-None-clause-replaced c =
-    let pairs = c.self.inside.map.entries in
-    let order = unboxed c.self.inside.order in
-    let value_is = ap (λ es. value_at es c.args.key) (sym c.self.view_is) ∙ ordered_value pairs order c.self.invariant c.sound.ensures c.len-count.ensures.unique c.args.key in
+    let value_is = ordered_value c.self.inside.map.entries (unboxed c.self.inside.order) c.self.invariant c.sound.ensures c.len-count.ensures.unique c.args.key _ c.self.view_is in
     sym c.in-None.is ∙ c.in_ok-was.ensures.replaced ∙ sym value_is

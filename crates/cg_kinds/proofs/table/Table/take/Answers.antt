@@ -1,23 +1,17 @@
-use Rattle.std.proofs.Common.{◌≡◌, ◌∙◌, ◌-◌, ap, sym, Some, length, subst, arith}
+use Rattle.std.proofs.Common.{◌≡◌, ◌∙◌, ap, sym, Some, length, subst, arith}
 use Rattle.std.specs.Prelude.{slice_get, remove}
 use Rattle.std.proofs.lemmas.List.{length-map}
-use Rattle.std.proofs.lemmas.Option.{slice_get-get_or, slice_get_within}
+use Rattle.std.proofs.lemmas.Option.{slice_get-get_or}
 use Rattle.cg_kinds.specs.Pairs.{pairs_of, pair_entry, ordered, picked, nothing, unboxed, IsOrderOf}
-use Rattle.cg_kinds.proofs.TableLemmas.{picked_slice, picked_take, length-taken, length-swapped}
+use Rattle.cg_kinds.proofs.TableLemmas.{picked_slice, picked_take, taken_as_long}
 use Rattle.cg_kinds.proofs.table.Table.take.Goals as goal
 
 pub invariant_of-self : goal.invariant_of-self
 invariant_of-self c =
     let pairs = c.self.inside.map.entries in
-    let order = c.deref_mut.result.now in
     let is = ap unboxed c.in-Some.is ∙ ap Some (sym c.deref_mut.ensures.value) in
-    let long : length order ≡ length pairs = subst (IsOrderOf (length pairs)) is c.self.invariant in
-    ap length c.take.ensures.rest
-    ∙ length-taken order c.args.i (length order - 1) c.take.result (length pairs) (slice_get_within order c.args.i c.take.result c.take.ensures.index) long
-    ∙ ap (λ n. n - 1) (sym (length-map pairs pair_entry))
-    ∙ sym (length-swapped (pairs_of pairs) c.take.result nothing)
-    ∙ sym (ap length c.swap_out.ensures.rest)
-    ∙ length-map c.swap_out.new.map.entries pair_entry
+    taken_as_long pairs c.swap_out.new.map.entries c.deref_mut.result.now _ c.args.i c.take.result c.take.ensures.index
+    (subst (IsOrderOf (length pairs)) is c.self.invariant) c.take.ensures.rest c.swap_out.ensures.rest
 
 pub returns-in-Some-clause-entry : goal.returns-in-Some-clause-entry
 returns-in-Some-clause-entry c =

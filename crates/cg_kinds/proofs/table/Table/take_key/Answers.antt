@@ -1,12 +1,11 @@
-use Rattle.std.proofs.Common.{◌≡◌, ◌∙◌, ◌-◌, ap, sym, Some, length, subst}
+use Rattle.std.proofs.Common.{◌≡◌, ◌∙◌, ap, sym, Some, length, subst}
 use Rattle.std.specs.Prelude.{position}
 use Rattle.std.proofs.lemmas.List.{length-map}
-use Rattle.std.proofs.lemmas.Option.{slice_get_within}
 use Rattle.cg_graph.specs.Value.{without_key, entry_at as entry_under}
 use Rattle.cg_kind.specs.Calls.{has_key}
 use Rattle.cg_kind.proofs.KeyLemmas.{Lacks, key_missing}
 use Rattle.cg_kinds.specs.Pairs.{pairs_of, pair_entry, ordered, picked, nothing, unboxed, IsOrderOf, IsSoundOrder}
-use Rattle.cg_kinds.proofs.TableLemmas.{StandsIn, ordered_none, ordered_stands, picked_take, length-taken, length-swapped}
+use Rattle.cg_kinds.proofs.TableLemmas.{StandsIn, ordered_none, ordered_stands, picked_take, taken_as_long}
 use Rattle.cg_kinds.proofs.table.Table.take_key.Goals as goal
 use Rattle.cg_kinds.proofs.table.Table.take_key.Goals.{After-self-in-Some-1, After-from_residual}
 
@@ -21,17 +20,10 @@ stands c =
 pub invariant_of-self-in-Some : goal.invariant_of-self-in-Some
 invariant_of-self-in-Some c =
     let pairs = c.self.inside.map.entries in
-    let order = c.deref_mut.result.now in
-    let index = c.in_ok-index-in-Some.index in
     let is = ap unboxed c.in-Some.is ∙ ap Some (sym c.deref_mut.ensures.value) in
     let s = stands c in
-    let long : length order ≡ length pairs = subst (IsOrderOf (length pairs)) is c.self.invariant in
-    ap length (c.take_index.ensures.rest s.place s.at)
-    ∙ length-taken order s.place (length order - 1) index (length pairs) (slice_get_within order s.place index s.at) long
-    ∙ ap (λ n. n - 1) (sym (length-map pairs pair_entry))
-    ∙ sym (length-swapped (pairs_of pairs) index nothing)
-    ∙ sym (ap length c.in_ok-index-in-Some.ensures.rest)
-    ∙ length-map c.swap_out_key.new.map.entries pair_entry
+    taken_as_long pairs c.swap_out_key.new.map.entries c.deref_mut.result.now _ s.place c.in_ok-index-in-Some.index s.at
+    (subst (IsOrderOf (length pairs)) is c.self.invariant) (c.take_index.ensures.rest s.place s.at) c.in_ok-index-in-Some.ensures.rest
 
 pub returns-in_ok-index-in-Some-clause-entry : goal.returns-in_ok-index-in-Some-clause-entry
 returns-in_ok-index-in-Some-clause-entry c =

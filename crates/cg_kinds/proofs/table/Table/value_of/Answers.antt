@@ -1,20 +1,15 @@
 use Rattle.std.proofs.Common.{◌∙◌, ap, sym, Some}
 use Rattle.std.specs.Option.{option_copied}
-use Rattle.cg_graph.specs.Value.{value_at}
 use Rattle.cg_kinds.specs.Pairs.{unboxed}
 use Rattle.cg_kinds.proofs.TableLemmas.{lookup-ordered}
 use Rattle.cg_kinds.proofs.table.Table.value_of.Goals as goal
 
 pub returns-in-Some : goal.returns-in-Some
 returns-in-Some c =
-    let pairs = c.self.inside.map.entries in
     ap Some c.val.ensures ∙ sym (ap option_copied c.in-Some.is) ∙ c.get.ensures.value
-    ∙ lookup-ordered pairs (unboxed c.self.inside.order) c.self.invariant c.sound.ensures c.len-count.ensures.unique c.args.key c.new.result c.new.ensures
-    ∙ ap (λ es. value_at es c.args.key) c.self.view_is
+    ∙ lookup-ordered c.self.inside.map.entries (unboxed c.self.inside.order) c.self.invariant c.sound.ensures c.len-count.ensures.unique c.args.key c.new.result c.new.ensures _ c.self.view_is
 
 pub returns-in-None : goal.returns-in-None
 returns-in-None c =
-    let pairs = c.self.inside.map.entries in
     sym (ap option_copied c.in-None.is) ∙ c.get.ensures.value
-    ∙ lookup-ordered pairs (unboxed c.self.inside.order) c.self.invariant c.sound.ensures c.len-count.ensures.unique c.args.key c.new.result c.new.ensures
-    ∙ ap (λ es. value_at es c.args.key) c.self.view_is
+    ∙ lookup-ordered c.self.inside.map.entries (unboxed c.self.inside.order) c.self.invariant c.sound.ensures c.len-count.ensures.unique c.args.key c.new.result c.new.ensures _ c.self.view_is

@@ -8,14 +8,7 @@ use Rattle.cg_kinds.proofs.ValueLemmas.{numbers-len}
 use Rattle.cg_kinds.proofs.values.Values.note_from.Goals as goal
 
 pub overflow_add-first : goal.overflow_add-first
-overflow_add-first c = omega (
-  arith,
-  c.requires.within,
-  c.self.inside.numbers.ok.1,
-  c.self.inside.numbers.small,
-  numbers-len c.self.inside.sorts
-      c.self.inside.numbers c.self.inside.first c.args.self.now (ap (λ kept. kept.items) c.self.view_is) c.self.invariant.words c.self.invariant.within,
-)
+overflow_add-first c = omega (arith, c.requires.within, c.self.inside.numbers.ok.1, c.self.inside.numbers.small, numbers-len c.self.inside _ c.self.view_is c.self.invariant)
 
 pub overflow_add-first-2 : goal.overflow_add-first-2
 overflow_add-first-2 c = omega (
@@ -25,22 +18,12 @@ overflow_add-first-2 c = omega (
   c.min.ensures,
   c.self.inside.numbers.ok.1,
   c.self.inside.numbers.small,
-  numbers-len c.self.inside.sorts c.self.inside.numbers c.self.inside.first c.args.self.now (ap (λ kept. kept.items) c.self.view_is) c.self.invariant.words
-      c.self.invariant.within,
+  numbers-len c.self.inside _ c.self.view_is c.self.invariant,
 )
 
 pub note_between-references-requires-clause-within : goal.note_between-references-requires-clause-within
 note_between-references-requires-clause-within c =
-    omega (
-      arith,
-      c.requires.within,
-      c.len.ensures,
-      c.min.ensures,
-      ap length c.as_slice-numbers.ensures.value,
-      c.self.inside.numbers.ok.0,
-      numbers-len c.self.inside.sorts c.self.inside.numbers c.self.inside.first c.args.self.now (ap (λ kept. kept.items) c.self.view_is)
-          c.self.invariant.words c.self.invariant.within,
-    )
+    omega (arith, c.requires.within, c.len.ensures, c.min.ensures, ap length c.as_slice-numbers.ensures.value, c.self.inside.numbers.ok.0, numbers-len c.self.inside _ c.self.view_is c.self.invariant)
 
 pub returns-clause-next : goal.returns-clause-next
 returns-clause-next c =

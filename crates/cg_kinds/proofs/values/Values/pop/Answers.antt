@@ -5,34 +5,16 @@ use Rattle.cg_kinds.proofs.values.Values.pop.Goals as goal
 
 pub val_of-requires : goal.val_of-requires
 val_of-requires c = words-last _ _ _ _ _ _ _ _ _ _ c.self.invariant c.take_last-sort.ensures.capacity c.take_last-number.ensures.capacity _ _
-    (omega (
-      arith,
-      c.len.ensures,
-      c.self.inside.sorts.ok.0,
-      sorts-len c.self.inside.sorts c.self.inside.numbers c.self.inside.first c.args.self.now
-          (ap (λ kept. kept.items) c.self.view_is) c.self.invariant.words c.self.invariant.within,
-    )) c.take_last-sort.ensures.items c.take_last-number.ensures.items
+    (omega (arith, c.len.ensures, c.self.inside.sorts.ok.0, sorts-len c.self.inside _ c.self.view_is c.self.invariant)) c.take_last-sort.ensures.items c.take_last-number.ensures.items
 
 pub invariant_of-self : goal.invariant_of-self
 invariant_of-self c = columns-pop _ _ _ _ _ _ _ _ _ _ c.self.invariant c.take_last-sort.ensures.capacity c.take_last-number.ensures.capacity _ _
-    (omega (
-      arith,
-      c.len.ensures,
-      c.self.inside.sorts.ok.0,
-      sorts-len c.self.inside.sorts c.self.inside.numbers c.self.inside.first c.args.self.now
-          (ap (λ kept. kept.items) c.self.view_is) c.self.invariant.words c.self.invariant.within,
-    )) c.take_last-sort.ensures.items c.take_last-number.ensures.items
+    (omega (arith, c.len.ensures, c.self.inside.sorts.ok.0, sorts-len c.self.inside _ c.self.view_is c.self.invariant)) c.take_last-sort.ensures.items c.take_last-number.ensures.items
 
 pub returns-clause-items : goal.returns-clause-items
 returns-clause-items c =
     sym (ap (λ kept. kept.items) c.self.view_is)
     ∙ values-pop _ _ _ _ _ _ _ _ _ _ c.self.invariant c.take_last-sort.ensures.capacity c.take_last-number.ensures.capacity _ _
-    (omega (
-      arith,
-      c.len.ensures,
-      c.self.inside.sorts.ok.0,
-      sorts-len c.self.inside.sorts c.self.inside.numbers c.self.inside.first c.args.self.now
-          (ap (λ kept. kept.items) c.self.view_is) c.self.invariant.words c.self.invariant.within,
-    )) c.take_last-sort.ensures.items
+    (omega (arith, c.len.ensures, c.self.inside.sorts.ok.0, sorts-len c.self.inside _ c.self.view_is c.self.invariant)) c.take_last-sort.ensures.items
     c.take_last-number.ensures.items
     ∙ ap (λ val. drop c.self.inside.first (values_in c.take_last-sort.new.self.items c.take_last-number.new.self.items) ++ val ∷ []) (sym c.val_of.ensures)

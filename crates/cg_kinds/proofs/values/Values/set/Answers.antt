@@ -5,30 +5,13 @@ use Rattle.cg_kinds.proofs.ValueLemmas.{sorts-len, numbers-len, columns-set, val
 use Rattle.cg_kinds.proofs.values.Values.set.Goals as goal
 
 pub overflow_add-at : goal.overflow_add-at
-overflow_add-at c = omega (
-  arith,
-  c.requires,
-  c.self.inside.numbers.ok.1,
-  c.self.inside.numbers.small,
-  numbers-len c.self.inside.sorts c.self.inside.numbers
-      c.self.inside.first c.args.self.now (ap (λ kept. kept.items) c.self.view_is) c.self.invariant.words c.self.invariant.within,
-)
+overflow_add-at c = omega (arith, c.requires, c.self.inside.numbers.ok.1, c.self.inside.numbers.small, numbers-len c.self.inside _ c.self.view_is c.self.invariant)
 
 pub index_mut-requires : goal.index_mut-requires
-index_mut-requires c = omega (
-  arith,
-  c.requires,
-  sorts-len c.self.inside.sorts c.self.inside.numbers c.self.inside.first c.args.self.now
-      (ap (λ kept. kept.items) c.self.view_is) c.self.invariant.words c.self.invariant.within,
-)
+index_mut-requires c = omega (arith, c.requires, sorts-len c.self.inside _ c.self.view_is c.self.invariant)
 
 pub index_mut-requires-2 : goal.index_mut-requires-2
-index_mut-requires-2 c = omega (
-  arith,
-  c.requires,
-  numbers-len c.self.inside.sorts c.self.inside.numbers c.self.inside.first c.args.self.now
-      (ap (λ kept. kept.items) c.self.view_is) c.self.invariant.words c.self.invariant.within,
-)
+index_mut-requires-2 c = omega (arith, c.requires, numbers-len c.self.inside _ c.self.view_is c.self.invariant)
 
 pub invariant_of-self : goal.invariant_of-self
 invariant_of-self c = columns-set c.self.inside.sorts.items c.self.inside.numbers.items _ _ _ _ _ _ _ _ c.self.invariant refl refl

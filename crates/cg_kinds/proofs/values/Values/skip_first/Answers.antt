@@ -7,10 +7,8 @@ pub invariant_of-self : goal.invariant_of-self
 invariant_of-self c =
     let sorts = c.self.inside.sorts in
     let numbers = c.self.inside.numbers in
-    let first = c.self.inside.first in
-    let items = ap (λ kept. kept.items) c.self.view_is in
     columns-skip sorts.items numbers.items _ _ _ _ _ _ _ _ c.self.invariant refl refl
-    (omega (arith, c.requires, sorts.ok.0, sorts-len sorts numbers first c.args.self.now items c.self.invariant.words c.self.invariant.within)) refl refl
+    (omega (arith, c.requires, sorts.ok.0, sorts-len c.self.inside _ c.self.view_is c.self.invariant)) refl refl
 
 pub returns-clause-items : goal.returns-clause-items
 returns-clause-items c =
