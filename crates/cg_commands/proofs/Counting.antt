@@ -119,10 +119,10 @@ plain old was locals room given command is own none new answer does = subst (λ 
 
 -- an inspection, which depends on whether a collection is under way
 pub inspects : (store : Store) (was : Policy) (locals : Option Locals) (room : Bool) (given command : Command) → given ≡ command → IsForObjects command
-    → makes_object command ≡ false → (answer : Result Done Refusal)
-    → Inspects store was.running locals (λ w. effect w command) answer → Attempts store was locals room given store was answer
-inspects store was locals room given command is own none answer does =
-    plain store was locals room given command is own none store answer (λ w stands policy. does w stands (ap (λ (p : Policy). p.running) (sym policy)))
+    → makes_object command ≡ false → (answer : Result Done Refusal) (running : Bool) → running ≡ was.running
+    → Inspects store running locals (λ w. effect w command) answer → Attempts store was locals room given store was answer
+inspects store was locals room given command is own none answer running same does =
+    plain store was locals room given command is own none store answer (λ w stands policy. does w stands (ap (λ (p : Policy). p.running) (sym policy) ∙ sym same))
 
 module _ (old : Store) (was : Policy) (locals : Option Locals) (room : Bool) (given command : Command) (is : given ≡ command) (own : IsForObjects command)
     (new : Store) (answer : Result Done Refusal) (does : PerformsOnHeap old locals (λ w. effect w command) new answer) where
@@ -131,12 +131,13 @@ module _ (old : Store) (was : Policy) (locals : Option Locals) (room : Bool) (gi
   plainly none = plain old was locals room given command is own none new answer (λ w stands policy. does w stands)
 
   -- a command that makes an object, after it is counted
-  pub made_and_counted : makes_object command ≡ true → OnOk answer (room ≡ true) → (now : Policy) → now ≡ counted answer was → Attempts old was locals room given new now answer
-  made_and_counted made in_room now counts = subst (λ c. Attempts old was locals room c new now answer) (sym is) (record {
+  pub made_and_counted : makes_object command ≡ true → OnOk answer (room ≡ true) → (now : Policy) → now ≡ counted answer was → (told : Result Done Refusal) → told ≡ answer
+      → Attempts old was locals room given new now told
+  made_and_counted made in_room now counts told same = subst (λ c. Attempts old was locals room c new now told) (sym is) (subst (Attempts old was locals room command new now) (sym same) (record {
     performs = λ w stands policy. record {
       heap = does w stands;
       policy = counts ∙ ap (counted answer) policy ∙ counted_after w command old new made answer (does w stands) ∙ ap (policy_after answer (effect w command)) (sym policy);
     };
     leaves = λ control. absurd (control own);
     grows = λ w stands policy. grows_within command w room old new answer stands.represents (does w stands) (made_in_room answer (makes_object command) room in_room);
-  })
+  }))

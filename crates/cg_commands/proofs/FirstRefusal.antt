@@ -1,6 +1,5 @@
 -- A command checks one thing after the other: the first refusal decides.
-use Rattle.std.proofs.Common.{◌≡◌, refl, sym, ap, subst, ℕ, Option, Some, None, Result, Ok, Err}
-use Rattle.std.specs.Prelude.{IfSome, IfNone, OnOk, IfOk, OnErr}
+use Rattle.std.proofs.Common.{◌≡◌, refl, sym, ap, subst, ℕ, Option, Result, Ok, Err}
 use Rattle.cg_graph.specs.Store.{Store}
 use Rattle.cg_machine.specs.World.{World}
 use Rattle.cg_machine.specs.Effects.{Effect}
@@ -36,24 +35,36 @@ declines_then ObjectLimit r f is = ap (λ q. q >>= f) is
 declines_then EntryLimit r f is = ap (λ q. q >>= f) is
 declines_then InCollection r f is = ap (λ q. q >>= f) is
 
+-- whatever follows a second thing that is read with it
+pub declines_second : {A B C : Type 0} (refusal : Refusal) (r : Result A ℕ) (f : A → Result B ℕ) (g : A → B → Result C ℕ) → Declines refusal (r >>= f)
+    → Declines refusal (r >>= (λ x. f x >>= g x))
+unfolding ◌>>=◌
+declines_second refusal (Ok x) f g is = declines_then refusal (f x) (g x) is
+declines_second {A} {B} refusal (Err e) f g is = declines_then refusal (Err e) (λ (y : B). Err e) is
+
+-- and a thing that is there
+pub declines_after : {A B : Type 0} (refusal : Refusal) (r : Result A ℕ) (x : A) (f : A → Result B ℕ) → r ≡ Ok x → Declines refusal (f x) → Declines refusal (r >>= f)
+unfolding ◌>>=◌
+declines_after refusal r x f is declines = subst (λ q. Declines refusal (q >>= f)) (sym is) declines
+
+refuses : (refusal : Refusal) (effect : Result Effect ℕ) → Declines refusal effect → Refuses refusal effect
+refuses NoName effect is = is
+refuses WrongKind effect is = is
+refuses NoIndex effect is = is
+refuses NoKey effect is = is
+refuses NoAttribute effect is = is
+refuses NotWeak effect is = is
+refuses NotCallable effect is = is
+refuses BadGeneration effect is = is
+refuses Unhashable effect is = is
+refuses OutOfMemory effect is = absurd is
+refuses ObjectLimit effect is = is
+refuses EntryLimit effect is = is
+refuses InCollection effect is = is
+
 -- and is refused if it is not
 pub refused : {A : Type 0} (refusal : Refusal) (r : Result A ℕ) (f : A → Result Effect ℕ) (old : Store) → Declines refusal r → AnswersOnHeap (Err refusal) (r >>= f) old old
-refused refusal r f old is = (told refusal (r >>= f) (declines_then refusal r f is), refl)
-  where
-    told : (refusal : Refusal) (effect : Result Effect ℕ) → Declines refusal effect → Refuses refusal effect
-    told NoName effect is = is
-    told WrongKind effect is = is
-    told NoIndex effect is = is
-    told NoKey effect is = is
-    told NoAttribute effect is = is
-    told NotWeak effect is = is
-    told NotCallable effect is = is
-    told BadGeneration effect is = is
-    told Unhashable effect is = is
-    told OutOfMemory effect is = absurd is
-    told ObjectLimit effect is = is
-    told EntryLimit effect is = is
-    told InCollection effect is = is
+refused refusal r f old is = (refuses refusal (r >>= f) (declines_then refusal r f is), refl)
 
 -- In every world at once: what was read decides if it is refused,
 pub stops : {A : Type 0} (store : Store) (locals : Option Locals) (read : World → Result A ℕ) (k : World → A → Result Effect ℕ) (refusal : Refusal)
@@ -66,29 +77,16 @@ pub goes_on : {A : Type 0} (store new : Store) (locals : Option Locals) (read : 
     (λ w. read w >>= k w) new answer
 goes_on store new locals read x k answer is rest w s = next (read w) x (k w) store new answer (is w s) (rest w s)
 
--- A second thing is checked whatever the first one is: if the two are refused, so is what follows.
-pub stops_second : {A B : Type 0} (store : Store) (locals : Option Locals) (first : World → Result A ℕ) (second : World → Result B ℕ) (k : World → A → B
-    → Result Effect ℕ) (refusal : Refusal) → IsRefused store locals (λ w. first w >>= (λ x. second w)) refusal
-    → PerformsOnHeap store locals (λ w. first w >>= (λ x. second w >>= k w x)) store (Err refusal)
-unfolding ◌>>=◌
-stops_second {A} {B} store locals first second k refusal is w s = by (first w) (is w s)
-  where
-    by : (r : Result A ℕ) → Declines refusal (r >>= (λ x. second w)) → AnswersOnHeap (Err refusal) (r >>= (λ x. second w >>= k w x)) store store
-    by (Ok x) is = refused refusal (second w) (k w x) store is
-    by (Err e) is = refused refusal (Err e) (λ (y : B). Err e) store is
+-- The same of a second thing that is read with it.
+pub stops_second : {A B : Type 0} (store : Store) (locals : Option Locals) (first : World → Result A ℕ) (second : World → A → Result B ℕ) (k : World → A → B
+    → Result Effect ℕ) (refusal : Refusal) → IsRefused store locals (λ w. first w >>= second w) refusal
+    → PerformsOnHeap store locals (λ w. first w >>= (λ x. second w x >>= k w x)) store (Err refusal)
+stops_second store locals first second k refusal is w s =
+    (refuses refusal (first w >>= (λ x. second w x >>= k w x)) (declines_second refusal (first w) (second w) (k w) (is w s)), refl)
 
--- what an answer inside another one says, once it is known
-pub of_some : {X : Type 0} (P : X → Type 0) (r : Option X) (x : X) → r ≡ Some x → IfSome r P → P x
-of_some P r x is said = subst (λ q. IfSome q P) is said
-
-pub of_none : {X P : Type 0} (r : Option X) → r ≡ None → IfNone r P → P
-of_none {X} {P} r is said = subst (λ q. IfNone q P) is said
-
-pub of_ok : {T E P : Type 0} (r : Result T E) (t : T) → r ≡ Ok t → OnOk r P → P
-of_ok {T} {E} {P} r t is said = subst (λ q. OnOk q P) is said
-
-pub of_value : {T E : Type 0} (P : T → Type 0) (r : Result T E) (t : T) → r ≡ Ok t → IfOk r P → P t
-of_value P r t is said = subst (λ q. IfOk q P) is said
-
-pub of_err : {T E P : Type 0} (r : Result T E) (e : E) → r ≡ Err e → OnErr r P → P
-of_err {T} {E} {P} r e is said = subst (λ q. OnErr q P) is said
+-- two things are there
+pub goes_on_two : {A B : Type 0} (store new : Store) (locals : Option Locals) (first : World → Result A ℕ) (second : World → A → Result B ℕ) (x : A) (y : B)
+    (k : World → A → B → Result Effect ℕ) (answer : Result Done Refusal) → Reads store locals first x → Reads store locals (λ w. second w x) y
+    → PerformsOnHeap store locals (λ w. k w x y) new answer → PerformsOnHeap store locals (λ w. first w >>= (λ x. second w x >>= k w x)) new answer
+goes_on_two store new locals first second x y k answer is also rest =
+    goes_on store new locals first x (λ w x. second w x >>= k w x) answer is (goes_on store new locals (λ w. second w x) y (λ w. k w x) answer also rest)

@@ -17,13 +17,12 @@ use Rattle.cg_commands.specs.declared.done.Done.TheVariants.{Tells}
 use Rattle.cg_commands.specs.declared.done.Refusal.{Refusal}
 use Rattle.cg_commands.specs.declared.done.Refusal.TheVariants.{OutOfMemory, InCollection}
 use Rattle.cg_commands.specs.declared.locals.Locals.{Locals}
-use Rattle.cg_commands.specs.Refusals.{Declines}
 use Rattle.cg_commands.specs.Stands.{HeapAndLocalsStandFor, Reads, IsRefused}
-use Rattle.cg_commands.specs.Objects.{RefersTo, HasNoObject}
+use Rattle.cg_commands.specs.Objects.{RefersTo}
 use Rattle.cg_commands.specs.Answers.{AnswersOnHeap, WantsMemory}
 use Rattle.cg_commands.specs.Reasons.{reason_lines}
 use Rattle.cg_commands.specs.Inspections.{Inspects, IsInspected, IsNotInspected, inspected}
-use Rattle.cg_commands.proofs.FirstRefusal.{declines_then, refused}
+use Rattle.cg_commands.proofs.FirstRefusal.{declines_second, refused}
 use Rattle.cg_commands.proofs.ChangesOfHeaps.{released-none}
 use Rattle.cg_commands.proofs.Reading.{object-found}
 
@@ -39,18 +38,14 @@ then-known (Ok a) x f = refl
 then-known (Err e) x f = refl
 
 module _ (store : Store) (running : Bool) (locals : Option Locals) (operand : Operand) where
-  -- the operand has no value
-  pub no_value : (refusal : Refusal) → IsRefused store locals (λ w. value w operand) refusal → IsNotInspected store running locals operand refusal
-  no_value refusal is w s same = declines_then refusal (value w operand) _ (is w s)
+  -- the operand refers to no object
+  pub not_found : (refusal : Refusal) → IsRefused store locals (λ w. value w operand >>= object w any_object wrong_kind) refusal → IsNotInspected store running locals operand refusal
+  not_found refusal is w s same = declines_second refusal (value w operand) (object w any_object wrong_kind) _ (is w s)
 
   module _ (v : Val) (reads : Reads store locals (λ w. value w operand) v) where
     after_value : (w : World) → HeapAndLocalsStandFor store locals w → inspected w operand ≡ (object w any_object wrong_kind v >>= (λ x. unless (not (is_collecting w)) in_collection >>= (λ _. Ok x)))
     unfolding ◌>>=◌
     after_value w s = ap (λ q. q >>= (λ v. object w any_object wrong_kind v >>= (λ x. unless (not (is_collecting w)) in_collection >>= (λ _. Ok x)))) (reads w s)
-
-    -- it is no object
-    pub no_object : (refusal : Refusal) → HasNoObject store any_object wrong_kind v refusal → IsNotInspected store running locals operand refusal
-    no_object refusal is w s same = subst (Declines refusal) (sym (after_value w s)) (declines_then refusal (object w any_object wrong_kind v) _ (is w s.represents))
 
     module _ (o : ℕ) (there : RefersTo store any_object v o) where
       after_object : (w : World) → HeapAndLocalsStandFor store locals w → (same : is_collecting w ≡ running) → inspected w operand

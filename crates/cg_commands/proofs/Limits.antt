@@ -1,6 +1,7 @@
 -- The numbers of objects and entries that the heap keeps are those of the world, so the limits agree.
 use Rattle.std.proofs.Common.{◌≡◌, ◌≢◌, refl, sym, ◌∙◌, ap, ℕ, ◌+◌, ◌<◌, ◌≤◌, Bool, true, false, not, cond, List, [], ◌∷◌, length, map, filter, Option, Some, None, Result, Ok, Err, inl, inr, arith, sum_by}
 use Rattle.std.specs.Prelude.{◌⊎◌, ◌==◌, if◌then◌else◌, nat_le, ◌↔◌}
+use Rattle.std.proofs.lemmas.Bool.{le-leb, lt-leb}
 use Rattle.std.proofs.lemmas.Bool.Decides.{leb_tells}
 use Rattle.std.proofs.lemmas.List.Sums.{sum_by-cons}
 use Rattle.std.specs.FinMap as fin
@@ -70,25 +71,17 @@ entries-number store w r =
 
 -- there is room for this many more entries, or there is not
 pub room : (store : Store) (w : World) → Represents store w → (n : ℕ) → entry_number store + n ≤ 4000000 → has_room w n ≡ Ok tt
-room store w r n fits = known (nat_le (entry_count w + n) MOST_ENTRIES) (leb_tells (entry_count w + n) MOST_ENTRIES)
-  where
-    known : (b : Bool) → ((b ≡ true) × (entry_count w + n ≤ 4000000)) ⊎ ((b ≡ false) × (4000000 < entry_count w + n)) → unless b entry_limit ≡ Ok tt
-    known b (inl h) = ap (λ b. unless b entry_limit) h.0
-    known b (inr h) = absurd (omega (arith, h.1, fits, entries-number store w r))
+room store w r n fits = ap (λ k. unless (nat_le (k + n) MOST_ENTRIES) entry_limit) (entries-number store w r) ∙ ap (λ b. unless b entry_limit) (le-leb (entry_number store + n) 4000000 fits)
 
 pub no_room : (store : Store) (w : World) → Represents store w → (n : ℕ) → 4000000 < entry_number store + n → has_room w n ≡ Err entry_limit
-no_room store w r n full = known (nat_le (entry_count w + n) MOST_ENTRIES) (leb_tells (entry_count w + n) MOST_ENTRIES)
-  where
-    known : (b : Bool) → ((b ≡ true) × (entry_count w + n ≤ 4000000)) ⊎ ((b ≡ false) × (4000000 < entry_count w + n)) → unless b entry_limit ≡ Err entry_limit
-    known b (inl h) = absurd (omega (arith, h.1, full, entries-number store w r))
-    known b (inr h) = ap (λ b. unless b entry_limit) h.0
+no_room store w r n full = ap (λ k. unless (nat_le (k + n) MOST_ENTRIES) entry_limit) (entries-number store w r) ∙ ap (λ b. unless b entry_limit) (lt-leb (entry_number store + n) 4000000 full)
 
--- The heap accepted one more entry: there was room for it.
-pub one_fits : {X : Type 0} (store : Store) (x : X) → ((Ok x ≡ Err fault.EntryLimit) ↔ (4000000 ≤ entry_number store)) → entry_number store + 1 ≤ 4000000
-one_fits store x limit = known (leb_tells 4000000 (entry_number store))
+-- The heap did not refuse one more entry for the limit: there was room for it.
+pub one_fits : {X : Type 0} (store : Store) (r : Result X HeapFault) → r ≢ Err fault.EntryLimit → (4000000 ≤ entry_number store → r ≡ Err fault.EntryLimit) → entry_number store + 1 ≤ 4000000
+one_fits store r other limit = known (leb_tells 4000000 (entry_number store))
   where
     known : {b : Bool} → ((b ≡ true) × (4000000 ≤ entry_number store)) ⊎ ((b ≡ false) × (entry_number store < 4000000)) → entry_number store + 1 ≤ 4000000
-    known (inl h) = let no' = limit.1 h.1 in absurd (cc)
+    known (inl h) = absurd (other (limit h.1))
     known (inr h) = omega (arith, h.1)
 
 -- It refused it.
@@ -102,9 +95,5 @@ fault-refused store locals fault.EntryLimit lines given after r is limit objects
     let full : 4000000 ≤ entry_number store = limit.0 is in
     (ap (λ q. q >>= (λ _. Ok (Changes true lines given (after w)))) (no_room store w s.represents 1 (omega (arith, full))), same)
 fault-refused store locals fault.OutOfMemory lines given after r is limit objects new same = λ w s.
-    let fits : entry_number store + 1 ≤ 4000000 = known (leb_tells 4000000 (entry_number store)) in
+    let fits = one_fits store r (λ e. let no : Err fault.OutOfMemory ≡ Err fault.EntryLimit = sym is ∙ e in cc) limit.1 in
     (inl (record { lines = lines; given_up = given; after = after w; is = ap (λ q. q >>= (λ _. Ok (Changes true lines given (after w)))) (room store w s.represents 1 fits) }), same)
-  where
-    known : {b : Bool} → ((b ≡ true) × (4000000 ≤ entry_number store)) ⊎ ((b ≡ false) × (entry_number store < 4000000)) → entry_number store + 1 ≤ 4000000
-    known (inl h) = let no' = sym is ∙ limit.1 h.1 in absurd (cc)
-    known (inr h) = omega (arith, h.1)

@@ -1,23 +1,19 @@
 -- Making and binding objects.
-use Rattle.std.proofs.Common.{◌≡◌, refl, sym, ◌∙◌, ap, subst, ℕ, suc, ◌+◌, ◌<◌, ◌≤◌, Bool, true, false, List, [], ◌∷◌, length, Option, Some, Result, Ok, Err, inl, inr, arith}
-use Rattle.std.specs.Prelude.{◌⊎◌, ◌↔◌, ◌==◌, slice_get, nat_lt}
+use Rattle.std.proofs.Common.{◌≡◌, sym, ◌∙◌, ap, ℕ, suc, ◌+◌, ◌<◌, ◌≤◌, Bool, true, false, List, [], ◌∷◌, length, Option, Some, Result, Ok, Err, inl, inr, arith}
+use Rattle.std.specs.Prelude.{◌⊎◌, ◌↔◌, slice_get, nat_lt}
 use Rattle.std.proofs.lemmas.Bool.Decides.{leb_tells}
 use Rattle.cg_value.specs.declared.Val.{Val}
 use Rattle.cg_value.specs.declared.Val.TheVariants as val
 use Rattle.cg_value.specs.declared.Entry.{Entry}
 use Rattle.cg_value.specs.declared.KindCode.{KindCode}
 use Rattle.cg_graph.specs.Value.{references_of_value, entry_references}
-use Rattle.cg_graph.specs.Store.{Store, IsLive, outside_of}
-use Rattle.cg_graph.specs.Changes.{made, held, unheld, named}
+use Rattle.cg_graph.specs.Store.{Store}
+use Rattle.cg_graph.specs.Changes.{made, unheld, named}
 use Rattle.cg_heap.specs.declared.fault.HeapFault.{HeapFault}
 use Rattle.cg_heap.specs.declared.fault.HeapFault.TheVariants as fault
-use Rattle.cg_heap.specs.Keeps.{outside_total}
-use Rattle.cg_heap.specs.Calls.{IsSound, IsLiveValue, HasFewHolds, object_number, entry_number}
+use Rattle.cg_heap.specs.Calls.{IsSound, object_number, entry_number, made_named}
 use Rattle.cg_heap.specs.Weak.{attached}
-use Rattle.cg_heap.proofs.CallerLemmas.{kinds-made, kinds-unheld, lives_on, total-made, total-unheld_one}
-use Rattle.cg_heap.proofs.HoldLemmas.{outside-made, outside_live}
-use Rattle.cg_heap.proofs.ReferenceLemmas.{occurrences-one, one_if}
-use Rattle.std.proofs.lemmas.Bool.{eq-eqb}
+use Rattle.cg_heap.proofs.CallerLemmas.{kinds-made, kinds-unheld, lives_on}
 use Rattle.cg_machine.specs.declared.event.Event.TheVariants.{Made}
 use Rattle.cg_machine.specs.World.{World}
 use Rattle.cg_machine.specs.Effects.{Effect, Changes, makes, with_new, bound, given_up_by, live, has_room}
@@ -55,18 +51,6 @@ module _ (store : Store) (sound : IsSound store) (locals : Option Locals) (name 
   abbrev made_store : Store
   made_store = attached serial referent (made code class parts store)
 
-  -- it is held once from outside
-  made_held : 0 < outside_of made_store serial
-  made_held =
-      let one : one_if (serial == serial) ≡ 1 = ap one_if (eq-eqb serial serial refl) in
-      omega (arith, outside-made code class parts store sound.below serial, occurrences-one serial serial, one)
-
-  pub held_at : (mid : Store) (n : ℕ) → mid ≡ made_store → n ≡ serial → 0 < outside_of mid n
-  held_at mid n is same = let here : outside_of mid n ≡ outside_of made_store serial = (λ i. outside_of (is i) (same i)) in omega (arith, here, made_held)
-
-  pub made_total : HasFewHolds store → outside_total made_store ≤ 2147483646
-  made_total holds = let low : outside_total store < 2147483646 = holds in omega (arith, total-made code class parts store, low)
-
   abbrev effect_with : World → Result (Unit {0}) ℕ → Result (Unit {0}) ℕ → Result Effect ℕ
   effect_with w first second =
       first >>= (λ _. second >>= (λ _. Ok (Changes true (Made code w.next_serial ∷ []) (given_up_by w name) (bound (with_new w code class parts referent) name
@@ -80,22 +64,20 @@ module _ (store : Store) (sound : IsSound store) (locals : Option Locals) (name 
   fits objects entries w r = λ i. effect_with w (few store w r sound objects i) (room store w r (length parts) entries i)
 
   pub makes-performs : (n : ℕ) → n ≡ serial → (was : Option Val) → slice_get store.names name ≡ Some was → (e : Entry) → entry_references e
-      ≡ references_of_value was → (mid new : Store) → mid ≡ made_store → new ≡ held (references_of_value was)
-      (named name (Some (val.Ref n)) (unheld (n ∷ []) mid))
-      → ((Ok n ≡ Err fault.ObjectLimit) ↔ (1000000 ≤ object_number store)) → ((Ok n ≡ Err fault.EntryLimit) ↔ ((object_number store < 1000000) × (4000000 < entry_number store + length parts)))
+      ≡ references_of_value was → (new : Store) → new ≡ made_named name was code class parts referent store → {X : Type 0} (x : X)
+      → ((Ok x ≡ Err fault.ObjectLimit) ↔ (1000000 ≤ object_number store)) → ((Ok x ≡ Err fault.EntryLimit) ↔ ((object_number store < 1000000) × (4000000 < entry_number store + length parts)))
       → PerformsOnHeap store locals (λ w. makes w name code class parts referent) new (Ok (Changed (Some (Made code n)) e))
-  makes-performs n same was at e entry mid new is now objects entries w s =
-      gives_up _ (Some (Made code n)) e true (references_of_value was) (named name (Some (val.Ref n)) (unheld (n ∷ []) mid))
-      (bound (with_new w code class parts referent) name (Some (val.Ref n))) store new
+  makes-performs n same was at e entry new now x objects entries w s =
+      gives_up _ (Some (Made code n)) e true (references_of_value was) (named name (Some (val.Ref serial)) (unheld (serial ∷ []) made_store))
+      (bound (with_new w code class parts referent) name (Some (val.Ref serial))) store new
       (fits few_objects few_entries w s.represents
-      ∙ (λ i. Ok (Changes true (Made code (next i) ∷ []) (given-up_by store sound locals name was at w s.represents i) (bound (with_new w code class parts referent) name (Some (val.Ref (next i)))))))
+      ∙ (λ i. Ok (Changes true (Made code (next i) ∷ []) (given-up_by store sound locals name was at w s.represents i)
+      (bound (with_new w code class parts referent) name (Some (val.Ref (s.represents.next_serial i)))))))
       entry now
-      (renamed (unheld (n ∷ []) mid) (with_new w code class parts referent)
-      (subst (λ st. Represents st (with_new w code class parts referent)) (sym (λ i. unheld (same i ∷ []) (is i))) (represents-new store w s.represents sound
-      code class parts referent)) name (Some (val.Ref n)))
-      (λ q some. subst (λ st. IsLive st q) (sym (λ i. named name (Some (val.Ref n)) (unheld (same i ∷ []) (is i))))
-      (lives_on made_store (unheld (serial ∷ []) made_store) (kinds-unheld (serial ∷ []) made_store) q
-      (lives_on store (made code class parts store) (kinds-made code class parts store sound.below) q (was_live store sound locals name was at q some))))
+      (renamed (unheld (serial ∷ []) made_store) (with_new w code class parts referent)
+      (represents-new store w s.represents sound code class parts referent) name (Some (val.Ref serial)))
+      (λ q some. lives_on made_store (unheld (serial ∷ []) made_store) (kinds-unheld (serial ∷ []) made_store) q
+      (lives_on store (made code class parts store) (kinds-made code class parts store sound.below) q (was_live store sound locals name was at q some)))
     where
       next : w.next_serial ≡ n
       next = s.represents.next_serial ∙ sym same
@@ -148,14 +130,3 @@ module _ (store : Store) (sound : IsSound store) (locals : Option Locals) (name 
               → entry_number store + length parts ≤ 4000000
           known (inl h) = h.1
           known (inr h) = let no' = sym is ∙ entries.1 (few_objects, h.1) in absurd (cc)
-
--- an object whose hold was given up lives, and fewer holds are left
-pub new_live : (store new : Store) (o : ℕ) → 0 < outside_of store o → new ≡ unheld (o ∷ []) store → IsLiveValue new (val.Ref o)
-new_live store new o has is s e =
-    let same : o ≡ s = cc in
-    subst (λ st. IsLive st s) (sym is) (subst (λ q. IsLive (unheld (o ∷ []) store) q) same (lives_on store (unheld (o ∷ []) store) (kinds-unheld (o ∷ []) store) o (outside_live store o has)))
-
-pub new_few : (store new : Store) (o : ℕ) → 0 < outside_of store o → outside_total store ≤ 2147483646 → new ≡ unheld (o ∷ []) store → HasFewHolds new
-new_few store new o has low is =
-    let now : outside_total new ≡ outside_total (unheld (o ∷ []) store) = ap outside_total is in
-    omega (arith, now, low, total-unheld_one o store has)

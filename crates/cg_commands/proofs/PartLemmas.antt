@@ -1,6 +1,7 @@
 -- The values of several operands, and a callback.
 use Rattle.std.proofs.Common.{◌≡◌, refl, sym, ◌∙◌, ap, subst, ℕ, ◌+◌, ◌<◌, List, [], ◌∷◌, ◌++◌, map, Option, Some, Result, Ok, Err, inl, inr, arith, length-append}
 use Rattle.std.proofs.lemmas.Bool.{cases_eq}
+use Rattle.std.proofs.lemmas.List.{map-append}
 use Rattle.std.proofs.lemmas.List.Elements.{All-nil, All-cons}
 use Rattle.cg_value.specs.declared.Val.{Val}
 use Rattle.cg_value.specs.declared.Val.TheVariants as val
@@ -52,13 +53,6 @@ values-append w (x ∷ xs) ys = first (values-append w xs ys) (value w x)
     first rest (Err e) = refl
 
 module _ (store : Store) (locals : Option Locals) where
-  pub gathers-none : Gathers store locals [] []
-  gathers-none = record { vals = []; reads = λ w s. refl; items = refl; counted = refl; live = λ s some. absurd (omega (arith, some)) }
-
-  map-item : (vs : List Val) (v : Val) → map item (vs ++ v ∷ []) ≡ map item vs ++ item v ∷ []
-  map-item [] v = refl
-  map-item (u ∷ vs) v = ap (λ l. item u ∷ l) (map-item vs v)
-
   pub gathers-more : (ops : List Operand) (parts : List Entry) → Gathers store locals ops parts → (op : Operand) (v : Val)
       → Reads store locals (λ w. value w op) v → IsLiveValue store v → Gathers store locals (ops ++ op ∷ []) (parts ++ item v ∷ [])
   unfolding ◌>>=◌
@@ -67,7 +61,7 @@ module _ (store : Store) (locals : Option Locals) where
     reads = λ w s. values-append w ops (op ∷ [])
         ∙ ap (λ r. r >>= (λ vs. values w (op ∷ []) >>= (λ us. Ok (vs ++ us)))) (g.reads w s)
         ∙ ap (λ r. (r >>= (λ v. Ok (v ∷ []))) >>= (λ us. Ok (g.vals ++ us))) (reads w s);
-    items = ap (λ l. l ++ item v ∷ []) g.items ∙ sym (map-item g.vals v);
+    items = ap (λ l. l ++ item v ∷ []) g.items ∙ sym (map-append item g.vals (v ∷ []));
     counted = length-append parts (item v ∷ []) ∙ ap (λ n. n + 1) g.counted ∙ sym (length-append ops (op ∷ []));
     live = λ s some. lives s (push-item s parts v) some;
   }

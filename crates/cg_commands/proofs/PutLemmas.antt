@@ -1,6 +1,8 @@
 -- A put: an item replaced, or a key that gets a value.
-use Rattle.std.proofs.Common.{◌≡◌, ◌≢◌, refl, sym, ◌∙◌, ap, subst, ℕ, suc, ◌+◌, ◌<◌, ◌≤◌, Bool, true, false, not, ◌&&◌, ◌||◌, List, [], ◌∷◌, ◌++◌, length, get_or, set, Option, Some, None, IsSome, Result, Ok, Err, inl, inr, arith}
-use Rattle.std.specs.Prelude.{◌⊎◌, ◌==◌, slice_get, ◌↔◌, ℤ, pos, negsuc, nat_lt, if◌then◌else◌, is_some, is_none, is_ok, option_map, option_to_list, IsOk}
+use Rattle.std.proofs.Common.{◌≡◌, ◌≢◌, refl, sym, ◌∙◌, ap, subst, ℕ, suc, ◌<◌, ◌≤◌, Bool, true, false, not, ◌&&◌, ◌||◌, List, [], ◌∷◌, ◌++◌, length, get_or, set, Option, Some, None, IsSome, Result, Ok, Err, inl, inr, arith}
+use Rattle.std.specs.Prelude.{◌⊎◌, ◌==◌, slice_get, ◌↔◌, ℤ, pos, negsuc, nat_lt, if◌then◌else◌, is_some, is_none, is_ok, option_map, option_to_list, IsOk, IfOk, OnOk}
+use Rattle.std.proofs.lemmas.Result.{IfOk-at_ok}
+use Rattle.std.proofs.lemmas.Bool.{false≢true}
 use Rattle.std.proofs.lemmas.Bool.Decides.{leb_tells}
 use Rattle.std.proofs.lemmas.List.{append-nil}
 use Rattle.std.proofs.lemmas.Option.{slice_get-get_or}
@@ -11,35 +13,41 @@ use Rattle.cg_value.specs.declared.Entry.{Entry}
 use Rattle.cg_value.specs.declared.KindCode.{KindCode}
 use Rattle.cg_value.specs.declared.KindCode.TheVariants as kind
 use Rattle.cg_value.specs.declared.Place.{Place}
-use Rattle.cg_value.specs.declared.Place.TheVariants.{Untracked, Gen, Frozen, Cand, Seen, Back, Legacy, Pend}
+use Rattle.cg_value.specs.declared.Place.TheVariants.{Untracked, Gen}
 use Rattle.cg_kind.specs.Calls.{value_under, after_put}
 use Rattle.cg_graph.specs.Holdings.{occurrences}
 use Rattle.cg_graph.specs.Value.{item, value_at, same_value, put as put_entries, references, references_of_value, reference_in, entry_references}
 use Rattle.cg_graph.specs.Object.{Object, change, with_entries, with_place as object_with_place, same_place, is_tracked, may_be_tracked as object_may_be_tracked}
-use Rattle.cg_graph.specs.Store.{Store, Node, IsLive, object_from, entries_of, place_of, place_in}
-use Rattle.cg_graph.specs.Changes.{more, held, rewritten, with_place, with_entries as node_with_entries}
+use Rattle.cg_graph.specs.Store.{Store, Node, IsLive, HasCode, object_from, entries_of, entries_in, place_of, place_in}
+use Rattle.cg_graph.specs.Changes.{more, held, moved, rewritten, with_place, with_entries as node_with_entries}
 use Rattle.cg_graph.proofs.Maps.{get-mapped, get-changed_same}
-use Rattle.cg_graph.proofs.Members.{either}
+use Rattle.cg_graph.proofs.Members.{true_and}
 use Rattle.cg_heap.specs.declared.fault.HeapFault.{HeapFault}
 use Rattle.cg_heap.specs.declared.fault.HeapFault.TheVariants as fault
 use Rattle.cg_heap.specs.Keeps.{IsWellMade, IsWellMadeAt}
 use Rattle.cg_heap.specs.Calls.{IsSound, code_of, value_in, with_put, entry_number, may_be_tracked, node_may_be_tracked, is_dict_at, is_untracked_dict, becomes_tracked, tracked_if}
 use Rattle.cg_heap.proofs.CallerLemmas.{kinds-rewritten, lives_on}
-use Rattle.cg_heap.proofs.HoldLemmas.{entry_holds, entries_hold}
+use Rattle.cg_heap.proofs.HoldLemmas.{entries_hold}
 use Rattle.cg_heap.proofs.ReferenceLemmas.{occurrences-append}
 use Rattle.cg_machine.specs.World.{World, Releasing, push, with_change}
 use Rattle.cg_machine.specs.Effects.{Effect, Changes, has_room, sets_entries, puts, tracked_by, may_track, valid_index}
 use Rattle.cg_machine.specs.Operands.{is_dict}
 use Rattle.cg_machine.specs.Refusals.{◌>>=◌}
 use Rattle.cg_represents.specs.Represents.{Represents}
+use Rattle.cg_represents.proofs.Places.{place_is}
 use Rattle.cg_commands.specs.declared.done.Done.TheVariants.{Changed}
 use Rattle.cg_commands.specs.declared.locals.Locals.{Locals}
+use Rattle.cg_commands.specs.declared.keys.Keyed.{Keyed}
+use Rattle.cg_commands.specs.declared.keys.Keyed.TheVariants as keyed
 use Rattle.cg_commands.specs.Refusals.{refusal_by}
-use Rattle.cg_commands.specs.Objects.{RefersTo}
+use Rattle.cg_commands.specs.Objects.{RefersTo, bare}
+use Rattle.cg_commands.specs.Keys.{kind_of}
 use Rattle.cg_commands.specs.Answers.{PerformsOnHeap}
-use Rattle.cg_commands.proofs.ChangesOfHeaps.{gives_up, released, refilled, tracked, change-alike}
+use Rattle.cg_commands.proofs.EntryLemmas.{code-here, refills}
+use Rattle.cg_commands.proofs.Steps.{entries-here}
+use Rattle.cg_commands.proofs.ChangesOfHeaps.{released, refilled, tracked, change-alike}
 use Rattle.cg_commands.proofs.Reading.{object-at_node}
-use Rattle.cg_commands.proofs.Limits.{room, fault-refused}
+use Rattle.cg_commands.proofs.Limits.{room, one_fits, fault-refused}
 
 -- an index that is a position
 pub index_is : (z : ℤ) (len i : ℕ) → valid_index z len ≡ Some i → (z ≡ pos i) × (i < len)
@@ -60,46 +68,42 @@ item_alone store sound o n found list i e within at =
     ap (λ k. option_to_list (reference_in e.val) ++ option_to_list (reference_in k)) (ap (λ (x : Entry). x.key) (sym at) ∙ none)
     ∙ append-nil (option_to_list (reference_in e.val))
 
-module _ (store : Store) (sound : IsSound store) (locals : Option Locals) (test : Object → Bool) (v : Val) (o : ℕ) (there : RefersTo store test v o) where
-  abbrev x : Object
-  x = object_from store.rows o there.node
+module _ (store : Store) (sound : IsSound store) (locals : Option Locals) (test : Object → Bool) (v : Val) (o : ℕ) (there : RefersTo store test v o)
+    (list : there.node.code ≡ kind.List) (z : ℤ) (i : ℕ) (e : Entry) (at : z ≡ pos i) (here : slice_get (entries_of store o) i ≡ Some e) where
+  list_code : code_of store o ≡ kind.List
+  list_code = code-here store o kind.List (there.node, there.found, list)
 
-  entries-here : entries_of store o ≡ there.node.entries
-  entries-here = ap (λ (x : Option Node). elim x [ None ↦ [] | Some n ↦ n.entries ]) there.found
+  entries : entries_of store o ≡ there.node.entries
+  entries = entries-here store locals test v o there
 
-  code-is : code_of store o ≡ there.node.code
-  code-is = ap (λ (x : Option Node). elim x [ None ↦ kind.List | Some n ↦ n.code ]) there.found
+  found_value : value_in store o (val.Int z) ≡ Some e.val
+  found_value = (λ j. value_under (list_code j) (entries_of store o) (val.Int (at j))) ∙ ap (option_map (λ e. e.val)) here
 
-  -- the item at an index of a list is replaced
-  pub sets : there.node.code ≡ kind.List → (z : ℤ) (i : ℕ) (e : Entry) (value : Val) (was : Option Val) (e' : Entry) (new : Store) → z ≡ pos i
-      → i < length (entries_of store o) → slice_get (entries_of store o) i ≡ Some e
-      → new ≡ tracked_if (becomes_tracked store o (val.Int z) value) o (with_put store o (val.Int z) value) → was ≡ value_in store o (val.Int z) → entry_references e' ≡ references_of_value was
-      → PerformsOnHeap store locals (λ w. sets_entries w x (set there.node.entries i (item value)) (entry_references e)) new (Ok (Changed None e'))
-  sets list z i e value was e' new at within here is told refs w s =
-      gives_up _ None e' false (entry_references e) (rewritten o (set there.node.entries i (item value)) store) (with_change (with_entries (set there.node.entries i (item value))) o w) store new refl
-      (refs ∙ ap references_of_value (told ∙ found_value) ∙ sym alone)
-      (is ∙ untouched ∙ (λ j. held (references_of_value (found_value j)) (rewritten o (after j) store)) ∙ ap (λ rs. held rs (rewritten o (set there.node.entries i (item value)) store)) (sym alone))
-      (refilled store w s.represents o (set there.node.entries i (item value)))
-      (λ q some. lives_on store (rewritten o (set there.node.entries i (item value)) store) (kinds-rewritten o (set there.node.entries i (item value)) store) q
-      (sound.live q (omega (arith, some, entry_holds store o i e here q))))
+  -- the item at an index of a list is there, so nothing is refused
+  pub sets-there : IsSome (value_in store o (val.Int z))
+  sets-there = subst IsSome (sym found_value) refl
+
+  -- and is replaced
+  pub sets : (value : Val) (was : Option Val) (given : Entry) (new : Store) → i < length (entries_of store o)
+      → new ≡ tracked_if (becomes_tracked store o (val.Int z) value) o (with_put store o (val.Int z) value) → was ≡ value_in store o (val.Int z) → entry_references given ≡ references_of_value was
+      → PerformsOnHeap store locals (λ w. sets_entries w (object_from store.rows o there.node) (set there.node.entries i (item value)) (entry_references e)) new (Ok (Changed None given))
+  sets value was given new within is told refs =
+      refills store sound locals test v o there es i e given new here (refs ∙ ap references_of_value (told ∙ found_value) ∙ sym alone)
+      (is ∙ untouched ∙ (λ j. held (references_of_value (found_value j)) (rewritten o (after j) store)) ∙ ap (λ rs. held rs (rewritten o es store)) (sym alone))
     where
-      within_node : i < length there.node.entries
-      within_node = subst (λ (es : List Entry). i < length es) entries-here within
+      es : List Entry
+      es = set there.node.entries i (item value)
 
-      in_node : slice_get there.node.entries i ≡ Some e
-      in_node = ap (λ es. slice_get es i) (sym entries-here) ∙ here
+      within_node : i < length there.node.entries
+      within_node = subst (λ (es : List Entry). i < length es) entries within
 
       alone : entry_references e ≡ references_of_value (Some e.val)
-      alone = item_alone store sound o there.node there.found list i e within_node (some_is _ e (sym (slice_get-get_or there.node.entries i e within_node) ∙ in_node))
-        where
-          some_is : (a b : Entry) → Some a ≡ Some b → a ≡ b
-          some_is a b h = cc
+      alone =
+          let there_is : Some (get_or there.node.entries i e) ≡ Some e = sym (slice_get-get_or there.node.entries i e within_node) ∙ ap (λ es. slice_get es i) (sym entries) ∙ here in
+          item_alone store sound o there.node there.found list i e within_node (cc)
 
-      found_value : value_in store o (val.Int z) ≡ Some e.val
-      found_value = (λ j. value_under ((code-is ∙ list) j) (entries_of store o) (val.Int (at j))) ∙ ap (option_map (λ e. e.val)) here
-
-      after : after_put (code_of store o) (entries_of store o) (val.Int z) value ≡ set there.node.entries i (item value)
-      after = (λ j. after_put ((code-is ∙ list) j) (entries-here j) (val.Int (at j)) value)
+      after : after_put (code_of store o) (entries_of store o) (val.Int z) value ≡ es
+      after = (λ j. after_put (list_code j) (entries j) (val.Int (at j)) value)
 
       no_dict : is_untracked_dict (fin.get store.nodes o) ≡ false
       no_dict = ap is_untracked_dict there.found ∙ ap (λ c. is_dict_at c there.node.place) list
@@ -107,20 +111,9 @@ module _ (store : Store) (sound : IsSound store) (locals : Option Locals) (test 
       untouched : tracked_if (becomes_tracked store o (val.Int z) value) o (with_put store o (val.Int z) value) ≡ with_put store o (val.Int z) value
       untouched = ap (λ b. tracked_if (b && (may_be_tracked store (val.Int z) || may_be_tracked store value)) o (with_put store o (val.Int z) value)) no_dict
 
-  -- and is there, so nothing is refused
-  pub sets-there : there.node.code ≡ kind.List → (z : ℤ) (i : ℕ) (e : Entry) → z ≡ pos i → slice_get (entries_of store o) i ≡ Some e → IsSome (value_in store o (val.Int z))
-  sets-there list z i e at here = subst IsSome (sym ((λ j. value_under ((code-is ∙ list) j) (entries_of store o) (val.Int (at j))) ∙ ap (option_map (λ e. e.val)) here)) refl
-
 -- a refusal is not Ok
 pub never_ok : {X : Type 0} (r : Result X HeapFault) (f : HeapFault) → r ≡ Err f → IsOk r → ⊥
-never_ok r f is ok = not_both (ap is_ok (sym is) ∙ ok)
-  where
-    not_both : false ≡ true → ⊥
-    not_both e = cc
-
--- dictionaries and instances have keys
-abbrev pub IsKeyed : KindCode → Type 0
-IsKeyed c = (c ≡ kind.Dict) ⊎ (c ≡ kind.Inst)
+never_ok r f is ok = false≢true (ap is_ok (sym is) ∙ ok)
 
 -- the value under a key is held by the entries
 value_at-le : (s : ℕ) (es : List Entry) (key : Val) → occurrences s (references_of_value (value_at es key)) ≤ occurrences s (references es)
@@ -156,25 +149,33 @@ may-track store w r (val.Ref s) =
     known None = refl
     known (Some n) = by_code n.code n.place
 
-module _ (store : Store) (sound : IsSound store) (locals : Option Locals) (test : Object → Bool) (v : Val) (o : ℕ) (there : RefersTo store test v o)
-    (keyed : IsKeyed there.node.code) (key value : Val) where
+module _ (store : Store) (sound : IsSound store) (locals : Option Locals) (what : Keyed) (o : ℕ) (c : KindCode) (same : c ≡ kind_of what) (has : HasCode store o c)
+    (key value : Val) where
   abbrev n : Node
-  n = there.node
+  n = has.0
 
   abbrev es : List Entry
   es = put_entries n.entries key value
 
   here : entries_of store o ≡ n.entries
-  here = ap (λ (x : Option Node). elim x [ None ↦ [] | Some n ↦ n.entries ]) there.found
+  here = ap entries_in has.1
 
-  code : code_of store o ≡ n.code
-  code = ap (λ (x : Option Node). elim x [ None ↦ kind.List | Some n ↦ n.code ]) there.found
+  code : code_of store o ≡ kind_of what
+  code = code-here store o c has ∙ same
 
   under : value_in store o key ≡ value_at n.entries key
-  under = (λ j. value_under (code j) (here j) key) ∙ either keyed (λ is. ap (λ c. value_under c n.entries key) is) (λ is. ap (λ c. value_under c n.entries key) is)
+  under = (λ j. value_under (code j) (here j) key) ∙ by what
+    where
+      by : (what : Keyed) → value_under (kind_of what) n.entries key ≡ value_at n.entries key
+      by keyed.Dict = refl
+      by keyed.Inst = refl
 
   after : after_put (code_of store o) (entries_of store o) key value ≡ es
-  after = (λ j. after_put (code j) (here j) key value) ∙ either keyed (λ is. ap (λ c. after_put c n.entries key value) is) (λ is. ap (λ c. after_put c n.entries key value) is)
+  after = (λ j. after_put (code j) (here j) key value) ∙ by what
+    where
+      by : (what : Keyed) → after_put (kind_of what) n.entries key value ≡ es
+      by keyed.Dict = refl
+      by keyed.Inst = refl
 
   -- what the machine does where memory suffices
   abbrev changed_world : World → World
@@ -205,19 +206,16 @@ module _ (store : Store) (sound : IsSound store) (locals : Option Locals) (test 
   becomes-told : (w : World) → Represents store w → becomes w n ≡ becomes_tracked store o key value
   becomes-told w r =
       (λ j. is_dict (object_from store.rows o n) && not (is_tracked (object_from store.rows o n)) && (may-track store w r key j || may-track store w r value j))
-      ∙ ap (λ b. b && (may_be_tracked store key || may_be_tracked store value)) (by_code n.code n.place ∙ sym (ap is_untracked_dict there.found))
+      ∙ ap (λ b. b && (may_be_tracked store key || may_be_tracked store value))
+      (ap (λ c. is_dict (bare c o) && not (not (same_place n.place Untracked))) (has.2 ∙ same) ∙ by what ∙ sym (ap is_untracked_dict has.1 ∙ ap (λ c. is_dict_at c n.place) (has.2 ∙ same)))
     where
       twice : (b : Bool) → not (not b) ≡ b
       twice true = refl
       twice false = refl
 
-      by_code : (c : KindCode) (p : Place) → (is_dict (object_from store.rows o (node_of c p)) && not (is_tracked (object_from store.rows o (node_of c p)))) ≡ is_dict_at c p
-      by_code kind.List p = refl
-      by_code kind.Tuple p = refl
-      by_code kind.Dict p = twice (same_place p Untracked)
-      by_code kind.Inst p = refl
-      by_code kind.Func p = refl
-      by_code kind.Weak p = refl
+      by : (what : Keyed) → (is_dict (bare (kind_of what) o) && not (not (same_place n.place Untracked))) ≡ is_dict_at (kind_of what) n.place
+      by keyed.Dict = twice (same_place n.place Untracked)
+      by keyed.Inst = refl
 
   -- the heap after the put, and the world
   module _ (w : World) (r : Represents store w) where
@@ -243,14 +241,6 @@ module _ (store : Store) (sound : IsSound store) (locals : Option Locals) (test 
     first : Represents (held refs filled) before
     first = released filled (with_change (with_entries es) o w) (refilled store w r o es) refs refs_live
 
-    change-none : (xs : List Object) → change (λ y. y) o xs ≡ xs
-    change-none [] = refl
-    change-none (y ∷ ys) = (λ j. one (y.serial == o) y j ∷ change-none ys j)
-      where
-        one : (b : Bool) (y : Object) → (if b then y else y) ≡ y
-        one true y = refl
-        one false y = refl
-
     -- two consecutive changes
     change-twice : (f g : Object → Object) → ((y : Object) → (g y).serial ≡ y.serial) → (xs : List Object) → change f o (change g o xs) ≡ change (λ y. f (g y)) o xs
     change-twice f g same [] = refl
@@ -266,48 +256,31 @@ module _ (store : Store) (sound : IsSound store) (locals : Option Locals) (test 
     abbrev tracks : Bool → Object → Object
     tracks b y = if b then object_with_place (Gen 0) y else y
 
-    moved-if : (b : Bool) → now ≡ b → Represents (tracked_if b o (held refs filled)) (with_change (tracks b) o before)
-    moved-if true is = tracked (held refs filled) before first o untracked
+    moved-if : (b : Bool) → now ≡ b → Represents (tracked_if b o (held refs filled)) (push (Releasing refs) (with_change (λ y. tracks b (with_entries es y)) o w))
+    moved-if true is =
+        subst (λ os. Represents (moved o (Gen 0) (held refs filled)) (record (push (Releasing refs) w) { objects = os }))
+        (change-twice (object_with_place (Gen 0)) (with_entries es) (λ y. refl) w.objects) (tracked (held refs filled) before first o untracked)
       where
-        was : is_untracked_dict (Some n) ≡ true
-        was = ap is_untracked_dict (sym there.found) ∙ and_left' (is_untracked_dict (fin.get store.nodes o)) _ is
-          where
-            and_left' : (a b : Bool) → (a && b) ≡ true → a ≡ true
-            and_left' true b h = refl
-            and_left' false b h = cc
+        was : is_dict_at (kind_of what) n.place ≡ true
+        was = ap (λ c. is_dict_at c n.place) (sym (has.2 ∙ same)) ∙ ap is_untracked_dict (sym has.1) ∙ (true_and (is_untracked_dict (fin.get store.nodes o)) _ is).0
 
-        place : (c : KindCode) → is_dict_at c n.place ≡ true → same_place n.place Untracked ≡ true
-        place kind.Dict h = h
-        place kind.List h = cc
-        place kind.Tuple h = cc
-        place kind.Inst h = cc
-        place kind.Func h = cc
-        place kind.Weak h = cc
-
-        untracked_place : (p : Place) → same_place p Untracked ≡ true → p ≡ Untracked
-        untracked_place Untracked h = refl
-        untracked_place (Gen i) h = cc
-        untracked_place Frozen h = cc
-        untracked_place Cand h = cc
-        untracked_place Seen h = cc
-        untracked_place Back h = cc
-        untracked_place Legacy h = cc
-        untracked_place Pend h = cc
+        place : (what : Keyed) → is_dict_at (kind_of what) n.place ≡ true → same_place n.place Untracked ≡ true
+        place keyed.Dict h = h
+        place keyed.Inst h = cc
 
         untracked : place_of (held refs filled) o ≡ Untracked
         untracked =
             ap place_in (get-mapped (λ s n. more (occurrences s refs) n) filled.nodes o ∙ ap (option_map (more (occurrences o refs)))
-            (get-changed_same (node_with_entries es) o store.nodes o refl ∙ ap (option_map (node_with_entries es)) there.found))
-            ∙ untracked_place n.place (place n.code was)
-    moved-if false is = subst (λ os. Represents (held refs filled) (record before { objects = os })) (sym (change-none before.objects)) first
+            (get-changed_same (node_with_entries es) o store.nodes o refl ∙ ap (option_map (node_with_entries es)) has.1))
+            ∙ place_is n.place Untracked (place what was)
+    moved-if false is = first
 
-    -- the two changes are the machine's single one
-    world-is : change (tracks now) o (change (with_entries es) o w.objects) ≡ change (λ y. tracked_by w key value (with_entries es y)) o w.objects
+    -- the change is the machine's
+    world-is : change (λ y. tracks now (with_entries es y)) o w.objects ≡ change (λ y. tracked_by w key value (with_entries es y)) o w.objects
     world-is =
-        change-twice (tracks now) (with_entries es) (λ y. refl) w.objects
-        ∙ subst (λ os. change (λ y. tracks now (with_entries es y)) o os ≡ change (λ y. tracked_by w key value (with_entries es y)) o os) r.objects
+        subst (λ os. change (λ y. tracks now (with_entries es y)) o os ≡ change (λ y. tracked_by w key value (with_entries es y)) o os) r.objects
         (change-alike store o n (λ m. put_at now m) (λ m. put_at (becomes w m) m) (λ y. tracks now (with_entries es y))
-        (λ y. tracked_by w key value (with_entries es y)) (λ s m. placed now s m) (λ s m. placed (becomes w m) s m) there.found
+        (λ y. tracked_by w key value (with_entries es y)) (λ s m. placed now s m) (λ s m. placed (becomes w m) s m) has.1
         (ap (λ b. put_at b n) (sym (becomes-told w r))))
       where
         put_at : Bool → Node → Node
@@ -322,27 +295,25 @@ module _ (store : Store) (sound : IsSound store) (locals : Option Locals) (test 
         subst (λ st. Represents st (push (Releasing refs) (changed_world w))) (sym (is ∙ ap (λ l. tracked_if now o (held refs (rewritten o l store))) after))
         (subst (λ os. Represents (tracked_if now o (held refs filled)) (record (push (Releasing refs) w) { objects = os })) world-is (moved-if now refl))
 
-  pub puts-performs : (was : Option Val) (e : Entry) (new : Store) → new ≡ tracked_if (becomes_tracked store o key value) o (with_put store o key value) → was
-      ≡ value_in store o key → entry_references e ≡ references_of_value was
-      → ((Ok was ≡ Err fault.EntryLimit) ↔ ((value_in store o key ≡ None) × (4000000 ≤ entry_number store))) → PerformsOnHeap store locals
-      (λ w. puts w (object_from store.rows o n) key value) new (Ok (Changed None e))
+  -- and done otherwise
+  pub puts-performs : (r : Result (Option Val) HeapFault) (was : Option Val) → r ≡ Ok was
+      → ((r ≡ Err fault.EntryLimit) ↔ ((value_in store o key ≡ None) × (4000000 ≤ entry_number store))) → (new : Store)
+      → OnOk r (new ≡ tracked_if (becomes_tracked store o key value) o (with_put store o key value)) → IfOk r (λ was. was ≡ value_in store o key)
+      → (e : Entry) → entry_references e ≡ references_of_value was
+      → PerformsOnHeap store locals (λ w. puts w (object_from store.rows o n) key value) new (Ok (Changed None e))
   unfolding ◌>>=◌
-  puts-performs was e new is told refs_are limit w s =
+  puts-performs r was is limit new put told e refs_are w s =
       record {
         wants_memory = is_none (value_at n.entries key);
         after = changed_world w;
         is = ap (λ q. q >>= (λ _. Ok (Changes (is_none (value_at n.entries key)) [] (references_of_value (value_at n.entries key)) (changed_world w)))) (checked (value_at n.entries key) refl)
-            ∙ ap (λ rs. Ok (Changes (is_none (value_at n.entries key)) [] rs (changed_world w))) (sym given);
-        represents = subst (λ rs. Represents new (push (Releasing rs) (changed_world w))) (sym (refs_are ∙ ap references_of_value told)) (put-represents w s.represents new is);
+            ∙ ap (λ rs. Ok (Changes (is_none (value_at n.entries key)) [] rs (changed_world w))) (sym (refs_is ∙ ap references_of_value under));
+        represents = subst (λ rs. Represents new (push (Releasing rs) (changed_world w))) (sym refs_is) (put-represents w s.represents new (IfOk-at_ok _ is put));
       }
     where
-      given : entry_references e ≡ references_of_value (value_at n.entries key)
-      given = refs_are ∙ ap references_of_value (told ∙ under)
+      refs_is : entry_references e ≡ references_of_value (value_in store o key)
+      refs_is = refs_are ∙ ap references_of_value (IfOk-at_ok (λ was. was ≡ value_in store o key) is told)
 
       checked : (old : Option Val) → value_at n.entries key ≡ old → (if is_some old then Ok tt else has_room w 1) ≡ Ok tt
       checked (Some x) at = refl
-      checked None at = room store w s.represents 1 (fits (leb_tells 4000000 (entry_number store)))
-        where
-          fits : {b : Bool} → ((b ≡ true) × (4000000 ≤ entry_number store)) ⊎ ((b ≡ false) × (entry_number store < 4000000)) → entry_number store + 1 ≤ 4000000
-          fits (inl h) = let no' = limit.1 (under ∙ at, h.1) in absurd (cc)
-          fits (inr h) = omega (arith, h.1)
+      checked None at = room store w s.represents 1 (one_fits store r (λ e. let no' = sym is ∙ e in cc) (λ full. limit.1 (under ∙ at, full)))

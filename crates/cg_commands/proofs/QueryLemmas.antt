@@ -21,15 +21,14 @@ use Rattle.cg_commands.specs.Answers.{PerformsOnHeap}
 use Rattle.cg_commands.proofs.ChangesOfHeaps.{gives_nothing}
 
 module _ (store : Store) (locals : Option Locals) where
-  pub prints-performs : (line : Event) (done : Done) → done ≡ Changed (Some line) (item val.None) → PerformsOnHeap store locals (λ w. prints w line) store (Ok done)
-  prints-performs line done is = subst (λ d. PerformsOnHeap store locals (λ w. prints w line) store (Ok d)) (sym is)
-      (λ w s. gives_nothing (prints w line) (Some line) (item val.None) false w store store refl refl s.represents)
-
   -- a line known from the world
   pub prints-known : (line : World → Event) (here : Event) → ((w : World) → HeapAndLocalsStandFor store locals w → line w ≡ here) → (done : Done) → done
       ≡ Changed (Some here) (item val.None) → PerformsOnHeap store locals (λ w. prints w (line w)) store (Ok done)
   prints-known line here told done is = subst (λ d. PerformsOnHeap store locals (λ w. prints w (line w)) store (Ok d)) (sym is)
       (λ w s. gives_nothing (prints w (line w)) (Some here) (item val.None) false w store store (ap (prints w) (told w s)) refl s.represents)
+
+  pub prints-performs : (line : Event) (done : Done) → done ≡ Changed (Some line) (item val.None) → PerformsOnHeap store locals (λ w. prints w line) store (Ok done)
+  prints-performs line = prints-known (λ w. line) line (λ w s. refl)
 
   pub prints-count : (o n : ℕ) → n ≡ count_of store o → (done : Done) → done ≡ Changed (Some (RefCount n)) (item val.None) → PerformsOnHeap store locals
       (λ w. prints w (RefCount (in_degree w o))) store (Ok done)

@@ -1,5 +1,5 @@
 -- What a heap says of the world that it represents: the values of operands, and the objects that values refer to.
-use Rattle.std.proofs.Common.{◌≡◌, refl, sym, ◌∙◌, ap, subst, ℕ, ◌<◌, Bool, true, false, [], ◌∷◌, Option, Some, None, IsSome, Result, Ok, Err, arith}
+use Rattle.std.proofs.Common.{◌≡◌, refl, sym, ◌∙◌, ap, subst, ℕ, ◌<◌, Bool, false, [], ◌∷◌, Option, Some, None, IsSome, Result, Ok, Err, arith}
 use Rattle.std.proofs.Common.{T, w64}
 use mir.Val.{to_z, of_z}
 use Rattle.std.proofs.Math.Facts.{to_z-of_z, sfits_lit}
@@ -23,7 +23,7 @@ use Rattle.cg_heap.proofs.ReferenceLemmas.{occurrences-one, one_if}
 use Rattle.cg_heap.proofs.HoldLemmas.{entry_holds, name_holds}
 use Rattle.cg_machine.specs.declared.event.FrameSort.{FrameSort}
 use Rattle.cg_machine.specs.World.{World, Frame}
-use Rattle.cg_machine.specs.Operands.{frame_on, value_of, self_in, weak_in, object, tested}
+use Rattle.cg_machine.specs.Operands.{frame_on, value_of, object, tested}
 use Rattle.cg_machine.specs.Refusals.{◌>>=◌}
 use Rattle.cg_represents.specs.Represents.{Represents}
 use Rattle.cg_commands.proofs.KeyLemmas.{value_somewhere}
@@ -53,12 +53,6 @@ of_locals {X} g f locals is = known f ∙ ap (option_and_then (λ l. g l.sort l.
     known : (f : Option Frame) → option_and_then (λ f. g f.sort f.subject f.function) f ≡ option_and_then (λ l. g l.sort l.subject l.func) (option_map locals_of f)
     known None = refl
     known (Some f) = refl
-
-pub reads-self : (store : Store) (locals : Option Locals) → ReadsValue store locals operand.SelfLocal (option_map val.Ref (option_and_then (λ l. self_in l.sort l.subject) locals))
-reads-self store locals w s = ap (option_map val.Ref) (of_locals (λ sort subject f. self_in sort subject) (frame_on w.stack) locals s.locals_are)
-
-pub reads-weak : (store : Store) (locals : Option Locals) → ReadsValue store locals operand.WeakLocal (option_map val.Ref (option_and_then (λ l. weak_in l.sort l.subject) locals))
-reads-weak store locals w s = ap (option_map val.Ref) (of_locals (λ sort subject f. weak_in sort subject) (frame_on w.stack) locals s.locals_are)
 
 pub reads-cell : (store : Store) (locals : Option Locals) (i : ℕ) (word : Operand) (v : Option Val) → word ≡ operand.Cell i → v
     ≡ option_and_then (λ l. option_and_then (λ f. option_map (λ e. e.val) (slice_get (entries_of store f) i)) l.func) locals → ReadsValue store locals word v
@@ -117,7 +111,6 @@ declined wanted.List r is = is
 declined wanted.ScriptList r is = is
 declined wanted.Sequence r is = is
 declined wanted.Dict r is = is
-declined wanted.Inst r is = is
 declined wanted.Func r is = is
 declined wanted.Referable r is = is
 declined wanted.Weak r is = is
@@ -128,10 +121,12 @@ no_reference (val.Int n) none = refl
 no_reference (val.Str n) none = refl
 no_reference (val.Ref o) none = absurd (none o refl)
 
-pub object-none : (store : Store) (kind : Wanted) (v : Val) → ((o : ℕ) → v ≡ val.Ref o → ⊥) → HasNoObject store (test_of kind) (number_of (refusal_of kind)) v (refusal_of kind)
+pub object-absent : (test : Object → Bool) (k : ℕ) (v : Val) → ((o : ℕ) → v ≡ val.Ref o → ⊥) → (w : World) → object w test k v ≡ Err k
 unfolding ◌>>=◌
-object-none store kind v none w r = declined kind _ (ap (λ x. ok_or (option_and_then (object_at w.objects) x) (number_of (refusal_of kind)) >>= tested
-    (test_of kind) (number_of (refusal_of kind))) (no_reference v none))
+object-absent test k v none w = ap (λ x. ok_or (option_and_then (object_at w.objects) x) k >>= tested test k) (no_reference v none)
+
+pub object-none : (store : Store) (kind : Wanted) (v : Val) → ((o : ℕ) → v ≡ val.Ref o → ⊥) → HasNoObject store (test_of kind) (number_of (refusal_of kind)) v (refusal_of kind)
+object-none store kind v none w r = declined kind _ (object-absent (test_of kind) (number_of (refusal_of kind)) v none w)
 
 -- the tests use only the kind and the serial
 pub test-bare : (kind : Wanted) (x : Object) → test_of kind x ≡ test_of kind (bare x.code x.serial)
@@ -140,37 +135,28 @@ test-bare wanted.List x = refl
 test-bare wanted.ScriptList x = refl
 test-bare wanted.Sequence x = refl
 test-bare wanted.Dict x = refl
-test-bare wanted.Inst x = refl
 test-bare wanted.Func x = refl
 test-bare wanted.Referable x = refl
 test-bare wanted.Weak x = refl
 
--- a live object passes, or not
-pub object-admitted : (store : Store) (kind : Wanted) (o : ℕ) (code : KindCode) → IsLive store o → IfSome (fin.get store.nodes o) (λ n. code ≡ n.code)
-    → test_of kind (bare code o) ≡ true → RefersTo store (test_of kind) (val.Ref o) o
-object-admitted store kind o code live told passes = known (fin.get store.nodes o) refl live told
-  where
-    known : (x : Option Node) → fin.get store.nodes o ≡ x → IsSome x → IfSome x (λ n. code ≡ n.code) → RefersTo store (test_of kind) (val.Ref o) o
-    known None at live told = absurd (cc)
-    known (Some n) at live told = record {
-      node = n;
-      refers = refl;
-      found = at;
-      passes = test-bare kind (object_from store.rows o n) ∙ ap (λ c. test_of kind (bare c o)) (sym told) ∙ passes;
-    }
-
-pub object-other : (store : Store) (kind : Wanted) (o : ℕ) (code : KindCode) → IsLive store o → IfSome (fin.get store.nodes o) (λ n. code ≡ n.code)
-    → test_of kind (bare code o) ≡ false → HasNoObject store (test_of kind) (number_of (refusal_of kind)) (val.Ref o) (refusal_of kind)
+-- a live object that does not pass
+pub object-fails : (store : Store) (test : Object → Bool) (k : ℕ) (v : Val) (o : ℕ) (n : Node) → v ≡ val.Ref o → fin.get store.nodes o ≡ Some n
+    → test (object_from store.rows o n) ≡ false → (w : World) → Represents store w → object w test k v ≡ Err k
 unfolding ◌>>=◌
-object-other store kind o code live told fails w r = declined kind _ (known (fin.get store.nodes o) refl live told)
+object-fails store test k v o n refers at fails w r =
+    ap (λ v. object w test k v) refers
+    ∙ ap (λ x. ok_or x k >>= tested test k) (object-at_node store w r o ∙ ap (option_map (object_from store.rows o)) at)
+    ∙ ap (λ b. if b then Ok (object_from store.rows o n) else Err k) fails
+
+pub object-other : (store : Store) (kind : Wanted) (v : Val) (o : ℕ) (code : KindCode) → v ≡ val.Ref o → IsLive store o
+    → IfSome (fin.get store.nodes o) (λ n. code ≡ n.code) → test_of kind (bare code o) ≡ false → HasNoObject store (test_of kind) (number_of (refusal_of kind)) v (refusal_of kind)
+object-other store kind v o code refers live told fails w r = declined kind _ (known (fin.get store.nodes o) refl live told)
   where
-    known : (x : Option Node) → fin.get store.nodes o ≡ x → IsSome x → IfSome x (λ n. code ≡ n.code) → object w (test_of kind) (number_of (refusal_of kind))
-        (val.Ref o) ≡ Err (number_of (refusal_of kind))
+    known : (x : Option Node) → fin.get store.nodes o ≡ x → IsSome x → IfSome x (λ n. code ≡ n.code) → object w (test_of kind) (number_of (refusal_of kind)) v
+        ≡ Err (number_of (refusal_of kind))
     known None at live told = absurd (cc)
-    known (Some n) at live told =
-        ap (λ x. ok_or x (number_of (refusal_of kind)) >>= tested (test_of kind) (number_of (refusal_of kind))) (object-at_node store w r o ∙ ap (option_map (object_from store.rows o)) at)
-        ∙ ap (λ b. if b then Ok (object_from store.rows o n) else Err (number_of (refusal_of kind))) (test-bare kind (object_from store.rows o n)
-        ∙ ap (λ c. test_of kind (bare c o)) (sym told) ∙ fails)
+    known (Some n) at live told = object-fails store (test_of kind) (number_of (refusal_of kind)) v o n refers at
+        (test-bare kind (object_from store.rows o n) ∙ ap (λ c. test_of kind (bare c o)) (sym told) ∙ fails) w r
 
 -- what a value refers to lives
 pub refers_live : (store : Store) (test : Object → Bool) (v : Val) (o : ℕ) → RefersTo store test v o → IsLive store o

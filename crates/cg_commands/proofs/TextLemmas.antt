@@ -1,7 +1,10 @@
 -- A property of all texts of a command holds of those of each operand.
-use Rattle.std.proofs.Common.{ℕ, zero, suc, ◌<◌, List, [], ◌∷◌, ◌++◌, length, get_or, arith}
+use Rattle.std.proofs.Common.{◌≡◌, subst, ℕ, zero, suc, ◌<◌, List, [], ◌∷◌, ◌++◌, length, get_or, arith}
 use Rattle.std.specs.Prelude.{flat_map}
 use Rattle.std.specs.List.{All}
+use Rattle.cg_script.specs.declared.command.Command.{Command}
+use Rattle.cg_script.specs.Texts.{command_texts}
+use Rattle.cg_script.specs.Spelled.{IsSpelledCommand}
 use Rattle.std.proofs.lemmas.List.Elements.{All-nil, All-cons, All-head, All-tail}
 
 pub all_left : {X : Type 0} (P : X → Type 0) (xs ys : List X) → All P (xs ++ ys) → All P xs
@@ -16,3 +19,7 @@ pub all_at : {X Y : Type 0} (P : X → Type 0) (f : Y → List X) (ys : List Y) 
 all_at P f [] i d within h = absurd (omega arith)
 all_at P f (y ∷ ys) zero d within h = all_left P (f y) (flat_map f ys) h
 all_at P f (y ∷ ys) (suc i) d within h = all_at P f ys i d (omega arith) (all_right P (f y) (flat_map f ys) h)
+
+-- what a command's spelling says of one of its sort
+pub known_in : (names : ℕ) (given command : Command) → given ≡ command → IsSpelledCommand names given → All (λ n. n < names) (command_texts command)
+known_in names given command is spelled = subst (λ cmd. All (λ n. n < names) (command_texts cmd)) is spelled.known

@@ -1,6 +1,7 @@
 pub mod Refusals
 pub mod Stands
 pub mod Objects
+pub mod Keys
 pub mod Reasons
 pub mod Answers
 pub mod Inspections

@@ -1,5 +1,5 @@
 -- The objects that values refer to, and the kinds that commands expect. (Ours.)
-use Rattle.std.specs.Prelude.{◌≡◌, ℕ, Bool, true, false, [], Some, None}
+use Rattle.std.specs.Prelude.{◌≡◌, ℕ, Bool, true, false, [], Some, None, Result}
 use Rattle.std.specs.FinMap as fin
 use Rattle.cg_value.specs.declared.Val.{Val}
 use Rattle.cg_value.specs.declared.Val.TheVariants.{Ref}
@@ -11,8 +11,9 @@ use Rattle.cg_machine.specs.World.{World}
 use Rattle.cg_represents.specs.Represents.{Represents}
 use Rattle.cg_machine.specs.Effects.{is_hashable}
 use Rattle.cg_machine.specs.Refusals.{◌>>=◌, unless, unhashable, wrong_kind}
-use Rattle.cg_machine.specs.Operands.{object, object_of, any_object, is_list, is_script_list, is_sequence, is_dict, is_weak}
-use Rattle.cg_machine.specs.Weak.{is_instance, is_function, has_weak_references}
+use Rattle.cg_script.specs.declared.command.Operand.{Operand}
+use Rattle.cg_machine.specs.Operands.{value, object, object_of, any_object, is_list, is_script_list, is_sequence, is_dict, is_weak}
+use Rattle.cg_machine.specs.Weak.{is_function, has_weak_references}
 use Rattle.cg_commands.specs.declared.done.Refusal.{Refusal}
 use Rattle.cg_commands.specs.declared.done.Refusal.TheVariants.{WrongKind, NotWeak, NotCallable}
 use Rattle.cg_commands.specs.Refusals.{Declines}
@@ -26,7 +27,6 @@ test_of wanted.List = is_list
 test_of wanted.ScriptList = is_script_list
 test_of wanted.Sequence = is_sequence
 test_of wanted.Dict = is_dict
-test_of wanted.Inst = is_instance
 test_of wanted.Func = is_function
 test_of wanted.Referable = has_weak_references
 test_of wanted.Weak = is_weak
@@ -47,6 +47,18 @@ pub record RefersTo (store : Store) (test : Object → Bool) (v : Val) (o : ℕ)
 -- It refers to no object that passes: in every world that the heap represents, the machine gives this refusal.
 abbrev pub HasNoObject : Store → (Object → Bool) → ℕ → Val → Refusal → Type 0
 HasNoObject store test number v refusal = (w : World) → Represents store w → Declines refusal (object w test number v)
+
+-- the object that an operand refers to, where it passes the test
+abbrev pub target_in : World → Operand → (Object → Bool) → ℕ → Result Object ℕ
+target_in w operand test refusal = do
+  v ← value w operand
+  object w test refusal v
+
+-- the value of an operand that is read after another one
+abbrev pub value_after : World → Operand → Operand → Result Val ℕ
+value_after w first second = do
+  _ ← value w first
+  value w second
 
 -- an object of which only the kind and the serial are known: the tests need no more
 abbrev pub bare : KindCode → ℕ → Object

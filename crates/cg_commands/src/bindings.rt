@@ -1,8 +1,7 @@
 //! `x = v` and `del x`. Each answers the entry to give up next.
-ghost use Rattle.std.specs.Prelude.{◌≡◌, ◌<◌, ◌∷◌, [], length, Some};
-ghost use Rattle.std.specs.List.{All};
+ghost use Rattle.std.specs.Prelude.{◌≡◌, ◌<◌, length, Some};
 ghost use Rattle.cg_graph.specs.Value.{references_of_value, entry_references};
-ghost use Rattle.cg_script.specs.Texts.{operand_texts};
+ghost use Rattle.cg_script.specs.Spelled.{IsSpelledCommand};
 ghost use Rattle.cg_script.specs.declared.command.Command.TheVariants as command;
 ghost use Rattle.cg_heap.specs.Calls.{HasFewHolds, IsLiveValue};
 ghost use Rattle.cg_machine.specs.Commands.{effect};
@@ -26,7 +25,7 @@ pub(crate) fn bind<B: Kind>(
     name: u32,
     operand: &Operand,
 ) -> Result<Entry, Refusal>
-    requires known { All (λ n. n < length heap.old.names) (name ∷ operand_texts operand.now) }
+    requires spelled { IsSpelledCommand (length heap.old.names) (command.Bind name operand.now) }
     requires locals { LocalsLive heap.old locals.now }
     requires few { HasFewHolds heap.old }
     ensures { PerformsOnHeap heap.old locals.now (λ w. effect w (command.Bind name operand.now))
@@ -43,7 +42,7 @@ pub(crate) fn unbind<B: Kind>(
     locals: &Option<Locals>,
     name: u32,
 ) -> Result<Entry, Refusal>
-    requires known { All (λ n. n < length heap.old.names) (name ∷ []) }
+    requires spelled { IsSpelledCommand (length heap.old.names) (command.Del name) }
     requires few { HasFewHolds heap.old }
     ensures { PerformsOnHeap heap.old locals.now (λ w. effect w (command.Del name)) heap.new
         (gives result) }

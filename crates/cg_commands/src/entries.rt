@@ -1,8 +1,8 @@
 //! Adding, removing and changing entries. Each command answers the entry to give up next.
-ghost use Rattle.std.specs.Prelude.{◌≡◌, ◌<◌, ◌∷◌, ◌++◌, [], Some, length};
+ghost use Rattle.std.specs.Prelude.{◌<◌, ◌++◌, length};
 ghost use Rattle.std.specs.List.{All};
-ghost use Rattle.cg_graph.specs.Value.{references_of_value, entry_references};
 ghost use Rattle.cg_script.specs.Texts.{operand_texts};
+ghost use Rattle.cg_script.specs.Spelled.{IsSpelledCommand};
 ghost use Rattle.cg_script.specs.declared.command.Command.TheVariants as command;
 ghost use Rattle.cg_heap.specs.Calls.{HasFewHolds};
 ghost use Rattle.cg_machine.specs.Commands.{effect};
@@ -11,9 +11,10 @@ ghost use Rattle.cg_commands.specs.Stands.{LocalsLive};
 
 use crate::bindings::given_up;
 use crate::done::{Refusal, refusal_by};
+use crate::keys::{Keyed, check_key, put_under, take_under};
 use crate::locals::Locals;
-use crate::lookups::{index_in, target_under_key};
-use crate::operands::{Wanted, object_near, reference, value, value_located, value_near};
+use crate::lookups::index_in;
+use crate::operands::{Wanted, object_near, target_of, two_values, value_located, value_near};
 use cg_arena::Near;
 use cg_heap::Heap;
 use cg_kind::Kind;
@@ -29,15 +30,15 @@ pub(crate) fn append<B: Kind>(
     list: &Operand,
     operand: &Operand,
 ) -> Result<Entry, Refusal>
-    requires known { All (λ n. n < length heap.old.names) (operand_texts list.now
-        ++ operand_texts operand.now) }
+    requires spelled { IsSpelledCommand (length heap.old.names)
+        (command.Append list.now operand.now) }
     requires locals { LocalsLive heap.old locals.now }
     ensures { PerformsOnHeap heap.old locals.now
         (λ w. effect w (command.Append list.now operand.now)) heap.new (gives result) }
 {
     let mut near = Near::default();
-    let list = value_near(heap, locals, list, &mut near)?;
-    let val = value(heap, locals, operand)?;
+    let mut val_near = Near::default();
+    let (list, val) = two_values(heap, locals, list, operand, &mut near, &mut val_near)?;
     let target = object_near(heap, list, Wanted::ScriptList, &mut near)?;
     heap.sound();
     match heap.append_near(target, near, val) {
@@ -64,9 +65,8 @@ pub(crate) fn set_item<B: Kind>(
         (λ w. effect w (command.SetItem list.now index operand.now)) heap.new (gives result) }
 {
     let mut near = Near::default();
-    let list = value_near(heap, locals, list, &mut near)?;
     let mut val_near = Near::default();
-    let val = value_located(heap, locals, operand, &mut val_near)?;
+    let (list, val) = two_values(heap, locals, list, operand, &mut near, &mut val_near)?;
     let target = object_near(heap, list, Wanted::ScriptList, &mut near)?;
     let _i = index_in(heap, target, near, index)?;
     heap.sound();
@@ -93,8 +93,7 @@ pub(crate) fn del_item<B: Kind>(
         heap.new (gives result) }
 {
     let mut near = Near::default();
-    let list = value_near(heap, locals, list, &mut near)?;
-    let target = object_near(heap, list, Wanted::List, &mut near)?;
+    let target = target_of(heap, locals, list, Wanted::List, &mut near)?;
     let i = index_in(heap, target, near, index)?;
     heap.sound();
     let entry = heap.take_near(target, near, i);
@@ -111,25 +110,20 @@ pub(crate) fn put<B: Kind>(
     key: &Operand,
     operand: &Operand,
 ) -> Result<Entry, Refusal>
-    requires known { All (λ n. n < length heap.old.names)
-        (operand_texts dict.now ++ operand_texts key.now ++ operand_texts operand.now) }
+    requires spelled { IsSpelledCommand (length heap.old.names)
+        (command.Put dict.now key.now operand.now) }
     requires locals { LocalsLive heap.old locals.now }
     requires few { HasFewHolds heap.old }
     ensures { PerformsOnHeap heap.old locals.now
         (λ w. effect w (command.Put dict.now key.now operand.now)) heap.new (gives result) }
 {
     let mut near = Near::default();
-    let dict = value_near(heap, locals, dict, &mut near)?;
-    let key = value(heap, locals, key)?;
+    let mut key_near = Near::default();
+    let (dict, key) = two_values(heap, locals, dict, key, &mut near, &mut key_near)?;
     let mut val_near = Near::default();
     let val = value_located(heap, locals, operand, &mut val_near)?;
-    let target = target_under_key(heap, dict, key)?;
-    heap.sound();
-    match heap.put_if(KindCode::Dict, target, near, key, val, val_near) {
-        Some(Ok(old)) => Ok(given_up(old)),
-        Some(Err(fault)) => Err(refusal_by(fault)),
-        None => Err(Refusal::WrongKind),
-    }
+    check_key(heap, dict, key)?;
+    put_under(heap, Keyed::Dict, dict, near, key, val, val_near)
 }
 
 /// `drop D K`: removes the entry of the key.
@@ -141,23 +135,17 @@ pub(crate) fn remove<B: Kind>(
     dict: &Operand,
     key: &Operand,
 ) -> Result<Entry, Refusal>
-    requires known { All (λ n. n < length heap.old.names) (operand_texts dict.now
-        ++ operand_texts key.now) }
+    requires spelled { IsSpelledCommand (length heap.old.names) (command.Remove dict.now key.now) }
     requires locals { LocalsLive heap.old locals.now }
     requires few { HasFewHolds heap.old }
     ensures { PerformsOnHeap heap.old locals.now (λ w. effect w (command.Remove dict.now key.now))
         heap.new (gives result) }
 {
     let mut near = Near::default();
-    let dict = value_near(heap, locals, dict, &mut near)?;
-    let key = value(heap, locals, key)?;
-    let target = target_under_key(heap, dict, key)?;
-    heap.sound();
-    match heap.take_key_if(KindCode::Dict, target, near, key) {
-        Some(Some(entry)) => Ok(references_of(entry)),
-        Some(None) => Err(Refusal::NoKey),
-        None => Err(Refusal::WrongKind),
-    }
+    let mut key_near = Near::default();
+    let (dict, key) = two_values(heap, locals, dict, key, &mut near, &mut key_near)?;
+    check_key(heap, dict, key)?;
+    take_under(heap, Keyed::Dict, dict, near, key)
 }
 
 /// `setattr O n v`: sets the attribute; the old value is to be given up.
@@ -170,24 +158,25 @@ pub(crate) fn set_attr<B: Kind>(
     attr: u32,
     operand: &Operand,
 ) -> Result<Entry, Refusal>
-    requires known { All (λ n. n < length heap.old.names) (operand_texts instance.now ++ attr
-        ∷ operand_texts operand.now) }
+    requires spelled { IsSpelledCommand (length heap.old.names)
+        (command.SetAttr instance.now attr operand.now) }
     requires locals { LocalsLive heap.old locals.now }
     requires few { HasFewHolds heap.old }
     ensures { PerformsOnHeap heap.old locals.now
         (λ w. effect w (command.SetAttr instance.now attr operand.now)) heap.new (gives result) }
 {
     let mut near = Near::default();
-    let instance = value_near(heap, locals, instance, &mut near)?;
     let mut val_near = Near::default();
-    let val = value_located(heap, locals, operand, &mut val_near)?;
-    let target = reference(instance, Wanted::Inst)?;
-    heap.sound();
-    match heap.put_if(KindCode::Inst, target, near, Val::Str(attr), val, val_near) {
-        Some(Ok(old)) => Ok(given_up(old)),
-        Some(Err(fault)) => Err(refusal_by(fault)),
-        None => Err(Refusal::WrongKind),
-    }
+    let (holder, val) = two_values(heap, locals, instance, operand, &mut near, &mut val_near)?;
+    put_under(
+        heap,
+        Keyed::Inst,
+        holder,
+        near,
+        Val::Str(attr),
+        val,
+        val_near,
+    )
 }
 
 /// `delattr O n`: removes the attribute.
@@ -199,42 +188,14 @@ pub(crate) fn del_attr<B: Kind>(
     instance: &Operand,
     attr: u32,
 ) -> Result<Entry, Refusal>
-    requires known { All (λ n. n < length heap.old.names) (operand_texts instance.now ++ attr
-        ∷ []) }
+    requires spelled { IsSpelledCommand (length heap.old.names)
+        (command.DelAttr instance.now attr) }
     requires locals { LocalsLive heap.old locals.now }
     requires few { HasFewHolds heap.old }
     ensures { PerformsOnHeap heap.old locals.now (λ w. effect w (command.DelAttr instance.now attr))
         heap.new (gives result) }
 {
     let mut near = Near::default();
-    let instance = value_near(heap, locals, instance, &mut near)?;
-    let target = reference(instance, Wanted::Inst)?;
-    heap.sound();
-    match heap.take_key_if(KindCode::Inst, target, near, Val::Str(attr)) {
-        Some(Some(entry)) => Ok(references_of(entry)),
-        Some(None) => Err(Refusal::NoAttribute),
-        None => Err(Refusal::WrongKind),
-    }
-}
-
-/// An entry with the references of this one; only references have to be given up.
-#[inline(always)]
-fn references_of(entry: Entry) -> Entry
-    ensures { entry_references result ≡ entry_references entry }
-{
-    Entry {
-        key: reference_or_none(entry.key),
-        val: reference_or_none(entry.val),
-    }
-}
-
-/// A value that is a reference, else none.
-#[inline(always)]
-fn reference_or_none(val: Val) -> Val
-    ensures { references_of_value (Some result) ≡ references_of_value (Some val) }
-{
-    match val {
-        Val::Ref(object) => Val::Ref(object),
-        _ => Val::None,
-    }
+    let holder = value_near(heap, locals, instance, &mut near)?;
+    take_under(heap, Keyed::Inst, holder, near, Val::Str(attr))
 }

@@ -1,7 +1,6 @@
 //! `call f` and `quit v`.
-ghost use Rattle.std.specs.Prelude.{◌<◌, length};
-ghost use Rattle.std.specs.List.{All};
-ghost use Rattle.cg_script.specs.Texts.{operand_texts};
+ghost use Rattle.std.specs.Prelude.{length};
+ghost use Rattle.cg_script.specs.Spelled.{IsSpelledCommand};
 ghost use Rattle.cg_script.specs.declared.command.Command.TheVariants as command;
 ghost use Rattle.cg_machine.specs.Commands.{effect};
 ghost use Rattle.cg_commands.specs.Answers.{PerformsOnHeap};
@@ -9,7 +8,7 @@ ghost use Rattle.cg_commands.specs.Stands.{LocalsLive};
 
 use crate::done::{Done, Refusal, told};
 use crate::locals::Locals;
-use crate::operands::{Wanted, object_near, value, value_near};
+use crate::operands::{Wanted, target_of, value};
 use cg_arena::Near;
 use cg_heap::Heap;
 use cg_kind::Kind;
@@ -23,14 +22,13 @@ pub(crate) fn call<B: Kind>(
     locals: &Option<Locals>,
     operand: &Operand,
 ) -> Result<Done, Refusal>
-    requires known { All (λ n. n < length heap.now.names) (operand_texts operand.now) }
+    requires spelled { IsSpelledCommand (length heap.now.names) (command.Call operand.now) }
     requires locals { LocalsLive heap.now locals.now }
     ensures { PerformsOnHeap heap.now locals.now (λ w. effect w (command.Call operand.now)) heap.now
         result }
 {
     let mut near = Near::default();
-    let val = value_near(heap, locals, operand, &mut near)?;
-    let target = object_near(heap, val, Wanted::Func, &mut near)?;
+    let target = target_of(heap, locals, operand, Wanted::Func, &mut near)?;
     Ok(Done::Calls(target))
 }
 
@@ -41,7 +39,7 @@ pub(crate) fn quit<B: Kind>(
     locals: &Option<Locals>,
     operand: &Operand,
 ) -> Result<Done, Refusal>
-    requires known { All (λ n. n < length heap.now.names) (operand_texts operand.now) }
+    requires spelled { IsSpelledCommand (length heap.now.names) (command.Quit operand.now) }
     requires locals { LocalsLive heap.now locals.now }
     ensures { PerformsOnHeap heap.now locals.now (λ w. effect w (command.Quit operand.now)) heap.now
         result }

@@ -18,7 +18,8 @@ ghost use Rattle.cg_commands.specs.Stands.{LocalsLive};
 use crate::done::{Done, Refusal};
 use crate::lines::Lines;
 use crate::locals::Locals;
-use crate::operands::{Wanted, object, value};
+use crate::operands::{Wanted, target_of};
+use cg_arena::Near;
 use cg_heap::{Heap, Steps};
 use cg_inspect::Why;
 use cg_kind::Kind;
@@ -166,8 +167,8 @@ fn inspected<B: Kind>(
     ensures ok { IfOk result (λ o. IsInspected heap.now running locals.now operand.now o) }
     ensures err { IfErr result (λ r. IsNotInspected heap.now running locals.now operand.now r) }
 {
-    let val = value(heap, locals, operand)?;
-    let target = object(heap, val, Wanted::Any)?;
+    let mut near = Near::default();
+    let target = target_of(heap, locals, operand, Wanted::Any, &mut near)?;
     if running {
         return Err(Refusal::InCollection);
     }

@@ -7,6 +7,7 @@
 //! - `done`, `lines`: what a command did, which lines it prints, and why one is refused.
 //! - `locals`: the locals of a frame.
 //! - `operands`: the values of operands, and the objects that they refer to.
+//! - `keys`: entries under keys of dictionaries and instances.
 //! - `bindings`, `queries`, `inspections`, `lookups`, `entries`, `makes`, `frames`, `generations`:
 //!   the commands, by family.
 //! - `dispatch`: any of them.
@@ -19,6 +20,7 @@ mod entries;
 mod frames;
 mod generations;
 mod inspections;
+mod keys;
 mod lines;
 mod locals;
 mod lookups;

@@ -3,17 +3,15 @@ ghost use Rattle.std.specs.Prelude.{◌≡◌, ◌<◌, ◌≤◌, ◌+◌, ◌�
 ghost use Rattle.std.specs.List.{All};
 ghost use Rattle.cg_value.specs.declared.KindCode.TheVariants as code;
 ghost use Rattle.cg_value.specs.declared.Val.{Val as AnyVal};
-ghost use Rattle.cg_value.specs.declared.Val.TheVariants as val_of;
 ghost use Rattle.cg_kind.specs.Calls.{IsParts};
-ghost use Rattle.cg_graph.specs.Changes.{held, unheld, named, made};
-ghost use Rattle.cg_graph.specs.Value.{item, references_of_value};
-ghost use Rattle.cg_graph.specs.Store.{IsLive, outside_of};
+ghost use Rattle.cg_graph.specs.Value.{item};
+ghost use Rattle.cg_graph.specs.Store.{IsLive};
 ghost use Rattle.cg_script.specs.Texts.{operand_texts, operands_texts};
 ghost use Rattle.cg_script.specs.declared.command.Command.TheVariants as command;
 ghost use Rattle.cg_heap.specs.declared.fault.HeapFault.TheVariants as fault;
-ghost use Rattle.cg_heap.specs.Calls.{HasFewHolds, object_number, entry_number};
-ghost use Rattle.cg_heap.specs.Keeps.{HasClass, outside_total};
-ghost use Rattle.cg_heap.specs.Weak.{HasReferent, attached};
+ghost use Rattle.cg_heap.specs.Calls.{HasFewHolds, object_number, entry_number, made_named};
+ghost use Rattle.cg_heap.specs.Keeps.{HasClass};
+ghost use Rattle.cg_heap.specs.Weak.{HasReferent};
 ghost use Rattle.cg_machine.specs.Commands.{effect};
 ghost use Rattle.cg_machine.specs.Effects.{makes, makes_of};
 ghost use Rattle.cg_commands.specs.Answers.{PerformsOnHeap};
@@ -267,29 +265,28 @@ fn make_bound<B: Kind>(
     ensures room { OnOk result (room ≡ true) }
 {
     heap.sound();
-    match make_where_room(heap, object, parts, room) {
-        Ok(serial) => {
-            let old = bind_new(heap, name, serial);
-            Ok(Done::Changed {
-                line: Some(Event::Made {
-                    code: object.code,
-                    serial,
-                }),
-                given_up: given_up(old),
-            })
-        }
+    match make_where_room(heap, name, object, parts, room) {
+        Ok((serial, old)) => Ok(Done::Changed {
+            line: Some(Event::Made {
+                code: object.code,
+                serial,
+            }),
+            given_up: given_up(old),
+        }),
         Err(fault) => Err(refusal_by(fault)),
     }
 }
 
-/// Makes an object as the heap does, if there is room for one more. If not, memory is refused,
-/// unless the heap has another refusal.
+/// Makes and binds an object as the heap does, if there is room for one more. If not, memory is
+/// refused, unless the heap has another refusal.
 fn make_where_room<B: Kind>(
     heap: &mut Heap<B>,
+    name: u32,
     object: NewObject,
     parts: &[Entry],
     room: bool,
-) -> Result<u64, HeapFault>
+) -> Result<(u64, Option<Val>), HeapFault>
+    requires name { name < length heap.old.names }
     requires parts { IsParts object.code parts.now }
     requires class { HasClass object.code object.class }
     requires referent { HasReferent object.code object.referent }
@@ -297,10 +294,10 @@ fn make_where_room<B: Kind>(
     requires live_referent { IfSome object.referent (λ s. IsLive heap.old s) }
     requires few { HasFewHolds heap.old }
     requires last { heap.old.last < 9223372036854775808 }
-    ensures serial { IfOk result (λ s. s ≡ heap.old.last + 1) }
-    ensures ok { OnOk result (heap.new ≡
-        attached (heap.old.last + 1) object.referent (made object.code object.class parts.now
-        heap.old)) }
+    ensures serial { IfOk result (λ bound. bound.0 ≡ heap.old.last + 1) }
+    ensures old { IfOk result (λ bound. slice_get heap.old.names name ≡ Some bound.1) }
+    ensures ok { IfOk result (λ bound. heap.new ≡
+        made_named name bound.1 object.code object.class parts.now object.referent heap.old) }
     ensures room { OnOk result (room ≡ true) }
     ensures object_limit { (result ≡ Err fault.ObjectLimit) ↔ (MOST_OBJECTS ≤ object_number
         heap.old) }
@@ -310,7 +307,7 @@ fn make_where_room<B: Kind>(
     ensures err { OnErr result (heap.new ≡ heap.old) }
 {
     if room {
-        heap.make(object.code, object.class, parts, object.referent)
+        heap.make_named(name, object.code, object.class, parts, object.referent)
     } else {
         Err(fault_without_room(heap, parts.len()))
     }
@@ -331,19 +328,4 @@ fn fault_without_room<B: Kind>(heap: &Heap<B>, parts: usize) -> HeapFault
     } else {
         HeapFault::OutOfMemory
     }
-}
-
-/// Binds a name to a new object: the name then holds it instead of the caller. Answers the old
-/// value.
-fn bind_new<B: Kind>(heap: &mut Heap<B>, name: u32, serial: u64) -> Option<Val>
-    requires name { name < length heap.old.names }
-    requires held { 0 < outside_of heap.old serial }
-    requires few { outside_total heap.old ≤ 2147483646 }
-    ensures old { slice_get heap.old.names name ≡ Some result }
-    ensures rest { heap.new ≡ held (references_of_value result)
-        (named name (Some (val_of.Ref serial)) (unheld (serial ∷ []) heap.old)) }
-{
-    // For a moment nothing holds it. It does not die, since only callers begin deaths.
-    let _unheld = heap.unhold(serial);
-    heap.bind(name, Val::Ref(serial))
 }

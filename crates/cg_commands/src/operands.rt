@@ -4,12 +4,12 @@ ghost use Rattle.std.specs.List.{All};
 ghost use Rattle.cg_value.specs.declared.KindCode.TheVariants as code;
 ghost use Rattle.cg_value.specs.declared.Val.TheVariants as val_of;
 ghost use Rattle.cg_script.specs.Texts.{operand_texts};
-ghost use Rattle.cg_graph.specs.Store.{Store as AnyStore, entries_of};
+ghost use Rattle.cg_graph.specs.Store.{entries_of};
 ghost use Rattle.cg_heap.specs.Calls.{IsLiveValue};
 ghost use Rattle.cg_machine.specs.Operands as machine;
 ghost use Rattle.cg_commands.specs.Refusals.{number_of};
 ghost use Rattle.cg_commands.specs.Stands.{LocalsLive, Reads, IsRefused, ReadsValue};
-ghost use Rattle.cg_commands.specs.Objects.{test_of, refusal_of, bare, RefersTo, HasNoObject};
+ghost use Rattle.cg_commands.specs.Objects.{test_of, refusal_of, bare, target_in, value_after, RefersTo, HasNoObject};
 
 use crate::done::Refusal;
 use crate::locals::Locals;
@@ -30,7 +30,6 @@ pub(crate) enum Wanted {
     /// A list or a tuple.
     Sequence,
     Dict,
-    Inst,
     Func,
     /// An instance or a function: a kind that may have weak references, and be a key.
     Referable,
@@ -71,7 +70,7 @@ impl Wanted {
         ensures { result ≡ test_of self (bare code.Inst object) }
     {
         let _ = object;
-        matches!(self, Wanted::Any | Wanted::Inst | Wanted::Referable)
+        matches!(self, Wanted::Any | Wanted::Referable)
     }
 
     /// Whether a function is wanted.
@@ -166,6 +165,55 @@ pub(crate) fn value_near<B: Kind>(
             None => Err(Refusal::NoName),
         },
     }
+}
+
+/// The values of two operands in order, and where the objects that they refer to may be. The first
+/// is a name nearly always. Refuses at the first one without a value.
+#[inline(always)]
+pub(crate) fn two_values<B: Kind>(
+    heap: &Heap<B>,
+    locals: &Option<Locals>,
+    first: &Operand,
+    second: &Operand,
+    near: &mut Near,
+    second_near: &mut Near,
+) -> Result<(Val, Val), Refusal>
+    requires first { All (λ n. n < length heap.now.names) (operand_texts first.now) }
+    requires second { All (λ n. n < length heap.now.names) (operand_texts second.now) }
+    requires locals { LocalsLive heap.now locals.now }
+    ensures first { IfOk result (λ vs. Reads heap.now locals.now
+        (λ w. machine.value w first.now) vs.0) }
+    ensures second { IfOk result (λ vs. Reads heap.now locals.now
+        (λ w. machine.value w second.now) vs.1) }
+    ensures live { IfOk result (λ vs. IsLiveValue heap.now vs.0) }
+    ensures second_live { IfOk result (λ vs. IsLiveValue heap.now vs.1) }
+    ensures err { IfErr result (λ r. IsRefused heap.now locals.now
+        (λ w. value_after w first.now second.now) r) }
+{
+    let val = value_near(heap, locals, first, near)?;
+    let next = value_located(heap, locals, second, second_near)?;
+    Ok((val, next))
+}
+
+/// The object of the wanted kind that an operand refers to, and where it is.
+#[inline(always)]
+pub(crate) fn target_of<B: Kind>(
+    heap: &Heap<B>,
+    locals: &Option<Locals>,
+    operand: &Operand,
+    wanted: Wanted,
+    near: &mut Near,
+) -> Result<u64, Refusal>
+    requires known { All (λ n. n < length heap.now.names) (operand_texts operand.now) }
+    requires locals { LocalsLive heap.now locals.now }
+    ensures ok { IfOk result (λ o. Reads heap.now locals.now (λ w. machine.value w operand.now)
+        (val_of.Ref o)) }
+    ensures there { IfOk result (λ o. RefersTo heap.now (test_of wanted) (val_of.Ref o) o) }
+    ensures err { IfErr result (λ r. IsRefused heap.now locals.now
+        (λ w. target_in w operand.now (test_of wanted) (number_of (refusal_of wanted))) r) }
+{
+    let val = value_near(heap, locals, operand, near)?;
+    object_near(heap, val, wanted, near)
 }
 
 /// The value of an operand other than a name, if it has one.
@@ -279,20 +327,6 @@ fn cell_in<B: Kind>(heap: &Heap<B>, locals: &Option<Locals>, i: u8) -> Option<Va
     }
 }
 
-/// The object of any kind that a value refers to. A value without one is refused as an object of
-/// another kind than this.
-#[inline(always)]
-pub(crate) fn reference(val: Val, wanted: Wanted) -> Result<u64, Refusal>
-    ensures ok { IfOk result (λ o. val ≡ val_of.Ref o) }
-    ensures err { IfErr result (λ r. (store : AnyStore) → HasNoObject store (test_of wanted)
-        (number_of (refusal_of wanted)) val r) }
-{
-    match val {
-        Val::Ref(object) => Ok(object),
-        _ => Err(wanted.refusal()),
-    }
-}
-
 /// The object that a value refers to, if it is of the kind.
 #[inline(always)]
 pub(crate) fn object<B: Kind>(heap: &Heap<B>, val: Val, wanted: Wanted) -> Result<u64, Refusal>
@@ -319,7 +353,9 @@ pub(crate) fn object_near<B: Kind>(
     ensures err { IfErr result (λ r. HasNoObject heap.now (test_of wanted)
         (number_of (refusal_of wanted)) val r) }
 {
-    let object = reference(val, wanted)?;
+    let Val::Ref(object) = val else {
+        return Err(wanted.refusal());
+    };
     if wanted.admits(heap.locate(object, near), object) {
         Ok(object)
     } else {

@@ -1,9 +1,8 @@
 //! Queries: they print a line and change nothing.
-ghost use Rattle.std.specs.Prelude.{◌≡◌, ◌<◌, length};
-ghost use Rattle.std.specs.List.{All};
+ghost use Rattle.std.specs.Prelude.{◌≡◌, length};
 ghost use Rattle.cg_value.specs.declared.Place.TheVariants as where_it_is;
 ghost use Rattle.cg_graph.specs.Object as machine_object;
-ghost use Rattle.cg_script.specs.Texts.{operand_texts};
+ghost use Rattle.cg_script.specs.Spelled.{IsSpelledCommand};
 ghost use Rattle.cg_script.specs.declared.command.Command.TheVariants as command;
 ghost use Rattle.cg_heap.specs.Calls.{IsLiveValue};
 ghost use Rattle.cg_machine.specs.Commands.{effect};
@@ -13,7 +12,8 @@ ghost use Rattle.cg_commands.specs.Stands.{LocalsLive};
 
 use crate::done::{Done, Refusal, told};
 use crate::locals::Locals;
-use crate::operands::{Wanted, object, value};
+use crate::operands::{Wanted, target_of, value};
+use cg_arena::Near;
 use cg_heap::Heap;
 use cg_kind::Kind;
 use cg_machine::Event;
@@ -27,7 +27,7 @@ pub(crate) fn print<B: Kind>(
     locals: &Option<Locals>,
     operand: &Operand,
 ) -> Result<Done, Refusal>
-    requires known { All (λ n. n < length heap.now.names) (operand_texts operand.now) }
+    requires spelled { IsSpelledCommand (length heap.now.names) (command.Print operand.now) }
     requires locals { LocalsLive heap.now locals.now }
     ensures { PerformsOnHeap heap.now locals.now (λ w. effect w (command.Print operand.now))
         heap.now result }
@@ -44,13 +44,13 @@ pub(crate) fn refs<B: Kind>(
     locals: &Option<Locals>,
     operand: &Operand,
 ) -> Result<Done, Refusal>
-    requires known { All (λ n. n < length heap.now.names) (operand_texts operand.now) }
+    requires spelled { IsSpelledCommand (length heap.now.names) (command.Refs operand.now) }
     requires locals { LocalsLive heap.now locals.now }
     ensures { PerformsOnHeap heap.now locals.now (λ w. effect w (command.Refs operand.now)) heap.now
         result }
 {
-    let val = value(heap, locals, operand)?;
-    let target = object(heap, val, Wanted::Any)?;
+    let mut near = Near::default();
+    let target = target_of(heap, locals, operand, Wanted::Any, &mut near)?;
     let count = heap.refs(target);
     Ok(told(Some(Event::RefCount(count))))
 }
@@ -62,7 +62,7 @@ pub(crate) fn tracked<B: Kind>(
     locals: &Option<Locals>,
     operand: &Operand,
 ) -> Result<Done, Refusal>
-    requires known { All (λ n. n < length heap.now.names) (operand_texts operand.now) }
+    requires spelled { IsSpelledCommand (length heap.now.names) (command.Tracked operand.now) }
     requires locals { LocalsLive heap.now locals.now }
     ensures { PerformsOnHeap heap.now locals.now (λ w. effect w (command.Tracked operand.now))
         heap.now result }
@@ -79,7 +79,7 @@ pub(crate) fn finalized<B: Kind>(
     locals: &Option<Locals>,
     operand: &Operand,
 ) -> Result<Done, Refusal>
-    requires known { All (λ n. n < length heap.now.names) (operand_texts operand.now) }
+    requires spelled { IsSpelledCommand (length heap.now.names) (command.Finalized operand.now) }
     requires locals { LocalsLive heap.now locals.now }
     ensures { PerformsOnHeap heap.now locals.now (λ w. effect w (command.Finalized operand.now))
         heap.now result }

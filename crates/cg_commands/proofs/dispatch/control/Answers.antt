@@ -15,42 +15,35 @@ returns-in-Collect g c = λ locals room.
 
 pub returns-in-Enable : goal.returns-in-Enable
 returns-in-Enable g c = λ locals room.
-    sets c.args.heap.now c.args.policy.now locals room c.args.command.now _ c.in-Enable.is (λ own. own) refl (with_enabled true) (λ w. refl)
-    c.set_enabled.new.self c.set_enabled.ensures c.told.result c.told.ensures
+    sets _ _ _ _ _ _ c.in-Enable.is (λ own. own) refl (with_enabled true) (λ w. refl) _ c.set_enabled.ensures _ c.told.ensures
 
 pub returns-in-Disable : goal.returns-in-Disable
 returns-in-Disable g c = λ locals room.
-    sets c.args.heap.now c.args.policy.now locals room c.args.command.now _ c.in-Disable.is (λ own. own) refl (with_enabled false) (λ w. refl)
-    c.set_enabled-in-Disable.new.self c.set_enabled-in-Disable.ensures c.told-in-Disable.result c.told-in-Disable.ensures
+    sets _ _ _ _ _ _ c.in-Disable.is (λ own. own) refl (with_enabled false) (λ w. refl) _ c.set_enabled-in-Disable.ensures _ c.told-in-Disable.ensures
 
 pub returns-in-Threshold : goal.returns-in-Threshold
 returns-in-Threshold g c = λ locals room.
-    sets c.args.heap.now c.args.policy.now locals room c.args.command.now _ c.in-Threshold.is (λ own. own) refl (with_thresholds c.in-Threshold.first
-    c.in-Threshold.second c.in-Threshold.third) (λ w. refl) c.set_threshold.new.self c.set_threshold.ensures c.told-in-Threshold.result
+    sets _ _ _ _ _ _ c.in-Threshold.is (λ own. own) refl (with_thresholds c.in-Threshold.first c.in-Threshold.second c.in-Threshold.third) (λ w. refl) _ c.set_threshold.ensures _
     c.told-in-Threshold.ensures
 
 pub returns-in-Flags : goal.returns-in-Flags
 returns-in-Flags g c = λ locals room.
-    sets c.args.heap.now c.args.policy.now locals room c.args.command.now _ c.in-Flags.is (λ own. own) refl (with_flags c.in-Flags.bits) (λ w. refl) c.set_flags.new.self
-    (c.set_flags.ensures ∙ ap (λ bits. with_numbers (with_flags bits c.args.policy.now.numbers) c.args.policy.now) (c.from_bits_retain.ensures tt)) c.told-in-Flags.result c.told-in-Flags.ensures
+    sets _ _ _ _ _ _ c.in-Flags.is (λ own. own) refl (with_flags c.in-Flags.bits) (λ w. refl) _ (c.set_flags.ensures ∙ ap
+    (λ bits. with_numbers (with_flags bits c.args.policy.now.numbers) c.args.policy.now) (c.from_bits_retain.ensures tt)) _ c.told-in-Flags.ensures
 
 pub returns-in-Freeze : goal.returns-in-Freeze
 returns-in-Freeze g c = λ locals room.
-    replaces c.args.heap.now c.args.policy.now locals room c.args.command.now _ c.in-Freeze.is (λ own. own) refl frozen with_zero_counts (λ w. refl)
-    c.freeze.new.heap c.freeze.ensures c.zero_counts.new.self c.zero_counts.ensures c.told-in-Freeze.result c.told-in-Freeze.ensures
+    replaces _ _ _ _ _ _ c.in-Freeze.is (λ own. own) refl frozen with_zero_counts (λ w. refl) _ c.freeze.ensures _ c.zero_counts.ensures _ c.told-in-Freeze.ensures
 
 pub returns-in-Unfreeze : goal.returns-in-Unfreeze
 returns-in-Unfreeze g c = λ locals room.
-    replaces c.args.heap.now c.args.policy.now locals room c.args.command.now _ c.in-Unfreeze.is (λ own. own) refl unfrozen (λ n. n) (λ w. refl)
-    c.unfreeze.new.heap c.unfreeze.ensures c.args.policy.now refl c.told-in-Unfreeze.result c.told-in-Unfreeze.ensures
+    replaces _ _ _ _ _ _ c.in-Unfreeze.is (λ own. own) refl unfrozen (λ n. n) (λ w. refl) _ c.unfreeze.ensures c.args.policy.now refl _ c.told-in-Unfreeze.ensures
 
 pub returns-in-Count : goal.returns-in-Count
 returns-in-Count g c = λ locals room.
-    tells c.args.heap.now c.args.policy.now locals room c.args.command.now _ c.in-Count.is (λ own. own) refl (λ w. event.Count w.numbers.zero_count
-    w.numbers.one_count w.numbers.two_count) (λ w. refl) c.counts.result
-    (λ w r same. ap (λ (p : Policy). event.Count p.numbers.zero_count p.numbers.one_count p.numbers.two_count) (sym same) ∙ sym c.counts.ensures) c.told-in-Count.result c.told-in-Count.ensures
+    tells _ _ _ _ _ _ c.in-Count.is (λ own. own) refl (λ w. event.Count w.numbers.zero_count w.numbers.one_count w.numbers.two_count) (λ w. refl) _
+    (λ w r same. ap (λ (p : Policy). event.Count p.numbers.zero_count p.numbers.one_count p.numbers.two_count) (sym same) ∙ sym c.counts.ensures) _ c.told-in-Count.ensures
 
 pub returns-in-Gens : goal.returns-in-Gens
 returns-in-Gens g c = λ locals room.
-    tells c.args.heap.now c.args.policy.now locals room c.args.command.now _ c.in-Gens.is (λ own. own) refl (λ w. gens_line w.objects) (λ w. refl) c.sizes.result
-    (λ w r same. ap gens_line (sym r.objects) ∙ sym c.sizes.ensures) c.told-in-Gens.result c.told-in-Gens.ensures
+    tells _ _ _ _ _ _ c.in-Gens.is (λ own. own) refl (λ w. gens_line w.objects) (λ w. refl) _ (λ w r same. ap gens_line (sym r.objects) ∙ sym c.sizes.ensures) _ c.told-in-Gens.ensures

@@ -1,133 +1,41 @@
-use Rattle.std.proofs.Common.{refl, true, ◌≡◌, sym, subst, ◌<◌, ◌≤◌, ◌++◌, length, None, Ok, Err}
-use Rattle.std.specs.Prelude.{◌↔◌}
+use Rattle.std.proofs.Common.{◌<◌, ◌++◌, length, Err}
 use Rattle.cg_script.specs.Texts.{operand_texts}
-use Rattle.std.proofs.lemmas.Result.{err_from_is_err_and}
-use Rattle.cg_graph.specs.Store.{object_from}
-use Rattle.cg_machine.specs.Operands.{value, object}
-use Rattle.cg_machine.specs.Effects.{is_hashable}
-use Rattle.cg_machine.specs.Refusals.{unhashable, unless}
-use Rattle.cg_commands.specs.declared.done.Refusal.TheVariants as refusal
-use Rattle.cg_commands.specs.declared.operands.Wanted.TheVariants as wanted
-use Rattle.cg_commands.specs.Refusals.{number_of}
-use Rattle.cg_commands.specs.Objects.{test_of, refusal_of}
-use Rattle.cg_commands.proofs.FirstRefusal.{stops, stops_second, goes_on, of_ok, of_value, of_err}
-use Rattle.cg_heap.specs.declared.fault.HeapFault.TheVariants as fault
-use Rattle.cg_heap.specs.Calls.{value_in, entry_number}
-use Rattle.cg_commands.proofs.Steps.{reads-object, reads-key}
-use Rattle.cg_commands.specs.Answers.{PerformsOnHeap}
-use Rattle.cg_script.specs.declared.command.Command.TheVariants as command
-use Rattle.cg_machine.specs.Commands.{effect}
-use Rattle.cg_commands.proofs.PutLemmas.{puts-performs, puts-refused}
-use Rattle.cg_commands.proofs.EntryLemmas.{can_put_code, keyed_other, refers_by_code, other_by_code}
-use Rattle.cg_commands.specs.Refusals.{refusal_by}
-use Rattle.std.proofs.Common.{inl}
-use Rattle.cg_commands.proofs.EntryLemmas.{code_passes}
 use Rattle.cg_commands.proofs.TextLemmas.{all_left, all_right}
-use Rattle.cg_commands.specs.declared.done.Done.TheVariants as done
+use Rattle.std.proofs.lemmas.Result.{err_from_is_err_and}
+use Rattle.cg_commands.specs.Answers.{gives}
+use Rattle.cg_commands.proofs.FirstRefusal.{stops, stops_second, goes_on, goes_on_two}
+use Rattle.cg_commands.proofs.Steps.{with_key}
 use Rattle.cg_commands.proofs.entries.put.Goals as goal
+
+pub two_values-requires-clause-first : goal.two_values-requires-clause-first
+two_values-requires-clause-first g c = all_left (λ n. n < length c.args.heap.now.names) _ _ (all_left (λ n. n < length c.args.heap.now.names) _ _ c.requires.spelled.known)
+
+pub two_values-requires-clause-second : goal.two_values-requires-clause-second
+two_values-requires-clause-second g c =
+    all_right (λ n. n < length c.args.heap.now.names) (operand_texts c.args.dict.now) _ (all_left (λ n. n < length c.args.heap.now.names) _ _ c.requires.spelled.known)
+
+pub value_located-requires-clause-known : goal.value_located-requires-clause-known
+value_located-requires-clause-known g c = all_right (λ n. n < length c.args.heap.now.names) (operand_texts c.args.dict.now ++ operand_texts c.args.key.now) _ c.requires.spelled.known
 
 pub returns-in_err-dict : goal.returns-in_err-dict
 returns-in_err-dict g c =
-    let p = err_from_is_err_and c.from_residual.result c.from_residual.ensures.1 in rw (p.1, p.2)
-    (stops c.args.heap.now c.args.locals.now (λ w. value w c.args.dict.now) _ c.in_err-dict.field-0.0 c.in_err-dict.ensures.err)
-
-pub returns-in_err-key : goal.returns-in_err-key
-returns-in_err-key g c =
-    let p = err_from_is_err_and c.from_residual-in_err-key.result c.from_residual-in_err-key.ensures.1 in rw (p.1, p.2)
-    (goes_on c.args.heap.now c.args.heap.now c.args.locals.now (λ w. value w c.args.dict.now) c.in_ok-dict.dict _ (Err c.in_err-key.field-0.0) c.in_ok-dict.ensures.ok
-    (stops c.args.heap.now c.args.locals.now (λ w. value w c.args.key.now) _ c.in_err-key.field-0.0 c.in_err-key.ensures.err))
+    let p = err_from_is_err_and c.from_residual.result c.from_residual.ensures.1 in rw (p.1, p.2) (stops_second _ _ _ _ _ _ c.in_err-dict.ensures.err)
 
 pub returns-in_err-val : goal.returns-in_err-val
 returns-in_err-val g c =
     let p = err_from_is_err_and c.from_residual-in_err-val.result c.from_residual-in_err-val.ensures.1 in rw (p.1, p.2)
-    (goes_on c.args.heap.now c.args.heap.now c.args.locals.now (λ w. value w c.args.dict.now) c.in_ok-dict.dict _ (Err c.in_err-val.field-0.0) c.in_ok-dict.ensures.ok
-    (goes_on c.args.heap.now c.args.heap.now c.args.locals.now (λ w. value w c.args.key.now) c.in_ok-key.key _ (Err c.in_err-val.field-0.0) c.in_ok-key.ensures.ok
-    (stops c.args.heap.now c.args.locals.now (λ w. value w c.args.operand.now) _ c.in_err-val.field-0.0 c.in_err-val.ensures.err)))
+    (goes_on_two _ _ _ _ _ _ _ _ (Err c.in_err-val.field-0.0) c.in_ok-dict.ensures.first c.in_ok-dict.ensures.second
+    (stops _ _ _ _ _ c.in_err-val.ensures.err))
 
-pub value_near-requires-clause-known : goal.value_near-requires-clause-known
-value_near-requires-clause-known g c =
-    all_left (λ n. n < length c.args.heap.now.names) (operand_texts c.args.dict.now) (operand_texts c.args.key.now)
-    (all_left (λ n. n < length c.args.heap.now.names) (operand_texts c.args.dict.now ++ operand_texts c.args.key.now) (operand_texts c.args.operand.now)
-    c.requires.known)
+pub returns-in_err-check_key : goal.returns-in_err-check_key
+returns-in_err-check_key g c =
+    let p = err_from_is_err_and c.from_residual-in_err-check_key.result c.from_residual-in_err-check_key.ensures.1 in rw (p.1, p.2)
+    (goes_on_two _ _ _ _ _ _ _ _ (Err c.in_err-check_key.field-0.0) c.in_ok-dict.ensures.first c.in_ok-dict.ensures.second
+    (goes_on _ _ _ _ _ _ (Err c.in_err-check_key.field-0.0) c.in_ok-val.ensures.ok
+    (stops_second _ _ _ _ _ _ (λ w s. c.in_err-check_key.ensures.err w s.represents))))
 
-pub value-requires-clause-known : goal.value-requires-clause-known
-value-requires-clause-known g c =
-    all_right (λ n. n < length c.args.heap.now.names) (operand_texts c.args.dict.now) (operand_texts c.args.key.now)
-    (all_left (λ n. n < length c.args.heap.now.names) (operand_texts c.args.dict.now ++ operand_texts c.args.key.now) (operand_texts c.args.operand.now)
-    c.requires.known)
-
-pub value_located-requires-clause-known : goal.value_located-requires-clause-known
-value_located-requires-clause-known g c =
-    all_right (λ n. n < length c.args.heap.now.names) (operand_texts c.args.dict.now ++ operand_texts c.args.key.now) (operand_texts c.args.operand.now) c.requires.known
-
-pub put_if-requires-clause-live : goal.put_if-requires-clause-live
-put_if-requires-clause-live g c =
-    c.in_ok-dict.ensures.live c.in_ok-target.target c.in_ok-target.ensures.ok
-
-pub put_if-requires-clause-other : goal.put_if-requires-clause-other
-put_if-requires-clause-other g c =
-    λ has. keyed_other c.args.heap.now c.sound.ensures c.in_ok-target.target _ has (λ e. cc)
-
-pub put_if-requires-clause-can : goal.put_if-requires-clause-can
-put_if-requires-clause-can g c =
-    λ has. can_put_code c.args.heap.now wanted.Dict tt c.in_ok-target.target has c.in_ok-key.key
-
-pub returns-in-Some-Ok : goal.returns-in-Some-Ok
-returns-in-Some-Ok g c =
-    (goes_on c.args.heap.now c.put_if.new.self c.args.locals.now (λ w. value w c.args.dict.now) c.in_ok-dict.dict _ (Ok (done.Changed None c.given_up.result)) c.in_ok-dict.ensures.ok
-    (goes_on c.args.heap.now c.put_if.new.self c.args.locals.now (λ w. value w c.args.key.now) c.in_ok-key.key _ (Ok (done.Changed None c.given_up.result)) c.in_ok-key.ensures.ok
-    (goes_on c.args.heap.now c.put_if.new.self c.args.locals.now (λ w. value w c.args.operand.now) c.in_ok-val.val _ (Ok (done.Changed None c.given_up.result)) c.in_ok-val.ensures.ok
-    (goes_on c.args.heap.now c.put_if.new.self c.args.locals.now (λ w. object w (test_of wanted.Dict) (number_of (refusal_of wanted.Dict)) c.in_ok-dict.dict)
-    (object_from c.args.heap.now.rows c.in_ok-target.target (refers_by_code c.args.heap.now wanted.Dict tt c.in_ok-dict.dict c.in_ok-target.target
-    c.in_ok-target.ensures.ok c.in-Some-Ok.ensures.kind).node) _ (Ok (done.Changed None c.given_up.result)) (reads-object c.args.heap.now c.args.locals.now
-    (test_of wanted.Dict) c.in_ok-dict.dict c.in_ok-target.target (refers_by_code c.args.heap.now wanted.Dict tt c.in_ok-dict.dict c.in_ok-target.target
-    c.in_ok-target.ensures.ok c.in-Some-Ok.ensures.kind) (number_of (refusal_of wanted.Dict)))
-    (goes_on c.args.heap.now c.put_if.new.self c.args.locals.now (λ w. unless (is_hashable w c.in_ok-key.key) unhashable) tt _
-    (Ok (done.Changed None c.given_up.result)) (reads-key c.args.heap.now c.args.locals.now c.in_ok-key.key true c.in_ok-target.ensures.key refl)
-    (puts-performs c.args.heap.now c.sound.ensures c.args.locals.now (test_of wanted.Dict) c.in_ok-dict.dict c.in_ok-target.target
-    (refers_by_code c.args.heap.now wanted.Dict tt c.in_ok-dict.dict c.in_ok-target.target c.in_ok-target.ensures.ok c.in-Some-Ok.ensures.kind)
-    (inl (code_passes c.args.heap.now wanted.Dict tt c.in_ok-dict.dict c.in_ok-target.target (refers_by_code c.args.heap.now wanted.Dict tt
-    c.in_ok-dict.dict c.in_ok-target.target c.in_ok-target.ensures.ok c.in-Some-Ok.ensures.kind))) c.in_ok-key.key c.in_ok-val.val c.in-Some-Ok.old
-    c.given_up.result c.put_if.new.self (of_ok c.in-Some-Ok.field-0 _ c.in-Some-Ok.field-0-is c.in-Some-Ok.ensures.ok) (of_value _ c.in-Some-Ok.field-0 _
-    c.in-Some-Ok.field-0-is c.in-Some-Ok.ensures.replaced) c.given_up.ensures (subst (λ r. (r ≡ Err fault.EntryLimit) ↔
-    ((value_in c.args.heap.now c.in_ok-target.target c.in_ok-key.key ≡ None) × (4000000 ≤ entry_number c.args.heap.now))) c.in-Some-Ok.field-0-is
-    c.in-Some-Ok.ensures.limit)))))))
-
-pub returns-in-Some-Err : goal.returns-in-Some-Err
-returns-in-Some-Err g c =
-    subst (λ r. PerformsOnHeap c.args.heap.now c.args.locals.now (λ w. effect w (command.Put c.args.dict.now c.args.key.now c.args.operand.now)) c.put_if.new.self (Err r)) (sym c.refusal_by.ensures)
-    (goes_on c.args.heap.now c.put_if.new.self c.args.locals.now (λ w. value w c.args.dict.now) c.in_ok-dict.dict _ (Err (refusal_by c.in-Some-Err.fault)) c.in_ok-dict.ensures.ok
-    (goes_on c.args.heap.now c.put_if.new.self c.args.locals.now (λ w. value w c.args.key.now) c.in_ok-key.key _ (Err (refusal_by c.in-Some-Err.fault)) c.in_ok-key.ensures.ok
-    (goes_on c.args.heap.now c.put_if.new.self c.args.locals.now (λ w. value w c.args.operand.now) c.in_ok-val.val _ (Err (refusal_by c.in-Some-Err.fault)) c.in_ok-val.ensures.ok
-    (goes_on c.args.heap.now c.put_if.new.self c.args.locals.now (λ w. object w (test_of wanted.Dict) (number_of (refusal_of wanted.Dict)) c.in_ok-dict.dict)
-    (object_from c.args.heap.now.rows c.in_ok-target.target (refers_by_code c.args.heap.now wanted.Dict tt c.in_ok-dict.dict c.in_ok-target.target
-    c.in_ok-target.ensures.ok c.in-Some-Err.ensures.kind).node) _ (Err (refusal_by c.in-Some-Err.fault)) (reads-object c.args.heap.now c.args.locals.now
-    (test_of wanted.Dict) c.in_ok-dict.dict c.in_ok-target.target (refers_by_code c.args.heap.now wanted.Dict tt c.in_ok-dict.dict c.in_ok-target.target
-    c.in_ok-target.ensures.ok c.in-Some-Err.ensures.kind) (number_of (refusal_of wanted.Dict)))
-    (goes_on c.args.heap.now c.put_if.new.self c.args.locals.now (λ w. unless (is_hashable w c.in_ok-key.key) unhashable) tt _
-    (Err (refusal_by c.in-Some-Err.fault)) (reads-key c.args.heap.now c.args.locals.now c.in_ok-key.key true c.in_ok-target.ensures.key refl)
-    (puts-refused c.args.heap.now c.sound.ensures c.args.locals.now (test_of wanted.Dict) c.in_ok-dict.dict c.in_ok-target.target
-    (refers_by_code c.args.heap.now wanted.Dict tt c.in_ok-dict.dict c.in_ok-target.target c.in_ok-target.ensures.ok c.in-Some-Err.ensures.kind)
-    (inl (code_passes c.args.heap.now wanted.Dict tt c.in_ok-dict.dict c.in_ok-target.target (refers_by_code c.args.heap.now wanted.Dict tt
-    c.in_ok-dict.dict c.in_ok-target.target c.in_ok-target.ensures.ok c.in-Some-Err.ensures.kind))) c.in_ok-key.key c.in_ok-val.val c.in-Some-Err.fault
-    c.in-Some-Err.field-0 c.in-Some-Err.field-0-is c.in-Some-Err.ensures.limit c.in-Some-Err.ensures.objects c.in-Some-Err.ensures.present c.put_if.new.self
-    (of_err c.in-Some-Err.field-0 _ c.in-Some-Err.field-0-is c.in-Some-Err.ensures.err)))))))
-
-pub returns-in-None : goal.returns-in-None
-returns-in-None g c =
-    rw (c.in-None.ensures.other.1)
-    (goes_on c.args.heap.now c.args.heap.now c.args.locals.now (λ w. value w c.args.dict.now) c.in_ok-dict.dict _ (Err refusal.WrongKind) c.in_ok-dict.ensures.ok
-    (goes_on c.args.heap.now c.args.heap.now c.args.locals.now (λ w. value w c.args.key.now) c.in_ok-key.key _ (Err refusal.WrongKind) c.in_ok-key.ensures.ok
-    (goes_on c.args.heap.now c.args.heap.now c.args.locals.now (λ w. value w c.args.operand.now) c.in_ok-val.val _ (Err refusal.WrongKind) c.in_ok-val.ensures.ok
-    (stops c.args.heap.now c.args.locals.now (λ w. object w (test_of wanted.Dict) (number_of (refusal_of wanted.Dict)) c.in_ok-dict.dict) _ refusal.WrongKind
-    (λ w s. other_by_code c.args.heap.now wanted.Dict tt c.in_ok-dict.dict c.in_ok-target.target c.in_ok-target.ensures.ok
-    (c.in_ok-dict.ensures.live c.in_ok-target.target c.in_ok-target.ensures.ok) c.in-None.ensures.other.0 w s.represents)))))
-
-pub returns-in_err-target : goal.returns-in_err-target
-returns-in_err-target g c =
-    let p = err_from_is_err_and c.from_residual-in_err-target.result c.from_residual-in_err-target.ensures.1 in rw (p.1, p.2)
-    (goes_on c.args.heap.now c.args.heap.now c.args.locals.now (λ w. value w c.args.dict.now) c.in_ok-dict.dict _ (Err c.in_err-target.field-0.0) c.in_ok-dict.ensures.ok
-    (goes_on c.args.heap.now c.args.heap.now c.args.locals.now (λ w. value w c.args.key.now) c.in_ok-key.key _ (Err c.in_err-target.field-0.0) c.in_ok-key.ensures.ok
-    (goes_on c.args.heap.now c.args.heap.now c.args.locals.now (λ w. value w c.args.operand.now) c.in_ok-val.val _ (Err c.in_err-target.field-0.0) c.in_ok-val.ensures.ok
-    (stops_second c.args.heap.now c.args.locals.now (λ w. object w (test_of wanted.Dict) (number_of (refusal_of wanted.Dict)) c.in_ok-dict.dict)
-    (λ w. unless (is_hashable w c.in_ok-key.key) unhashable) _ c.in_err-target.field-0.0 (λ w s. c.in_err-target.ensures.err w s.represents)))))
+pub returns : goal.returns
+returns g c =
+    goes_on_two _ _ _ _ _ _ _ _ (gives c.put_under.result) c.in_ok-dict.ensures.first c.in_ok-dict.ensures.second
+    (goes_on _ _ _ _ _ _ (gives c.put_under.result) c.in_ok-val.ensures.ok
+    (with_key _ _ _ _ c.in_ok-check_key.ensures.key _ _ (gives c.put_under.result) (c.put_under.ensures c.args.locals.now)))

@@ -1,75 +1,11 @@
-use Rattle.std.proofs.Common.{sym, ◌∙◌, Err}
-use Rattle.std.specs.Prelude.{ok_or}
 use Rattle.std.proofs.lemmas.Result.{err_from_is_err_and}
-use Rattle.cg_value.specs.declared.Val.TheVariants as val
-use Rattle.cg_graph.specs.Store.{object_from}
-use Rattle.cg_graph.specs.Value.{value_at}
-use Rattle.cg_machine.specs.Operands.{value, object}
-use Rattle.cg_machine.specs.Refusals.{no_attribute}
-use Rattle.cg_commands.specs.declared.done.Refusal.TheVariants as refusal
-use Rattle.cg_commands.specs.declared.operands.Wanted.TheVariants as wanted
-use Rattle.cg_commands.specs.Refusals.{number_of}
-use Rattle.cg_commands.specs.Objects.{test_of, refusal_of}
-use Rattle.cg_commands.proofs.FirstRefusal.{stops, goes_on}
-use Rattle.cg_commands.proofs.Steps.{reads-object, reads-value_at, no-value_at}
-use Rattle.cg_commands.proofs.EntryLemmas.{refers_by_code, other_by_code}
-use Rattle.cg_commands.proofs.Reading.{live-value_at}
 use Rattle.cg_commands.specs.Answers.{gives}
+use Rattle.cg_commands.proofs.FirstRefusal.{stops, goes_on}
 use Rattle.cg_commands.proofs.lookups.attr.Goals as goal
 
-pub returns-in_err-val : goal.returns-in_err-val
-returns-in_err-val g c =
-    let p = err_from_is_err_and c.from_residual.result c.from_residual.ensures.1 in rw (p.1, p.2)
-    (stops c.args.heap.now c.args.locals.now (λ w. value w c.args.instance.now) _ c.in_err-val.field-0.0 c.in_err-val.ensures.err)
+pub returns-in_err-holder : goal.returns-in_err-holder
+returns-in_err-holder g c =
+    let p = err_from_is_err_and c.from_residual.result c.from_residual.ensures.1 in rw (p.1, p.2) (stops _ _ _ _ _ c.in_err-holder.ensures.err)
 
-pub returns-in_err-target : goal.returns-in_err-target
-returns-in_err-target g c =
-    let p = err_from_is_err_and c.from_residual-in_err-target.result c.from_residual-in_err-target.ensures.1 in rw (p.1, p.2)
-    (goes_on c.args.heap.now c.args.heap.now c.args.locals.now (λ w. value w c.args.instance.now) c.in_ok-val.val _ (Err c.in_err-target.field-0.0) c.in_ok-val.ensures.ok
-    (stops c.args.heap.now c.args.locals.now (λ w. object w (test_of wanted.Inst) (number_of (refusal_of wanted.Inst)) c.in_ok-val.val) _
-    c.in_err-target.field-0.0 (λ w s. c.in_err-target.ensures.err c.args.heap.now w s.represents)))
-
-pub value_if-requires : goal.value_if-requires
-value_if-requires g c =
-    c.in_ok-val.ensures.live c.in_ok-target.target c.in_ok-target.ensures.ok
-
-pub bind_to-requires-clause-live : goal.bind_to-requires-clause-live
-bind_to-requires-clause-live g c =
-    live-value_at c.args.heap.now c.sound.ensures c.in_ok-target.target (val.Str c.args.attr) c.in-Some-Some.found (sym c.in-Some-Some.field-0-is ∙ c.in-Some-Some.ensures.value)
-
-pub returns-in-Some-Some : goal.returns-in-Some-Some
-returns-in-Some-Some g c =
-    (goes_on c.args.heap.now c.bind_to.new.heap c.args.locals.now (λ w. value w c.args.instance.now) c.in_ok-val.val _ (gives c.bind_to.result) c.in_ok-val.ensures.ok
-    (goes_on c.args.heap.now c.bind_to.new.heap c.args.locals.now (λ w. object w (test_of wanted.Inst) (number_of (refusal_of wanted.Inst)) c.in_ok-val.val)
-    (object_from c.args.heap.now.rows c.in_ok-target.target (refers_by_code c.args.heap.now wanted.Inst tt c.in_ok-val.val c.in_ok-target.target
-    c.in_ok-target.ensures.ok c.in-Some-Some.ensures.kind).node) _ (gives c.bind_to.result) (reads-object c.args.heap.now c.args.locals.now (test_of
-    wanted.Inst) c.in_ok-val.val c.in_ok-target.target (refers_by_code c.args.heap.now wanted.Inst tt c.in_ok-val.val c.in_ok-target.target
-    c.in_ok-target.ensures.ok c.in-Some-Some.ensures.kind) (number_of (refusal_of wanted.Inst)))
-    (goes_on c.args.heap.now c.bind_to.new.heap c.args.locals.now
-    (λ w. ok_or (value_at (refers_by_code c.args.heap.now wanted.Inst tt c.in_ok-val.val c.in_ok-target.target c.in_ok-target.ensures.ok
-    c.in-Some-Some.ensures.kind).node.entries (val.Str c.args.attr)) no_attribute) c.in-Some-Some.found _ (gives c.bind_to.result) (reads-value_at
-    c.args.heap.now c.args.locals.now (test_of wanted.Inst) c.in_ok-val.val c.in_ok-target.target (refers_by_code c.args.heap.now wanted.Inst tt
-    c.in_ok-val.val c.in_ok-target.target c.in_ok-target.ensures.ok c.in-Some-Some.ensures.kind) (val.Str c.args.attr) c.in-Some-Some.found (sym
-    c.in-Some-Some.field-0-is ∙ c.in-Some-Some.ensures.value) no_attribute)
-    c.bind_to.ensures)))
-
-pub returns-in-Some-None : goal.returns-in-Some-None
-returns-in-Some-None g c =
-    (goes_on c.args.heap.now c.args.heap.now c.args.locals.now (λ w. value w c.args.instance.now) c.in_ok-val.val _ (Err refusal.NoAttribute) c.in_ok-val.ensures.ok
-    (goes_on c.args.heap.now c.args.heap.now c.args.locals.now (λ w. object w (test_of wanted.Inst) (number_of (refusal_of wanted.Inst)) c.in_ok-val.val)
-    (object_from c.args.heap.now.rows c.in_ok-target.target (refers_by_code c.args.heap.now wanted.Inst tt c.in_ok-val.val c.in_ok-target.target
-    c.in_ok-target.ensures.ok c.in-Some-None.ensures.kind).node) _ (Err refusal.NoAttribute) (reads-object c.args.heap.now c.args.locals.now (test_of
-    wanted.Inst) c.in_ok-val.val c.in_ok-target.target (refers_by_code c.args.heap.now wanted.Inst tt c.in_ok-val.val c.in_ok-target.target
-    c.in_ok-target.ensures.ok c.in-Some-None.ensures.kind) (number_of (refusal_of wanted.Inst)))
-    (stops c.args.heap.now c.args.locals.now (λ w. ok_or (value_at (refers_by_code c.args.heap.now wanted.Inst tt c.in_ok-val.val c.in_ok-target.target
-    c.in_ok-target.ensures.ok c.in-Some-None.ensures.kind).node.entries (val.Str c.args.attr)) no_attribute) _ refusal.NoAttribute (no-value_at
-    c.args.heap.now c.args.locals.now (test_of wanted.Inst) c.in_ok-val.val c.in_ok-target.target (refers_by_code c.args.heap.now wanted.Inst tt
-    c.in_ok-val.val c.in_ok-target.target c.in_ok-target.ensures.ok c.in-Some-None.ensures.kind) (val.Str c.args.attr) (sym c.in-Some-None.field-0-is
-    ∙ c.in-Some-None.ensures.value) no_attribute))))
-
-pub returns-in-None : goal.returns-in-None
-returns-in-None g c =
-    (goes_on c.args.heap.now c.args.heap.now c.args.locals.now (λ w. value w c.args.instance.now) c.in_ok-val.val _ (Err refusal.WrongKind) c.in_ok-val.ensures.ok
-    (stops c.args.heap.now c.args.locals.now (λ w. object w (test_of wanted.Inst) (number_of (refusal_of wanted.Inst)) c.in_ok-val.val) _ refusal.WrongKind
-    (λ w s. other_by_code c.args.heap.now wanted.Inst tt c.in_ok-val.val c.in_ok-target.target c.in_ok-target.ensures.ok
-    (c.in_ok-val.ensures.live c.in_ok-target.target c.in_ok-target.ensures.ok) c.in-None.ensures.other w s.represents)))
+pub returns : goal.returns
+returns g c = goes_on _ _ _ _ _ _ (gives c.bind_under.result) c.in_ok-holder.ensures.ok c.bind_under.ensures

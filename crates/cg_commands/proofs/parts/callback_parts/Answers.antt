@@ -9,13 +9,11 @@ returns-in_err-_function-in_default g c =
     let p = err_from_is_err_and c.from_residual.result c.from_residual.ensures.1 in rw (p.1, p.2)
     (record {
       ok = tt;
-      err = callback-refused c.args.heap.now c.args.locals.now c.args.callback c.in_err-_function-in_default.field-0.0
-          c.in_err-_function-in_default.ensures.err c.in_default.not-None;
+      err = callback-refused _ _ _ _ c.in_err-_function-in_default.ensures.err c.in_default.not-None;
     })
 
 pub returns-in_ok-_function-in_default : goal.returns-in_ok-_function-in_default
 returns-in_ok-_function-in_default g c = record {
-  ok = callback-function c.args.heap.now c.args.locals.now c.args.callback c.in_ok-_function-in_default._function c.in_ok-_function-in_default.ensures.ok
-      c.in_default.not-None c.requires c.push.new.self (c.push.ensures ∙ ap (λ ps. ps ++ item c.args.callback ∷ []) c.new-parts.ensures);
+  ok = callback-function _ _ _ _ c.in_ok-_function-in_default.ensures.ok c.in_default.not-None c.requires _ (c.push.ensures ∙ ap (λ ps. ps ++ item c.args.callback ∷ []) c.new-parts.ensures);
   err = tt;
 }

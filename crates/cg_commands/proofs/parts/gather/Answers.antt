@@ -1,4 +1,4 @@
-use Rattle.std.proofs.Common.{sym, ◌∙◌, ap, subst, ◌<◌, ◌+◌, ◌++◌, [], ◌∷◌, take, drop, get_or, length}
+use Rattle.std.proofs.Common.{sym, ◌∙◌, ap, subst, ◌<◌, ◌++◌, [], ◌∷◌, take, get_or, length}
 use Rattle.std.proofs.lemmas.List.{take_more, drop_more, take-append-drop}
 use Rattle.std.proofs.lemmas.Result.{err_from_is_err_and}
 use Rattle.cg_script.specs.Texts.{operand_texts}
@@ -9,21 +9,18 @@ use Rattle.cg_commands.proofs.TextLemmas.{all_at}
 use Rattle.cg_commands.proofs.parts.gather.Goals as goal
 
 pub value-requires-clause-known : goal.value-requires-clause-known
-value-requires-clause-known g c = all_at (λ n. n < length c.args.heap.now.names) operand_texts c.args.operands.now c.loop-operand.operand-index operand.None c.loop-operand-test.true c.requires.known
+value-requires-clause-known g c = all_at (λ n. n < length c.args.heap.now.names) operand_texts _ _ operand.None c.loop-operand-test.true c.requires.known
 
 pub returns-in_err-val-clause-err : goal.returns-in_err-val-clause-err
 returns-in_err-val-clause-err g c =
     let p = err_from_is_err_and c.from_residual.result c.from_residual.ensures.1 in rw (p.1, p.2)
-    (gathers-stop c.args.heap.now c.args.locals.now (take c.loop-operand.operand-index c.args.operands.now) c.loop-operand.parts c.loop-operand.invariant
-    (get_or c.args.operands.now c.loop-operand.operand-index operand.None) (drop (c.loop-operand.operand-index + 1) c.args.operands.now) c.args.operands.now
-    (sym (take-append-drop c.loop-operand.operand-index c.args.operands.now) ∙ ap (λ l. take c.loop-operand.operand-index c.args.operands.now ++ l)
-    (drop_more c.args.operands.now c.loop-operand.operand-index operand.None c.loop-operand-test.true))
-    c.in_err-val.field-0.0 c.in_err-val.ensures.err)
+    (gathers-stop _ _ _ _ c.loop-operand.invariant _ _ _ (sym (take-append-drop c.loop-operand.operand-index c.args.operands.now)
+    ∙ ap (λ l. take c.loop-operand.operand-index c.args.operands.now ++ l) (drop_more c.args.operands.now c.loop-operand.operand-index operand.None c.loop-operand-test.true)) _
+    c.in_err-val.ensures.err)
 
 pub loop-operand-preserved : goal.loop-operand-preserved
 loop-operand-preserved g c =
     subst (λ ops. Gathers c.args.heap.now c.args.locals.now ops c.push.new.self) (sym (take_more c.args.operands.now c.loop-operand.operand-index operand.None c.loop-operand-test.true))
     (subst (λ ps. Gathers c.args.heap.now c.args.locals.now (take c.loop-operand.operand-index c.args.operands.now ++ get_or c.args.operands.now
     c.loop-operand.operand-index operand.None ∷ []) ps) (sym c.push.ensures)
-    (gathers-more c.args.heap.now c.args.locals.now (take c.loop-operand.operand-index c.args.operands.now) c.loop-operand.parts c.loop-operand.invariant
-    (get_or c.args.operands.now c.loop-operand.operand-index operand.None) c.in_ok-val.val c.in_ok-val.ensures.ok c.in_ok-val.ensures.live))
+    (gathers-more _ _ _ _ c.loop-operand.invariant _ _ c.in_ok-val.ensures.ok c.in_ok-val.ensures.live))

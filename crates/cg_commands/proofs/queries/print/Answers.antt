@@ -1,17 +1,12 @@
 use Rattle.std.proofs.Common.{Ok}
 use Rattle.std.proofs.lemmas.Result.{err_from_is_err_and}
-use Rattle.cg_machine.specs.Operands.{value}
-use Rattle.cg_machine.specs.declared.event.Event.TheVariants as event
 use Rattle.cg_commands.proofs.FirstRefusal.{stops, goes_on}
 use Rattle.cg_commands.proofs.QueryLemmas.{prints-performs}
 use Rattle.cg_commands.proofs.queries.print.Goals as goal
 
 pub returns-in_err-val : goal.returns-in_err-val
 returns-in_err-val g c =
-    let p = err_from_is_err_and c.from_residual.result c.from_residual.ensures.1 in rw (p.1, p.2)
-    (stops c.args.heap.now c.args.locals.now (λ w. value w c.args.operand.now) _ c.in_err-val.field-0.0 c.in_err-val.ensures.err)
+    let p = err_from_is_err_and c.from_residual.result c.from_residual.ensures.1 in rw (p.1, p.2) (stops _ _ _ _ _ c.in_err-val.ensures.err)
 
 pub returns : goal.returns
-returns g c =
-    (goes_on c.args.heap.now c.args.heap.now c.args.locals.now (λ w. value w c.args.operand.now) c.in_ok-val.val _ (Ok c.told.result) c.in_ok-val.ensures.ok
-    (prints-performs c.args.heap.now c.args.locals.now (event.Value c.in_ok-val.val) c.told.result c.told.ensures))
+returns g c = goes_on _ _ _ _ _ _ (Ok c.told.result) c.in_ok-val.ensures.ok (prints-performs _ _ _ _ c.told.ensures)

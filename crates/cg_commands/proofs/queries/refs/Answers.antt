@@ -1,32 +1,16 @@
-use Rattle.std.proofs.Common.{Ok, Err}
+use Rattle.std.proofs.Common.{Ok}
 use Rattle.std.proofs.lemmas.Result.{err_from_is_err_and}
-use Rattle.cg_graph.specs.Store.{object_from}
-use Rattle.cg_machine.specs.Operands.{value, object}
-use Rattle.cg_commands.specs.declared.operands.Wanted.TheVariants as wanted
-use Rattle.cg_commands.specs.Refusals.{number_of}
-use Rattle.cg_commands.specs.Objects.{test_of, refusal_of}
-use Rattle.cg_commands.proofs.FirstRefusal.{stops, goes_on}
-use Rattle.cg_commands.proofs.Steps.{reads-object}
+use Rattle.cg_commands.proofs.FirstRefusal.{stops_second, goes_on}
+use Rattle.cg_commands.proofs.Steps.{at_object}
 use Rattle.cg_commands.proofs.QueryLemmas.{prints-count}
 use Rattle.cg_commands.proofs.queries.refs.Goals as goal
 
-pub returns-in_err-val : goal.returns-in_err-val
-returns-in_err-val g c =
-    let p = err_from_is_err_and c.from_residual.result c.from_residual.ensures.1 in rw (p.1, p.2)
-    (stops c.args.heap.now c.args.locals.now (λ w. value w c.args.operand.now) _ c.in_err-val.field-0.0 c.in_err-val.ensures.err)
-
 pub returns-in_err-target : goal.returns-in_err-target
 returns-in_err-target g c =
-    let p = err_from_is_err_and c.from_residual-in_err-target.result c.from_residual-in_err-target.ensures.1 in rw (p.1, p.2)
-    (goes_on c.args.heap.now c.args.heap.now c.args.locals.now (λ w. value w c.args.operand.now) c.in_ok-val.val _ (Err c.in_err-target.field-0.0) c.in_ok-val.ensures.ok
-    (stops c.args.heap.now c.args.locals.now (λ w. object w (test_of wanted.Any) (number_of (refusal_of wanted.Any)) c.in_ok-val.val) _
-    c.in_err-target.field-0.0 (λ w s. c.in_err-target.ensures.err w s.represents)))
+    let p = err_from_is_err_and c.from_residual.result c.from_residual.ensures.1 in rw (p.1, p.2) (stops_second _ _ _ _ _ _ c.in_err-target.ensures.err)
 
 pub returns : goal.returns
 returns g c =
-    (goes_on c.args.heap.now c.args.heap.now c.args.locals.now (λ w. value w c.args.operand.now) c.in_ok-val.val _ (Ok c.told.result) c.in_ok-val.ensures.ok
-    (goes_on c.args.heap.now c.args.heap.now c.args.locals.now (λ w. object w (test_of wanted.Any) (number_of (refusal_of wanted.Any)) c.in_ok-val.val)
-    (object_from c.args.heap.now.rows c.in_ok-target.target c.in_ok-target.ensures.ok.node) _ (Ok c.told.result)
-    (reads-object c.args.heap.now c.args.locals.now (test_of wanted.Any) c.in_ok-val.val c.in_ok-target.target c.in_ok-target.ensures.ok
-    (number_of (refusal_of wanted.Any)))
-    (prints-count c.args.heap.now c.args.locals.now c.in_ok-target.target c.refs-count.result c.refs-count.ensures.count c.told.result c.told.ensures)))
+    goes_on _ _ _ _ _ _ (Ok c.told.result) c.in_ok-target.ensures.ok
+    (at_object _ _ _ _ _ c.in_ok-target.ensures.there _ _ _ (Ok c.told.result)
+    (prints-count _ _ _ _ c.refs-count.ensures.count _ c.told.ensures))

@@ -1,4 +1,4 @@
-use Rattle.std.proofs.lemmas.Result.{err_from_is_err_and, IfErr-weaker}
+use Rattle.std.proofs.lemmas.Result.{err_from_is_err_and}
 use Rattle.cg_machine.specs.Effects.{is_hashable}
 use Rattle.cg_machine.specs.Operands.{object}
 use Rattle.cg_machine.specs.Refusals.{unhashable, unless}
@@ -7,7 +7,7 @@ use Rattle.cg_commands.specs.Refusals.{number_of}
 use Rattle.cg_commands.specs.Objects.{test_of, refusal_of}
 use Rattle.cg_commands.proofs.FirstRefusal.{declines_then}
 use Rattle.cg_commands.proofs.Steps.{no-key}
-use Rattle.cg_commands.proofs.lookups.target_under_key.Goals as goal
+use Rattle.cg_commands.proofs.keys.check_key.Goals as goal
 
 pub returns-in_err-_dict-clause-err : goal.returns-in_err-_dict-clause-err
 returns-in_err-_dict-clause-err g c =
@@ -19,9 +19,3 @@ pub returns-then-not-is_hashable-clause-err : goal.returns-then-not-is_hashable-
 returns-then-not-is_hashable-clause-err g c =
     no-key c.args.heap.now (test_of wanted.Dict) (number_of (refusal_of wanted.Dict)) c.args.val c.in_ok-_dict._dict c.in_ok-_dict.ensures.ok c.args.key
     c.is_hashable.result c.is_hashable.ensures c.if-not-is_hashable.true
-
-pub returns-clause-err : goal.returns-clause-err
-returns-clause-err g c = IfErr-weaker c.reference.result _ _
-    (λ r declines w stands. declines_then r (object w (test_of wanted.Dict) (number_of (refusal_of wanted.Dict)) c.args.val)
-    (λ x. unless (is_hashable w c.args.key) unhashable) (declines c.args.heap.now w stands))
-    c.reference.ensures.err
